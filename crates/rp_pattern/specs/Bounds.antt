@@ -1,0 +1,24 @@
+-- Which patterns are allowed: bounds in order and at most 1,000, and 1 to 8 parts of a PERMUTE.
+use Rattle.std.specs.Prelude.{ℕ, Bool, true, ◌&&◌, map, length, nat_le, Option, Some, None}
+use Rattle.rp_pattern.specs.Variables.{all_true}
+use Rattle.rp_pattern.specs.declared.form.Form.{Form}
+use Rattle.rp_pattern.specs.declared.form.Form.TheOpen.{Form-F, Variable, Empty, Concatenation, Alternation, PartitionStart, PartitionEnd, Permute, Exclusion, Quantified}
+use Rattle.rp_pattern.specs.declared.form.Form.TheFolds.{fold-Form}
+
+abbrev pub bounds_hold : ℕ → Option ℕ → Bool
+bounds_hold lower None = nat_le lower 1000
+bounds_hold lower (Some upper) = nat_le lower upper && nat_le upper 1000
+
+abbrev pub allowed_step : Form-F Bool → Bool
+allowed_step (Variable v) = true
+allowed_step Empty = true
+allowed_step (Concatenation p q) = p.value && q.value
+allowed_step (Alternation p q) = p.value && q.value
+allowed_step PartitionStart = true
+allowed_step PartitionEnd = true
+allowed_step (Permute ps) = nat_le 1 (length ps.items) && nat_le (length ps.items) 8 && all_true (map (λ p. p.value) ps.items)
+allowed_step (Exclusion p) = p.value
+allowed_step (Quantified p lower upper reluctant) = bounds_hold lower upper && p.value
+
+abbrev pub is_allowed : Form → Bool
+is_allowed = fold-Form Bool allowed_step

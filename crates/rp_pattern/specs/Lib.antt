@@ -1,0 +1,7 @@
+pub mod Mapping
+pub mod Words
+pub mod WordLaws
+pub mod Variables
+pub mod Turns
+pub mod Bounds
+pub mod PatternForm

@@ -1,0 +1,6 @@
+-- What a pattern shows.
+use Rattle.rp_pattern.specs.declared.form.Form.{Form}
+use Rattle.rp_pattern.specs.declared.form.Pattern.{Pattern}
+
+abbrev pub form_of : Pattern → Form
+form_of p = p.form

@@ -1,0 +1,80 @@
+-- How many turns a search takes at most, over rows that no condition refuses.
+use Rattle.std.specs.Prelude.{ℕ, zero, suc, ◌+◌, ◌-◌, List, [], ◌∷◌, map, length, sum_by}
+use Rattle.rp_pattern.specs.Mapping.{Mapping, Full, Open}
+use Rattle.rp_pattern.specs.declared.form.Form.{Form}
+use Rattle.rp_pattern.specs.declared.form.Form.TheOpen.{Form-F, Variable, Empty, Concatenation, Alternation, PartitionStart, PartitionEnd, Permute, Exclusion, Quantified}
+use Rattle.rp_pattern.specs.declared.form.Form.TheFolds.{para-Form}
+use Rattle.rp_pattern.specs.declared.word.End.{End}
+use Rattle.rp_pattern.specs.Words.{Mappings, words, moving, moved_past, further, orders}
+
+-- from each row, a number of turns
+abbrev pub Costs : Type 0
+Costs = ℕ → ℕ
+
+-- a part, as its words and its turns
+abbrev pub Part : Type 0
+Part = Mappings × Costs
+
+-- what comes after a full word is tried from where it ends, and nothing after an open one
+abbrev pub turns_after : Costs → ℕ → Mapping → ℕ
+turns_after later i (Full ls) = later (i + length ls)
+turns_after later i (Open ls) = 0
+
+abbrev pub one_turn : Costs
+one_turn i = 1
+
+abbrev pub concatenation_turns : Part → Costs → Costs
+concatenation_turns p later i = 1 + p.1 i + sum_by (turns_after later i) (p.0 i)
+
+abbrev pub optional_turns : Part → ℕ → Costs
+optional_turns p zero i = 1
+optional_turns p (suc h) i = 2 + p.1 i + sum_by (turns_after (optional_turns p h) i) (moving p.0 i)
+
+abbrev pub required_turns : ℕ → Part → Costs → Costs
+required_turns zero p rest = rest
+required_turns (suc l) p rest = concatenation_turns p (required_turns l p rest)
+
+abbrev pub sequence_turns : List Part → Costs
+sequence_turns [] = one_turn
+sequence_turns (p ∷ []) = p.1
+sequence_turns (p ∷ q ∷ ps) = concatenation_turns p (sequence_turns (q ∷ ps))
+
+abbrev pub permuted_turns : List Part → Costs
+permuted_turns ps i = 1 + sum_by (λ order. sequence_turns order i) (orders ps)
+
+-- a part of a pattern with its words
+abbrev pub part : ℕ → End → Form × Costs → Part
+part n e p = (words n e p.0, p.1)
+
+-- one layer of a pattern, with the turns of each part beside it
+abbrev pub turns_step : ℕ → End → Form-F (Form × Costs) → Costs
+turns_step n e (Variable v) = one_turn
+turns_step n e Empty = one_turn
+turns_step n e (Concatenation p q) = concatenation_turns (part n e p.value) q.value.1
+turns_step n e (Alternation p q) = λ i. 1 + p.value.1 i + q.value.1 i
+turns_step n e PartitionStart = one_turn
+turns_step n e PartitionEnd = one_turn
+turns_step n e (Permute ps) = permuted_turns (map (λ p. part n e p.value) ps.items)
+turns_step n e (Exclusion p) = λ i. 1 + p.value.1 i
+turns_step n e (Quantified p lower upper reluctant) = required_turns lower (part n e p.value) (optional_turns (part n e p.value) (further n lower upper))
+
+abbrev pub turns : ℕ → End → Form → Costs
+turns n e = para-Form Costs (turns_step n e)
+
+-- the turns of a choice whose rests are these parts: those of each, without the ones for joining them
+abbrev pub chain_turns : List Part → Costs
+chain_turns [] i = 0
+chain_turns (p ∷ ps) i = p.1 i + sum_by (turns_after (chain_turns ps) i) (p.0 i)
+
+-- the test that an iteration took a row takes no turn of its own
+abbrev pub moved_part : ℕ → Part
+moved_part since = (moved_past since, λ i. 0)
+
+-- the turns of the starts 1 to s: the search's own, one for each word, and some for items and skips
+abbrev pub starts_turns : ℕ → End → Form → ℕ → ℕ
+starts_turns n e f zero = 0
+starts_turns n e f (suc s) = starts_turns n e f s + (turns n e f (suc s) + length (words n e f (suc s)) + (n - suc s) + 4)
+
+-- at most so many turns over all starts
+abbrev pub all_turns : ℕ → End → Form → ℕ
+all_turns n e f = 1 + starts_turns n e f n

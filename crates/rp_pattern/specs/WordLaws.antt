@@ -1,0 +1,51 @@
+-- What more rows, or the close, do to a list of words.
+use Rattle.std.specs.Prelude.{◌≡◌, ℕ, suc, ◌-◌, ◌≤◌, length, List, [], ◌∷◌, ◌++◌}
+use Rattle.rp_pattern.specs.Mapping.{Mapping, Full, Open, labels_of}
+use Rattle.rp_pattern.specs.declared.form.Form.{Form}
+use Rattle.rp_pattern.specs.declared.word.Label.{Label}
+use Rattle.rp_pattern.specs.declared.word.End.{End}
+use Rattle.rp_pattern.specs.declared.word.End.TheVariants.{Open as OpenEnd, Closed as ClosedEnd}
+use Rattle.rp_pattern.specs.Words.{words, quantified, preferred, concatenation, moving}
+use Rattle.std.specs.Prelude.{Bool, ◌+◌, Some, None, ⊤}
+use Rattle.std.specs.List.{AllByRecursion}
+
+-- a word begins with these labels
+pub record BeginsWith (ls : List Label) (w : Mapping) : Type 0 where
+  pub rest : List Label
+  pub begins : ls ++ rest ≡ labels_of w
+
+-- no label of the words from row i lies past row n
+abbrev pub IsWithin : ℕ → ℕ → Mapping → Type 0
+IsWithin n i w = length (labels_of w) ≤ suc n - i
+
+-- A full word stays, and an open one is replaced in its own place by words that begin with its labels.
+pub data Extends : List Mapping → List Mapping → Type 0 where
+  done : Extends [] []
+  stays : {ls : List Label} {old new : List Mapping} → Extends old new → Extends (Full ls ∷ old) (Full ls ∷ new)
+  gone : {ls : List Label} {old new : List Mapping} → Extends old new → Extends (Open ls ∷ old) new
+  grows : {ls : List Label} {w : Mapping} {old new : List Mapping} → BeginsWith ls w → Extends (Open ls ∷ old) new → Extends (Open ls ∷ old) (w ∷ new)
+
+-- Over every continuation, more rows or the close, the words of every pattern from every row are extended.
+abbrev pub WordsExtend : Type 0
+WordsExtend = (f : Form) (n n' : ℕ) (e : End) (i : ℕ) → n ≤ n' → Extends (words n OpenEnd f i) (words n' e f i)
+
+-- Without an upper bound, what follows an iteration has none either, and any bound of n + 2 or more says the same.
+abbrev pub NoBoundStays : Type 0
+NoBoundStays = (f : Form) (n : ℕ) (e : End) (reluctant : Bool) (i : ℕ) →
+    quantified n 0 None reluctant (words n e f) i ≡ preferred reluctant (concatenation (moving (words n e f)) (quantified n 0 None reluctant (words n e f)) i) (Full [] ∷ [])
+
+abbrev pub GreatBoundsAgree : Type 0
+GreatBoundsAgree = (f : Form) (n : ℕ) (e : End) (reluctant : Bool) (h i : ℕ) → n + 2 ≤ h →
+    quantified n 0 (Some h) reluctant (words n e f) i ≡ quantified n 0 None reluctant (words n e f) i
+
+-- A word's labels are of known rows.
+abbrev pub WordsEnd : Type 0
+WordsEnd = (f : Form) (n : ℕ) (e : End) (i : ℕ) → AllByRecursion (IsWithin n i) (words n e f i)
+
+abbrev pub IsFull : Mapping → Type 0
+IsFull (Full ls) = ⊤
+IsFull (Open ls) = ⊥
+
+-- Over a closed end each word is full.
+abbrev pub WordsClose : Type 0
+WordsClose = (f : Form) (n i : ℕ) → AllByRecursion IsFull (words n ClosedEnd f i)

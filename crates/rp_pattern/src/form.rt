@@ -1,0 +1,84 @@
+ghost use Rattle.std.specs.Prelude.{◌≡◌, IsTrue};
+ghost use Rattle.rp_pattern.specs.Bounds.{is_allowed};
+ghost use Rattle.rp_pattern.specs.Variables.{are_below};
+
+use std::rc::Rc;
+
+/// A row pattern as a tree, a variant for each form. Parts are shared, so that a search may keep them.
+#[derive(Debug, Drop)]
+pub enum Form {
+    /// One row, mapped to the variable of this number.
+    Variable(usize),
+    /// `( )`, no row.
+    Empty,
+    /// The first part, and then the second.
+    Concatenation(Rc<Form>, Rc<Form>),
+    /// Either part, the first preferred.
+    Alternation(Rc<Form>, Rc<Form>),
+    /// `^`, no row, before row 1 of the partition.
+    PartitionStart,
+    /// `$`, no row, after the last row of the partition.
+    PartitionEnd,
+    /// `PERMUTE`: the parts in each order, lexicographic in their positions.
+    Permute(Vec<Rc<Form>>),
+    /// `{- .. -}`: the rows count, but aren't shown.
+    Exclusion(Rc<Form>),
+    /// From `lower` iterations on, to `upper` where there is one. A reluctant quantifier prefers to stop.
+    Quantified {
+        body: Rc<Form>,
+        lower: u32,
+        upper: Option<u32>,
+        reluctant: bool,
+    },
+}
+
+/// A row pattern whose quantifiers have bounds in order of at most 1,000, and whose PERMUTEs have 1 to 8 parts.
+#[derive(Debug, Drop)]
+pub struct Pattern {
+    form: Form,
+    ghost allowed: { IsTrue (is_allowed form) },
+}
+
+impl Pattern {
+    ghost use Rattle.rp_pattern.specs.PatternForm.{form_of};
+
+    /// The pattern of a tree.
+    pub fn new(form: Form) -> Pattern
+        requires { IsTrue (is_allowed form) }
+        ensures { form_of result ≡ form }
+    {
+        Pattern { form }
+    }
+
+    /// The tree.
+    pub fn form(&self) -> &Form
+        ensures tree { result.now ≡ form_of self.now }
+        ensures allowed { IsTrue (is_allowed result.now) }
+    {
+        &self.form
+    }
+}
+
+impl Form {
+    /// Whether each variable is below `k`.
+    pub fn are_below(&self, k: usize) -> bool
+        ensures { result ≡ are_below k self.now }
+    {
+        match self {
+            Form::Variable(v) => *v < k,
+            Form::Empty | Form::PartitionStart | Form::PartitionEnd => true,
+            Form::Concatenation(first, second) => first.are_below(k) && second.are_below(k),
+            Form::Alternation(first, second) => first.are_below(k) && second.are_below(k),
+            Form::Permute(parts) => {
+                for part in parts {
+                    if !part.are_below(k) {
+                        return false;
+                    }
+                }
+                true
+            }
+            Form::Exclusion(body) => body.are_below(k),
+            Form::Quantified { body, .. } => body.are_below(k),
+        }
+    }
+}

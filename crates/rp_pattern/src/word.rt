@@ -1,0 +1,45 @@
+use std::marker::Model;
+
+/// The variable that a row is mapped to, and whether `{- .. -}` leaves the row out of what is shown.
+#[derive(Clone, Copy, Debug, PartialEq, Eq)]
+pub struct Label {
+    pub var: usize,
+    pub excluded: bool,
+}
+
+/// Whether a partition may get further rows.
+#[derive(Clone, Copy, Debug, PartialEq, Eq)]
+pub enum End {
+    Open,
+    Closed,
+}
+
+/// What a condition says of a row: false and unknown are one.
+#[derive(Clone, Copy, Debug, PartialEq, Eq)]
+pub enum Seen {
+    True,
+    NotTrue,
+    Open,
+}
+
+/// Whether a word is a whole mapping, or runs into the row after the last known one.
+#[derive(Clone, Copy, Debug, PartialEq, Eq)]
+pub enum Mark {
+    Full,
+    Open,
+}
+
+/// A way to map rows to a pattern: the labels of consecutive rows, from a start row on.
+#[derive(Debug, Drop)]
+pub struct Word {
+    pub labels: Vec<Label>,
+    pub mark: Mark,
+}
+
+impl Model for Word {
+    ghost use Rattle.rp_pattern.specs.Mapping.{Mapping, marked};
+
+    ghost Value = { Mapping };
+
+    ghost view = { λ w. marked w.mark w.labels.items };
+}
