@@ -5,3 +5,5 @@ pub mod Variables
 pub mod Turns
 pub mod Bounds
 pub mod PatternForm
+pub mod Rests
+pub mod Splits

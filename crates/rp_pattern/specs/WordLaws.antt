@@ -49,3 +49,7 @@ IsFull (Open ls) = ⊥
 -- Over a closed end each word is full.
 abbrev pub WordsClose : Type 0
 WordsClose = (f : Form) (n i : ℕ) → AllByRecursion IsFull (words n ClosedEnd f i)
+
+-- later rows, or the close: a closed end stays, and so do its rows
+abbrev pub IsLater : ℕ → End → ℕ → End → Type 0
+IsLater n e n' e' = (n ≤ n') × (e ≡ ClosedEnd → (n' ≡ n) × (e' ≡ ClosedEnd))

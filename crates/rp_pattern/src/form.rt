@@ -2,6 +2,7 @@ ghost use Rattle.std.specs.Prelude.{◌≡◌, IsTrue};
 ghost use Rattle.rp_pattern.specs.Bounds.{is_allowed};
 ghost use Rattle.rp_pattern.specs.Variables.{are_below};
 
+use std::alloc::{AllocError, Global};
 use std::rc::Rc;
 
 /// A row pattern as a tree, a variant for each form. Parts are shared, so that a search may keep them.
@@ -60,6 +61,42 @@ impl Pattern {
 }
 
 impl Form {
+    /// A further owner of the parts.
+    pub(crate) fn share(&self, alloc: Global) -> Result<Form, AllocError>
+    {
+        match self {
+            Form::Variable(v) => Ok(Form::Variable(*v)),
+            Form::Empty => Ok(Form::Empty),
+            Form::Concatenation(first, second) => {
+                Ok(Form::Concatenation(first.clone()?, second.clone()?))
+            }
+            Form::Alternation(first, second) => {
+                Ok(Form::Alternation(first.clone()?, second.clone()?))
+            }
+            Form::PartitionStart => Ok(Form::PartitionStart),
+            Form::PartitionEnd => Ok(Form::PartitionEnd),
+            Form::Permute(parts) => {
+                let mut copies = Vec::new(alloc);
+                for part in parts {
+                    copies.push(part.clone()?)?;
+                }
+                Ok(Form::Permute(copies))
+            }
+            Form::Exclusion(body) => Ok(Form::Exclusion(body.clone()?)),
+            Form::Quantified {
+                body,
+                lower,
+                upper,
+                reluctant,
+            } => Ok(Form::Quantified {
+                body: body.clone()?,
+                lower: *lower,
+                upper: *upper,
+                reluctant: *reluctant,
+            }),
+        }
+    }
+
     /// Whether each variable is below `k`.
     pub fn are_below(&self, k: usize) -> bool
         ensures { result ≡ are_below k self.now }

@@ -1,0 +1,333 @@
+ghost use Rattle.std.specs.Prelude.{◌≡◌, ℕ, suc, ◌∷◌, ◌-◌, ◌^◌, ◌<◌, ◌≤◌, IfOk, IsTrue, List, None};
+ghost use Rattle.rp_pattern.specs.declared.word.End.{End};
+ghost use Rattle.rp_pattern.specs.Bounds.{is_allowed};
+ghost use Rattle.rp_pattern.specs.Rests.{tail_parts, rests_parts, part_as, node_part, form_part, iterations_part, orders_part, permuted_parts};
+ghost use Rattle.rp_pattern.specs.Splits.{TakenUp, SplitsAt, AlwaysSplits};
+
+use crate::form::Form;
+use crate::rests::{Iterations, Node, Part, Rests, Tail};
+use crate::tail::{follow, linked, share};
+use crate::word::{End, Label};
+use std::alloc::{AllocError, Global};
+use std::rc::Rc;
+
+/// The choices that a choice stands for.
+#[derive(Drop)]
+pub(crate) struct Split {
+    pub preferred: Option<Rests>,
+    pub other: Option<Rests>,
+}
+
+/// What a choice came to.
+#[derive(Drop)]
+pub(crate) enum Turn {
+    /// Nothing is left: the labels are a full word.
+    Full,
+    /// The next row, which is known, is mapped.
+    Row(Label),
+    /// It runs into the row after the last known one.
+    Open,
+    /// It stands for other choices.
+    Split(Split),
+}
+
+impl Split {
+    /// No choice.
+    fn none() -> Split {
+        Split {
+            preferred: None,
+            other: None,
+        }
+    }
+
+    /// One choice, if any.
+    fn one(rests: Option<Rests>) -> Split {
+        Split {
+            preferred: rests,
+            other: None,
+        }
+    }
+}
+
+impl Rests {
+    /// What is left at a row, taken up.
+    pub(crate) fn take_up(&self, alloc: Global, row: u64, n: u64, end: End) -> Result<Turn, AllocError>
+        ensures { IfOk result (TakenUp n end row (λ n e. rests_parts n e self.now)) }
+    {
+        match self {
+            Rests::Done => Ok(Turn::Full),
+            Rests::Then { part, then } => part.take_up(alloc, then, row, n, end),
+        }
+    }
+}
+
+impl Part {
+    fn take_up(&self, alloc: Global, then: &Tail, row: u64, n: u64, end: End) -> Result<Turn, AllocError>
+        ensures { IfOk result (TakenUp n end row (λ n e. part_as n e self.now ∷ tail_parts n e then.now)) }
+    {
+        match self {
+            Part::Whole(node) => node.take_up(alloc, &node.form, then, row, n, end),
+            Part::Times { lower, iterations } => {
+                let split = iterations.take_up(alloc, *lower, then, row)?;
+                Ok(Turn::Split(split))
+            }
+            Part::Orders { permute, from } => {
+                let split = permute.take_order(alloc, *from, then, row)?;
+                Ok(Turn::Split(split))
+            }
+        }
+    }
+}
+
+impl Node {
+    fn take_up(&self, alloc: Global, form: &Form, then: &Tail, row: u64, n: u64, end: End) -> Result<Turn, AllocError>
+        requires { form.now ≡ self.now.form.value }
+        ensures { IfOk result (TakenUp n end row (λ n e. node_part n e self.now ∷ tail_parts n e then.now)) }
+    {
+        match form {
+            Form::Variable(var) => Ok(self.take_variable(*var, row, n, end, then)),
+            Form::Empty => Ok(Turn::Split(Split::one(follow(then, row)?))),
+            Form::PartitionStart => Ok(Turn::Split(take_start(then, row)?)),
+            Form::PartitionEnd => take_end(then, row, n, end),
+            Form::Concatenation(first, second) => {
+                let split = self.take_concatenation(alloc, first, second, then)?;
+                Ok(Turn::Split(split))
+            }
+            Form::Alternation(first, second) => {
+                let split = self.take_alternation(first, second, then)?;
+                Ok(Turn::Split(split))
+            }
+            Form::Permute(_) => {
+                let split = self.take_order(alloc, 0, then, row)?;
+                Ok(Turn::Split(split))
+            }
+            Form::Exclusion(body) => {
+                let split = take_exclusion(body, then)?;
+                Ok(Turn::Split(split))
+            }
+            Form::Quantified {
+                body,
+                lower,
+                upper,
+                reluctant,
+            } => {
+                let iterations = Iterations {
+                    body: self.child(body)?,
+                    further: further(*lower, *upper),
+                    reluctant: *reluctant,
+                };
+                let split = iterations.take_up(alloc, *lower, then, row)?;
+                Ok(Turn::Split(split))
+            }
+        }
+    }
+
+    fn take_variable(&self, var: usize, row: u64, n: u64, end: End, then: &Tail) -> Turn
+        requires { self.now.form.value ≡ Form.Variable var }
+        ensures { TakenUp n end row (λ n e. node_part n e self.now ∷ tail_parts n e then.now) result }
+    {
+        if row <= n {
+            return Turn::Row(Label {
+                var,
+                excluded: self.excluded,
+            });
+        }
+        match end {
+            End::Open => Turn::Open,
+            End::Closed => Turn::Split(Split::none()),
+        }
+    }
+
+    /// The two parts, one after the other.
+    fn take_concatenation(&self, alloc: Global, first: &Rc<Form>, second: &Rc<Form>, then: &Tail) -> Result<Split, AllocError>
+        requires first { IsTrue (is_allowed first.now.value) }
+        requires second { IsTrue (is_allowed second.now.value) }
+        ensures { IfOk result (AlwaysSplits row (λ n e. concatenation_part (form_part n e first.now.value self.now.excluded) (form_part n e second.now.value self.now.excluded) ∷ tail_parts n e then.now)) }
+    {
+        let later = linked(alloc, None, Part::Whole(self.child(second)?), share(then)?)?;
+        Ok(Split::one(Some(Rests::Then {
+            part: Part::Whole(self.child(first)?),
+            then: later,
+        })))
+    }
+
+    /// Either part.
+    fn take_alternation(&self, first: &Rc<Form>, second: &Rc<Form>, then: &Tail) -> Result<Split, AllocError>
+        requires first { IsTrue (is_allowed first.now.value) }
+        requires second { IsTrue (is_allowed second.now.value) }
+    {
+        Ok(Split {
+            preferred: Some(Rests::Then {
+                part: Part::Whole(self.child(first)?),
+                then: share(then)?,
+            }),
+            other: Some(Rests::Then {
+                part: Part::Whole(self.child(second)?),
+                then: share(then)?,
+            }),
+        })
+    }
+
+    /// The parts of a PERMUTE.
+    fn parts(&self) -> &[Rc<Form>] {
+        match &*self.form {
+            Form::Permute(parts) => parts,
+            _ => &[],
+        }
+    }
+
+    /// An order of the parts, and below it the orders after that one.
+    fn take_order(&self, alloc: Global, from: usize, then: &Tail, row: u64) -> Result<Split, AllocError> {
+        let parts = self.parts();
+        let count = factorial(parts.len());
+        if from >= count {
+            return Ok(Split::none());
+        }
+        let order = permutation_at(alloc, parts.len(), from)?;
+        let first = self.in_order(alloc, parts, &order, then)?;
+        let preferred = follow(&first, row)?;
+        if from + 1 == count {
+            return Ok(Split::one(preferred));
+        }
+        Ok(Split {
+            preferred,
+            other: Some(Rests::Then {
+                part: Part::Orders {
+                    permute: self.share()?,
+                    from: from + 1,
+                },
+                then: share(then)?,
+            }),
+        })
+    }
+
+    /// The parts in an order, before later ones.
+    fn in_order(&self, alloc: Global, parts: &[Rc<Form>], order: &[usize], then: &Tail) -> Result<Tail, AllocError> {
+        let mut tail = share(then)?;
+        for place in order.iter().rev() {
+            let part = Part::Whole(self.child(&parts[*place])?);
+            tail = linked(alloc, None, part, tail)?;
+        }
+        Ok(tail)
+    }
+}
+
+/// How many iterations may follow the required ones.
+fn further(lower: u32, upper: Option<u32>) -> Option<u32> {
+    match upper {
+        None => None,
+        Some(upper) => Some(upper.saturating_sub(lower)),
+    }
+}
+
+/// No row, before row 1.
+fn take_start(then: &Tail, row: u64) -> Result<Split, AllocError> {
+    if row == 1 {
+        Ok(Split::one(follow(then, row)?))
+    } else {
+        Ok(Split::none())
+    }
+}
+
+/// No row, after the last one.
+fn take_end(then: &Tail, row: u64, n: u64, end: End) -> Result<Turn, AllocError> {
+    if row <= n {
+        return Ok(Turn::Split(Split::none()));
+    }
+    match end {
+        End::Open => Ok(Turn::Open),
+        End::Closed => Ok(Turn::Split(Split::one(follow(then, row)?))),
+    }
+}
+
+/// The part, whose labels are excluded.
+fn take_exclusion(body: &Rc<Form>, then: &Tail) -> Result<Split, AllocError>
+    requires { IsTrue (is_allowed body.now.value) }
+{
+    let part = Part::Whole(Node {
+        form: body.clone()?,
+        excluded: true,
+    });
+    Ok(Split::one(Some(Rests::Then {
+        part,
+        then: share(then)?,
+    })))
+}
+
+impl Iterations {
+    /// A required iteration, or else another one and what comes after.
+    fn take_up(&self, alloc: Global, lower: u32, then: &Tail, row: u64) -> Result<Split, AllocError> {
+        if lower > 0 {
+            return self.take_required(alloc, lower - 1, then);
+        }
+        let stop = follow(then, row)?;
+        match self.further {
+            None => self.take_optional(alloc, None, then, row, stop),
+            Some(0) => Ok(Split::one(stop)),
+            Some(further) => self.take_optional(alloc, Some(further - 1), then, row, stop),
+        }
+    }
+
+    /// An iteration, and then so many required ones.
+    fn take_required(&self, alloc: Global, lower: u32, then: &Tail) -> Result<Split, AllocError> {
+        let iterations = self.with_further(self.further)?;
+        let later = linked(alloc, None, Part::Times { lower, iterations }, share(then)?)?;
+        Ok(Split::one(Some(Rests::Then {
+            part: Part::Whole(self.body.share()?),
+            then: later,
+        })))
+    }
+
+    /// An iteration that takes a row, before `further` others, or to stop.
+    fn take_optional(
+        &self,
+        alloc: Global,
+        further: Option<u32>,
+        then: &Tail,
+        row: u64,
+        stop: Option<Rests>,
+    ) -> Result<Split, AllocError> {
+        let iterations = self.with_further(further)?;
+        let part = Part::Times {
+            lower: 0,
+            iterations,
+        };
+        let another = Some(Rests::Then {
+            part: Part::Whole(self.body.share()?),
+            then: linked(alloc, Some(row), part, share(then)?)?,
+        });
+        if self.reluctant {
+            return Ok(Split {
+                preferred: stop,
+                other: another,
+            });
+        }
+        Ok(Split {
+            preferred: another,
+            other: stop,
+        })
+    }
+}
+
+/// 1 * 2 * .. * n.
+fn factorial(n: usize) -> usize
+{
+    let mut product = 1;
+    for i in 0..n {
+        product *= i + 1;
+    }
+    product
+}
+
+fn permutation_at(alloc: Global, k: usize, place: usize) -> Result<Vec<usize>, AllocError>
+{
+    let mut left: Vec<usize> = (0..k).collect(alloc)?;
+    let mut order = Vec::new(alloc);
+    let mut place = place;
+    for taken in 0..k {
+        let block = factorial(k - 1 - taken);
+        order.push(left.remove(place / block))?;
+        place %= block;
+    }
+    Ok(order)
+}
