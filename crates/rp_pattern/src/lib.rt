@@ -3,8 +3,10 @@
 
 mod form;
 mod laws;
+mod orders;
 mod word;
 
 pub use form::{Form, Pattern};
 pub use laws::law_words;
+pub use orders::permutations;
 pub use word::{End, Label, Mark, Seen, Word};
