@@ -16,7 +16,7 @@ use Rattle.rp_pattern.proofs.Lists.{map-map}
 use Rattle.rp_pattern.proofs.Bounds.{AreWithin, optional_enough}
 use Rattle.rp_pattern.proofs.Within.{words_within}
 use Rattle.rp_pattern.proofs.Extension.{Extends-append, Extends-concatenation, Extends-excluded, Extends-optional, Extends-required}
-use Rattle.rp_pattern.proofs.Orders.{permuted-map}
+use Rattle.rp_pattern.proofs.Arrangements.{permuted-map}
 
 begins_empty : (w : Mapping) → BeginsWith [] w
 begins_empty (Full ls) = record { rest = ls; begins = refl }

@@ -5,5 +5,6 @@ pub mod Variables
 pub mod Turns
 pub mod Bounds
 pub mod PatternForm
+pub mod Permutations
 pub mod Rests
 pub mod Splits

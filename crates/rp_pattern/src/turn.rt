@@ -5,6 +5,7 @@ ghost use Rattle.rp_pattern.specs.Rests.{tail_parts, rests_parts, part_as, node_
 ghost use Rattle.rp_pattern.specs.Splits.{TakenUp, SplitsAt, AlwaysSplits};
 
 use crate::form::Form;
+use crate::orders::{factorial, permutation_at};
 use crate::rests::{Iterations, Node, Part, Rests, Tail};
 use crate::tail::{follow, linked, share};
 use crate::word::{End, Label};
@@ -307,27 +308,4 @@ impl Iterations {
             other: stop,
         })
     }
-}
-
-/// 1 * 2 * .. * n.
-fn factorial(n: usize) -> usize
-{
-    let mut product = 1;
-    for i in 0..n {
-        product *= i + 1;
-    }
-    product
-}
-
-fn permutation_at(alloc: Global, k: usize, place: usize) -> Result<Vec<usize>, AllocError>
-{
-    let mut left: Vec<usize> = (0..k).collect(alloc)?;
-    let mut order = Vec::new(alloc);
-    let mut place = place;
-    for taken in 0..k {
-        let block = factorial(k - 1 - taken);
-        order.push(left.remove(place / block))?;
-        place %= block;
-    }
-    Ok(order)
 }

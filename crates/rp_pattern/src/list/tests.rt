@@ -4,8 +4,6 @@ use crate::word::Label;
 use std::rc::Rc;
 use std::test::Fail;
 
-const ALLOC_CAP: usize = 100;
-
 fn variable(alloc: Global, v: usize) -> Result<Rc<Form>, AllocError> {
     Ok(Rc::new(alloc, Form::Variable(v))?)
 }
@@ -50,6 +48,6 @@ fn iterations(rt: HostRuntime) -> Result<(), Fail> {
     let inner = quantified(alloc, Form::Variable(0), 0, None, false)?;
     let nested = quantified(alloc, inner, 0, None, false)?;
     let text = shown(alloc, nested, 1, 3, End::Closed, 8)?;
-    assert_eq!(rt; text.as_str(), "AAA AA AA A AA A A  ");
+    assert_eq!(rt; text.as_str(), "AAA AAA AA AAA AAA AA A  ");
     Ok(())
 }
