@@ -1,6 +1,5 @@
 -- What is left of a pattern: parts one after another, each as its words and its turns.
-use Rattle.std.specs.Prelude.{◌≡◌, ℕ, suc, ◌+◌, ◌×◌, Bool, true, false, ◌&&◌, List, [], ◌∷◌, ◌++◌, map, length, take, drop, Option, Some, None, sum_by, nat_le}
-use Rattle.std.specs.List.{flat_map}
+use Rattle.std.specs.Prelude.{◌≡◌, ℕ, suc, ◌+◌, Bool, true, ◌&&◌, List, [], ◌∷◌, ◌++◌, map, length, take, Option, Some, None, nat_le}
 use Rattle.std.specs.declared.rc.Rc.{Rc}
 use Rattle.std.specs.declared.alloc.Global.{Global}
 use Rattle.rp_pattern.specs.declared.form.Form.{Form}
@@ -19,17 +18,12 @@ use Rattle.rp_pattern.specs.declared.rests.Rests.{Rests}
 use Rattle.rp_pattern.specs.declared.rests.Rests.TheVariants.{Done, Then}
 use Rattle.rp_pattern.specs.declared.rests.Choice.{Choice}
 use Rattle.rp_pattern.specs.Mapping.{Mapping}
-use Rattle.rp_pattern.specs.Words.{Mappings, words, exclusion, optional, required, sequence, preceded, orders}
-use Rattle.rp_pattern.specs.Turns.{Part as Costed, turns, optional_turns, required_turns, sequence_turns, chain_turns, moved_part}
-
--- the words of a part, inside an exclusion or not
-abbrev pub within_exclusion : Bool → Mappings → Mappings
-within_exclusion false p = p
-within_exclusion true p = exclusion p
+use Rattle.rp_pattern.specs.Words.{Mappings, words, sequence, preceded}
+use Rattle.rp_pattern.specs.Turns.{Part as Costed, turns, chain_turns, moved_part, within, iterations, orders_from, words_of}
 
 -- a part of a pattern
 abbrev pub form_part : ℕ → End → Form → Bool → Costed
-form_part n e f excluded = (within_exclusion excluded (words n e f), turns n e f)
+form_part n e f excluded = within excluded (words n e f, turns n e f)
 
 abbrev pub node_part : ℕ → End → Node → Costed
 node_part n e node = form_part n e node.form.value node.excluded
@@ -39,12 +33,8 @@ abbrev pub still : ℕ → Option ℕ → ℕ
 still n (Some k) = k
 still n None = suc (suc n)
 
--- so many required iterations of a part, and then the others
-abbrev pub times_part : ℕ → Bool → Costed → ℕ → Costed
-times_part lower reluctant p h = (required lower p.0 (optional reluctant p.0 h), required_turns lower p (optional_turns p h))
-
 abbrev pub iterations_part : ℕ → End → ℕ → Iterations → Costed
-iterations_part n e lower it = times_part lower it.reluctant (node_part n e it.body) (still n it.further)
+iterations_part n e lower it = iterations lower (still n it.further) it.reluctant (node_part n e it.body)
 
 -- the parts of a PERMUTE, and of another form none
 abbrev pub layer_parts : Form-F Form → List Form
@@ -54,16 +44,13 @@ layer_parts _ = []
 abbrev pub permuted_parts : Form → List Form
 permuted_parts f = layer_parts (out-Form f)
 
--- the orders of parts from a number on, one after another
-abbrev pub orders_part : ℕ → List Costed → Costed
-orders_part from ps =
-    (λ i. flat_map (λ order. sequence (map (λ p. p.0) order) i) (drop from (orders ps)),
-    λ i. 1 + sum_by (λ order. sequence_turns order i) (drop from (orders ps)))
+abbrev pub permuted_costed : ℕ → End → Node → List Costed
+permuted_costed n e node = map (λ f. form_part n e f node.excluded) (permuted_parts node.form.value)
 
 abbrev pub part_as : ℕ → End → Part → Costed
 part_as n e (Whole node) = node_part n e node
 part_as n e (Times lower it) = iterations_part n e lower it
-part_as n e (Orders permute from) = orders_part from (map (λ f. form_part n e f permute.excluded) (permuted_parts permute.form.value))
+part_as n e (Orders permute from) = orders_from from (permuted_costed n e permute)
 
 -- the later parts in order, each with the row that it is reached past, if any
 abbrev pub links_behind : Option (Rc (List (Option ℕ × Part)) Global) → List (Option ℕ × Part)
@@ -103,7 +90,7 @@ later_parts n e (Then part then) = tail_parts n e then
 
 -- the words of parts one after another
 abbrev pub chain_words : List Costed → Mappings
-chain_words ps = sequence (map (λ p. p.0) ps)
+chain_words ps = sequence (map words_of ps)
 
 -- the words of a choice: those of its rests from its row on, with the labels before it
 abbrev pub choice_words : ℕ → End → ℕ → List Label → Choice → List Mapping
@@ -133,3 +120,12 @@ IsNodeOf f excluded node = (node.form.value ≡ f) × (node.excluded ≡ exclude
 
 abbrev pub AreIterationsOf : Iterations → Option ℕ → Iterations → Type 0
 AreIterationsOf it further copy = IsNodeOf it.body.form.value it.body.excluded copy.body × (copy.further ≡ further) × (copy.reluctant ≡ it.reluctant)
+
+-- one fewer may follow, where there is a bound
+abbrev pub IsOneLess : Option ℕ → Option ℕ → Type 0
+IsOneLess None less = less ≡ None
+IsOneLess (Some k) less = (h : ℕ) × (k ≡ suc h) × (less ≡ Some h)
+
+-- the same words and turns from each row
+abbrev pub IsSamePart : Costed → Costed → Type 0
+IsSamePart p q = (i : ℕ) → (p.0 i ≡ q.0 i) × (p.1 i ≡ q.1 i)

@@ -1,8 +1,9 @@
-ghost use Rattle.std.specs.Prelude.{◌≡◌, ℕ, suc, ◌∷◌, ◌-◌, ◌^◌, ◌<◌, ◌≤◌, IfOk, IsTrue, List, None};
+ghost use Rattle.std.specs.Prelude.{◌≡◌, ℕ, suc, ◌∷◌, ◌+◌, ◌-◌, ◌^◌, ◌<◌, ◌≤◌, IfOk, IsTrue, List, map, length};
 ghost use Rattle.rp_pattern.specs.declared.word.End.{End};
-ghost use Rattle.rp_pattern.specs.Bounds.{is_allowed};
-ghost use Rattle.rp_pattern.specs.Rests.{tail_parts, rests_parts, part_as, node_part, form_part, iterations_part, orders_part, permuted_parts};
-ghost use Rattle.rp_pattern.specs.Splits.{TakenUp, SplitsAt, AlwaysSplits};
+ghost use Rattle.rp_pattern.specs.Rests.{tail_parts, rests_parts, part_as, node_part, iterations_part, permuted_parts, permuted_costed, still, IsOneLess, IsSamePart};
+ghost use Rattle.rp_pattern.specs.Turns.{orders_from};
+ghost use Rattle.rp_pattern.specs.Words.{further};
+ghost use Rattle.rp_pattern.specs.Splits.{TakenUp, AlwaysSplits, Stands};
 
 use crate::form::Form;
 use crate::orders::{factorial, permutation_at};
@@ -34,7 +35,9 @@ pub(crate) enum Turn {
 
 impl Split {
     /// No choice.
-    fn none() -> Split {
+    fn none() -> Split
+        ensures { result ≡ record { preferred = None; other = None } }
+    {
         Split {
             preferred: None,
             other: None,
@@ -42,7 +45,9 @@ impl Split {
     }
 
     /// One choice, if any.
-    fn one(rests: Option<Rests>) -> Split {
+    fn one(rests: Option<Rests>) -> Split
+        ensures { result ≡ record { preferred = rests; other = None } }
+    {
         Split {
             preferred: rests,
             other: None,
@@ -87,9 +92,15 @@ impl Node {
     {
         match form {
             Form::Variable(var) => Ok(self.take_variable(*var, row, n, end, then)),
-            Form::Empty => Ok(Turn::Split(Split::one(follow(then, row)?))),
-            Form::PartitionStart => Ok(Turn::Split(take_start(then, row)?)),
-            Form::PartitionEnd => take_end(then, row, n, end),
+            Form::Empty => {
+                let split = self.take_empty(then, row)?;
+                Ok(Turn::Split(split))
+            }
+            Form::PartitionStart => {
+                let split = self.take_start(then, row)?;
+                Ok(Turn::Split(split))
+            },
+            Form::PartitionEnd => self.take_end(then, row, n, end),
             Form::Concatenation(first, second) => {
                 let split = self.take_concatenation(alloc, first, second, then)?;
                 Ok(Turn::Split(split))
@@ -103,7 +114,7 @@ impl Node {
                 Ok(Turn::Split(split))
             }
             Form::Exclusion(body) => {
-                let split = take_exclusion(body, then)?;
+                let split = self.take_exclusion(body, then)?;
                 Ok(Turn::Split(split))
             }
             Form::Quantified {
@@ -112,11 +123,7 @@ impl Node {
                 upper,
                 reluctant,
             } => {
-                let iterations = Iterations {
-                    body: self.child(body)?,
-                    further: further(*lower, *upper),
-                    reluctant: *reluctant,
-                };
+                let iterations = self.iterations(body, *lower, *upper, *reluctant)?;
                 let split = iterations.take_up(alloc, *lower, then, row)?;
                 Ok(Turn::Split(split))
             }
@@ -141,9 +148,8 @@ impl Node {
 
     /// The two parts, one after the other.
     fn take_concatenation(&self, alloc: Global, first: &Rc<Form>, second: &Rc<Form>, then: &Tail) -> Result<Split, AllocError>
-        requires first { IsTrue (is_allowed first.now.value) }
-        requires second { IsTrue (is_allowed second.now.value) }
-        ensures { IfOk result (AlwaysSplits row (λ n e. concatenation_part (form_part n e first.now.value self.now.excluded) (form_part n e second.now.value self.now.excluded) ∷ tail_parts n e then.now)) }
+        requires { self.now.form.value ≡ Form.Concatenation first.now second.now }
+        ensures { IfOk result (λ split. (row : ℕ) → AlwaysSplits row (λ n e. node_part n e self.now ∷ tail_parts n e then.now) split) }
     {
         let later = linked(alloc, None, Part::Whole(self.child(second)?), share(then)?)?;
         Ok(Split::one(Some(Rests::Then {
@@ -154,8 +160,8 @@ impl Node {
 
     /// Either part.
     fn take_alternation(&self, first: &Rc<Form>, second: &Rc<Form>, then: &Tail) -> Result<Split, AllocError>
-        requires first { IsTrue (is_allowed first.now.value) }
-        requires second { IsTrue (is_allowed second.now.value) }
+        requires { self.now.form.value ≡ Form.Alternation first.now second.now }
+        ensures { IfOk result (λ split. (row : ℕ) → AlwaysSplits row (λ n e. node_part n e self.now ∷ tail_parts n e then.now) split) }
     {
         Ok(Split {
             preferred: Some(Rests::Then {
@@ -169,8 +175,71 @@ impl Node {
         })
     }
 
+    /// No row.
+    fn take_empty(&self, then: &Tail, row: u64) -> Result<Split, AllocError>
+        requires { self.now.form.value ≡ Form.Empty }
+        ensures { IfOk result (AlwaysSplits row (λ n e. node_part n e self.now ∷ tail_parts n e then.now)) }
+    {
+        Ok(Split::one(follow(then, row)?))
+    }
+
+    /// No row, before row 1.
+    fn take_start(&self, then: &Tail, row: u64) -> Result<Split, AllocError>
+        requires { self.now.form.value ≡ Form.PartitionStart }
+        ensures { IfOk result (AlwaysSplits row (λ n e. node_part n e self.now ∷ tail_parts n e then.now)) }
+    {
+        if row != 1 {
+            return Ok(Split::none());
+        }
+        Ok(Split::one(follow(then, row)?))
+    }
+
+    /// No row, after the last one.
+    fn take_end(&self, then: &Tail, row: u64, n: u64, end: End) -> Result<Turn, AllocError>
+        requires { self.now.form.value ≡ Form.PartitionEnd }
+        ensures { IfOk result (TakenUp n end row (λ n e. node_part n e self.now ∷ tail_parts n e then.now)) }
+    {
+        if row <= n {
+            return Ok(Turn::Split(Split::none()));
+        }
+        match end {
+            End::Open => Ok(Turn::Open),
+            End::Closed => Ok(Turn::Split(Split::one(follow(then, row)?))),
+        }
+    }
+
+    /// The part, whose labels are excluded.
+    fn take_exclusion(&self, body: &Rc<Form>, then: &Tail) -> Result<Split, AllocError>
+        requires { self.now.form.value ≡ Form.Exclusion body.now }
+        ensures { IfOk result (λ split. (row : ℕ) → AlwaysSplits row (λ n e. node_part n e self.now ∷ tail_parts n e then.now) split) }
+    {
+        let part = Part::Whole(Node {
+            form: body.clone()?,
+            excluded: true,
+        });
+        Ok(Split::one(Some(Rests::Then {
+            part,
+            then: share(then)?,
+        })))
+    }
+
+    /// The iterations of a quantified part.
+    fn iterations(&self, body: &Rc<Form>, lower: u32, upper: Option<u32>, reluctant: bool) -> Result<Iterations, AllocError>
+        requires { self.now.form.value ≡ Form.Quantified body.now lower upper reluctant }
+        ensures { IfOk result (λ it. (n : ℕ) (e : End) → IsSamePart (iterations_part n e lower it) (node_part n e self.now)) }
+    {
+        Ok(Iterations {
+            body: self.child(body)?,
+            further: further(lower, upper),
+            reluctant,
+        })
+    }
+
     /// The parts of a PERMUTE.
-    fn parts(&self) -> &[Rc<Form>] {
+    fn parts(&self) -> &[Rc<Form>]
+        ensures parts { map (λ f. f.value) result.now ≡ permuted_parts self.now.form.value }
+        ensures few { length result.now ≤ 8 }
+    {
         match &*self.form {
             Form::Permute(parts) => parts,
             _ => &[],
@@ -178,7 +247,9 @@ impl Node {
     }
 
     /// An order of the parts, and below it the orders after that one.
-    fn take_order(&self, alloc: Global, from: usize, then: &Tail, row: u64) -> Result<Split, AllocError> {
+    fn take_order(&self, alloc: Global, from: usize, then: &Tail, row: u64) -> Result<Split, AllocError>
+        ensures { IfOk result (AlwaysSplits row (λ n e. orders_from from (permuted_costed n e self.now) ∷ tail_parts n e then.now)) }
+    {
         let parts = self.parts();
         let count = factorial(parts.len());
         if from >= count {
@@ -214,50 +285,20 @@ impl Node {
 }
 
 /// How many iterations may follow the required ones.
-fn further(lower: u32, upper: Option<u32>) -> Option<u32> {
+fn further(lower: u32, upper: Option<u32>) -> Option<u32>
+    ensures { (n : ℕ) → still n result ≡ further n lower upper }
+{
     match upper {
         None => None,
         Some(upper) => Some(upper.saturating_sub(lower)),
     }
 }
 
-/// No row, before row 1.
-fn take_start(then: &Tail, row: u64) -> Result<Split, AllocError> {
-    if row == 1 {
-        Ok(Split::one(follow(then, row)?))
-    } else {
-        Ok(Split::none())
-    }
-}
-
-/// No row, after the last one.
-fn take_end(then: &Tail, row: u64, n: u64, end: End) -> Result<Turn, AllocError> {
-    if row <= n {
-        return Ok(Turn::Split(Split::none()));
-    }
-    match end {
-        End::Open => Ok(Turn::Open),
-        End::Closed => Ok(Turn::Split(Split::one(follow(then, row)?))),
-    }
-}
-
-/// The part, whose labels are excluded.
-fn take_exclusion(body: &Rc<Form>, then: &Tail) -> Result<Split, AllocError>
-    requires { IsTrue (is_allowed body.now.value) }
-{
-    let part = Part::Whole(Node {
-        form: body.clone()?,
-        excluded: true,
-    });
-    Ok(Split::one(Some(Rests::Then {
-        part,
-        then: share(then)?,
-    })))
-}
-
 impl Iterations {
     /// A required iteration, or else another one and what comes after.
-    fn take_up(&self, alloc: Global, lower: u32, then: &Tail, row: u64) -> Result<Split, AllocError> {
+    fn take_up(&self, alloc: Global, lower: u32, then: &Tail, row: u64) -> Result<Split, AllocError>
+        ensures { IfOk result (AlwaysSplits row (λ n e. iterations_part n e lower self.now ∷ tail_parts n e then.now)) }
+    {
         if lower > 0 {
             return self.take_required(alloc, lower - 1, then);
         }
@@ -270,7 +311,9 @@ impl Iterations {
     }
 
     /// An iteration, and then so many required ones.
-    fn take_required(&self, alloc: Global, lower: u32, then: &Tail) -> Result<Split, AllocError> {
+    fn take_required(&self, alloc: Global, lower: u32, then: &Tail) -> Result<Split, AllocError>
+        ensures { IfOk result (λ split. (row : ℕ) → AlwaysSplits row (λ n e. iterations_part n e (lower + 1) self.now ∷ tail_parts n e then.now) split) }
+    {
         let iterations = self.with_further(self.further)?;
         let later = linked(alloc, None, Part::Times { lower, iterations }, share(then)?)?;
         Ok(Split::one(Some(Rests::Then {
@@ -287,7 +330,11 @@ impl Iterations {
         then: &Tail,
         row: u64,
         stop: Option<Rests>,
-    ) -> Result<Split, AllocError> {
+    ) -> Result<Split, AllocError>
+        requires stop { (n : ℕ) (e : End) → Stands n e row (tail_parts n e then.now) stop }
+        requires further { IsOneLess self.now.further further }
+        ensures { IfOk result (AlwaysSplits row (λ n e. iterations_part n e 0 self.now ∷ tail_parts n e then.now)) }
+    {
         let iterations = self.with_further(further)?;
         let part = Part::Times {
             lower: 0,
