@@ -1,6 +1,6 @@
 use Rattle.std.proofs.Common.{◌-◌, ◌<◌, sym, subst, arith}
 use Rattle.rp_pattern.proofs.Places.{factorial_positive}
-use Rattle.rp_pattern.proofs.Taken.{starts, leads, goes_on, ends}
+use Rattle.rp_pattern.proofs.OrderSteps.{starts, leads, goes_on, ends}
 use Rattle.rp_pattern.proofs.orders.permutation_at.Goals as goal
 
 pub loop-taken-init : goal.loop-taken-init

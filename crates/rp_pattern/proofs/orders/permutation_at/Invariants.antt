@@ -1,4 +1,4 @@
-use Rattle.rp_pattern.proofs.Taken.{GoesOn}
+use Rattle.rp_pattern.proofs.OrderSteps.{GoesOn}
 use Rattle.rp_pattern.proofs.orders.permutation_at.Given as goal
 
 abbrev pub invariant-loop-taken : goal.invariant-loop-taken
