@@ -19,7 +19,7 @@ use Rattle.rp_pattern.specs.declared.rests.Rests.TheVariants.{Done, Then}
 use Rattle.rp_pattern.specs.declared.rests.Choice.{Choice}
 use Rattle.rp_pattern.specs.Mapping.{Mapping}
 use Rattle.rp_pattern.specs.Words.{Mappings, words, sequence, preceded}
-use Rattle.rp_pattern.specs.Turns.{Part as Costed, turns, chain_turns, moved_part, within, iterations, orders_from, words_of}
+use Rattle.rp_pattern.specs.Turns.{Part as Costed, turns, chain_turns, past, within, iterations, orders_from, words_of}
 
 -- a part of a pattern
 abbrev pub form_part : ℕ → End → Form → Bool → Costed
@@ -67,14 +67,12 @@ abbrev pub tail_links : Option (Rc Link Global) → List (Option ℕ × Part)
 tail_links None = []
 tail_links (Some p) = links_from p.value
 
--- a part that is reached only past a row stands behind a test for that row
-abbrev pub guarded : Option ℕ → Costed → List Costed
-guarded None p = p ∷ []
-guarded (Some since) p = moved_part since ∷ p ∷ []
+abbrev pub guarded : Option ℕ → Costed → Costed
+guarded None p = p
+guarded (Some since) p = past since p
 
 abbrev pub links_parts : ℕ → End → List (Option ℕ × Part) → List Costed
-links_parts n e [] = []
-links_parts n e (l ∷ ls) = guarded l.0 (part_as n e l.1) ++ links_parts n e ls
+links_parts n e ls = map (λ l. guarded l.0 (part_as n e l.1)) ls
 
 abbrev pub tail_parts : ℕ → End → Option (Rc Link Global) → List Costed
 tail_parts n e tail = links_parts n e (tail_links tail)
