@@ -305,8 +305,12 @@ impl Iterations {
         let stop = follow(then, row)?;
         match self.further {
             None => self.take_optional(alloc, None, then, row, stop),
-            Some(0) => Ok(Split::one(stop)),
-            Some(further) => self.take_optional(alloc, Some(further - 1), then, row, stop),
+            Some(further) => {
+                if further == 0 {
+                    return Ok(Split::one(stop));
+                }
+                self.take_optional(alloc, Some(further - 1), then, row, stop)
+            }
         }
     }
 
