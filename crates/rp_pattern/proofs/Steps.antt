@@ -1,5 +1,5 @@
 -- The choices that a function makes, as what a part leaves.
-use Rattle.std.proofs.Common.{◌≡◌, ℕ, suc, ◌+◌, ◌<◌, List, [], ◌∷◌, ◌++◌, map, Bool, Option, Some, None, refl, sym, ap, ◌∙◌, arith, subst}
+use Rattle.std.proofs.Common.{◌≡◌, ℕ, suc, ◌+◌, ◌<◌, List, [], ◌∷◌, ◌++◌, map, Bool, true, false, Option, Some, None, refl, sym, ap, ◌∙◌, arith, subst}
 use Rattle.std.specs.declared.rc.Rc.{Rc}
 use Rattle.std.specs.declared.alloc.Global.{Global}
 use Rattle.rp_pattern.specs.declared.form.Form.{Form}
@@ -9,14 +9,15 @@ use Rattle.rp_pattern.specs.declared.rests.Iterations.{Iterations}
 use Rattle.rp_pattern.specs.declared.rests.Part.{Part}
 use Rattle.rp_pattern.specs.declared.rests.Link.{Link}
 use Rattle.rp_pattern.specs.declared.rests.Rests.{Rests}
+use Rattle.rp_pattern.specs.declared.rests.Rests.TheVariants.{Then}
 use Rattle.rp_pattern.specs.declared.turn.Split.{Split}
 use Rattle.rp_pattern.specs.Turns.{Part as Costed, chain_turns, iterations, past}
 use Rattle.rp_pattern.specs.WordLaws.{IsLater}
-use Rattle.rp_pattern.specs.Rests.{part_as, form_part, node_part, iterations_part, still, tail_links, tail_parts, links_parts, guarded, rests_parts, chain_words, IsNodeOf, AreIterationsOf, IsSamePart}
+use Rattle.rp_pattern.specs.Rests.{part_as, form_part, node_part, iterations_part, still, tail_links, tail_parts, links_parts, guarded, rests_parts, chain_words, IsNodeOf, AreIterationsOf, IsOneLess}
 use Rattle.rp_pattern.specs.Splits.{Stands, SplitsAt, AlwaysSplits, Splits, option_words}
 use Rattle.rp_pattern.proofs.Algebra.{append_nil}
 use Rattle.rp_pattern.proofs.TurnsTaken.{same_first}
-use Rattle.rp_pattern.proofs.Expansions.{Leaves, LeavesTwo, same_first_words}
+use Rattle.rp_pattern.proofs.Expansions.{Leaves, LeavesTwo, same_first_words, repeated, greedy_leaves, lazy_leaves, greedy_unbounded, lazy_unbounded, form_within}
 
 -- ---- parts that were copied or put together
 
@@ -33,6 +34,9 @@ iterations_as n e lower it copy further h =
 pub linked_parts : (n : ℕ) (e : End) (later shared then : Option (Rc Link Global)) (since : Option ℕ) (part : Part) →
     tail_links later ≡ (since, part) ∷ tail_links shared → tail_links shared ≡ tail_links then → tail_parts n e later ≡ guarded since (part_as n e part) ∷ tail_parts n e then
 linked_parts n e later shared then since part a b = ap (links_parts n e) a ∙ ap (λ ls. guarded since (part_as n e part) ∷ links_parts n e ls) b
+
+pub then_parts : (n : ℕ) (e : End) (part : Part) (copy then : Option (Rc Link Global)) (p : Costed) → part_as n e part ≡ p → tail_links copy ≡ tail_links then → rests_parts n e (Then part copy) ≡ p ∷ tail_parts n e then
+then_parts n e part copy then p a b = ap (λ z. z ∷ links_parts n e (tail_links copy)) a ∙ ap (λ ls. p ∷ links_parts n e ls) b
 
 -- ---- what stands for parts
 
@@ -62,5 +66,41 @@ same_splits n e i p q ps s w t h = record {
   turns = omega (arith, h.turns, same_first p q ps i w t);
 }
 
+pub later_self : (n : ℕ) (e : End) → IsLater n e n e
+later_self n e = (omega arith, λ closed. (refl, closed))
+
+pub later_splits : (n : ℕ) (e : End) (i : ℕ) (ps : ℕ → End → List Costed) (s : Split) → ((n' : ℕ) (e' : End) → IsLater n e n' e' → SplitsAt n' e' i (ps n' e') s) → Splits n e i ps s
+later_splits n e i ps s h = record { words = λ n' e' later. (h n' e' later).words; turns = (h n e (later_self n e)).turns }
+
 pub always_splits : (n : ℕ) (e : End) (i : ℕ) (ps : ℕ → End → List Costed) (s : Split) → AlwaysSplits i ps s → Splits n e i ps s
-always_splits n e i ps s h = record { words = λ n' e' later. (h n' e').words; turns = (h n e).turns }
+always_splits n e i ps s h = later_splits n e i ps s (λ n' e' later. h n' e')
+
+-- ---- another iteration
+
+module _ (n : ℕ) (e : End) (row : ℕ) (it : Iterations) (less : Option ℕ) (then : Option (Rc Link Global)) (another : Rests) (stop : Option Rests) (fewer : IsOneLess it.further less) where
+  abbrev ts : List Costed
+  ts = tail_parts n e then
+
+  leaves_greedy : (further less : Option ℕ) → IsOneLess further less → LeavesTwo row (iterations 0 (still n further) false (node_part n e it.body) ∷ ts) (repeated (still n less) false (node_part n e it.body) ts row) ts
+  leaves_greedy None less h = subst (λ k. LeavesTwo row (iterations 0 (suc (suc n)) false (node_part n e it.body) ∷ ts) (repeated (still n k) false (node_part n e it.body) ts row) ts) (sym h) (greedy_unbounded n (node_part n e it.body) ts row (form_within n e it.body.form.value it.body.excluded))
+  leaves_greedy (Some k) less h =
+      subst (λ k. LeavesTwo row (iterations 0 k false (node_part n e it.body) ∷ ts) (repeated (still n less) false (node_part n e it.body) ts row) ts) (sym h.1)
+      (subst (λ l. LeavesTwo row (iterations 0 (suc h.0) false (node_part n e it.body) ∷ ts) (repeated (still n l) false (node_part n e it.body) ts row) ts) (sym h.2) (greedy_leaves h.0 (node_part n e it.body) ts row))
+
+  leaves_lazy : (further less : Option ℕ) → IsOneLess further less → LeavesTwo row (iterations 0 (still n further) true (node_part n e it.body) ∷ ts) ts (repeated (still n less) true (node_part n e it.body) ts row)
+  leaves_lazy None less h = subst (λ k. LeavesTwo row (iterations 0 (suc (suc n)) true (node_part n e it.body) ∷ ts) ts (repeated (still n k) true (node_part n e it.body) ts row)) (sym h) (lazy_unbounded n (node_part n e it.body) ts row (form_within n e it.body.form.value it.body.excluded))
+  leaves_lazy (Some k) less h =
+      subst (λ k. LeavesTwo row (iterations 0 k true (node_part n e it.body) ∷ ts) ts (repeated (still n less) true (node_part n e it.body) ts row)) (sym h.1)
+      (subst (λ l. LeavesTwo row (iterations 0 (suc h.0) true (node_part n e it.body) ∷ ts) ts (repeated (still n l) true (node_part n e it.body) ts row)) (sym h.2) (lazy_leaves h.0 (node_part n e it.body) ts row))
+
+  pub greedy_splits : it.reluctant ≡ false → Stands n e row ts stop → rests_parts n e another ≡ repeated (still n less) it.reluctant (node_part n e it.body) ts row →
+      SplitsAt n e row (iterations_part n e 0 it ∷ ts) (record { preferred = Some another; other = stop })
+  greedy_splits is h k =
+      two_splits n e row _ _ ts (Some another) stop (stands_as n e row another _ k) h
+      (subst (λ r. LeavesTwo row (iterations 0 (still n it.further) r (node_part n e it.body) ∷ ts) (repeated (still n less) r (node_part n e it.body) ts row) ts) (sym is) (leaves_greedy it.further less fewer))
+
+  pub lazy_splits : it.reluctant ≡ true → Stands n e row ts stop → rests_parts n e another ≡ repeated (still n less) it.reluctant (node_part n e it.body) ts row →
+      SplitsAt n e row (iterations_part n e 0 it ∷ ts) (record { preferred = stop; other = Some another })
+  lazy_splits is h k =
+      two_splits n e row _ ts _ stop (Some another) h (stands_as n e row another _ k)
+      (subst (λ r. LeavesTwo row (iterations 0 (still n it.further) r (node_part n e it.body) ∷ ts) ts (repeated (still n less) r (node_part n e it.body) ts row)) (sym is) (leaves_lazy it.further less fewer))
