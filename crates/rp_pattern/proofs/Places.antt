@@ -8,7 +8,7 @@ use Rattle.std.proofs.lemmas.List.{same_lists, get_or_default}
 use Rattle.std.proofs.lemmas.Nat.{div-add-mod', div_below, mod_below}
 use Rattle.rp_pattern.specs.Words.{picks, led, arrangements, orders}
 use Rattle.rp_pattern.specs.Permutations.{upto, factorial}
-use Rattle.rp_pattern.proofs.Lists.{All-map}
+use Rattle.rp_pattern.proofs.Lists.{All-map, All-weaker}
 use Rattle.rp_pattern.proofs.Arrangements.{orders-map}
 
 pub factorial_positive : (n : ℕ) → 0 < factorial n
@@ -40,10 +40,6 @@ module _ {X Y : Type 0} (f : X → List Y) (b : ℕ) where
       let at : suc p * b + r ≡ length (f x) + (p * b + r) = omega (arith, a.0) in
       ap (λ z. get_or (f x ++ flat_map f xs) z e) at ∙ get_or-append-add (f x) (flat_map f xs) (p * b + r) e ∙ get_or-blocks xs a.1 p r d e (omega arith) k
 
-weaker : {P : Type 0} (Q R : P → Type 0) → ((p : P) → Q p → R p) → (ps : List P) → AllByRecursion Q ps → AllByRecursion R ps
-weaker Q R h [] a = tt
-weaker Q R h (p ∷ ps) a = (h p a.0, weaker Q R h ps a.1)
-
 module _ {A : Type 0} where
   pub length-picks : (xs : List A) → length (picks xs) ≡ length xs
   length-picks [] = refl
@@ -64,7 +60,7 @@ module _ {A : Type 0} where
   blocks_long : (k : ℕ) → ((ys : List A) → length ys ≡ k → length (arrangements k ys) ≡ factorial k) → (xs : List A) → length xs ≡ suc k →
       AllByRecursion (λ p. length (led (arrangements k) p) ≡ factorial k) (picks xs)
   blocks_long k each xs h =
-      weaker (λ p. suc (length p.1) ≡ length xs) (λ p. length (led (arrangements k) p) ≡ factorial k)
+      All-weaker (λ p. suc (length p.1) ≡ length xs) (λ p. length (led (arrangements k) p) ≡ factorial k)
       (λ p l. length-map (arrangements k p.1) (λ order. p.0 ∷ order) ∙ each p.1 (omega (arith, l, h))) (picks xs) (picks_shorter xs)
 
   pub length-arrangements : (k : ℕ) (xs : List A) → length xs ≡ k → length (arrangements k xs) ≡ factorial k

@@ -48,7 +48,8 @@ pub(crate) fn permutation_at(
 /// 2 0 1 and 2 1 0.
 pub fn permutations(alloc: Global, k: usize) -> Result<Vec<Vec<usize>>, AllocError>
     requires { k ≤ 8 }
-    ensures { IfOk result (λ vs. map (λ v. v.items) vs.items ≡ orders (upto k)) }
+    ensures orders { IfOk result (λ vs. map (λ v. v.items) vs.items ≡ orders (upto k)) }
+    ensures all { IfOk result (λ vs. AreAllPermutations k (map (λ v. v.items) vs.items)) }
 {
     let mut orders = Vec::new(alloc);
     for place in 0..factorial(k) {

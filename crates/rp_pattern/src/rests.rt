@@ -61,14 +61,14 @@ pub(crate) struct Choice {
 impl Node {
     ghost use Rattle.rp_pattern.specs.Rests.{IsNodeOf};
 
-    /// A part that stands where this one does.
-    pub(crate) fn child(&self, form: &Rc<Form>) -> Result<Node, AllocError>
+    /// A part, inside an exclusion or outside of one.
+    pub(crate) fn of(form: &Rc<Form>, excluded: bool) -> Result<Node, AllocError>
         requires { IsTrue (is_allowed form.now.value) }
-        ensures { IfOk result (IsNodeOf form.now.value self.now.excluded) }
+        ensures { IfOk result (IsNodeOf form.now.value excluded) }
     {
         Ok(Node {
             form: form.clone()?,
-            excluded: self.excluded,
+            excluded,
         })
     }
 
@@ -76,7 +76,7 @@ impl Node {
     pub(crate) fn share(&self) -> Result<Node, AllocError>
         ensures { IfOk result (IsNodeOf self.now.form.value self.now.excluded) }
     {
-        self.child(&self.form)
+        Node::of(&self.form, self.excluded)
     }
 }
 

@@ -151,9 +151,9 @@ impl Node {
         requires { self.now.form.value ≡ Form.Concatenation first.now second.now }
         ensures { IfOk result (λ split. (row : ℕ) → AlwaysSplits row (λ n e. node_part n e self.now ∷ tail_parts n e then.now) split) }
     {
-        let later = linked(alloc, None, Part::Whole(self.child(second)?), share(then)?)?;
+        let later = linked(alloc, None, Part::Whole(Node::of(second, self.excluded)?), share(then)?)?;
         Ok(Split::one(Some(Rests::Then {
-            part: Part::Whole(self.child(first)?),
+            part: Part::Whole(Node::of(first, self.excluded)?),
             then: later,
         })))
     }
@@ -165,11 +165,11 @@ impl Node {
     {
         Ok(Split {
             preferred: Some(Rests::Then {
-                part: Part::Whole(self.child(first)?),
+                part: Part::Whole(Node::of(first, self.excluded)?),
                 then: share(then)?,
             }),
             other: Some(Rests::Then {
-                part: Part::Whole(self.child(second)?),
+                part: Part::Whole(Node::of(second, self.excluded)?),
                 then: share(then)?,
             }),
         })
@@ -213,12 +213,8 @@ impl Node {
         requires { self.now.form.value ≡ Form.Exclusion body.now }
         ensures { IfOk result (λ split. (row : ℕ) → AlwaysSplits row (λ n e. node_part n e self.now ∷ tail_parts n e then.now) split) }
     {
-        let part = Part::Whole(Node {
-            form: body.clone()?,
-            excluded: true,
-        });
         Ok(Split::one(Some(Rests::Then {
-            part,
+            part: Part::Whole(Node::of(body, true)?),
             then: share(then)?,
         })))
     }
@@ -229,7 +225,7 @@ impl Node {
         ensures { IfOk result (λ it. (n : ℕ) (e : End) → IsSamePart (iterations_part n e lower it) (node_part n e self.now)) }
     {
         Ok(Iterations {
-            body: self.child(body)?,
+            body: Node::of(body, self.excluded)?,
             further: further(lower, upper),
             reluctant,
         })
@@ -239,6 +235,7 @@ impl Node {
     fn parts(&self) -> &[Rc<Form>]
         ensures parts { map (λ f. f.value) result.now ≡ permuted_parts self.now.form.value }
         ensures few { length result.now ≤ 8 }
+        ensures allowed { IsTrue (all_true (map (λ f. is_allowed f.value) result.now)) }
     {
         match &*self.form {
             Form::Permute(parts) => parts,
@@ -248,6 +245,7 @@ impl Node {
 
     /// An order of the parts, and below it the orders after that one.
     fn take_order(&self, alloc: Global, from: usize, then: &Tail, row: u64) -> Result<Split, AllocError>
+        requires { from ≤ 40320 }
         ensures { IfOk result (AlwaysSplits row (λ n e. orders_from from (permuted_costed n e self.now) ∷ tail_parts n e then.now)) }
     {
         let parts = self.parts();
@@ -258,9 +256,6 @@ impl Node {
         let order = permutation_at(alloc, parts.len(), from)?;
         let first = self.in_order(alloc, parts, &order, then)?;
         let preferred = follow(&first, row)?;
-        if from + 1 == count {
-            return Ok(Split::one(preferred));
-        }
         Ok(Split {
             preferred,
             other: Some(Rests::Then {
@@ -274,10 +269,14 @@ impl Node {
     }
 
     /// The parts in an order, before later ones.
-    fn in_order(&self, alloc: Global, parts: &[Rc<Form>], order: &[usize], then: &Tail) -> Result<Tail, AllocError> {
+    fn in_order(&self, alloc: Global, parts: &[Rc<Form>], order: &[usize], then: &Tail) -> Result<Tail, AllocError>
+        requires allowed { IsTrue (all_true (map (λ f. is_allowed f.value) parts.now)) }
+        requires within { All (λ k. k < length parts.now) order.now }
+        ensures { IfOk result (λ tail. (n : ℕ) (e : End) → tail_parts n e tail ≡ map (λ k. get_or (map (λ f. form_part n e f.value self.now.excluded) parts.now) k (nothing_part)) order.now ++ tail_parts n e then.now) }
+    {
         let mut tail = share(then)?;
         for place in order.iter().rev() {
-            let part = Part::Whole(self.child(&parts[*place])?);
+            let part = Part::Whole(Node::of(&parts[*place], self.excluded)?);
             tail = linked(alloc, None, part, tail)?;
         }
         Ok(tail)
