@@ -1,5 +1,5 @@
 -- The choices that a function makes, as what a part leaves.
-use Rattle.std.proofs.Common.{◌≡◌, ℕ, suc, ◌+◌, ◌<◌, List, [], ◌∷◌, ◌++◌, map, Bool, true, false, Option, Some, None, refl, sym, ap, ◌∙◌, arith, subst}
+use Rattle.std.proofs.Common.{◌≡◌, ℕ, suc, ◌+◌, ◌<◌, ◌≤◌, List, [], ◌∷◌, ◌++◌, map, Bool, true, false, Option, Some, None, refl, sym, ap, ◌∙◌, arith, subst}
 use Rattle.std.specs.declared.rc.Rc.{Rc}
 use Rattle.std.specs.declared.alloc.Global.{Global}
 use Rattle.rp_pattern.specs.declared.form.Form.{Form}
@@ -17,7 +17,7 @@ use Rattle.rp_pattern.specs.Rests.{part_as, form_part, node_part, iterations_par
 use Rattle.rp_pattern.specs.Splits.{Stands, SplitsAt, AlwaysSplits, Splits, option_words}
 use Rattle.rp_pattern.proofs.Algebra.{append_nil}
 use Rattle.rp_pattern.proofs.TurnsTaken.{same_first}
-use Rattle.rp_pattern.proofs.Expansions.{Leaves, LeavesTwo, same_first_words, repeated, greedy_leaves, lazy_leaves, greedy_unbounded, lazy_unbounded, form_within}
+use Rattle.rp_pattern.proofs.Expansions.{Leaves, LeavesTwo, same_first_words, repeated, greedy_leaves, lazy_leaves, greedy_unbounded, lazy_unbounded, none_left_leaves, form_within}
 
 -- ---- parts that were copied or put together
 
@@ -104,3 +104,11 @@ module _ (n : ℕ) (e : End) (row : ℕ) (it : Iterations) (less : Option ℕ) (
   lazy_splits is h k =
       two_splits n e row _ ts _ stop (Some another) h (stands_as n e row another _ k)
       (subst (λ r. LeavesTwo row (iterations 0 (still n it.further) r (node_part n e it.body) ∷ ts) ts (repeated (still n less) r (node_part n e it.body) ts row)) (sym is) (leaves_lazy it.further less fewer))
+
+-- no iteration is left
+pub none_left : (n : ℕ) (e : End) (i : ℕ) (lower : ℕ) (it : Iterations) (k : ℕ) (ts : List Costed) → lower ≤ 0 → it.further ≡ Some k → k ≡ 0 → Leaves i (iterations_part n e lower it ∷ ts) ts
+none_left n e i lower it k ts a b c =
+    let is : lower ≡ 0 = omega arith in
+    let bound : still n it.further ≡ 0 = ap (still n) b ∙ c in
+    subst (λ l. Leaves i (iterations l (still n it.further) it.reluctant (node_part n e it.body) ∷ ts) ts) (sym is)
+    (subst (λ h. Leaves i (iterations 0 h it.reluctant (node_part n e it.body) ∷ ts) ts) (sym bound) (none_left_leaves it.reluctant (node_part n e it.body) ts i))

@@ -6,5 +6,6 @@ pub mod Turns
 pub mod Bounds
 pub mod PatternForm
 pub mod Permutations
+pub mod PermutedParts
 pub mod Rests
 pub mod Splits

@@ -1,10 +1,8 @@
 -- What is left of a pattern: parts one after another, each as its words and its turns.
-use Rattle.std.specs.Prelude.{◌≡◌, ℕ, suc, ◌+◌, Bool, true, ◌&&◌, List, [], ◌∷◌, ◌++◌, map, length, take, Option, Some, None, nat_le}
+use Rattle.std.specs.Prelude.{◌≡◌, ℕ, suc, ◌+◌, Bool, true, ◌&&◌, List, [], ◌∷◌, ◌++◌, map, length, take, get_or, Option, Some, None, nat_le}
 use Rattle.std.specs.declared.rc.Rc.{Rc}
 use Rattle.std.specs.declared.alloc.Global.{Global}
 use Rattle.rp_pattern.specs.declared.form.Form.{Form}
-use Rattle.rp_pattern.specs.declared.form.Form.TheOpen.{Form-F, Permute}
-use Rattle.rp_pattern.specs.declared.form.Form.TheViews.{out-Form}
 use Rattle.rp_pattern.specs.declared.word.End.{End}
 use Rattle.rp_pattern.specs.declared.word.Label.{Label}
 use Rattle.rp_pattern.specs.declared.rests.Node.{Node}
@@ -18,8 +16,9 @@ use Rattle.rp_pattern.specs.declared.rests.Rests.{Rests}
 use Rattle.rp_pattern.specs.declared.rests.Rests.TheVariants.{Done, Then}
 use Rattle.rp_pattern.specs.declared.rests.Choice.{Choice}
 use Rattle.rp_pattern.specs.Mapping.{Mapping}
-use Rattle.rp_pattern.specs.Words.{Mappings, words, sequence, preceded}
-use Rattle.rp_pattern.specs.Turns.{Part as Costed, turns, chain_turns, past, within, iterations, orders_from, words_of}
+use Rattle.rp_pattern.specs.PermutedParts.{permuted_parts}
+use Rattle.rp_pattern.specs.Words.{Mappings, words, nothing_mapped, sequence, preceded}
+use Rattle.rp_pattern.specs.Turns.{Part as Costed, turns, one_turn, chain_turns, past, within, iterations, orders_from, words_of}
 
 -- a part of a pattern
 abbrev pub form_part : ℕ → End → Form → Bool → Costed
@@ -36,21 +35,17 @@ still n None = suc (suc n)
 abbrev pub iterations_part : ℕ → End → ℕ → Iterations → Costed
 iterations_part n e lower it = iterations lower (still n it.further) it.reluctant (node_part n e it.body)
 
--- the parts of a PERMUTE, and of another form none
-abbrev pub layer_parts : Form-F Form → List Form
-layer_parts (Permute ps) = map (λ p. p.value) ps.items
-layer_parts _ = []
-
-abbrev pub permuted_parts : Form → List Form
-permuted_parts f = layer_parts (out-Form f)
-
 abbrev pub permuted_costed : ℕ → End → Node → List Costed
 permuted_costed n e node = map (λ f. form_part n e f node.excluded) (permuted_parts node.form.value)
+
+-- parts at these places
+abbrev pub in_order : List Costed → List ℕ → List Costed
+in_order ps places = map (λ k. get_or ps k (nothing_mapped, one_turn)) places
 
 abbrev pub part_as : ℕ → End → Part → Costed
 part_as n e (Whole node) = node_part n e node
 part_as n e (Times lower it) = iterations_part n e lower it
-part_as n e (Orders permute from) = orders_from from (permuted_costed n e permute)
+part_as n e (Orders o) = orders_from o.from (permuted_costed n e o.permute)
 
 -- the later parts in order, each with the row that it is reached past, if any
 abbrev pub links_behind : Option (Rc (List (Option ℕ × Part)) Global) → List (Option ℕ × Part)

@@ -1,5 +1,7 @@
-ghost use Rattle.std.specs.Prelude.{◌≡◌, ℕ, ◌∷◌, IfOk, IsTrue};
+ghost use Rattle.std.specs.Prelude.{◌≡◌, ℕ, ◌∷◌, ◌<◌, IfOk, IsTrue, length};
 ghost use Rattle.rp_pattern.specs.Bounds.{is_allowed};
+ghost use Rattle.rp_pattern.specs.Permutations.{factorial};
+ghost use Rattle.rp_pattern.specs.PermutedParts.{permuted_parts};
 ghost use Rattle.rp_pattern.specs.declared.word.End.{End};
 
 use crate::form::Form;
@@ -22,6 +24,14 @@ pub(crate) struct Iterations {
     pub reluctant: bool,
 }
 
+/// The orders of a PERMUTE from this number on. The first order has the number 0.
+#[derive(Drop)]
+pub(crate) struct Orders {
+    pub permute: Node,
+    pub from: usize,
+    ghost there: { from < factorial (length (permuted_parts permute.form.value)) },
+}
+
 /// A part that is to be taken up.
 #[derive(Drop)]
 pub(crate) enum Part {
@@ -29,8 +39,8 @@ pub(crate) enum Part {
     Whole(Node),
     /// So many required iterations, and then the others.
     Times { lower: u32, iterations: Iterations },
-    /// The orders of a PERMUTE from this number on. The first order has the number 0.
-    Orders { permute: Node, from: usize },
+    /// One order of a PERMUTE or another.
+    Orders(Orders),
 }
 
 /// A later part, and the parts after it. With `since` it is reached only past that row.
@@ -109,10 +119,10 @@ impl Part {
                 lower: *lower,
                 iterations: iterations.with_further(iterations.further)?,
             }),
-            Part::Orders { permute, from } => Ok(Part::Orders {
-                permute: permute.share()?,
-                from: *from,
-            }),
+            Part::Orders(orders) => Ok(Part::Orders(Orders {
+                permute: orders.permute.share()?,
+                from: orders.from,
+            })),
         }
     }
 }

@@ -1,13 +1,20 @@
-ghost use Rattle.std.specs.Prelude.{◌≡◌, ℕ, suc, ◌∷◌, ◌+◌, ◌-◌, ◌^◌, ◌<◌, ◌≤◌, IfOk, IsTrue, List, map, length};
+ghost use Rattle.std.specs.Prelude.{◌≡◌, ℕ, suc, ◌∷◌, ◌+◌, ◌-◌, ◌^◌, ◌<◌, ◌≤◌, ◌++◌, All, IfOk, IsTrue, List, map, length, drop};
 ghost use Rattle.rp_pattern.specs.declared.word.End.{End};
-ghost use Rattle.rp_pattern.specs.Rests.{tail_parts, rests_parts, part_as, node_part, iterations_part, permuted_parts, permuted_costed, still, IsOneLess, IsSamePart};
+ghost use Rattle.rp_pattern.specs.Rests.{tail_parts, rests_parts, part_as, node_part, iterations_part, permuted_costed, in_order, still, IsOneLess, IsSamePart};
+ghost use Rattle.rp_pattern.specs.Bounds.{is_allowed};
+ghost use Rattle.rp_pattern.specs.Variables.{all_true};
+ghost use Rattle.rp_pattern.specs.Permutations.{upto};
+ghost use Rattle.rp_pattern.specs.PermutedParts.{permuted_parts};
+ghost use Rattle.std.specs.declared.vec.Vec.{Vec};
+ghost use Rattle.std.specs.declared.rc.Rc.{Rc};
+ghost use Rattle.std.specs.declared.alloc.Global.{Global};
 ghost use Rattle.rp_pattern.specs.Turns.{orders_from};
-ghost use Rattle.rp_pattern.specs.Words.{further};
+ghost use Rattle.rp_pattern.specs.Words.{further, orders};
 ghost use Rattle.rp_pattern.specs.Splits.{TakenUp, AlwaysSplits, Stands};
 
 use crate::form::Form;
 use crate::orders::{factorial, permutation_at};
-use crate::rests::{Iterations, Node, Part, Rests, Tail};
+use crate::rests::{Iterations, Node, Orders, Part, Rests, Tail};
 use crate::tail::{follow, linked, share};
 use crate::word::{End, Label};
 use std::alloc::{AllocError, Global};
@@ -77,8 +84,8 @@ impl Part {
                 let split = iterations.take_up(alloc, *lower, then, row)?;
                 Ok(Turn::Split(split))
             }
-            Part::Orders { permute, from } => {
-                let split = permute.take_order(alloc, *from, then, row)?;
+            Part::Orders(orders) => {
+                let split = orders.take_up(alloc, then, row)?;
                 Ok(Turn::Split(split))
             }
         }
@@ -110,7 +117,7 @@ impl Node {
                 Ok(Turn::Split(split))
             }
             Form::Permute(_) => {
-                let split = self.take_order(alloc, 0, then, row)?;
+                let split = self.take_permute(alloc, then, row)?;
                 Ok(Turn::Split(split))
             }
             Form::Exclusion(body) => {
@@ -231,6 +238,18 @@ impl Node {
         })
     }
 
+    /// The orders of the parts.
+    fn take_permute(&self, alloc: Global, then: &Tail, row: u64) -> Result<Split, AllocError>
+        requires { (parts : Vec (Rc Form Global) Global) × (self.now.form.value ≡ Form.Permute parts) }
+        ensures { IfOk result (AlwaysSplits row (λ n e. node_part n e self.now ∷ tail_parts n e then.now)) }
+    {
+        let orders = Orders {
+            permute: self.share()?,
+            from: 0,
+        };
+        orders.take_up(alloc, then, row)
+    }
+
     /// The parts of a PERMUTE.
     fn parts(&self) -> &[Rc<Form>]
         ensures parts { map (λ f. f.value) result.now ≡ permuted_parts self.now.form.value }
@@ -243,43 +262,55 @@ impl Node {
         }
     }
 
-    /// An order of the parts, and below it the orders after that one.
-    fn take_order(&self, alloc: Global, from: usize, then: &Tail, row: u64) -> Result<Split, AllocError>
-        requires { from ≤ 40320 }
-        ensures { IfOk result (AlwaysSplits row (λ n e. orders_from from (permuted_costed n e self.now) ∷ tail_parts n e then.now)) }
+    /// The parts in an order, before later ones.
+    fn in_order(&self, alloc: Global, order: &[usize], then: &Tail) -> Result<Tail, AllocError>
+        requires { All (λ k. k < length (permuted_parts self.now.form.value)) order.now }
+        ensures { IfOk result (λ tail. (n : ℕ) (e : End) → tail_parts n e tail ≡ in_order (permuted_costed n e self.now) order.now ++ tail_parts n e then.now) }
     {
-        let parts = self.parts();
-        let count = factorial(parts.len());
-        if from >= count {
-            return Ok(Split::none());
-        }
-        let order = permutation_at(alloc, parts.len(), from)?;
-        let first = self.in_order(alloc, parts, &order, then)?;
-        let preferred = follow(&first, row)?;
+        let Some((place, places)) = order.split_first() else {
+            return share(then);
+        };
+        let part = Part::Whole(Node::of(&self.parts()[*place], self.excluded)?);
+        linked(alloc, None, part, self.in_order(alloc, places, then)?)
+    }
+}
+
+impl Orders {
+    /// An order of the parts, and below it the orders after that one.
+    fn take_up(&self, alloc: Global, then: &Tail, row: u64) -> Result<Split, AllocError>
+        ensures { IfOk result (AlwaysSplits row (λ n e. orders_from self.now.from (permuted_costed n e self.now.permute) ∷ tail_parts n e then.now)) }
+    {
+        let order = self.order(alloc)?;
+        let first = self.permute.in_order(alloc, &order, then)?;
         Ok(Split {
-            preferred,
-            other: Some(Rests::Then {
-                part: Part::Orders {
-                    permute: self.share()?,
-                    from: from + 1,
-                },
-                then: share(then)?,
-            }),
+            preferred: follow(&first, row)?,
+            other: self.after(then)?,
         })
     }
 
-    /// The parts in an order, before later ones.
-    fn in_order(&self, alloc: Global, parts: &[Rc<Form>], order: &[usize], then: &Tail) -> Result<Tail, AllocError>
-        requires allowed { IsTrue (all_true (map (λ f. is_allowed f.value) parts.now)) }
-        requires within { All (λ k. k < length parts.now) order.now }
-        ensures { IfOk result (λ tail. (n : ℕ) (e : End) → tail_parts n e tail ≡ map (λ k. get_or (map (λ f. form_part n e f.value self.now.excluded) parts.now) k (nothing_part)) order.now ++ tail_parts n e then.now) }
+    /// The places of the parts in the first of the orders.
+    fn order(&self, alloc: Global) -> Result<Vec<usize>, AllocError>
+        ensures order { IfOk result (λ v. drop self.now.from (orders (upto (length (permuted_parts self.now.permute.form.value)))) ≡ v.items ∷ drop (self.now.from + 1) (orders (upto (length (permuted_parts self.now.permute.form.value))))) }
+        ensures within { IfOk result (λ v. All (λ k. k < length (permuted_parts self.now.permute.form.value)) v.items) }
     {
-        let mut tail = share(then)?;
-        for place in order.iter().rev() {
-            let part = Part::Whole(Node::of(&parts[*place], self.excluded)?);
-            tail = linked(alloc, None, part, tail)?;
+        permutation_at(alloc, self.permute.parts().len(), self.from)
+    }
+
+    /// The orders after the first one, if there are any.
+    fn after(&self, then: &Tail) -> Result<Option<Rests>, AllocError>
+        ensures { IfOk result (λ rests. (n : ℕ) (e : End) (i : ℕ) → Stands n e i (orders_from (self.now.from + 1) (permuted_costed n e self.now.permute) ∷ tail_parts n e then.now) rests) }
+    {
+        let from = self.from + 1;
+        if from >= factorial(self.permute.parts().len()) {
+            return Ok(None);
         }
-        Ok(tail)
+        Ok(Some(Rests::Then {
+            part: Part::Orders(Orders {
+                permute: self.permute.share()?,
+                from,
+            }),
+            then: share(then)?,
+        }))
     }
 }
 

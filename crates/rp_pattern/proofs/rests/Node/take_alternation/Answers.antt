@@ -14,13 +14,13 @@ returns c = λ row n e.
     let q = c.args.second.now in
     let then = c.args.then.now in
     let ts = tail_parts n e then in
-    let a = c.in_ok-child.field-0 in
-    let b = c.in_ok-child-2.field-0 in
+    let a = c.in_ok-of.field-0 in
+    let b = c.in_ok-of-2.field-0 in
     let s = c.in_ok-share.field-0 in
     let s' = c.in_ok-share-2.field-0 in
     let qs : List Part = form_part n e p.value x ∷ ts in
     let rs : List Part = form_part n e q.value x ∷ ts in
     two_splits n e row _ qs rs (Some (Then (Whole a) s)) (Some (Then (Whole b) s'))
-    (stands_as n e row (Then (Whole a) s) qs (then_parts n e (Whole a) s then (form_part n e p.value x) (node_as n e a p.value x c.in_ok-child.ensures) c.in_ok-share.ensures))
-    (stands_as n e row (Then (Whole b) s') rs (then_parts n e (Whole b) s' then (form_part n e q.value x) (node_as n e b q.value x c.in_ok-child-2.ensures) c.in_ok-share-2.ensures))
+    (stands_as n e row (Then (Whole a) s) qs (then_parts n e (Whole a) s then (form_part n e p.value x) (node_as n e a p.value x c.in_ok-of.ensures) c.in_ok-share.ensures))
+    (stands_as n e row (Then (Whole b) s') rs (then_parts n e (Whole b) s' then (form_part n e q.value x) (node_as n e b q.value x c.in_ok-of-2.ensures) c.in_ok-share-2.ensures))
     (subst (λ f. LeavesTwo row (form_part n e f x ∷ ts) qs rs) (sym c.requires) (alternation_leaves n e x ts row p q))

@@ -13,12 +13,12 @@ returns c = λ row n e.
     let p = c.args.first.now in
     let q = c.args.second.now in
     let ts = tail_parts n e c.args.then.now in
-    let a = c.in_ok-child-2.field-0 in
-    let b = c.in_ok-child.field-0 in
+    let a = c.in_ok-of-2.field-0 in
+    let b = c.in_ok-of.field-0 in
     let later = c.in_ok-later.later in
     let qs : List Part = form_part n e p.value x ∷ form_part n e q.value x ∷ ts in
-    let second = linked_parts n e later c.in_ok-share.field-0 c.args.then.now None (Whole b) c.in_ok-later.ensures c.in_ok-share.ensures ∙ ap (λ z. z ∷ ts) (node_as n e b q.value x c.in_ok-child.ensures) in
-    let first = node_as n e a p.value x c.in_ok-child-2.ensures in
+    let second = linked_parts n e later c.in_ok-share.field-0 c.args.then.now None (Whole b) c.in_ok-later.ensures c.in_ok-share.ensures ∙ ap (λ z. z ∷ ts) (node_as n e b q.value x c.in_ok-of.ensures) in
+    let first = node_as n e a p.value x c.in_ok-of-2.ensures in
     one_splits n e row _ qs (Some (Then (Whole a) later)) c.one.result c.one.ensures
     (stands_as n e row (Then (Whole a) later) qs (cc (first, second)))
     (subst (λ f. Leaves row (form_part n e f x ∷ ts) qs) (sym c.requires) (concatenation_leaves n e x ts row p q))
