@@ -9,3 +9,4 @@ pub mod Permutations
 pub mod PermutedParts
 pub mod Rests
 pub mod Splits
+pub mod Choices

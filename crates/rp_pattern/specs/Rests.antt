@@ -107,6 +107,11 @@ abbrev pub rises : ℕ → List Choice → Bool
 rises depth [] = true
 rises depth (c ∷ cs) = nat_le c.depth depth && rises c.depth cs
 
+-- a choice on a stack, if there is one
+abbrev pub pushed : ℕ → Option Rests → List Choice → List Choice
+pushed depth None cs = cs
+pushed depth (Some r) cs = (record { depth = depth; rests = r }) ∷ cs
+
 -- the facts of a copy
 abbrev pub IsNodeOf : Form → Bool → Node → Type 0
 IsNodeOf f excluded node = (node.form.value ≡ f) × (node.excluded ≡ excluded)
