@@ -1,22 +1,23 @@
 -- The laws of the words, for every pattern.
-use Rattle.std.proofs.Common.{◌≡◌, ℕ, suc, ◌-◌, ◌≤◌, List, [], ◌∷◌, map, Bool, true, false, refl, subst, arith, Option, Some, None, cond}
+use Rattle.std.proofs.Common.{◌≡◌, ℕ, suc, ◌-◌, ◌≤◌, List, [], ◌∷◌, map, Bool, true, false, refl, sym, subst, arith, Option, Some, None, cond}
 use Rattle.rp_pattern.specs.Mapping.{Mapping, Full, Open}
 use Rattle.std.specs.Prelude.{nat_le, nat_eq}
 use Rattle.std.proofs.lemmas.Bool.Decides.{nat_tests}
+use Rattle.std.proofs.lemmas.List.{append-nil}
 use Rattle.std.specs.List.{flat_map}
 use Rattle.rp_pattern.specs.declared.form.Form.{Form}
 use Rattle.rp_pattern.specs.declared.form.Form.TheOpen.{Form-F, Variable, Empty, Concatenation, Alternation, PartitionStart, PartitionEnd, Permute, Exclusion, Quantified}
 use Rattle.rp_pattern.specs.declared.form.Form.TheViews.{roll-Form}
 use Rattle.rp_pattern.specs.declared.form.Form.TheFolds.{map-Form, fold-roll-Form, ind-Form}
 use Rattle.rp_pattern.specs.declared.word.End.{End}
-use Rattle.rp_pattern.specs.declared.word.End.TheVariants.{Open as OpenEnd}
+use Rattle.rp_pattern.specs.declared.word.End.TheVariants.{Open as OpenEnd, Closed as ClosedEnd}
 use Rattle.rp_pattern.specs.Words.{Mappings, words, words_step, one_row, at_start, at_end, optional, quantified, sequence, permuted, orders, may_end, may_go_on}
-use Rattle.rp_pattern.specs.WordLaws.{BeginsWith, Extends, done, stays, gone, grows}
+use Rattle.rp_pattern.specs.WordLaws.{IsLater, BeginsWith, Extends, done, stays, gone, grows}
 use Rattle.rp_pattern.proofs.Lists.{map-map}
 use Rattle.rp_pattern.proofs.Bounds.{AreWithin, optional_enough}
 use Rattle.rp_pattern.proofs.Within.{words_within}
 use Rattle.rp_pattern.proofs.Extension.{Extends-append, Extends-concatenation, Extends-excluded, Extends-optional, Extends-required}
-use Rattle.rp_pattern.proofs.Orders.{permuted-map}
+use Rattle.rp_pattern.proofs.Arrangements.{permuted-map}
 
 begins_empty : (w : Mapping) → BeginsWith [] w
 begins_empty (Full ls) = record { rest = ls; begins = refl }
@@ -99,3 +100,15 @@ module _ (n n' : ℕ) (e' : End) (more : n ≤ n') where
         fold-roll-Form Mappings (words_step n OpenEnd) (map-Form ((f : Form) × IsExtended f) Form (λ t. t.0) y),
         fold-roll-Form Mappings (words_step n' e') (map-Form ((f : Form) × IsExtended f) Form (λ t. t.0) y),
       ) (layer_extends y i)))
+
+Extends-same : (ws : List Mapping) → Extends ws ws
+Extends-same [] = done
+Extends-same (Full ls ∷ ws) = stays (Extends-same ws)
+Extends-same (Open ls ∷ ws) = grows (record { rest = []; begins = append-nil ls }) (gone (Extends-same ws))
+
+pub words_extend_later : (f : Form) (n n' : ℕ) (e e' : End) (i : ℕ) → IsLater n e n' e' → Extends (words n e f i) (words n' e' f i)
+words_extend_later f n n' OpenEnd e' i h = words_extend n n' e' h.0 f i
+words_extend_later f n n' ClosedEnd e' i h =
+    let same = h.1 refl in
+    subst (λ d. Extends (words n ClosedEnd f i) (words n' d f i)) (sym same.1)
+    (subst (λ m. Extends (words n ClosedEnd f i) (words m ClosedEnd f i)) (sym same.0) (Extends-same (words n ClosedEnd f i)))

@@ -13,7 +13,7 @@ use Rattle.rp_pattern.specs.declared.word.End.TheVariants.{Open as OpenEnd, Clos
 use Rattle.rp_pattern.specs.declared.word.Label.{Label}
 use Rattle.rp_pattern.specs.Words.{Mappings, words, words_step, one_row, at_start, at_end, followed, preceded, concatenation, exclusion, excluded_mapping, moves, moving, optional, required, further, sequence, permuted, orders, may_end, may_go_on}
 use Rattle.rp_pattern.proofs.Lists.{All-append, All-map, All-flat_map, map-map}
-use Rattle.rp_pattern.proofs.Orders.{permuted-map}
+use Rattle.rp_pattern.proofs.Arrangements.{permuted-map}
 
 -- the fact holds of each word from each row
 abbrev pub Each : (ℕ → Mapping → Type 0) → Mappings → Type 0

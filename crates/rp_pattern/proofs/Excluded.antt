@@ -4,7 +4,7 @@ use Rattle.rp_pattern.specs.Mapping.{Mapping, Full, Open}
 use Rattle.std.specs.List.{flat_map, filter}
 use Rattle.std.proofs.lemmas.List.{map-append, length-map}
 use Rattle.rp_pattern.specs.declared.word.Label.{Label}
-use Rattle.rp_pattern.specs.Words.{Mappings, preceded, followed, concatenation, alternation, excluded_label, excluded_mapping, exclusion, moves, moving, preferred, optional}
+use Rattle.rp_pattern.specs.Words.{Mappings, preceded, followed, concatenation, alternation, excluded_label, excluded_mapping, exclusion, moves, moving, preferred, optional, required}
 use Rattle.rp_pattern.proofs.Lists.{map-map}
 use Rattle.rp_pattern.proofs.Algebra.{concatenation_same, map_same}
 
@@ -54,3 +54,9 @@ exclusion_optional reluctant p (suc h) i =
     (exclusion_concatenation (moving p) (optional reluctant p h) i
     ∙ concatenation_same (exclusion (moving p)) (exclusion (optional reluctant p h)) (optional reluctant (exclusion p) h) (exclusion_optional reluctant p h) i
     ∙ ap (flat_map (followed (optional reluctant (exclusion p) h) i)) (exclusion_moving p i))
+
+pub exclusion_required : (p rest rest' : Mappings) → ((j : ℕ) → exclusion rest j ≡ rest' j) → (l i : ℕ) → exclusion (required l p rest) i ≡ required l (exclusion p) rest' i
+exclusion_required p rest rest' h zero i = h i
+exclusion_required p rest rest' h (suc l) i =
+    exclusion_concatenation p (required l p rest) i
+    ∙ concatenation_same (exclusion p) (exclusion (required l p rest)) (required l (exclusion p) rest') (exclusion_required p rest rest' h l) i

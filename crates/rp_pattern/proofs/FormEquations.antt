@@ -1,5 +1,8 @@
 -- What the folds are at a PERMUTE, whose parts stand behind `Rc`.
-use Rattle.std.proofs.Common.{◌≡◌, ℕ, map, sym, ap, ◌∙◌, Bool}
+use Rattle.std.proofs.Common.{◌≡◌, ℕ, ◌≤◌, map, length, refl, sym, ap, ◌∙◌, Bool, true, false, arith}
+use Rattle.std.proofs.lemmas.Bool.Decides.{nat_tests}
+use Rattle.std.specs.Prelude.{◌&&◌, nat_le}
+use Rattle.rp_pattern.specs.Bounds.{is_allowed, allowed_step}
 use Rattle.std.specs.declared.vec.Vec.{Vec}
 use Rattle.std.specs.declared.rc.Rc.{Rc}
 use Rattle.std.specs.declared.alloc.Global.{Global}
@@ -8,6 +11,7 @@ use Rattle.rp_pattern.specs.declared.form.Form.TheOpen as F
 use Rattle.rp_pattern.specs.declared.form.Form.TheVariants.{Permute, rolls-Permute}
 use Rattle.rp_pattern.specs.declared.form.Form.TheFolds.{fold-roll-Form}
 use Rattle.rp_pattern.specs.Variables.{are_below, below_step, all_true}
+use Rattle.std.proofs.lemmas.List.{length-map}
 use Rattle.rp_pattern.proofs.Lists.{map-map}
 use Rattle.rp_pattern.specs.declared.form.Form.TheVariants as V
 use Rattle.rp_pattern.specs.declared.word.End.{End}
@@ -16,6 +20,18 @@ use Rattle.rp_pattern.specs.Words.{Mappings, words, words_step, one_row, nothing
 
 pub below_permute : (k : ℕ) (ps : Vec (Rc Form Global) Global) → are_below k (Permute ps) ≡ all_true (map (λ p. are_below k p.value) ps.items)
 below_permute k ps = ap (are_below k) (sym (rolls-Permute ps)) ∙ fold-roll-Form Bool (below_step k) (F.Permute ps) ∙ simp map-map
+
+pub allowed_permute : (ps : Vec (Rc Form Global) Global) → is_allowed (Permute ps) ≡ (nat_le 1 (length ps.items) && nat_le (length ps.items) 8 && all_true (map (λ p. is_allowed p.value) ps.items))
+allowed_permute ps = ap is_allowed (sym (rolls-Permute ps)) ∙ fold-roll-Form Bool allowed_step (F.Permute ps) ∙ simp (map-map, length-map)
+
+-- a PERMUTE of 1 to 8 parts is allowed where each part is
+pub allowed_few : (ps : Vec (Rc Form Global) Global) → 1 ≤ length ps.items → length ps.items ≤ 8 → is_allowed (Permute ps) ≡ all_true (map (λ p. is_allowed p.value) ps.items)
+allowed_few ps some few = allowed_permute ps ∙ go (nat_le 1 (length ps.items)) refl (nat_le (length ps.items) 8) refl
+  where
+    go : (b : Bool) → nat_le 1 (length ps.items) ≡ b → (c : Bool) → nat_le (length ps.items) 8 ≡ c → (b && c && all_true (map (λ p. is_allowed p.value) ps.items)) ≡ all_true (map (λ p. is_allowed p.value) ps.items)
+    go true d true e = refl
+    go true d false e = absurd (grind (arith, nat_tests))
+    go false d c e = absurd (grind (arith, nat_tests))
 
 -- What the words are at each form.
 module _ (n : ℕ) (e : End) where

@@ -62,7 +62,7 @@ optional_turns_enough n p a (suc h) (suc k) i b c =
     (same_turns n i (optional_turns p h) (optional_turns p k) (λ j lt le. optional_turns_enough n p a h k j (omega arith) (omega arith)) (p.0 i) (a i))
 
 -- two costs after the same words add up
-both_turns : (x y : Costs) (i : ℕ) (ws : List Mapping) → sum_by (turns_after (λ j. x j + y j) i) ws ≡ sum_by (turns_after x i) ws + sum_by (turns_after y i) ws
+pub both_turns : (x y : Costs) (i : ℕ) (ws : List Mapping) → sum_by (turns_after (λ j. x j + y j) i) ws ≡ sum_by (turns_after x i) ws + sum_by (turns_after y i) ws
 both_turns x y i [] = refl
 both_turns x y i (Full ls ∷ ws) =
     let f : Mapping → ℕ = turns_after (λ j. x j + y j) i in
@@ -94,7 +94,8 @@ sum_preferred : (x : Costs) (i : ℕ) (reluctant : Bool) (ws : List Mapping) →
 sum_preferred x i false ws = omega (arith, sum_by-append (turns_after x i) ws (Full [] ∷ []))
 sum_preferred x i true ws = omega (arith, sum_by-append (turns_after x i) (Full [] ∷ []) ws)
 
-same_after : (x y : Costs) (i : ℕ) → ((j : ℕ) → x j ≡ y j) → (ws : List Mapping) → sum_by (turns_after x i) ws ≡ sum_by (turns_after y i) ws
+-- costs that are the same after each row add up to the same
+pub same_after : (x y : Costs) (i : ℕ) → ((j : ℕ) → x j ≡ y j) → (ws : List Mapping) → sum_by (turns_after x i) ws ≡ sum_by (turns_after y i) ws
 same_after x y i h [] = refl
 same_after x y i h (Full ls ∷ ws) =
     let a = sum_by-cons (turns_after x i) (Full ls) ws in

@@ -1,4 +1,4 @@
--- Two facts of every word: its labels are of known rows, and over a closed end it is full.
+-- Facts of every word: its labels are of known rows, an open one runs up to the last of them, and over a closed end it is full.
 use Rattle.std.proofs.Common.{ℕ, suc, ◌+◌, ◌-◌, ◌≤◌, List, length, arith, length-append}
 use Rattle.rp_pattern.specs.Mapping.{Mapping, Full, Open}
 use Rattle.std.proofs.lemmas.List.{length-map}
@@ -7,7 +7,8 @@ use Rattle.rp_pattern.specs.declared.word.End.{End}
 use Rattle.rp_pattern.specs.declared.word.End.TheVariants.{Closed as ClosedEnd}
 use Rattle.rp_pattern.specs.declared.word.Label.{Label}
 use Rattle.rp_pattern.specs.Words.{Mappings, words, exclusion, preceded, excluded_label, excluded_mapping}
-use Rattle.rp_pattern.specs.WordLaws.{IsWithin, IsFull}
+use Rattle.rp_pattern.specs.WordLaws.{IsWithin, RunsToEnd, IsFull}
+use Rattle.rp_pattern.proofs.Lists.{All-weaker}
 use Rattle.rp_pattern.proofs.EveryWord.{Each, each_exclusion, every_word}
 
 preceded_within : (n i : ℕ) (ls : List Label) (w : Mapping) → length ls ≤ suc n - i → IsWithin n (i + length ls) w → IsWithin n i (preceded ls w)
@@ -23,6 +24,25 @@ words_within n e = every_word (IsWithin n) (λ i. omega arith) (preceded_within 
 
 pub exclusion_within : (n : ℕ) (p : Mappings) → Each (IsWithin n) p → Each (IsWithin n) (exclusion p)
 exclusion_within n = each_exclusion (IsWithin n) (λ i. omega arith) (preceded_within n) (excluded_within n)
+
+-- within the rows, and up to the last one where it is open
+record RunsWithin (n i : ℕ) (w : Mapping) : Type 0 where
+  pub within : IsWithin n i w
+  pub runs : RunsToEnd n i w
+
+preceded_runs : (n i : ℕ) (ls : List Label) (w : Mapping) → length ls ≤ suc n - i → RunsWithin n (i + length ls) w → RunsWithin n i (preceded ls w)
+preceded_runs n i ls (Full ms) h k = record { within = preceded_within n i ls (Full ms) h k.within; runs = tt }
+preceded_runs n i ls (Open ms) h k = record { within = preceded_within n i ls (Open ms) h k.within; runs = omega (arith, length-append ls ms, k.runs) }
+
+excluded_runs : (n i : ℕ) (w : Mapping) → RunsWithin n i w → RunsWithin n i (excluded_mapping w)
+excluded_runs n i (Full ls) h = record { within = excluded_within n i (Full ls) h.within; runs = tt }
+excluded_runs n i (Open ls) h = record { within = excluded_within n i (Open ls) h.within; runs = omega (arith, length-map ls excluded_label, h.runs) }
+
+pub words_wait : (n : ℕ) (e : End) (f : Form) → Each (RunsToEnd n) (words n e f)
+words_wait n e f i =
+    All-weaker (RunsWithin n i) (RunsToEnd n i) (λ w h. h.runs) (words n e f i)
+    (every_word (RunsWithin n) (λ i. record { within = omega arith; runs = tt }) (λ i ls w h k. preceded_runs n i ls w h.within k) (excluded_runs n) n e
+    (λ i v h. record { within = omega arith; runs = tt }) (λ i h k. record { within = omega arith; runs = omega arith }) f i)
 
 preceded_full : (i : ℕ) (ls : List Label) (w : Mapping) → IsFull (Full ls) → IsFull w → IsFull (preceded ls w)
 preceded_full i ls (Full ms) h k = tt

@@ -5,3 +5,8 @@ pub mod Variables
 pub mod Turns
 pub mod Bounds
 pub mod PatternForm
+pub mod Permutations
+pub mod PermutedParts
+pub mod Rests
+pub mod Splits
+pub mod Choices

@@ -1,11 +1,12 @@
 -- How many turns a search takes at most, over rows that no condition refuses.
-use Rattle.std.specs.Prelude.{ℕ, zero, suc, ◌+◌, ◌-◌, List, [], ◌∷◌, map, length, sum_by}
+use Rattle.std.specs.Prelude.{ℕ, zero, suc, ◌+◌, ◌-◌, Bool, List, [], ◌∷◌, map, length, drop, sum_by, nat_lt, if◌then◌else◌}
+use Rattle.std.specs.List.{flat_map}
 use Rattle.rp_pattern.specs.Mapping.{Mapping, Full, Open}
 use Rattle.rp_pattern.specs.declared.form.Form.{Form}
 use Rattle.rp_pattern.specs.declared.form.Form.TheOpen.{Form-F, Variable, Empty, Concatenation, Alternation, PartitionStart, PartitionEnd, Permute, Exclusion, Quantified}
 use Rattle.rp_pattern.specs.declared.form.Form.TheFolds.{para-Form}
 use Rattle.rp_pattern.specs.declared.word.End.{End}
-use Rattle.rp_pattern.specs.Words.{Mappings, words, moving, moved_past, further, orders}
+use Rattle.rp_pattern.specs.Words.{Mappings, words, concatenation, moving, moved_past, optional, required, further, orders, sequence, within_exclusion}
 
 -- from each row, a number of turns
 abbrev pub Costs : Type 0
@@ -69,6 +70,28 @@ chain_turns (p ∷ ps) i = p.1 i + sum_by (turns_after (chain_turns ps) i) (p.0 
 -- the test that an iteration took a row takes no turn of its own
 abbrev pub moved_part : ℕ → Part
 moved_part since = (moved_past since, λ i. 0)
+
+-- a part inside an exclusion, or outside of one
+abbrev pub within : Bool → Part → Part
+within x p = (within_exclusion x p.0, p.1)
+
+-- l required iterations of a part, and then at most h others
+abbrev pub iterations : ℕ → ℕ → Bool → Part → Part
+iterations l h reluctant p = (required l p.0 (optional reluctant p.0 h), required_turns l p (optional_turns p h))
+
+-- a part that is reached only past this row
+abbrev pub past : ℕ → Part → Part
+past since p = (concatenation (moved_past since) p.0, λ i. if nat_lt since i then p.1 i else 0)
+
+abbrev pub words_of : Part → Mappings
+words_of p = p.0
+
+-- the orders of parts from this place on. Each order takes a turn, and none for joining its parts
+abbrev pub orders_from : ℕ → List Part → Part
+orders_from from ps = (
+  λ i. flat_map (λ order. sequence (map words_of order) i) (drop from (orders ps)),
+  λ i. sum_by (λ order. 1 + chain_turns order i) (drop from (orders ps)),
+)
 
 -- the turns of the starts 1 to s: the search's own, one for each word, and some for items and skips
 abbrev pub starts_turns : ℕ → End → Form → ℕ → ℕ

@@ -1,13 +1,12 @@
 -- What more rows, or the close, do to a list of words.
-use Rattle.std.specs.Prelude.{◌≡◌, ℕ, suc, ◌-◌, ◌≤◌, length, List, [], ◌∷◌, ◌++◌}
+use Rattle.std.specs.Prelude.{◌≡◌, ℕ, suc, ◌+◌, ◌-◌, ◌≤◌, Bool, length, List, [], ◌∷◌, ◌++◌, Some, None, ⊤}
+use Rattle.std.specs.List.{AllByRecursion}
 use Rattle.rp_pattern.specs.Mapping.{Mapping, Full, Open, labels_of}
 use Rattle.rp_pattern.specs.declared.form.Form.{Form}
 use Rattle.rp_pattern.specs.declared.word.Label.{Label}
 use Rattle.rp_pattern.specs.declared.word.End.{End}
-use Rattle.rp_pattern.specs.declared.word.End.TheVariants.{Open as OpenEnd, Closed as ClosedEnd}
+use Rattle.rp_pattern.specs.declared.word.End.TheVariants.{Closed as ClosedEnd}
 use Rattle.rp_pattern.specs.Words.{words, quantified, preferred, concatenation, moving}
-use Rattle.std.specs.Prelude.{Bool, ◌+◌, Some, None, ⊤}
-use Rattle.std.specs.List.{AllByRecursion}
 
 -- a word begins with these labels
 pub record BeginsWith (ls : List Label) (w : Mapping) : Type 0 where
@@ -25,10 +24,6 @@ pub data Extends : List Mapping → List Mapping → Type 0 where
   gone : {ls : List Label} {old new : List Mapping} → Extends old new → Extends (Open ls ∷ old) new
   grows : {ls : List Label} {w : Mapping} {old new : List Mapping} → BeginsWith ls w → Extends (Open ls ∷ old) new → Extends (Open ls ∷ old) (w ∷ new)
 
--- Over every continuation, more rows or the close, the words of every pattern from every row are extended.
-abbrev pub WordsExtend : Type 0
-WordsExtend = (f : Form) (n n' : ℕ) (e : End) (i : ℕ) → n ≤ n' → Extends (words n OpenEnd f i) (words n' e f i)
-
 -- Without an upper bound, what follows an iteration has none either, and any bound of n + 2 or more says the same.
 abbrev pub NoBoundStays : Type 0
 NoBoundStays = (f : Form) (n : ℕ) (e : End) (reluctant : Bool) (i : ℕ) →
@@ -42,6 +37,15 @@ GreatBoundsAgree = (f : Form) (n : ℕ) (e : End) (reluctant : Bool) (h i : ℕ)
 abbrev pub WordsEnd : Type 0
 WordsEnd = (f : Form) (n : ℕ) (e : End) (i : ℕ) → AllByRecursion (IsWithin n i) (words n e f i)
 
+-- an open word has a label for each row from i to the last known one
+abbrev pub RunsToEnd : ℕ → ℕ → Mapping → Type 0
+RunsToEnd n i (Full ls) = ⊤
+RunsToEnd n i (Open ls) = length ls ≡ suc n - i
+
+-- What an open word waits for is the row after the last known one.
+abbrev pub WordsWait : Type 0
+WordsWait = (f : Form) (n : ℕ) (e : End) (i : ℕ) → AllByRecursion (RunsToEnd n i) (words n e f i)
+
 abbrev pub IsFull : Mapping → Type 0
 IsFull (Full ls) = ⊤
 IsFull (Open ls) = ⊥
@@ -49,3 +53,11 @@ IsFull (Open ls) = ⊥
 -- Over a closed end each word is full.
 abbrev pub WordsClose : Type 0
 WordsClose = (f : Form) (n i : ℕ) → AllByRecursion IsFull (words n ClosedEnd f i)
+
+-- later rows, or the close: a closed end stays, and so do its rows
+abbrev pub IsLater : ℕ → End → ℕ → End → Type 0
+IsLater n e n' e' = (n ≤ n') × (e ≡ ClosedEnd → (n' ≡ n) × (e' ≡ ClosedEnd))
+
+-- Over every continuation the words of every pattern from every row are extended.
+abbrev pub WordsExtend : Type 0
+WordsExtend = (f : Form) (n n' : ℕ) (e e' : End) (i : ℕ) → IsLater n e n' e' → Extends (words n e f i) (words n' e' f i)

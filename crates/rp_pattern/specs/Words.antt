@@ -68,6 +68,11 @@ excluded_mapping (Open ls) = Open (map excluded_label ls)
 abbrev pub exclusion : Mappings → Mappings
 exclusion p i = map excluded_mapping (p i)
 
+-- as it stands inside an exclusion, or outside of one
+abbrev pub within_exclusion : Bool → Mappings → Mappings
+within_exclusion false p = p
+within_exclusion true p = exclusion p
+
 -- it takes a row, or may take one
 abbrev pub moves : Mapping → Bool
 moves (Full []) = false

@@ -1,8 +1,15 @@
 ghost use Rattle.std.specs.Prelude.{◌≡◌, IsTrue};
-ghost use Rattle.rp_pattern.specs.Bounds.{is_allowed};
+ghost use Rattle.rp_pattern.specs.Bounds.{is_allowed, bounds_hold};
 ghost use Rattle.rp_pattern.specs.Variables.{are_below};
 
+use std::alloc::{AllocError, Global};
 use std::rc::Rc;
+
+/// The greatest bound of a quantifier.
+const MAX_BOUND: u32 = 1000;
+
+/// The most parts of a PERMUTE, which stands for all their orders.
+const MAX_PARTS: usize = 8;
 
 /// A row pattern as a tree, a variant for each form. Parts are shared, so that a search may keep them.
 #[derive(Debug, Drop)]
@@ -42,7 +49,7 @@ pub struct Pattern {
 impl Pattern {
     ghost use Rattle.rp_pattern.specs.PatternForm.{form_of};
 
-    /// The pattern of a tree.
+    /// The pattern of a tree. `Form::is_allowed` is the test of what it requires.
     pub fn new(form: Form) -> Pattern
         requires { IsTrue (is_allowed form) }
         ensures { form_of result ≡ form }
@@ -60,6 +67,42 @@ impl Pattern {
 }
 
 impl Form {
+    /// A further owner of the parts.
+    pub(crate) fn share(&self, alloc: Global) -> Result<Form, AllocError>
+    {
+        match self {
+            Form::Variable(v) => Ok(Form::Variable(*v)),
+            Form::Empty => Ok(Form::Empty),
+            Form::Concatenation(first, second) => {
+                Ok(Form::Concatenation(first.clone()?, second.clone()?))
+            }
+            Form::Alternation(first, second) => {
+                Ok(Form::Alternation(first.clone()?, second.clone()?))
+            }
+            Form::PartitionStart => Ok(Form::PartitionStart),
+            Form::PartitionEnd => Ok(Form::PartitionEnd),
+            Form::Permute(parts) => {
+                let mut copies = Vec::new(alloc);
+                for part in parts {
+                    copies.push(part.clone()?)?;
+                }
+                Ok(Form::Permute(copies))
+            }
+            Form::Exclusion(body) => Ok(Form::Exclusion(body.clone()?)),
+            Form::Quantified {
+                body,
+                lower,
+                upper,
+                reluctant,
+            } => Ok(Form::Quantified {
+                body: body.clone()?,
+                lower: *lower,
+                upper: *upper,
+                reluctant: *reluctant,
+            }),
+        }
+    }
+
     /// Whether each variable is below `k`.
     pub fn are_below(&self, k: usize) -> bool
         ensures { result ≡ are_below k self.now }
@@ -80,5 +123,44 @@ impl Form {
             Form::Exclusion(body) => body.are_below(k),
             Form::Quantified { body, .. } => body.are_below(k),
         }
+    }
+
+    /// Whether `Pattern::new` takes it: bounds in order and at most 1,000, and PERMUTEs of 1 to 8 parts.
+    pub fn is_allowed(&self) -> bool
+        ensures { result ≡ is_allowed self.now }
+    {
+        match self {
+            Form::Variable(_) | Form::Empty | Form::PartitionStart | Form::PartitionEnd => true,
+            Form::Concatenation(first, second) => first.is_allowed() && second.is_allowed(),
+            Form::Alternation(first, second) => first.is_allowed() && second.is_allowed(),
+            Form::Permute(parts) => {
+                if parts.is_empty() || parts.len() > MAX_PARTS {
+                    return false;
+                }
+                for part in parts {
+                    if !part.is_allowed() {
+                        return false;
+                    }
+                }
+                true
+            }
+            Form::Exclusion(body) => body.is_allowed(),
+            Form::Quantified {
+                body,
+                lower,
+                upper,
+                ..
+            } => bounds_hold(*lower, *upper) && body.is_allowed(),
+        }
+    }
+}
+
+/// Whether a quantifier may have these bounds.
+fn bounds_hold(lower: u32, upper: Option<u32>) -> bool
+    ensures { result ≡ bounds_hold lower upper }
+{
+    match upper {
+        None => lower <= MAX_BOUND,
+        Some(upper) => lower <= upper && upper <= MAX_BOUND,
     }
 }

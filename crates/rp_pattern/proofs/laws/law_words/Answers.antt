@@ -1,12 +1,12 @@
 use Rattle.std.proofs.Common.{suc, arith, ◌-◌}
 use Rattle.rp_pattern.specs.Words.{words}
-use Rattle.rp_pattern.proofs.AllForms.{words_extend}
-use Rattle.rp_pattern.proofs.Within.{words_within, words_full}
+use Rattle.rp_pattern.proofs.AllForms.{words_extend_later}
+use Rattle.rp_pattern.proofs.Within.{words_within, words_wait, words_full}
 use Rattle.rp_pattern.proofs.Bounds.{unbounded, optional_enough}
 use Rattle.rp_pattern.proofs.laws.law_words.Goals as goal
 
 pub returns-clause-extend : goal.returns-clause-extend
-returns-clause-extend c = λ f n n' e i more. words_extend n n' e more f i
+returns-clause-extend c = λ f n n' e e' i later. words_extend_later f n n' e e' i later
 
 pub returns-clause-no_bound : goal.returns-clause-no_bound
 returns-clause-no_bound c = λ f n e reluctant i. unbounded n reluctant (words n e f) (words_within n e f) i
@@ -16,6 +16,9 @@ returns-clause-great_bounds c = λ f n e reluctant h i enough. optional_enough n
 
 pub returns-clause-within : goal.returns-clause-within
 returns-clause-within c = λ f n e i. words_within n e f i
+
+pub returns-clause-waits : goal.returns-clause-waits
+returns-clause-waits c = λ f n e i. words_wait n e f i
 
 pub returns-clause-close : goal.returns-clause-close
 returns-clause-close c = λ f n i. words_full n f i

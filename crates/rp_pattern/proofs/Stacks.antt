@@ -1,0 +1,274 @@
+-- What an operation on the stack does to the words of its choices.
+use Rattle.std.proofs.Common.{◌≡◌, ℕ, suc, ◌+◌, ◌<◌, ◌≤◌, List, [], ◌∷◌, ◌++◌, map, length, take, drop, reverse, Bool, true, false, cond, ◌&&◌, Option, Some, None, IsTrue, refl, sym, ap, ◌∙◌, arith, subst, append_assoc, length-append}
+use Rattle.std.specs.Prelude.{nat_le}
+use Rattle.std.proofs.lemmas.Bool.Decides.{nat_tests}
+use Rattle.std.proofs.lemmas.List.{take-append-drop, take-append-le, length-take-le, map-append, length-map}
+use Rattle.rp_pattern.specs.declared.word.End.{End}
+use Rattle.rp_pattern.specs.declared.word.End.TheVariants.{Open as OpenEnd}
+use Rattle.rp_pattern.specs.declared.word.Label.{Label}
+use Rattle.rp_pattern.specs.declared.rests.Rests.{Rests}
+use Rattle.rp_pattern.specs.declared.rests.Rests.TheVariants.{Done, Then}
+use Rattle.rp_pattern.specs.declared.rests.Choice.{Choice}
+use Rattle.rp_pattern.specs.declared.turn.Split.{Split as Choices'}
+use Rattle.rp_pattern.specs.declared.choices.Choices.{Choices}
+use Rattle.rp_pattern.specs.Mapping.{Mapping, Full, Open}
+use Rattle.rp_pattern.specs.Words.{preceded}
+use Rattle.rp_pattern.specs.Turns.{Part as Costed, chain_turns}
+use Rattle.rp_pattern.specs.WordLaws.{IsLater}
+use Rattle.rp_pattern.specs.Rests.{tail_parts, rests_parts, later_parts, chain_words, chain_left, choice_words, stack_words, stack_left, rises, pushed}
+use Rattle.rp_pattern.specs.Splits.{option_words, option_turns, split_words, split_turns, Splits, MapsRow as MapsOne, Waits}
+use Rattle.rp_pattern.specs.Choices.{start_of, entered, whole, remaining, left, below, below_left, after, after_left, without_first, first_later, OfFirst, HasTop, AtRow, IsFront, IsSplit, MapsRow, IsFullWord, IsOpenWord, IsNothing}
+use Rattle.rp_pattern.proofs.Lists.{map-map}
+use Rattle.rp_pattern.proofs.Algebra.{append_nil, map_same, preceded_twice}
+use Rattle.rp_pattern.proofs.Steps.{later_self}
+
+-- ---- depths that rise
+
+pub rises_first : (m : ℕ) (c : Choice) (cs : List Choice) → IsTrue (rises m (c ∷ cs)) → (c.depth ≤ m) × IsTrue (rises c.depth cs)
+rises_first m c cs h = go (nat_le c.depth m) refl h
+  where
+    go : (b : Bool) → nat_le c.depth m ≡ b → IsTrue (b && rises c.depth cs) → (c.depth ≤ m) × IsTrue (rises c.depth cs)
+    go true e h = (grind (arith, nat_tests), h)
+    go false e h = absurd cc
+
+pub rises_on : (m : ℕ) (c : Choice) (cs : List Choice) → c.depth ≤ m → IsTrue (rises c.depth cs) → IsTrue (rises m (c ∷ cs))
+rises_on m c cs a h = go (nat_le c.depth m) refl
+  where
+    go : (b : Bool) → nat_le c.depth m ≡ b → IsTrue (b && rises c.depth cs)
+    go true e = h
+    go false e = absurd (grind (arith, nat_tests))
+
+pub rises_more : (m k : ℕ) (cs : List Choice) → m ≤ k → IsTrue (rises m cs) → IsTrue (rises k cs)
+rises_more m k [] a h = refl
+rises_more m k (c ∷ cs) a h = let f = rises_first m c cs h in rises_on k c cs (omega (arith, f.0)) f.1
+
+pub rises_pushed : (m d : ℕ) (r : Option Rests) (cs : List Choice) → d ≤ m → IsTrue (rises d cs) → IsTrue (rises m (pushed d r cs))
+rises_pushed m d None cs a h = rises_more d m cs a h
+rises_pushed m d (Some r) cs a h = rises_on m (record { depth = d; rests = r }) cs a h
+
+-- ---- labels that are cut
+
+pub take_take : (a b : ℕ) (ls : List Label) → a ≤ b → b ≤ length ls → take a (take b ls) ≡ take a ls
+take_take a b ls h k =
+    let long = length-take-le b ls k in
+    sym (take-append-le a (take b ls) (drop b ls) (omega (arith, long))) ∙ ap (take a) (take-append-drop b ls)
+
+-- choices see only the labels before them
+pub same_labels : (n : ℕ) (e : End) (s d : ℕ) (ls ls' : List Label) (cs : List Choice) → d ≤ length ls → d ≤ length ls' → take d ls ≡ take d ls' → IsTrue (rises d cs) → stack_words n e s ls cs ≡ stack_words n e s ls' cs
+same_labels n e s d ls ls' [] a b h r = refl
+same_labels n e s d ls ls' (c ∷ cs) a b h r =
+    let f = rises_first d c cs r in
+    let here : take c.depth ls ≡ take c.depth ls' = sym (take_take c.depth d ls f.0 a) ∙ ap (take c.depth) h ∙ take_take c.depth d ls' f.0 b in
+    let later = same_labels n e s c.depth ls ls' cs (omega (arith, f.0)) (omega (arith, f.0)) here f.1 in
+    ap (λ z. map (preceded z) (chain_words (rests_parts n e c.rests) (s + c.depth)) ++ stack_words n e s ls cs) here
+    ∙ ap (λ z. choice_words n e s ls' c ++ z) later
+
+-- ---- what is pushed
+
+pub pushed_words : (n : ℕ) (e : End) (s d : ℕ) (ls : List Label) (r : Option Rests) (cs : List Choice) → stack_words n e s ls (pushed d r cs) ≡ map (preceded (take d ls)) (option_words n e r (s + d)) ++ stack_words n e s ls cs
+pushed_words n e s d ls None cs = refl
+pushed_words n e s d ls (Some r) cs = refl
+
+pub pushed_left : (n : ℕ) (e : End) (s d : ℕ) (r : Option Rests) (cs : List Choice) → stack_left n e s (pushed d r cs) ≡ option_turns n e r (s + d) + length (option_words n e r (s + d)) + stack_left n e s cs
+pushed_left n e s d None cs = omega arith
+pushed_left n e s d (Some r) cs = refl
+
+-- ---- the parts of a value
+
+-- It has begun, from this start row, with these labels and these choices, the preferred one first.
+pub record Stack (c : Choices) (s : ℕ) (ls : List Label) (cs : List Choice) : Type 0 where
+  pub begun : c.begun ≡ true
+  pub start : c.start ≡ s
+  pub labels : c.labels.items ≡ ls
+  pub choices : reverse c.stack.items ≡ cs
+
+module _ (c : Choices) (s : ℕ) (ls : List Label) (cs : List Choice) (k : Stack c s ls cs) where
+  pub entered_is : entered c ≡ ls
+  unfolding entered
+  entered_is = k.labels
+
+  pub start_is : start_of c ≡ s
+  unfolding start_of
+  start_is = k.start
+
+  same_words : (n : ℕ) (e : End) → stack_words n e c.start c.labels.items (reverse c.stack.items) ≡ stack_words n e s ls cs
+  same_words n e =
+      ap (λ z. stack_words n e z c.labels.items (reverse c.stack.items)) k.start
+      ∙ ap (λ z. stack_words n e s z (reverse c.stack.items)) k.labels
+      ∙ ap (stack_words n e s ls) k.choices
+
+  pub remaining_is : (n : ℕ) (e : End) → remaining c n e ≡ stack_words n e s ls cs
+  unfolding remaining
+  remaining_is n e = ap (λ b. cond b (stack_words n e c.start c.labels.items (reverse c.stack.items)) (chain_words (tail_parts n e c.origin) c.start)) k.begun ∙ same_words n e
+
+  pub left_is : (n : ℕ) (e : End) → left c n e ≡ stack_left n e s cs
+  unfolding left
+  left_is n e =
+      ap (λ b. cond b (stack_left n e c.start (reverse c.stack.items)) (chain_left (tail_parts n e c.origin) c.start)) k.begun
+      ∙ ap (λ z. stack_left n e z (reverse c.stack.items)) k.start ∙ ap (stack_left n e s) k.choices
+
+  pub below_is : (n : ℕ) (e : End) → below c n e ≡ stack_words n e s ls (without_first cs)
+  unfolding below
+  below_is n e =
+      ap (λ z. stack_words n e z c.labels.items (without_first (reverse c.stack.items))) k.start
+      ∙ ap (λ z. stack_words n e s z (without_first (reverse c.stack.items))) k.labels
+      ∙ ap (λ z. stack_words n e s ls (without_first z)) k.choices
+
+  pub below_left_is : (n : ℕ) (e : End) → below_left c n e ≡ stack_left n e s (without_first cs)
+  unfolding below_left
+  below_left_is n e = ap (λ z. stack_left n e z (without_first (reverse c.stack.items))) k.start ∙ ap (λ z. stack_left n e s (without_first z)) k.choices
+
+  pub after_is : (n : ℕ) (e : End) → after c n e ≡ chain_words (first_later n e cs) (s + length ls)
+  unfolding after
+  after_is n e =
+      ap (λ z. chain_words (first_later n e (reverse c.stack.items)) (z + length c.labels.items)) k.start
+      ∙ ap (λ z. chain_words (first_later n e (reverse c.stack.items)) (s + length z)) k.labels
+      ∙ ap (λ z. chain_words (first_later n e z) (s + length ls)) k.choices
+
+  pub after_left_is : (n : ℕ) (e : End) → after_left c n e ≡ chain_left (first_later n e cs) (s + length ls)
+  unfolding after_left
+  after_left_is n e =
+      ap (λ z. chain_left (first_later n e (reverse c.stack.items)) (z + length c.labels.items)) k.start
+      ∙ ap (λ z. chain_left (first_later n e (reverse c.stack.items)) (s + length z)) k.labels
+      ∙ ap (λ z. chain_left (first_later n e z) (s + length ls)) k.choices
+
+pub has_top : (c : Choices) (s : ℕ) (ls : List Label) (t : Choice) (cs : List Choice) → Stack c s ls (t ∷ cs) → HasTop c
+unfolding HasTop
+has_top c s ls t cs k = (k.begun, subst (OfFirst (λ t. Unit {0})) (sym k.choices) tt)
+
+pub at_row : (c : Choices) (s : ℕ) (ls : List Label) (t : Choice) (cs : List Choice) → Stack c s ls (t ∷ cs) → t.depth + 1 ≡ length ls → AtRow c
+unfolding AtRow
+at_row c s ls t cs k h = (k.begun, subst (OfFirst (λ t. t.depth + 1 ≡ length c.labels.items)) (sym k.choices) (h ∙ sym (ap length k.labels)))
+
+-- ---- what the preferred choice came to
+
+later_is : (n : ℕ) (e : End) (r : Rests) → drop 1 (rests_parts n e r) ≡ later_parts n e r
+later_is n e Done = refl
+later_is n e (Then part then) = refl
+
+module _ (old new : Choices) (s : ℕ) (ls : List Label) (t : Choice) (cs : List Choice) (n : ℕ) (e : End) (k : Stack old s ls (t ∷ cs)) (r : IsTrue (rises (length ls) (t ∷ cs))) where
+  deep : t.depth ≤ length ls
+  deep = (rises_first (length ls) t cs r).0
+
+  lower : IsTrue (rises t.depth cs)
+  lower = (rises_first (length ls) t cs r).1
+
+  cut : List Label
+  cut = take t.depth ls
+
+  cut_long : length (take t.depth ls) ≡ t.depth
+  cut_long = length-take-le t.depth ls deep
+
+  cut_same : take t.depth ls ≡ take t.depth (take t.depth ls)
+  cut_same = sym (take_take t.depth t.depth ls (omega arith) deep)
+
+  -- the choices below keep their words
+  below_cut : (n' : ℕ) (e' : End) → stack_words n' e' s ls cs ≡ stack_words n' e' s (take t.depth ls) cs
+  below_cut n' e' = same_labels n' e' s t.depth ls (take t.depth ls) cs deep (omega (arith, cut_long)) cut_same lower
+
+  all_cut : (n' : ℕ) (e' : End) → stack_words n' e' s ls (t ∷ cs) ≡ stack_words n' e' s (take t.depth ls) (t ∷ cs)
+  all_cut n' e' = same_labels n' e' s t.depth ls (take t.depth ls) (t ∷ cs) deep (omega (arith, cut_long)) cut_same (rises_on t.depth t cs (omega arith) lower)
+
+  pub is_full : Stack new s (take t.depth ls) (t ∷ cs) → ((n' : ℕ) (e' : End) → chain_words (rests_parts n' e' t.rests) (s + t.depth) ≡ Full [] ∷ []) → IsFullWord old new n e
+  is_full m w =
+      let front : entered new ≡ take t.depth ls = entered_is new s (take t.depth ls) (t ∷ cs) m in
+      let word : take t.depth ls ++ [] ≡ entered new = append_nil (take t.depth ls) ∙ sym front in
+      let now : (n' : ℕ) (e' : End) → stack_words n' e' s ls (t ∷ cs) ≡ Full (entered new) ∷ below new n' e' = λ n' e'.
+      ap (λ z. map (preceded (take t.depth ls)) z ++ stack_words n' e' s ls cs) (w n' e')
+      ∙ ap (λ z. Full z ∷ stack_words n' e' s ls cs) word
+      ∙ ap (λ z. Full (entered new) ∷ z) (below_cut n' e' ∙ sym (below_is new s (take t.depth ls) (t ∷ cs) m n' e')) in
+      record {
+        cut = (t.depth, front ∙ ap (take t.depth) (sym (entered_is old s ls (t ∷ cs) k)));
+        has_top = has_top new s (take t.depth ls) t cs m;
+        was = λ n' e' later. remaining_is old s ls (t ∷ cs) k n' e' ∙ now n' e';
+        now = λ n' e' later. remaining_is new s (take t.depth ls) (t ∷ cs) m n' e' ∙ sym (all_cut n' e') ∙ now n' e';
+        same_left = left_is new s (take t.depth ls) (t ∷ cs) m n e ∙ sym (left_is old s ls (t ∷ cs) k n e);
+        less_below = omega (arith, left_is new s (take t.depth ls) (t ∷ cs) m n e, below_left_is new s (take t.depth ls) (t ∷ cs) m n e, ap length (w n e));
+      }
+
+  pub is_open : Stack new s (take t.depth ls) (t ∷ cs) → Waits n e (s + t.depth) (λ n e. rests_parts n e t.rests) → IsOpenWord old new n e
+  is_open m w =
+      let front : entered new ≡ take t.depth ls = entered_is new s (take t.depth ls) (t ∷ cs) m in
+      let word : take t.depth ls ++ [] ≡ entered new = append_nil (take t.depth ls) ∙ sym front in
+      record {
+        end = w.end;
+        cut = (t.depth, front ∙ ap (take t.depth) (sym (entered_is old s ls (t ∷ cs) k)));
+        has_top = has_top new s (take t.depth ls) t cs m;
+        same = λ n' e' later. remaining_is new s (take t.depth ls) (t ∷ cs) m n' e' ∙ sym (all_cut n' e') ∙ sym (remaining_is old s ls (t ∷ cs) k n' e');
+        was = remaining_is old s ls (t ∷ cs) k n e
+            ∙ ap (λ z. map (preceded (take t.depth ls)) z ++ stack_words n e s ls cs) w.words
+            ∙ ap (λ z. Open z ∷ stack_words n e s ls cs) word
+            ∙ ap (λ z. Open (entered new) ∷ z) (below_cut n e ∙ sym (below_is new s (take t.depth ls) (t ∷ cs) m n e));
+        same_left = left_is new s (take t.depth ls) (t ∷ cs) m n e ∙ sym (left_is old s ls (t ∷ cs) k n e);
+        less_below = omega (arith, left_is new s (take t.depth ls) (t ∷ cs) m n e, below_left_is new s (take t.depth ls) (t ∷ cs) m n e, ap length w.words);
+      }
+
+  pub is_split : (x : Choices') → Stack new s (take t.depth ls) (pushed t.depth x.preferred (pushed t.depth x.other cs)) → Splits n e (s + t.depth) (λ n e. rests_parts n e t.rests) x → IsSplit old new n e
+  is_split x m w =
+      let d = t.depth in
+      let i : ℕ = s + t.depth in
+      let l : List Label = take t.depth ls in
+      let ds : List Choice = pushed t.depth x.other cs in
+      let words : (n' : ℕ) (e' : End) → IsLater n e n' e' → stack_words n' e' s l (pushed t.depth x.preferred ds) ≡ stack_words n' e' s l (t ∷ cs) = λ n' e' later.
+      pushed_words n' e' s d l x.preferred ds
+      ∙ ap (λ z. map (preceded (take d l)) (option_words n' e' x.preferred i) ++ z) (pushed_words n' e' s d l x.other cs)
+      ∙ sym (append_assoc (map (preceded (take d l)) (option_words n' e' x.preferred i)) (map (preceded (take d l)) (option_words n' e' x.other i)) (stack_words n' e' s l cs))
+      ∙ ap (λ z. z ++ stack_words n' e' s l cs) (sym (map-append (preceded (take d l)) (option_words n' e' x.preferred i) (option_words n' e' x.other i)))
+      ∙ ap (λ z. map (preceded (take d l)) z ++ stack_words n' e' s l cs) (w.words n' e' later) in
+      let long = ap length (w.words n e (later_self n e)) in
+      let both = length-append (option_words n e x.preferred i) (option_words n e x.other i) in
+      record {
+        cut = (t.depth, entered_is new s l (pushed t.depth x.preferred ds) m ∙ ap (take t.depth) (sym (entered_is old s ls (t ∷ cs) k)));
+        same = λ n' e' later. remaining_is new s l (pushed t.depth x.preferred ds) m n' e' ∙ words n' e' later ∙ sym (all_cut n' e') ∙ sym (remaining_is old s ls (t ∷ cs) k n' e');
+        less = omega (arith, left_is new s l (pushed t.depth x.preferred ds) m n e, left_is old s ls (t ∷ cs) k n e, pushed_left n e s d x.preferred ds, pushed_left n e s d x.other cs, w.turns, long, both);
+      }
+
+  pub maps_row : (l : Label) → Stack new s (take t.depth ls ++ l ∷ []) (t ∷ cs) → MapsOne n e (s + t.depth) (λ n e. rests_parts n e t.rests) l → MapsRow old new n e
+  maps_row l m w =
+      let d = t.depth in
+      let i : ℕ = s + t.depth in
+      let ms : List Label = take t.depth ls ++ l ∷ [] in
+      let long : length ms ≡ t.depth + 1 = omega (arith, cut_long, length-append (take t.depth ls) (l ∷ [])) in
+      let at : (s + t.depth) + 1 ≡ s + length ms = omega (arith, long) in
+      let front : take t.depth ls ≡ take t.depth ms = sym (take-append-le t.depth (take t.depth ls) (l ∷ []) (omega (arith, cut_long)) ∙ sym cut_same) in
+      let lower_same : (n' : ℕ) (e' : End) → stack_words n' e' s ls cs ≡ stack_words n' e' s ms cs = λ n' e'. same_labels n' e' s d ls ms cs deep (omega (arith, long)) front lower in
+      let all_same : (n' : ℕ) (e' : End) → stack_words n' e' s ls (t ∷ cs) ≡ stack_words n' e' s ms (t ∷ cs) = λ n' e'. same_labels n' e' s d ls ms (t ∷ cs) deep (omega (arith, long)) front (rises_on t.depth t cs (omega arith) lower) in
+      let later : (n' : ℕ) (e' : End) → chain_words (drop 1 (rests_parts n' e' t.rests)) (i + 1) ≡ after new n' e' = λ n' e'.
+      ap (λ ps. chain_words ps (i + 1)) (later_is n' e' t.rests) ∙ ap (chain_words (later_parts n' e' t.rests)) at ∙ sym (after_is new s ms (t ∷ cs) m n' e') in
+      let words : (n' : ℕ) (e' : End) → IsLater n e n' e' → stack_words n' e' s ls (t ∷ cs) ≡ map (preceded (entered new)) (after new n' e') ++ below new n' e' = λ n' e' more.
+      ap (λ z. map (preceded (take d ls)) z ++ stack_words n' e' s ls cs) (w.words n' e' more.0)
+      ∙ ap (λ z. z ++ stack_words n' e' s ls cs)
+      (map-map (preceded (take d ls)) (preceded (l ∷ [])) (chain_words (drop 1 (rests_parts n' e' t.rests)) (i + 1))
+      ∙ map_same (λ v. preceded (take d ls) (preceded (l ∷ []) v)) (preceded ms) (preceded_twice (take d ls) (l ∷ [])) (chain_words (drop 1 (rests_parts n' e' t.rests)) (i + 1))
+      ∙ ap (map (preceded ms)) (later n' e')
+      ∙ ap (λ z. map (preceded z) (after new n' e')) (sym (entered_is new s ms (t ∷ cs) m)))
+      ∙ ap (λ z. map (preceded (entered new)) (after new n' e') ++ z) (lower_same n' e' ∙ sym (below_is new s ms (t ∷ cs) m n' e')) in
+      let same : left new n e ≡ left old n e = left_is new s ms (t ∷ cs) m n e ∙ sym (left_is old s ls (t ∷ cs) k n e) in
+      let count : length (chain_words (rests_parts n e t.rests) i) ≡ length (chain_words (later_parts n e t.rests) (s + length ms)) =
+      ap length (w.words n e (omega arith)) ∙ length-map (chain_words (drop 1 (rests_parts n e t.rests)) (i + 1)) (preceded (l ∷ []))
+      ∙ ap (λ ps. length (chain_words ps (i + 1))) (later_is n e t.rests) ∙ ap (λ j. length (chain_words (later_parts n e t.rests) j)) at in
+      let turns : chain_turns (rests_parts n e t.rests) i ≡ 1 + chain_turns (later_parts n e t.rests) (s + length ms) =
+      w.turns ∙ ap (λ ps. 1 + chain_turns ps (i + 1)) (later_is n e t.rests) ∙ ap (λ j. 1 + chain_turns (later_parts n e t.rests) j) at in
+      record {
+        depth = t.depth;
+        label = l;
+        enters = entered_is new s ms (t ∷ cs) m ∙ ap (λ z. take t.depth z ++ l ∷ []) (sym (entered_is old s ls (t ∷ cs) k));
+        known = omega (arith, start_is new s ms (t ∷ cs) m, ap length (entered_is new s ms (t ∷ cs) m), long, w.known);
+        at_row = at_row new s ms t cs m (sym long);
+        has_top = has_top new s ms t cs m;
+        was = λ n' e' more. remaining_is old s ls (t ∷ cs) k n' e' ∙ words n' e' more;
+        now = λ n' e' more. remaining_is new s ms (t ∷ cs) m n' e' ∙ sym (all_same n' e') ∙ words n' e' more;
+        same_left = same;
+        parts_left = omega (arith, left_is new s ms (t ∷ cs) m n e, after_left_is new s ms (t ∷ cs) m n e, below_left_is new s ms (t ∷ cs) m n e, count, turns);
+      }
+
+pub is_nothing : (old new : Choices) (s : ℕ) (ls : List Label) (n : ℕ) (e : End) → Stack old s ls [] → Stack new s ls [] → IsNothing old new n e
+is_nothing old new s ls n e k m = record {
+  cut = (length ls, entered_is new s ls [] m ∙ sym (take-all ls) ∙ ap (take (length ls)) (sym (entered_is old s ls [] k)));
+  was = λ n' e' later. remaining_is old s ls [] k n' e';
+  now = λ n' e' later. remaining_is new s ls [] m n' e';
+}
+  where
+    take-all : (ls : List Label) → take (length ls) ls ≡ ls
+    take-all [] = refl
+    take-all (l ∷ ls) = ap (λ z. l ∷ z) (take-all ls)

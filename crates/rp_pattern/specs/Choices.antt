@@ -1,0 +1,151 @@
+-- What a stack of choices stands for.
+use Rattle.std.specs.Prelude.{◌≡◌, ℕ, suc, ◌+◌, ◌<◌, ◌≤◌, Bool, true, false, cond, List, [], ◌∷◌, ◌++◌, map, length, take, reverse, Option}
+use Rattle.rp_pattern.specs.declared.word.End.{End}
+use Rattle.rp_pattern.specs.declared.word.End.TheVariants.{Open as OpenEnd}
+use Rattle.rp_pattern.specs.declared.word.Label.{Label}
+use Rattle.std.specs.declared.rc.Rc.{Rc}
+use Rattle.std.specs.declared.alloc.Global.{Global}
+use Rattle.rp_pattern.specs.declared.rests.Link.{Link}
+use Rattle.rp_pattern.specs.declared.rests.Choice.{Choice}
+use Rattle.rp_pattern.specs.declared.choices.Choices.{Choices}
+use Rattle.rp_pattern.specs.declared.choices.Taken.{Taken}
+use Rattle.rp_pattern.specs.declared.choices.Taken.TheVariants.{Row, Split, Full as FullTaken, Open as OpenTaken, Nothing}
+use Rattle.rp_pattern.specs.Mapping.{Mapping, Full, Open}
+use Rattle.rp_pattern.specs.Words.{preceded}
+use Rattle.rp_pattern.specs.Turns.{Part as Costed}
+use Rattle.rp_pattern.specs.WordLaws.{IsLater}
+use Rattle.rp_pattern.specs.Rests.{tail_parts, rests_parts, later_parts, chain_words, chain_left, stack_words, stack_left}
+
+-- the start row
+unfoldable pub start_of : Choices → ℕ
+start_of c = c.start
+
+-- the labels now
+unfoldable pub entered : Choices → List Label
+entered c = c.labels.items
+
+-- the choices that are not taken up, the preferred one first
+unfoldable pub standing : Choices → List Choice
+standing c = reverse c.stack.items
+
+-- the words that it stood for when it was made
+unfoldable pub whole : Choices → ℕ → End → List Mapping
+whole c n e = chain_words (tail_parts n e c.origin) c.start
+
+unfoldable pub whole_left : Choices → ℕ → End → ℕ
+whole_left c n e = chain_left (tail_parts n e c.origin) c.start
+
+-- the words of the choices that are not given up, in preferment order. Before the first one is taken up, it is the whole.
+unfoldable pub remaining : Choices → ℕ → End → List Mapping
+remaining c n e = cond c.begun (stack_words n e c.start c.labels.items (reverse c.stack.items)) (chain_words (tail_parts n e c.origin) c.start)
+
+-- turns of the choices, and one more for each word
+unfoldable pub left : Choices → ℕ → End → ℕ
+left c n e = cond c.begun (stack_left n e c.start (reverse c.stack.items)) (chain_left (tail_parts n e c.origin) c.start)
+
+abbrev pub without_first : List Choice → List Choice
+without_first [] = []
+without_first (c ∷ cs) = cs
+
+-- the same without the preferred choice
+unfoldable pub below : Choices → ℕ → End → List Mapping
+below c n e = stack_words n e c.start c.labels.items (without_first (reverse c.stack.items))
+
+unfoldable pub below_left : Choices → ℕ → End → ℕ
+below_left c n e = stack_left n e c.start (without_first (reverse c.stack.items))
+
+-- what comes after the first part of the preferred choice
+abbrev pub first_later : ℕ → End → List Choice → List Costed
+first_later n e [] = []
+first_later n e (c ∷ cs) = later_parts n e c.rests
+
+-- the words that may follow the row that the preferred choice maps
+unfoldable pub after : Choices → ℕ → End → List Mapping
+after c n e = chain_words (first_later n e (reverse c.stack.items)) (c.start + length c.labels.items)
+
+unfoldable pub after_left : Choices → ℕ → End → ℕ
+after_left c n e = chain_left (first_later n e (reverse c.stack.items)) (c.start + length c.labels.items)
+
+-- there is a first choice, and so is it
+abbrev pub OfFirst : (Choice → Type 0) → List Choice → Type 0
+OfFirst P [] = ⊥
+OfFirst P (c ∷ cs) = P c
+
+-- a choice is preferred, and can be given up
+unfoldable pub HasTop : Choices → Type 0
+HasTop c = (c.begun ≡ true) × OfFirst (λ t. Unit {0}) (reverse c.stack.items)
+
+-- The preferred choice maps a row, whose label is the last one.
+unfoldable pub AtRow : Choices → Type 0
+AtRow c = (c.begun ≡ true) × OfFirst (λ t. t.depth + 1 ≡ length c.labels.items) (reverse c.stack.items)
+
+-- ---- what an operation does
+
+abbrev pub HasBegun : Choices → Type 0
+HasBegun c = c.begun ≡ true
+
+-- it is what comes after the first part of the preferred choice
+abbrev pub IsLaterTail : Choices → Option (Rc Link Global) → Type 0
+IsLaterTail c tail = (n : ℕ) (e : End) → tail_parts n e tail ≡ first_later n e (reverse c.stack.items)
+
+-- the first ones of these labels
+abbrev pub IsFront : List Label → List Label → Type 0
+IsFront ls of = (k : ℕ) × (ls ≡ take k of)
+
+-- The start row and the whole stay.
+pub record IsSameWhole (old new : Choices) : Type 0 where
+  pub start : start_of new ≡ start_of old
+  pub words : (n : ℕ) (e : End) → whole new n e ≡ whole old n e
+  pub left : (n : ℕ) (e : End) → whole_left new n e ≡ whole_left old n e
+
+-- The preferred choice was replaced by those that it stands for.
+pub record IsSplit (old new : Choices) (n : ℕ) (e : End) : Type 0 where
+  pub cut : IsFront (entered new) (entered old)
+  pub same : (n' : ℕ) (e' : End) → IsLater n e n' e' → remaining new n' e' ≡ remaining old n' e'
+  pub less : left new n e < left old n e
+
+-- The preferred choice maps the next known row, whose label was entered.
+pub record MapsRow (old new : Choices) (n : ℕ) (e : End) : Type 0 where
+  pub depth : ℕ
+  pub label : Label
+  pub enters : entered new ≡ take depth (entered old) ++ label ∷ []
+  pub known : start_of new + length (entered new) ≤ n + 1
+  pub at_row : AtRow new
+  pub has_top : HasTop new
+  pub was : (n' : ℕ) (e' : End) → IsLater n e n' e' → remaining old n' e' ≡ map (preceded (entered new)) (after new n' e') ++ below new n' e'
+  pub now : (n' : ℕ) (e' : End) → IsLater n e n' e' → remaining new n' e' ≡ map (preceded (entered new)) (after new n' e') ++ below new n' e'
+  pub same_left : left new n e ≡ left old n e
+  pub parts_left : left new n e ≡ 1 + after_left new n e + below_left new n e
+
+-- The preferred choice is a full word.
+pub record IsFullWord (old new : Choices) (n : ℕ) (e : End) : Type 0 where
+  pub cut : IsFront (entered new) (entered old)
+  pub has_top : HasTop new
+  pub was : (n' : ℕ) (e' : End) → IsLater n e n' e' → remaining old n' e' ≡ Full (entered new) ∷ below new n' e'
+  pub now : (n' : ℕ) (e' : End) → IsLater n e n' e' → remaining new n' e' ≡ Full (entered new) ∷ below new n' e'
+  pub same_left : left new n e ≡ left old n e
+  pub less_below : below_left new n e < left new n e
+
+-- The preferred choice runs into the row after the last known one.
+pub record IsOpenWord (old new : Choices) (n : ℕ) (e : End) : Type 0 where
+  pub end : e ≡ OpenEnd
+  pub cut : IsFront (entered new) (entered old)
+  pub has_top : HasTop new
+  pub same : (n' : ℕ) (e' : End) → IsLater n e n' e' → remaining new n' e' ≡ remaining old n' e'
+  pub was : remaining old n e ≡ Open (entered new) ∷ below new n e
+  pub same_left : left new n e ≡ left old n e
+  pub less_below : below_left new n e < left new n e
+
+-- No choice is left.
+pub record IsNothing (old new : Choices) (n : ℕ) (e : End) : Type 0 where
+  pub cut : IsFront (entered new) (entered old)
+  pub was : (n' : ℕ) (e' : End) → IsLater n e n' e' → remaining old n' e' ≡ []
+  pub now : (n' : ℕ) (e' : End) → IsLater n e n' e' → remaining new n' e' ≡ []
+
+-- what the preferred choice came to when it was taken up, over the rows 1 to n and that end
+abbrev pub TakenAs : Choices → Choices → ℕ → End → Taken → Type 0
+TakenAs old new n e Row = MapsRow old new n e
+TakenAs old new n e Split = IsSplit old new n e
+TakenAs old new n e FullTaken = IsFullWord old new n e
+TakenAs old new n e OpenTaken = IsOpenWord old new n e
+TakenAs old new n e Nothing = IsNothing old new n e

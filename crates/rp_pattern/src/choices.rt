@@ -1,0 +1,239 @@
+ghost use Rattle.std.specs.Prelude.{◌≡◌, ℕ, ◌∷◌, ◌++◌, ◌+◌, ◌-◌, ◌^◌, ◌<◌, ◌≤◌, IfOk, OnOk, IsTrue, List, [], map, length, reverse};
+ghost use Rattle.rp_pattern.specs.Rests.{rises, pushed};
+
+use crate::form::{Form, Pattern};
+use crate::rests::{Choice, Node, Part, Rests, Tail};
+use crate::tail::{follow, linked, share};
+use crate::turn::{Split, Turn};
+use crate::word::{End, Label};
+use std::alloc::{AllocError, Global};
+use std::rc::Rc;
+
+/// What the preferred choice came to when it was taken up.
+#[derive(Clone, Copy, Debug, PartialEq, Eq)]
+pub enum Taken {
+    /// It maps the next known row: the label is the last of `labels`. The choice stays until `admit` or `give_up`.
+    Row,
+    /// It was replaced by the choices that it stands for, if any.
+    Split,
+    /// It is a full word, of `labels`. The choice stays until `give_up`.
+    Full,
+    /// It runs into the row after the last known one. The choice stays until `give_up`.
+    Open,
+    /// No choice is left.
+    Nothing,
+}
+
+/// The words of a pattern from a start row, listed lazily in preferment order.
+#[derive(Drop)]
+pub struct Choices {
+    alloc: Global,
+    start: u64,
+    origin: Tail,
+    begun: bool,
+    labels: Vec<Label>,
+    stack: Vec<Choice>,
+    ghost rises: { IsTrue (rises (length labels.items) (reverse stack.items)) },
+    ghost ends: { start + length labels.items < 2 ^ 64 },
+}
+
+impl Choices {
+    ghost use Rattle.std.specs.Prelude.{OnOk, IfOk, take, ◌∷◌, ◌++◌, map};
+    ghost use Rattle.rp_pattern.specs.declared.word.End.{End};
+    ghost use Rattle.rp_pattern.specs.Words.{words, preceded};
+    ghost use Rattle.rp_pattern.specs.Turns.{turns};
+    ghost use Rattle.rp_pattern.specs.PatternForm.{form_of};
+    ghost use Rattle.rp_pattern.specs.Rests.{tail_links};
+    ghost use Rattle.rp_pattern.specs.Choices.{start_of, entered, whole, whole_left, remaining, left, below, below_left, after, after_left, HasTop, AtRow, IsFront, IsSameWhole, TakenAs, HasBegun, IsLaterTail};
+
+    /// The words of the pattern from the start row on.
+    pub fn new(alloc: Global, pattern: &Pattern, start: u64) -> Result<Choices, AllocError>
+        requires { 1 ≤ start }
+        ensures start { IfOk result (λ c. start_of c ≡ start) }
+        ensures labels { IfOk result (λ c. entered c ≡ []) }
+        ensures whole { IfOk result (λ c. (n : ℕ) (e : End) → whole c n e ≡ words n e (form_of pattern.now) start) }
+        ensures whole_left { IfOk result (λ c. (n : ℕ) (e : End) → whole_left c n e ≡ turns n e (form_of pattern.now) start + length (words n e (form_of pattern.now) start)) }
+        ensures remaining { IfOk result (λ c. (n : ℕ) (e : End) → remaining c n e ≡ whole c n e) }
+        ensures left { IfOk result (λ c. (n : ℕ) (e : End) → left c n e ≡ whole_left c n e) }
+    {
+        let form = Rc::new(alloc, pattern.form().share(alloc)?)?;
+        let part = Part::Whole(Node {
+            form,
+            excluded: false,
+        });
+        Ok(Choices {
+            alloc,
+            start,
+            origin: linked(alloc, None, part, None)?,
+            begun: false,
+            labels: Vec::new(alloc),
+            stack: Vec::new(alloc),
+        })
+    }
+
+    /// The labels of the rows before the preferred choice, and of the row that it maps.
+    pub fn labels(&self) -> &[Label]
+        ensures { result.now ≡ entered self.now }
+    {
+        &self.labels
+    }
+
+    /// The start row.
+    pub fn start(&self) -> u64
+        ensures { result ≡ start_of self.now }
+    {
+        self.start
+    }
+
+    /// Takes up the preferred choice, over the rows 1 to n and that end. Where memory is refused, nothing is said of the
+    /// choices that are left: `reset` them.
+    pub fn take_up(&mut self, n: u64, end: End) -> Result<Taken, AllocError>
+        requires { n < 2 ^ 64 - 1 }
+        ensures whole { IsSameWhole self.old self.new }
+        ensures taken { IfOk result (TakenAs self.old self.new n end) }
+    {
+        self.begin()?;
+        self.take_up_top(n, end)
+    }
+
+    /// Puts the whole on the stack, if nothing was taken up yet.
+    fn begin(&mut self) -> Result<(), AllocError>
+        ensures whole { IsSameWhole self.old self.new }
+        ensures begun { OnOk result (HasBegun self.new) }
+        ensures cut { OnOk result (IsFront (entered self.new) (entered self.old)) }
+        ensures remaining { OnOk result ((n : ℕ) (e : End) → remaining self.new n e ≡ remaining self.old n e) }
+        ensures left { OnOk result ((n : ℕ) (e : End) → left self.new n e ≡ left self.old n e) }
+    {
+        if self.begun {
+            return Ok(());
+        }
+        self.stack.clear();
+        self.labels.clear();
+        let first = follow(&self.origin, self.start)?;
+        push(&mut self.stack, 0, first)?;
+        self.begun = true;
+        Ok(())
+    }
+
+    /// Takes up the choice on the stack's top.
+    fn take_up_top(&mut self, n: u64, end: End) -> Result<Taken, AllocError>
+        requires rows { n < 2 ^ 64 - 1 }
+        requires begun { HasBegun self.old }
+        ensures whole { IsSameWhole self.old self.new }
+        ensures taken { IfOk result (TakenAs self.old self.new n end) }
+    {
+        let Some(choice) = self.stack.pop() else {
+            return Ok(Taken::Nothing);
+        };
+        self.labels.truncate(choice.depth);
+        let row = self.start + choice.depth as u64;
+        match choice.rests.take_up(self.alloc, row, n, end)? {
+            Turn::Full => {
+                self.stack.push(choice)?;
+                Ok(Taken::Full)
+            }
+            Turn::Row(label) => {
+                self.labels.push(label)?;
+                self.stack.push(choice)?;
+                Ok(Taken::Row)
+            }
+            Turn::Open => {
+                self.stack.push(choice)?;
+                Ok(Taken::Open)
+            }
+            Turn::Split(split) => {
+                push_split(&mut self.stack, choice.depth, split)?;
+                Ok(Taken::Split)
+            }
+        }
+    }
+
+    /// The row is mapped as the preferred choice says.
+    pub fn admit(&mut self) -> Result<(), AllocError>
+        requires { AtRow self.old }
+        ensures whole { IsSameWhole self.old self.new }
+        ensures remaining { OnOk result ((n : ℕ) (e : End) → remaining self.new n e ≡ map (preceded (entered self.old)) (after self.old n e) ++ below self.old n e) }
+        ensures left { OnOk result ((n : ℕ) (e : End) → left self.new n e ≡ after_left self.old n e + below_left self.old n e) }
+        ensures labels { OnOk result (entered self.new ≡ entered self.old) }
+    {
+        let later = self.later()?;
+        let depth = self.labels.len();
+        let rests = follow(&later, self.start + depth as u64)?;
+        let _ = self.stack.pop();
+        push(&mut self.stack, depth, rests)
+    }
+
+    /// The preferred choice is given up. It takes no memory.
+    pub fn give_up(&mut self)
+        requires { HasTop self.old }
+        ensures whole { IsSameWhole self.old self.new }
+        ensures remaining { (n : ℕ) (e : End) → remaining self.new n e ≡ below self.old n e }
+        ensures left { (n : ℕ) (e : End) → left self.new n e ≡ below_left self.old n e }
+        ensures labels { entered self.new ≡ entered self.old }
+    {
+        let _ = self.stack.pop();
+    }
+
+    /// What would follow the row that the preferred choice maps, as choices of their own from the next row on.
+    pub fn after_row(&self) -> Result<Choices, AllocError>
+        requires { AtRow self.now }
+        ensures start { IfOk result (λ c. start_of c ≡ start_of self.now + length (entered self.now)) }
+        ensures labels { IfOk result (λ c. entered c ≡ []) }
+        ensures whole { IfOk result (λ c. (n : ℕ) (e : End) → whole c n e ≡ after self.now n e) }
+        ensures whole_left { IfOk result (λ c. (n : ℕ) (e : End) → whole_left c n e ≡ after_left self.now n e) }
+        ensures remaining { IfOk result (λ c. (n : ℕ) (e : End) → remaining c n e ≡ after self.now n e) }
+        ensures left { IfOk result (λ c. (n : ℕ) (e : End) → left c n e ≡ after_left self.now n e) }
+    {
+        Ok(Choices {
+            alloc: self.alloc,
+            start: self.start + self.labels.len() as u64,
+            origin: self.later()?,
+            begun: false,
+            labels: Vec::new(self.alloc),
+            stack: Vec::new(self.alloc),
+        })
+    }
+
+    /// What comes after the first part of the preferred choice.
+    fn later(&self) -> Result<Tail, AllocError>
+        ensures { IfOk result (IsLaterTail self.now) }
+    {
+        match self.stack.last() {
+            None => Ok(None),
+            Some(choice) => match &choice.rests {
+                Rests::Done => Ok(None),
+                Rests::Then { part: _, then } => share(then),
+            },
+        }
+    }
+
+    /// Begins again. It takes no memory.
+    pub fn reset(&mut self)
+        ensures whole { IsSameWhole self.old self.new }
+        ensures remaining { (n : ℕ) (e : End) → remaining self.new n e ≡ whole self.old n e }
+        ensures left { (n : ℕ) (e : End) → left self.new n e ≡ whole_left self.old n e }
+        ensures labels { entered self.new ≡ [] }
+    {
+        self.begun = false;
+        self.stack.clear();
+        self.labels.clear();
+    }
+}
+
+/// Puts a choice on a stack, if there is one.
+fn push(stack: &mut Vec<Choice>, depth: usize, rests: Option<Rests>) -> Result<(), AllocError>
+    ensures { OnOk result (reverse stack.new.items ≡ pushed depth rests (reverse stack.old.items)) }
+{
+    if let Some(rests) = rests {
+        stack.push(Choice { depth, rests })?;
+    }
+    Ok(())
+}
+
+/// Puts choices on a stack, the preferred one on top.
+fn push_split(stack: &mut Vec<Choice>, depth: usize, split: Split) -> Result<(), AllocError>
+    ensures { OnOk result (reverse stack.new.items ≡ pushed depth split.preferred (pushed depth split.other (reverse stack.old.items))) }
+{
+    push(stack, depth, split.other)?;
+    push(stack, depth, split.preferred)
+}

@@ -1,0 +1,43 @@
+ghost use Rattle.std.specs.Prelude.{◌≡◌, ℕ, ◌∷◌, IfOk};
+ghost use Rattle.rp_pattern.specs.declared.word.End.{End};
+ghost use Rattle.rp_pattern.specs.Rests.{tail_links, tail_parts};
+ghost use Rattle.rp_pattern.specs.Splits.{Stands};
+
+use crate::rests::{Link, Part, Rests, Tail};
+use std::alloc::{AllocError, Global};
+use std::rc::Rc;
+
+/// A part before later ones.
+pub(crate) fn linked(alloc: Global, since: Option<u64>, part: Part, then: Tail) -> Result<Tail, AllocError>
+    ensures { IfOk result (λ tail. tail_links tail ≡ (since, part) ∷ tail_links then) }
+{
+    Ok(Some(Rc::new(alloc, Link { since, part, then })?))
+}
+
+/// A further owner.
+pub(crate) fn share(tail: &Tail) -> Result<Tail, AllocError>
+    ensures { IfOk result (λ copy. tail_links copy ≡ tail_links tail.now) }
+{
+    match tail {
+        None => Ok(None),
+        Some(link) => Ok(Some(link.clone()?)),
+    }
+}
+
+/// What is left at a row when these parts come next, or nothing where an iteration that had to take a row has taken none.
+pub(crate) fn follow(tail: &Tail, row: u64) -> Result<Option<Rests>, AllocError>
+    ensures { IfOk result (λ rests. (n : ℕ) (e : End) → Stands n e row (tail_parts n e tail.now) rests) }
+{
+    let Some(link) = tail else {
+        return Ok(Some(Rests::Done));
+    };
+    if let Some(since) = link.since {
+        if row <= since {
+            return Ok(None);
+        }
+    }
+    Ok(Some(Rests::Then {
+        part: link.part.share()?,
+        then: share(&link.then)?,
+    }))
+}

@@ -1,0 +1,392 @@
+ghost use Rattle.std.specs.Prelude.{◌≡◌, ℕ, suc, ◌∷◌, ◌+◌, ◌-◌, ◌^◌, ◌<◌, ◌≤◌, ◌++◌, All, IfOk, IsTrue, List, map, length, drop};
+ghost use Rattle.rp_pattern.specs.declared.word.End.{End};
+ghost use Rattle.rp_pattern.specs.Rests.{tail_parts, rests_parts, part_as, node_part, iterations_part, permuted_costed, in_order, still, IsOneLess, IsSamePart};
+ghost use Rattle.rp_pattern.specs.Bounds.{is_allowed};
+ghost use Rattle.rp_pattern.specs.Variables.{all_true};
+ghost use Rattle.rp_pattern.specs.Permutations.{upto};
+ghost use Rattle.rp_pattern.specs.PermutedParts.{permuted_parts};
+ghost use Rattle.std.specs.declared.vec.Vec.{Vec};
+ghost use Rattle.std.specs.declared.rc.Rc.{Rc};
+ghost use Rattle.std.specs.declared.alloc.Global.{Global};
+ghost use Rattle.rp_pattern.specs.Turns.{orders_from};
+ghost use Rattle.rp_pattern.specs.Words.{further, orders};
+ghost use Rattle.rp_pattern.specs.Splits.{TakenUp, AlwaysSplits, Stands};
+
+use crate::form::Form;
+use crate::orders::{factorial, permutation_at};
+use crate::rests::{Iterations, Node, Orders, Part, Rests, Tail};
+use crate::tail::{follow, linked, share};
+use crate::word::{End, Label};
+use std::alloc::{AllocError, Global};
+use std::rc::Rc;
+
+/// The choices that a choice stands for.
+#[derive(Drop)]
+pub(crate) struct Split {
+    pub preferred: Option<Rests>,
+    pub other: Option<Rests>,
+}
+
+/// What a choice came to.
+#[derive(Drop)]
+pub(crate) enum Turn {
+    /// Nothing is left: the labels are a full word.
+    Full,
+    /// The next row, which is known, is mapped.
+    Row(Label),
+    /// It runs into the row after the last known one.
+    Open,
+    /// It stands for other choices.
+    Split(Split),
+}
+
+impl Split {
+    /// No choice.
+    fn none() -> Split
+        ensures { result ≡ record { preferred = None; other = None } }
+    {
+        Split {
+            preferred: None,
+            other: None,
+        }
+    }
+
+    /// One choice, if any.
+    fn one(rests: Option<Rests>) -> Split
+        ensures { result ≡ record { preferred = rests; other = None } }
+    {
+        Split {
+            preferred: rests,
+            other: None,
+        }
+    }
+}
+
+impl Rests {
+    /// What is left at a row, taken up.
+    pub(crate) fn take_up(&self, alloc: Global, row: u64, n: u64, end: End) -> Result<Turn, AllocError>
+        ensures { IfOk result (TakenUp n end row (λ n e. rests_parts n e self.now)) }
+    {
+        match self {
+            Rests::Done => Ok(Turn::Full),
+            Rests::Then { part, then } => part.take_up(alloc, then, row, n, end),
+        }
+    }
+}
+
+impl Part {
+    fn take_up(&self, alloc: Global, then: &Tail, row: u64, n: u64, end: End) -> Result<Turn, AllocError>
+        ensures { IfOk result (TakenUp n end row (λ n e. part_as n e self.now ∷ tail_parts n e then.now)) }
+    {
+        match self {
+            Part::Whole(node) => node.take_up(alloc, &node.form, then, row, n, end),
+            Part::Times { lower, iterations } => {
+                let split = iterations.take_up(alloc, *lower, then, row)?;
+                Ok(Turn::Split(split))
+            }
+            Part::Orders(orders) => {
+                let split = orders.take_up(alloc, then, row)?;
+                Ok(Turn::Split(split))
+            }
+        }
+    }
+}
+
+impl Node {
+    fn take_up(&self, alloc: Global, form: &Form, then: &Tail, row: u64, n: u64, end: End) -> Result<Turn, AllocError>
+        requires { form.now ≡ self.now.form.value }
+        ensures { IfOk result (TakenUp n end row (λ n e. node_part n e self.now ∷ tail_parts n e then.now)) }
+    {
+        match form {
+            Form::Variable(var) => Ok(self.take_variable(*var, row, n, end, then)),
+            Form::Empty => {
+                let split = self.take_empty(then, row)?;
+                Ok(Turn::Split(split))
+            }
+            Form::PartitionStart => {
+                let split = self.take_start(then, row)?;
+                Ok(Turn::Split(split))
+            },
+            Form::PartitionEnd => self.take_end(then, row, n, end),
+            Form::Concatenation(first, second) => {
+                let split = self.take_concatenation(alloc, first, second, then)?;
+                Ok(Turn::Split(split))
+            }
+            Form::Alternation(first, second) => {
+                let split = self.take_alternation(first, second, then)?;
+                Ok(Turn::Split(split))
+            }
+            Form::Permute(_) => {
+                let split = self.take_permute(alloc, then, row)?;
+                Ok(Turn::Split(split))
+            }
+            Form::Exclusion(body) => {
+                let split = self.take_exclusion(body, then)?;
+                Ok(Turn::Split(split))
+            }
+            Form::Quantified {
+                body,
+                lower,
+                upper,
+                reluctant,
+            } => {
+                let iterations = self.iterations(body, *lower, *upper, *reluctant)?;
+                let split = iterations.take_up(alloc, *lower, then, row)?;
+                Ok(Turn::Split(split))
+            }
+        }
+    }
+
+    fn take_variable(&self, var: usize, row: u64, n: u64, end: End, then: &Tail) -> Turn
+        requires { self.now.form.value ≡ Form.Variable var }
+        ensures { TakenUp n end row (λ n e. node_part n e self.now ∷ tail_parts n e then.now) result }
+    {
+        if row <= n {
+            return Turn::Row(Label {
+                var,
+                excluded: self.excluded,
+            });
+        }
+        match end {
+            End::Open => Turn::Open,
+            End::Closed => Turn::Split(Split::none()),
+        }
+    }
+
+    /// The two parts, one after the other.
+    fn take_concatenation(&self, alloc: Global, first: &Rc<Form>, second: &Rc<Form>, then: &Tail) -> Result<Split, AllocError>
+        requires { self.now.form.value ≡ Form.Concatenation first.now second.now }
+        ensures { IfOk result (λ split. (row : ℕ) → AlwaysSplits row (λ n e. node_part n e self.now ∷ tail_parts n e then.now) split) }
+    {
+        let later = linked(alloc, None, Part::Whole(Node::of(second, self.excluded)?), share(then)?)?;
+        Ok(Split::one(Some(Rests::Then {
+            part: Part::Whole(Node::of(first, self.excluded)?),
+            then: later,
+        })))
+    }
+
+    /// Either part.
+    fn take_alternation(&self, first: &Rc<Form>, second: &Rc<Form>, then: &Tail) -> Result<Split, AllocError>
+        requires { self.now.form.value ≡ Form.Alternation first.now second.now }
+        ensures { IfOk result (λ split. (row : ℕ) → AlwaysSplits row (λ n e. node_part n e self.now ∷ tail_parts n e then.now) split) }
+    {
+        Ok(Split {
+            preferred: Some(Rests::Then {
+                part: Part::Whole(Node::of(first, self.excluded)?),
+                then: share(then)?,
+            }),
+            other: Some(Rests::Then {
+                part: Part::Whole(Node::of(second, self.excluded)?),
+                then: share(then)?,
+            }),
+        })
+    }
+
+    /// No row.
+    fn take_empty(&self, then: &Tail, row: u64) -> Result<Split, AllocError>
+        requires { self.now.form.value ≡ Form.Empty }
+        ensures { IfOk result (AlwaysSplits row (λ n e. node_part n e self.now ∷ tail_parts n e then.now)) }
+    {
+        Ok(Split::one(follow(then, row)?))
+    }
+
+    /// No row, before row 1.
+    fn take_start(&self, then: &Tail, row: u64) -> Result<Split, AllocError>
+        requires { self.now.form.value ≡ Form.PartitionStart }
+        ensures { IfOk result (AlwaysSplits row (λ n e. node_part n e self.now ∷ tail_parts n e then.now)) }
+    {
+        if row != 1 {
+            return Ok(Split::none());
+        }
+        Ok(Split::one(follow(then, row)?))
+    }
+
+    /// No row, after the last one.
+    fn take_end(&self, then: &Tail, row: u64, n: u64, end: End) -> Result<Turn, AllocError>
+        requires { self.now.form.value ≡ Form.PartitionEnd }
+        ensures { IfOk result (TakenUp n end row (λ n e. node_part n e self.now ∷ tail_parts n e then.now)) }
+    {
+        if row <= n {
+            return Ok(Turn::Split(Split::none()));
+        }
+        match end {
+            End::Open => Ok(Turn::Open),
+            End::Closed => Ok(Turn::Split(Split::one(follow(then, row)?))),
+        }
+    }
+
+    /// The part, whose labels are excluded.
+    fn take_exclusion(&self, body: &Rc<Form>, then: &Tail) -> Result<Split, AllocError>
+        requires { self.now.form.value ≡ Form.Exclusion body.now }
+        ensures { IfOk result (λ split. (row : ℕ) → AlwaysSplits row (λ n e. node_part n e self.now ∷ tail_parts n e then.now) split) }
+    {
+        Ok(Split::one(Some(Rests::Then {
+            part: Part::Whole(Node::of(body, true)?),
+            then: share(then)?,
+        })))
+    }
+
+    /// The iterations of a quantified part.
+    fn iterations(&self, body: &Rc<Form>, lower: u32, upper: Option<u32>, reluctant: bool) -> Result<Iterations, AllocError>
+        requires { self.now.form.value ≡ Form.Quantified body.now lower upper reluctant }
+        ensures { IfOk result (λ it. (n : ℕ) (e : End) → IsSamePart (iterations_part n e lower it) (node_part n e self.now)) }
+    {
+        Ok(Iterations {
+            body: Node::of(body, self.excluded)?,
+            further: further(lower, upper),
+            reluctant,
+        })
+    }
+
+    /// The orders of the parts.
+    fn take_permute(&self, alloc: Global, then: &Tail, row: u64) -> Result<Split, AllocError>
+        requires { (parts : Vec (Rc Form Global) Global) × (self.now.form.value ≡ Form.Permute parts) }
+        ensures { IfOk result (AlwaysSplits row (λ n e. node_part n e self.now ∷ tail_parts n e then.now)) }
+    {
+        let orders = Orders {
+            permute: self.share()?,
+            from: 0,
+        };
+        orders.take_up(alloc, then, row)
+    }
+
+    /// The parts of a PERMUTE.
+    fn parts(&self) -> &[Rc<Form>]
+        ensures parts { map (λ f. f.value) result.now ≡ permuted_parts self.now.form.value }
+        ensures few { length result.now ≤ 8 }
+        ensures allowed { IsTrue (all_true (map (λ f. is_allowed f.value) result.now)) }
+    {
+        match &*self.form {
+            Form::Permute(parts) => parts,
+            _ => &[],
+        }
+    }
+
+    /// The parts in an order, before later ones.
+    fn in_order(&self, alloc: Global, order: &[usize], then: &Tail) -> Result<Tail, AllocError>
+        requires { All (λ k. k < length (permuted_parts self.now.form.value)) order.now }
+        ensures { IfOk result (λ tail. (n : ℕ) (e : End) → tail_parts n e tail ≡ in_order (permuted_costed n e self.now) order.now ++ tail_parts n e then.now) }
+    {
+        let Some((place, places)) = order.split_first() else {
+            return share(then);
+        };
+        let part = Part::Whole(Node::of(&self.parts()[*place], self.excluded)?);
+        linked(alloc, None, part, self.in_order(alloc, places, then)?)
+    }
+}
+
+impl Orders {
+    /// An order of the parts, and below it the orders after that one.
+    fn take_up(&self, alloc: Global, then: &Tail, row: u64) -> Result<Split, AllocError>
+        ensures { IfOk result (AlwaysSplits row (λ n e. orders_from self.now.from (permuted_costed n e self.now.permute) ∷ tail_parts n e then.now)) }
+    {
+        let order = self.order(alloc)?;
+        let first = self.permute.in_order(alloc, &order, then)?;
+        Ok(Split {
+            preferred: follow(&first, row)?,
+            other: self.after(then)?,
+        })
+    }
+
+    /// The places of the parts in the first of the orders.
+    fn order(&self, alloc: Global) -> Result<Vec<usize>, AllocError>
+        ensures order { IfOk result (λ v. drop self.now.from (orders (upto (length (permuted_parts self.now.permute.form.value)))) ≡ v.items ∷ drop (self.now.from + 1) (orders (upto (length (permuted_parts self.now.permute.form.value))))) }
+        ensures within { IfOk result (λ v. All (λ k. k < length (permuted_parts self.now.permute.form.value)) v.items) }
+    {
+        permutation_at(alloc, self.permute.parts().len(), self.from)
+    }
+
+    /// The orders after the first one, if there are any.
+    fn after(&self, then: &Tail) -> Result<Option<Rests>, AllocError>
+        ensures { IfOk result (λ rests. (n : ℕ) (e : End) (i : ℕ) → Stands n e i (orders_from (self.now.from + 1) (permuted_costed n e self.now.permute) ∷ tail_parts n e then.now) rests) }
+    {
+        let from = self.from + 1;
+        if from >= factorial(self.permute.parts().len()) {
+            return Ok(None);
+        }
+        Ok(Some(Rests::Then {
+            part: Part::Orders(Orders {
+                permute: self.permute.share()?,
+                from,
+            }),
+            then: share(then)?,
+        }))
+    }
+}
+
+/// How many iterations may follow the required ones.
+fn further(lower: u32, upper: Option<u32>) -> Option<u32>
+    ensures { (n : ℕ) → still n result ≡ further n lower upper }
+{
+    match upper {
+        None => None,
+        Some(upper) => Some(upper.saturating_sub(lower)),
+    }
+}
+
+impl Iterations {
+    /// A required iteration, or else another one and what comes after.
+    fn take_up(&self, alloc: Global, lower: u32, then: &Tail, row: u64) -> Result<Split, AllocError>
+        ensures { IfOk result (AlwaysSplits row (λ n e. iterations_part n e lower self.now ∷ tail_parts n e then.now)) }
+    {
+        if lower > 0 {
+            return self.take_required(alloc, lower - 1, then);
+        }
+        let stop = follow(then, row)?;
+        match self.further {
+            None => self.take_optional(alloc, None, then, row, stop),
+            Some(further) => {
+                if further == 0 {
+                    return Ok(Split::one(stop));
+                }
+                self.take_optional(alloc, Some(further - 1), then, row, stop)
+            }
+        }
+    }
+
+    /// An iteration, and then so many required ones.
+    fn take_required(&self, alloc: Global, lower: u32, then: &Tail) -> Result<Split, AllocError>
+        ensures { IfOk result (λ split. (row : ℕ) → AlwaysSplits row (λ n e. iterations_part n e (lower + 1) self.now ∷ tail_parts n e then.now) split) }
+    {
+        let iterations = self.with_further(self.further)?;
+        let later = linked(alloc, None, Part::Times { lower, iterations }, share(then)?)?;
+        Ok(Split::one(Some(Rests::Then {
+            part: Part::Whole(self.body.share()?),
+            then: later,
+        })))
+    }
+
+    /// An iteration that takes a row, before `further` others, or to stop.
+    fn take_optional(
+        &self,
+        alloc: Global,
+        further: Option<u32>,
+        then: &Tail,
+        row: u64,
+        stop: Option<Rests>,
+    ) -> Result<Split, AllocError>
+        requires stop { (n : ℕ) (e : End) → Stands n e row (tail_parts n e then.now) stop }
+        requires further { IsOneLess self.now.further further }
+        ensures { IfOk result (AlwaysSplits row (λ n e. iterations_part n e 0 self.now ∷ tail_parts n e then.now)) }
+    {
+        let iterations = self.with_further(further)?;
+        let part = Part::Times {
+            lower: 0,
+            iterations,
+        };
+        let another = Some(Rests::Then {
+            part: Part::Whole(self.body.share()?),
+            then: linked(alloc, Some(row), part, share(then)?)?,
+        });
+        if self.reluctant {
+            return Ok(Split {
+                preferred: stop,
+                other: another,
+            });
+        }
+        Ok(Split {
+            preferred: another,
+            other: stop,
+        })
+    }
+}
