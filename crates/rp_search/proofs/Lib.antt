@@ -1,3 +1,4 @@
 pub mod FoundLaws
 pub mod Tested
 pub mod Fitting
+pub mod Turning

@@ -42,6 +42,7 @@ pub fn settle<T: Tests>(choices: &mut Choices, tests: &mut T) -> Result<Seen, Al
     ensures asks { AsksTheSame (T.rows tests.old) (T.rows tests.new) (T.ending tests.old) (T.ending tests.new) (T.outcome tests.old) (T.outcome tests.new) }
     ensures entries { T.entries tests.new ≡ T.entries tests.old }
     ensures entered { OnOk result (T.entered tests.new ≡ entered choices.new) }
+    ensures seen { IfOk result (λ seen. seen ≡ T.outcome tests.old (start_of choices.old) (entered choices.old)) }
     ensures settled { IfOk result (Settled choices.old choices.new (T.rows tests.old) (T.ending tests.old) (T.outcome tests.old (start_of choices.old))) }
 {
     match tests.test(choices.start(), choices.labels()) {

@@ -25,6 +25,7 @@ pub enum Taken {
     Nothing,
 }
 
+#[tactic(none)]
 impl Choices {
     ghost use Rattle.rp_search.specs.Choices.{start_of, entered, whole, whole_left, remaining, left, HasTop, AtRow, Keeps, TakenAs, Admits, GivesUp, GoesOn, BeginsAgain};
 

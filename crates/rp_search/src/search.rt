@@ -39,6 +39,7 @@ pub struct Search {
     probe: Option<Choices>,
 }
 
+#[tactic(auto, unfolding(crate::specs::Fits::start_of_search, crate::specs::Fits::labels_of_search, crate::specs::Fits::pattern_words, crate::specs::Fits::most_turns, crate::specs::Fits::left_of))]
 impl Search {
     ghost use Rattle.rp_search.specs.Found.{Test, found, Match, NoMatch, Waits};
     ghost use Rattle.rp_search.specs.Fits.{Fits, IsSameSearch, start_of_search, labels_of_search, pattern_words, most_turns, left_of, Stands, MapsRow, Explores};
@@ -184,7 +185,8 @@ impl Search {
                     self.probe = Some(probe);
                     Ok(())
                 }
-                Seen::True | Seen::NotTrue => Ok(()),
+                Seen::True => Ok(()),
+                Seen::NotTrue => Ok(()),
             },
         }
     }
@@ -267,16 +269,19 @@ impl Search {
                 self.probe = Some(self.choices.after_row()?);
                 Ok(())
             }
-            Seen::True | Seen::NotTrue => Ok(()),
+            Seen::True => Ok(()),
+            Seen::NotTrue => Ok(()),
         }
     }
 
-    /// Takes up what would follow a row whose test is open. There each row is taken without a test.
+    /// Takes up what would follow a row whose test is open. There each row is taken without a test. Where nothing would
+    /// follow it, the choice that maps it is given up, and the next one is taken up.
     fn explore<T: Tests>(
         &mut self,
         mut probe: Choices,
         tests: &mut T,
     ) -> Result<Outcome, AllocError>
+        requires known { start_of_search self.old ≤ T.rows tests.old }
         requires stands { Stands self.old.choices (T.rows tests.old) (T.ending tests.old) (T.outcome tests.old (start_of_search self.old)) }
         requires explores { Explores self.old.choices probe (T.rows tests.old) (T.ending tests.old) (T.outcome tests.old (start_of_search self.old)) }
         requires is_open { T.outcome tests.old (start_of_search self.old) (labels_of_search self.old) ≡ OpenTest }
@@ -285,7 +290,7 @@ impl Search {
 
         ensures same { IsSameSearch self.old self.new }
         ensures asks { AsksTheSame (T.rows tests.old) (T.rows tests.new) (T.ending tests.old) (T.ending tests.new) (T.outcome tests.old) (T.outcome tests.new) }
-        ensures entries { T.entries tests.new ≡ T.entries tests.old }
+        ensures entries { T.entries tests.new ≤ T.entries tests.old + 1 }
         ensures entered { OnOk result (T.entered tests.new ≡ labels_of_search self.new) }
         ensures searches { OnOk result (Searches self.new (T.rows tests.old) (T.ending tests.old) (T.outcome tests.old (start_of_search self.old))) }
         ensures turned { IfOk result (Turned 1 (pattern_words self.old (T.rows tests.old) (T.ending tests.old)) (labels_of_search self.new) (T.ending tests.old) (T.outcome tests.old (start_of_search self.old)) (below_left self.old.choices (T.rows tests.old) (T.ending tests.old) + left probe (T.rows tests.old) (T.ending tests.old)) (left_of self.new (T.rows tests.old) (T.ending tests.old) (T.outcome tests.old (start_of_search self.old)))) }
@@ -300,14 +305,18 @@ impl Search {
                 self.probe = Some(probe);
                 Ok(Outcome::Paused)
             }
-            Taken::Full | Taken::Open => {
+            Taken::Full => {
+                self.probe = Some(probe);
+                Ok(Outcome::Waits)
+            }
+            Taken::Open => {
                 self.probe = Some(probe);
                 Ok(Outcome::Waits)
             }
             Taken::Nothing => {
                 self.choices.give_up();
                 follow(&self.choices, tests);
-                Ok(Outcome::Paused)
+                self.take_up(tests)
             }
         }
     }
