@@ -76,8 +76,7 @@ impl Choices {
         requires { HasTop self.old }
         ensures same { Keeps self.old self.new }
         ensures given_up { GivesUp self.old self.new }
-    {
-    }
+    {}
 
     pub fn after_row(&self) -> Result<Choices, AllocError>
         requires { AtRow self.now }
@@ -90,6 +89,5 @@ impl Choices {
     pub fn reset(&mut self)
         ensures same { Keeps self.old self.new }
         ensures again { BeginsAgain self.old self.new }
-    {
-    }
+    {}
 }

@@ -40,9 +40,9 @@ pub returns-in-Full-clause-turned : goal.returns-in-Full-clause-turned
 unfolding start_of_search labels_of_search pattern_words left_of
 returns-in-Full-clause-turned g c =
     let read : TakenAs c.args.self.now.choices c.take_up.new.self c.known.result c.end.result FullTaken = rw c.in-Full.is at c.in_ok-take_up.ensures.taken in
-    let taken : TakesFull c.args.self.now.choices c.take_up.new.self (g.T.Tests.rows c.args.tests.now) (g.T.Tests.ending c.args.tests.now) = at_known (λ n e. TakesFull c.args.self.now.choices c.take_up.new.self n e) _ _ _ _ c.known.ensures c.end.ensures read in
-    ( finds_match c.args.self.now.choices c.take_up.new.self _ _ _ c.requires.searches.fits.stands (admitted_plainly c.args.self.now.choices c.args.self.now.probe _ _ _ c.requires.none c.requires.searches.fits.labels) taken
-    , fewer_plainly c.args.self.now.choices c.take_up.new.self c.args.self.now.probe _ _ _ c.requires.none (omega (arith, taken.turns (g.T.Tests.rows c.args.tests.now) (g.T.Tests.ending c.args.tests.now) (now_later _ _)))
+    let taken : TakesFull c.args.self.now.choices c.take_up.new.self (g.T.Tests.rows c.args.tests.now) (g.T.Tests.ending c.args.tests.now) = at_known (λ n e. TakesFull c.args.self.now.choices c.take_up.new.self n e) _ _ _ _ c.known.ensures c.end.ensures read in (
+      finds_match c.args.self.now.choices c.take_up.new.self _ _ _ c.requires.searches.fits.stands (admitted_plainly c.args.self.now.choices c.args.self.now.probe _ _ _ c.requires.none c.requires.searches.fits.labels) taken,
+      fewer_plainly c.args.self.now.choices c.take_up.new.self c.args.self.now.probe _ _ _ c.requires.none (omega (arith, taken.turns (g.T.Tests.rows c.args.tests.now) (g.T.Tests.ending c.args.tests.now) (now_later _ _))),
     )
 
 pub returns-in-Open-clause-searches : goal.returns-in-Open-clause-searches
@@ -58,10 +58,10 @@ pub returns-in-Open-clause-turned : goal.returns-in-Open-clause-turned
 unfolding start_of_search labels_of_search pattern_words left_of
 returns-in-Open-clause-turned g c =
     let read : TakenAs c.args.self.now.choices c.take_up.new.self c.known.result c.end.result OpenTaken = rw c.in-Open.is at c.in_ok-take_up.ensures.taken in
-    let taken : TakesOpen c.args.self.now.choices c.take_up.new.self (g.T.Tests.rows c.args.tests.now) (g.T.Tests.ending c.args.tests.now) = at_known (λ n e. TakesOpen c.args.self.now.choices c.take_up.new.self n e) _ _ _ _ c.known.ensures c.end.ensures read in
-    ( finds_wait c.args.self.now.choices c.take_up.new.self _ _ _ c.requires.searches.fits.stands (admitted_plainly c.args.self.now.choices c.args.self.now.probe _ _ _ c.requires.none c.requires.searches.fits.labels) taken
-    , taken.is_open
-    , fewer_plainly c.args.self.now.choices c.take_up.new.self c.args.self.now.probe _ _ _ c.requires.none (omega (arith, taken.turns (g.T.Tests.rows c.args.tests.now) (g.T.Tests.ending c.args.tests.now) (now_later _ _)))
+    let taken : TakesOpen c.args.self.now.choices c.take_up.new.self (g.T.Tests.rows c.args.tests.now) (g.T.Tests.ending c.args.tests.now) = at_known (λ n e. TakesOpen c.args.self.now.choices c.take_up.new.self n e) _ _ _ _ c.known.ensures c.end.ensures read in (
+      finds_wait c.args.self.now.choices c.take_up.new.self _ _ _ c.requires.searches.fits.stands (admitted_plainly c.args.self.now.choices c.args.self.now.probe _ _ _ c.requires.none c.requires.searches.fits.labels) taken,
+      taken.is_open,
+      fewer_plainly c.args.self.now.choices c.take_up.new.self c.args.self.now.probe _ _ _ c.requires.none (omega (arith, taken.turns (g.T.Tests.rows c.args.tests.now) (g.T.Tests.ending c.args.tests.now) (now_later _ _))),
     )
 
 pub returns-in-Nothing-clause-searches : goal.returns-in-Nothing-clause-searches
@@ -77,7 +77,7 @@ pub returns-in-Nothing-clause-turned : goal.returns-in-Nothing-clause-turned
 unfolding start_of_search labels_of_search pattern_words left_of
 returns-in-Nothing-clause-turned g c =
     let read : TakenAs c.args.self.now.choices c.take_up.new.self c.known.result c.end.result NothingTaken = rw c.in-Nothing.is at c.in_ok-take_up.ensures.taken in
-    let taken : TakesNothing c.args.self.now.choices c.take_up.new.self (g.T.Tests.rows c.args.tests.now) (g.T.Tests.ending c.args.tests.now) = at_known (λ n e. TakesNothing c.args.self.now.choices c.take_up.new.self n e) _ _ _ _ c.known.ensures c.end.ensures read in
-    ( finds_none c.args.self.now.choices c.take_up.new.self _ _ _ c.requires.searches.fits.stands taken
-    , fewer_plainly c.args.self.now.choices c.take_up.new.self c.args.self.now.probe _ _ _ c.requires.none (taken.turns (g.T.Tests.rows c.args.tests.now) (g.T.Tests.ending c.args.tests.now) (now_later _ _))
+    let taken : TakesNothing c.args.self.now.choices c.take_up.new.self (g.T.Tests.rows c.args.tests.now) (g.T.Tests.ending c.args.tests.now) = at_known (λ n e. TakesNothing c.args.self.now.choices c.take_up.new.self n e) _ _ _ _ c.known.ensures c.end.ensures read in (
+      finds_none c.args.self.now.choices c.take_up.new.self _ _ _ c.requires.searches.fits.stands taken,
+      fewer_plainly c.args.self.now.choices c.take_up.new.self c.args.self.now.probe _ _ _ c.requires.none (taken.turns (g.T.Tests.rows c.args.tests.now) (g.T.Tests.ending c.args.tests.now) (now_later _ _)),
     )
