@@ -20,16 +20,20 @@ pub record AsksTheSame (n n' : ℕ) (e e' : End) (asked asked' : ℕ → List La
   pub ending : e' ≡ e
   pub outcome : asked' ≡ asked
 
--- labels that are others cut back to some depth
-pub record AreCutBack (old new : List Label) : Type 0 where
+-- These labels are entered ones cut back to some depth.
+pub record AreCutBack (Entered : List Label → Type 0) (labels : List Label) : Type 0 where
+  pub before : List Label
+  pub entered_before : Entered before
   pub depth : ℕ
-  pub labels : new ≡ take depth old
+  pub cut : labels ≡ take depth before
 
--- labels that are others cut back, and a new one
-pub record AddsLabel (old new : List Label) : Type 0 where
+-- These labels are entered ones cut back to some depth, and a new one.
+pub record AddsLabel (Entered : List Label → Type 0) (labels : List Label) : Type 0 where
+  pub before : List Label
+  pub entered_before : Entered before
   pub depth : ℕ
   pub label : Label
-  pub labels : new ≡ take depth old ++ label ∷ []
+  pub added : labels ≡ take depth before ++ label ∷ []
 
 -- the choices went on by a turn, and their labels are tested true
 pub record Goes (old new : Choices) (n : ℕ) (e : End) (test : Test) : Type 0 where

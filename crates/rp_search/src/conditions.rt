@@ -23,8 +23,9 @@ pub trait Tests {
     /// What is answered for the last of these labels, which begin at this row. It depends on these alone.
     ghost outcome: { Self → ℕ → List Label → Seen };
 
-    /// The labels that were entered.
-    ghost entered: { Self → List Label };
+    /// Whether these labels, from this start row on, are those that were entered. It is a relation, since tests need
+    /// not keep the labels themselves.
+    ghost entered: { Self → ℕ → List Label → Type 0 };
 
     /// How many calls of `enter` were made. It stays at its last value.
     ghost entries: { Self → ℕ };
@@ -40,25 +41,26 @@ pub trait Tests {
         requires from_one { 1 ≤ start }
         requires some { 0 < length labels.now }
         requires known { start + length labels.now ≤ rows self.now + 1 }
-        requires entered { entered self.now ≡ labels.now }
+        requires entered { entered self.now start labels.now }
         ensures { result ≡ outcome self.now start labels.now };
 
     /// The last of the labels is new.
     fn enter(&mut self, start: u64, labels: &[Label]) -> Result<(), AllocError>
         requires from_one { 1 ≤ start }
         requires known { start + length labels.now ≤ rows self.old + 1 }
-        requires new { (label : Label) × (labels.now ≡ entered self.old ++ label ∷ []) }
-        ensures entered { OnOk result (entered self.new ≡ labels.now) }
-        ensures err { OnErr result (entered self.new ≡ entered self.old) }
+        requires new { (before : List Label) × (label : Label) × (labels.now ≡ before ++ label ∷ []) × entered self.old start before }
+        ensures entered { OnOk result (entered self.new start labels.now) }
+        ensures err { OnErr result ((before : List Label) → entered self.old start before → entered self.new start before) }
         ensures entries { entries self.new ≡ raised (entries self.old) }
         ensures rows { rows self.new ≡ rows self.old }
         ensures ending { ending self.new ≡ ending self.old }
         ensures outcome { outcome self.new ≡ outcome self.old };
 
-    /// The labels are cut back to the first `depth`. It takes no memory.
+    /// The labels are cut back to the first `depth`. It takes no memory. After a cut to 0 none is entered, from
+    /// whichever row the next ones start.
     fn cut(&mut self, depth: usize)
-        requires { depth ≤ length (entered self.old) }
-        ensures entered { entered self.new ≡ take depth (entered self.old) }
+        ensures entered { (start : ℕ) (labels : List Label) → entered self.old start labels → depth ≤ length labels → entered self.new start (take depth labels) }
+        ensures none { depth ≡ 0 → (start : ℕ) → entered self.new start [] }
         ensures entries { entries self.new ≡ entries self.old }
         ensures rows { rows self.new ≡ rows self.old }
         ensures ending { ending self.new ≡ ending self.old }

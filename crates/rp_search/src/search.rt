@@ -74,14 +74,14 @@ impl Search {
     ) -> Result<Outcome, AllocError>
         requires known { start_of_search self.old ≤ T.rows tests.old }
         requires fits { Fits self.old (T.rows tests.old) (T.ending tests.old) (T.outcome tests.old (start_of_search self.old)) }
-        requires entered { T.entered tests.old ≡ labels_of_search self.old }
+        requires entered { T.entered tests.old (start_of_search self.old) (labels_of_search self.old) }
 
         ensures same { IsSameSearch self.old self.new }
         ensures rows { T.rows tests.new ≡ T.rows tests.old }
         ensures ending { T.ending tests.new ≡ T.ending tests.old }
         ensures outcome { T.outcome tests.new ≡ T.outcome tests.old }
         ensures fits { Fits self.new (T.rows tests.old) (T.ending tests.old) (T.outcome tests.old (start_of_search self.old)) }
-        ensures entered { T.entered tests.new ≡ labels_of_search self.new }
+        ensures entered { T.entered tests.new (start_of_search self.new) (labels_of_search self.new) }
 
         ensures matched { result ≡ Ok Outcome.Match → found (T.outcome tests.old (start_of_search self.old)) (pattern_words self.old (T.rows tests.old) (T.ending tests.old)) ≡ Match (labels_of_search self.new) }
         ensures none { result ≡ Ok Outcome.NoMatch → found (T.outcome tests.old (start_of_search self.old)) (pattern_words self.old (T.rows tests.old) (T.ending tests.old)) ≡ NoMatch }
@@ -127,7 +127,7 @@ impl Search {
         ensures same { IsSameSearch self.old self.new }
         ensures asks { AsksTheSame (T.rows tests.old) (T.rows tests.new) (T.ending tests.old) (T.ending tests.new) (T.outcome tests.old) (T.outcome tests.new) }
         ensures entries { T.entries tests.new ≡ T.entries tests.old }
-        ensures entered { T.entered tests.new ≡ [] }
+        ensures entered { T.entered tests.new (start_of_search self.new) [] }
         ensures labels { labels_of_search self.new ≡ [] }
         ensures fits { 1 ≤ start_of_search self.old → (n : ℕ) (e : End) (test : Test) → Fits self.new n e test }
     {
@@ -144,13 +144,13 @@ impl Search {
     ) -> Result<Outcome, AllocError>
         requires known { start_of_search self.old ≤ T.rows tests.old }
         requires fits { Fits self.old (T.rows tests.old) (T.ending tests.old) (T.outcome tests.old (start_of_search self.old)) }
-        requires entered { T.entered tests.old ≡ labels_of_search self.old }
+        requires entered { T.entered tests.old (start_of_search self.old) (labels_of_search self.old) }
 
         ensures same { IsSameSearch self.old self.new }
         ensures asks { AsksTheSame (T.rows tests.old) (T.rows tests.new) (T.ending tests.old) (T.ending tests.new) (T.outcome tests.old) (T.outcome tests.new) }
         ensures entries { T.entries tests.new ≤ T.entries tests.old + budget }
         ensures steps { steps.new ≤ steps.old + budget }
-        ensures entered { OnOk result (T.entered tests.new ≡ labels_of_search self.new) }
+        ensures entered { OnOk result (T.entered tests.new (start_of_search self.new) (labels_of_search self.new)) }
         ensures fits { OnOk result (Fits self.new (T.rows tests.old) (T.ending tests.old) (T.outcome tests.old (start_of_search self.old))) }
         ensures turned { IfOk result (Turned budget (pattern_words self.old (T.rows tests.old) (T.ending tests.old)) (labels_of_search self.new) (T.ending tests.old) (T.outcome tests.old (start_of_search self.old)) (left_of self.old (T.rows tests.old) (T.ending tests.old) (T.outcome tests.old (start_of_search self.old))) (left_of self.new (T.rows tests.old) (T.ending tests.old) (T.outcome tests.old (start_of_search self.old)))) }
     {
@@ -169,12 +169,12 @@ impl Search {
     fn resume<T: Tests>(&mut self, tests: &mut T) -> Result<(), AllocError>
         requires known { start_of_search self.old ≤ T.rows tests.old }
         requires fits { Fits self.old (T.rows tests.old) (T.ending tests.old) (T.outcome tests.old (start_of_search self.old)) }
-        requires entered { T.entered tests.old ≡ labels_of_search self.old }
+        requires entered { T.entered tests.old (start_of_search self.old) (labels_of_search self.old) }
 
         ensures same { IsSameSearch self.old self.new }
         ensures asks { AsksTheSame (T.rows tests.old) (T.rows tests.new) (T.ending tests.old) (T.ending tests.new) (T.outcome tests.old) (T.outcome tests.new) }
         ensures entries { T.entries tests.new ≡ T.entries tests.old }
-        ensures entered { OnOk result (T.entered tests.new ≡ labels_of_search self.new) }
+        ensures entered { OnOk result (T.entered tests.new (start_of_search self.new) (labels_of_search self.new)) }
         ensures searches { OnOk result (Searches self.new (T.rows tests.old) (T.ending tests.old) (T.outcome tests.old (start_of_search self.old))) }
         ensures left { OnOk result (left_of self.new (T.rows tests.old) (T.ending tests.old) (T.outcome tests.old (start_of_search self.old)) ≤ left_of self.old (T.rows tests.old) (T.ending tests.old) (T.outcome tests.old (start_of_search self.old))) }
     {
@@ -195,12 +195,12 @@ impl Search {
     fn turn<T: Tests>(&mut self, tests: &mut T) -> Result<Outcome, AllocError>
         requires known { start_of_search self.old ≤ T.rows tests.old }
         requires searches { Searches self.old (T.rows tests.old) (T.ending tests.old) (T.outcome tests.old (start_of_search self.old)) }
-        requires entered { T.entered tests.old ≡ labels_of_search self.old }
+        requires entered { T.entered tests.old (start_of_search self.old) (labels_of_search self.old) }
 
         ensures same { IsSameSearch self.old self.new }
         ensures asks { AsksTheSame (T.rows tests.old) (T.rows tests.new) (T.ending tests.old) (T.ending tests.new) (T.outcome tests.old) (T.outcome tests.new) }
         ensures entries { T.entries tests.new ≤ T.entries tests.old + 1 }
-        ensures entered { OnOk result (T.entered tests.new ≡ labels_of_search self.new) }
+        ensures entered { OnOk result (T.entered tests.new (start_of_search self.new) (labels_of_search self.new)) }
         ensures searches { OnOk result (Searches self.new (T.rows tests.old) (T.ending tests.old) (T.outcome tests.old (start_of_search self.old))) }
         ensures turned { IfOk result (Turned 1 (pattern_words self.old (T.rows tests.old) (T.ending tests.old)) (labels_of_search self.new) (T.ending tests.old) (T.outcome tests.old (start_of_search self.old)) (left_of self.old (T.rows tests.old) (T.ending tests.old) (T.outcome tests.old (start_of_search self.old))) (left_of self.new (T.rows tests.old) (T.ending tests.old) (T.outcome tests.old (start_of_search self.old)))) }
     {
@@ -215,12 +215,12 @@ impl Search {
         requires known { start_of_search self.old ≤ T.rows tests.old }
         requires none { self.old.probe ≡ None }
         requires searches { Searches self.old (T.rows tests.old) (T.ending tests.old) (T.outcome tests.old (start_of_search self.old)) }
-        requires entered { T.entered tests.old ≡ labels_of_search self.old }
+        requires entered { T.entered tests.old (start_of_search self.old) (labels_of_search self.old) }
 
         ensures same { IsSameSearch self.old self.new }
         ensures asks { AsksTheSame (T.rows tests.old) (T.rows tests.new) (T.ending tests.old) (T.ending tests.new) (T.outcome tests.old) (T.outcome tests.new) }
         ensures entries { T.entries tests.new ≤ T.entries tests.old + 1 }
-        ensures entered { OnOk result (T.entered tests.new ≡ labels_of_search self.new) }
+        ensures entered { OnOk result (T.entered tests.new (start_of_search self.new) (labels_of_search self.new)) }
         ensures searches { OnOk result (Searches self.new (T.rows tests.old) (T.ending tests.old) (T.outcome tests.old (start_of_search self.old))) }
         ensures turned { IfOk result (Turned 1 (pattern_words self.old (T.rows tests.old) (T.ending tests.old)) (labels_of_search self.new) (T.ending tests.old) (T.outcome tests.old (start_of_search self.old)) (left_of self.old (T.rows tests.old) (T.ending tests.old) (T.outcome tests.old (start_of_search self.old))) (left_of self.new (T.rows tests.old) (T.ending tests.old) (T.outcome tests.old (start_of_search self.old)))) }
     {
@@ -254,12 +254,12 @@ impl Search {
         requires none { self.old.probe ≡ None }
         requires stands { Stands self.old.choices (T.rows tests.old) (T.ending tests.old) (T.outcome tests.old (start_of_search self.old)) }
         requires row { MapsRow self.old.choices (T.rows tests.old) (T.ending tests.old) (T.outcome tests.old (start_of_search self.old)) }
-        requires new { AddsLabel (T.entered tests.old) (labels_of_search self.old) }
+        requires new { AddsLabel (T.entered tests.old (start_of_search self.old)) (labels_of_search self.old) }
 
         ensures same { IsSameSearch self.old self.new }
         ensures asks { AsksTheSame (T.rows tests.old) (T.rows tests.new) (T.ending tests.old) (T.ending tests.new) (T.outcome tests.old) (T.outcome tests.new) }
         ensures entries { T.entries tests.new ≤ T.entries tests.old + 1 }
-        ensures entered { OnOk result (T.entered tests.new ≡ labels_of_search self.new) }
+        ensures entered { OnOk result (T.entered tests.new (start_of_search self.new) (labels_of_search self.new)) }
         ensures searches { OnOk result (Searches self.new (T.rows tests.old) (T.ending tests.old) (T.outcome tests.old (start_of_search self.old))) }
         ensures turned { OnOk result (left_of self.new (T.rows tests.old) (T.ending tests.old) (T.outcome tests.old (start_of_search self.old)) + 1 ≤ left_of self.old (T.rows tests.old) (T.ending tests.old) (T.outcome tests.old (start_of_search self.old))) }
     {
@@ -286,12 +286,12 @@ impl Search {
         requires explores { Explores self.old.choices probe (T.rows tests.old) (T.ending tests.old) (T.outcome tests.old (start_of_search self.old)) }
         requires is_open { T.outcome tests.old (start_of_search self.old) (labels_of_search self.old) ≡ OpenTest }
         requires none { self.old.probe ≡ None }
-        requires entered { T.entered tests.old ≡ labels_of_search self.old }
+        requires entered { T.entered tests.old (start_of_search self.old) (labels_of_search self.old) }
 
         ensures same { IsSameSearch self.old self.new }
         ensures asks { AsksTheSame (T.rows tests.old) (T.rows tests.new) (T.ending tests.old) (T.ending tests.new) (T.outcome tests.old) (T.outcome tests.new) }
         ensures entries { T.entries tests.new ≤ T.entries tests.old + 1 }
-        ensures entered { OnOk result (T.entered tests.new ≡ labels_of_search self.new) }
+        ensures entered { OnOk result (T.entered tests.new (start_of_search self.new) (labels_of_search self.new)) }
         ensures searches { OnOk result (Searches self.new (T.rows tests.old) (T.ending tests.old) (T.outcome tests.old (start_of_search self.old))) }
         ensures turned { IfOk result (Turned 1 (pattern_words self.old (T.rows tests.old) (T.ending tests.old)) (labels_of_search self.new) (T.ending tests.old) (T.outcome tests.old (start_of_search self.old)) (below_left self.old.choices (T.rows tests.old) (T.ending tests.old) + left probe (T.rows tests.old) (T.ending tests.old)) (left_of self.new (T.rows tests.old) (T.ending tests.old) (T.outcome tests.old (start_of_search self.old)))) }
     {
