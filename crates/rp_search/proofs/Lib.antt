@@ -1,0 +1,5 @@
+pub mod FoundLaws
+pub mod Tested
+pub mod Fitting
+pub mod Turning
+pub mod Running

@@ -1,0 +1,15 @@
+use Rattle.std.proofs.Common.{◌≡◌}
+use Rattle.rp_pattern.specs.declared.word.Seen.TheVariants.{True, NotTrue}
+use Rattle.rp_search.specs.Choices.{start_of, entered}
+use Rattle.rp_search.proofs.Fitting.{goes_admitted, goes_refused}
+use Rattle.rp_search.proofs.asking.settle.Goals as goal
+
+pub returns-in_ok-admit-in-True-clause-settled : goal.returns-in_ok-admit-in-True-clause-settled
+returns-in_ok-admit-in-True-clause-settled g c =
+    let seen : g.T.Tests.outcome c.args.tests.now (start_of c.args.choices.now) (entered c.args.choices.now) ≡ True = cc (c.in-True.ensures, c.start.ensures, c.labels.ensures) in
+    goes_admitted c.args.choices.now c.admit.new.self _ _ _ c.requires.stands c.requires.row seen c.in_ok-admit-in-True.ensures.same c.in_ok-admit-in-True.ensures.admitted
+
+pub returns-in-NotTrue-clause-settled : goal.returns-in-NotTrue-clause-settled
+returns-in-NotTrue-clause-settled g c =
+    let seen : g.T.Tests.outcome c.args.tests.now (start_of c.args.choices.now) (entered c.args.choices.now) ≡ NotTrue = cc (c.in-NotTrue.ensures, c.start.ensures, c.labels.ensures) in
+    goes_refused c.args.choices.now c.give_up.new.self _ _ _ c.requires.stands c.requires.row seen c.give_up.ensures.same c.give_up.ensures.given_up

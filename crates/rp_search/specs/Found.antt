@@ -1,0 +1,110 @@
+-- The status of a word under tests, and the first word that is not refused.
+use Rattle.std.specs.Prelude.{◌≡◌, ◌≢◌, ℕ, ◌≤◌, List, [], ◌∷◌, ◌++◌, map, length, ⊤}
+use Rattle.std.specs.List.{AllByRecursion}
+use Rattle.rp_pattern.specs.declared.word.Label.{Label}
+use Rattle.rp_pattern.specs.declared.word.Seen.{Seen}
+use Rattle.rp_pattern.specs.declared.word.Seen.TheVariants.{True, NotTrue, Open as OpenTest}
+use Rattle.rp_pattern.specs.Mapping.{Mapping, Full, Open, labels_of}
+use Rattle.rp_pattern.specs.Words.{preceded}
+use Rattle.rp_pattern.specs.WordLaws.{Extends, IsFull}
+
+-- What is seen of the last label's row, from the labels up to it
+abbrev pub Test : Type 0
+Test = List Label → Seen
+
+-- the first test that is not true decides
+abbrev pub first_not_true : Seen → Seen → Seen
+first_not_true True later = later
+first_not_true NotTrue later = NotTrue
+first_not_true OpenTest later = OpenTest
+
+-- Each label is tested in turn, with the labels before it.
+abbrev pub tested : Test → List Label → Seen
+tested test [] = True
+tested test (l ∷ ls) = first_not_true (test (l ∷ [])) (tested (λ ms. test (l ∷ ms)) ls)
+
+pub data Status : Type 0 where
+  Good : Status
+  Refused : Status
+  Undecided : Status
+
+-- where every label is admitted, a full word is good, and an open one is undecided
+abbrev pub status_from : Mapping → Seen → Status
+status_from (Full ls) True = Good
+status_from (Open ls) True = Undecided
+status_from w NotTrue = Refused
+status_from w OpenTest = Undecided
+
+abbrev pub status : Test → Mapping → Status
+status test w = status_from w (tested test (labels_of w))
+
+pub data Found : Type 0 where
+  Match : List Label → Found
+  NoMatch : Found
+  Waits : Found
+
+-- a word that is not refused is the match or is waited for
+abbrev pub unless_refused : Mapping → Status → Found → Found
+unless_refused w Good later = Match (labels_of w)
+unless_refused w Undecided later = Waits
+unless_refused w Refused later = later
+
+-- the first word that is not refused
+abbrev pub found : Test → List Mapping → Found
+found test [] = NoMatch
+found test (w ∷ ws) = unless_refused w (status test w) (found test ws)
+
+-- what is true or not true stays so, and what is open may become anything
+abbrev pub Stays : Seen → Seen → Type 0
+Stays True new = new ≡ True
+Stays NotTrue new = new ≡ NotTrue
+Stays OpenTest new = ⊤
+
+-- on labels of at most so many rows
+abbrev pub TestsStay : ℕ → Test → Test → Type 0
+TestsStay rows old new = (ls : List Label) → length ls ≤ rows → Stays (old ls) (new ls)
+
+-- no word maps more rows than that
+abbrev pub AreShort : ℕ → List Mapping → Type 0
+AreShort rows ws = AllByRecursion (λ w. length (labels_of w) ≤ rows) ws
+
+-- What a search has found stays over every continuation.
+abbrev pub FoundStays : Type 0
+FoundStays = (rows : ℕ) (old new : Test) (ws ws' : List Mapping) → TestsStay rows old new → AreShort rows ws → Extends ws ws' → found old ws ≢ Waits → found new ws' ≡ found old ws
+
+-- the words from the first one that is not refused on
+abbrev pub from_status : Status → List Mapping → List Mapping → List Mapping
+from_status Refused here later = later
+from_status Good here later = here
+from_status Undecided here later = here
+
+abbrev pub unrefused : Test → List Mapping → List Mapping
+unrefused test [] = []
+unrefused test (w ∷ ws) = from_status (status test w) (w ∷ ws) (unrefused test ws)
+
+-- A search goes on from the word where it waited: the words before that one are not needed again.
+pub record Resumes (old new : Test) (ws ws' : List Mapping) : Type 0 where
+  pub rest : List Mapping
+  pub extends : Extends (unrefused old ws) rest
+  pub same : found new ws' ≡ found new rest
+
+abbrev pub FoundResumes : Type 0
+FoundResumes = (rows : ℕ) (old new : Test) (ws ws' : List Mapping) → TestsStay rows old new → AreShort rows ws → Extends ws ws' → Resumes old new ws ws'
+
+-- These words are refused ones and then the rest.
+pub record RefusedThen (test : Test) (ws rest : List Mapping) : Type 0 where
+  pub front : List Mapping
+  pub is : ws ≡ front ++ rest
+  pub refused : AllByRecursion (λ w. tested test (labels_of w) ≡ NotTrue) front
+
+-- Over a closed end, with tests that are never open there, no search waits.
+abbrev pub ClosedDecides : Type 0
+ClosedDecides = (test : Test) (ws : List Mapping) → ((ls : List Label) → test ls ≢ OpenTest) → AllByRecursion IsFull ws → found test ws ≢ Waits
+
+-- Refused words in front change nothing.
+abbrev pub RefusedPassed : Type 0
+RefusedPassed = (test : Test) (ws rest : List Mapping) → RefusedThen test ws rest → found test ws ≡ found test rest
+
+-- Once the labels so far are refused, so is every word that begins with them.
+abbrev pub RefusedAll : Type 0
+RefusedAll = (test : Test) (ls : List Label) (ws : List Mapping) → tested test ls ≡ NotTrue → AllByRecursion (λ w. tested test (labels_of w) ≡ NotTrue) (map (preceded ls) ws)

@@ -1,0 +1,5 @@
+pub mod Choices
+pub mod Found
+pub mod Fits
+pub mod Turned
+pub mod Counts
