@@ -1,0 +1,3 @@
+pub mod Derivations
+pub mod Choices
+pub mod Trees

@@ -1,0 +1,10 @@
+//! Row pattern matching over lines and streams.
+#![tactic(auto)]
+
+mod grammar;
+
+use crate::grammar::trace_pattern;
+
+fn main(rt: HostRuntime) {
+    let _ = trace_pattern(rt.alloc(), "A");
+}
