@@ -1,5 +1,5 @@
 -- Each choice that a parse makes is the only one.
-use Rattle.std.proofs.Common.{◌≡◌, ℕ, ◌+◌, ◌≤◌, List, [], ◌∷◌, ◌++◌, Bool, true, false, refl, ap, ◌∙◌, sym, subst, append_assoc, arith, eqb, leb, ◌||◌, ◌&&◌}
+use Rattle.std.proofs.Common.{◌≡◌, ℕ, ◌+◌, ◌≤◌, List, [], ◌∷◌, ◌++◌, Bool, true, false, refl, ap, ◌∙◌, sym, subst, append_assoc, append-nil, arith, eqb, leb, ◌||◌, ◌&&◌}
 use Rattle.std.proofs.lemmas.Bool.Decides.{nat_tests}
 use Rattle.rowmatch.specs.Grammar.{Tree, Letter, Nothing, Both, Either, Star, Level, Alternatives, Sequences, Factors, Primaries, Derives, one_sequence, either, one_factor, both, one_primary, starred, letter, nothing, group}
 use Rattle.rowmatch.specs.Reading.{Lacks, Ends, ReadsNone, ReadsOnly, begins_primary}
@@ -181,3 +181,10 @@ pub ruleset alternatives_read = (alternatives-none, alternatives-one, alternativ
 pub ruleset sequences_read = (sequences-none, sequences-one, sequences-second_none, sequences-both)
 pub ruleset factors_read = (factors-none, factors-one, factors-starred)
 pub ruleset primaries_read = (primaries-letter, primaries-none, primaries-nothing, primaries-inner_none, primaries-unclosed, primaries-group)
+
+-- the whole of the symbols
+pub rest-nothing : (s text r : List ℕ) (t tree : Tree) → s ≡ text → ReadsOnly Alternatives s t r → Derives Alternatives text tree → r ≡ []
+rest-nothing s text r t tree is only d = (only text [] tree d (is ∙ sym (append-nil text)) nothing_ends).1
+
+pub nothing-derived : (s text : List ℕ) (tree : Tree) → s ≡ text → ReadsNone Alternatives s → Derives Alternatives text tree → ⊥
+nothing-derived s text tree is none d = none text [] tree d (is ∙ sym (append-nil text)) nothing_ends
