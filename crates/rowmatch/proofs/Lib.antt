@@ -1,3 +1,4 @@
 pub mod Derivations
 pub mod Choices
 pub mod Trees
+pub mod Written

@@ -2,6 +2,7 @@
 #![tactic(auto)]
 
 mod grammar;
+mod port;
 
 use crate::grammar::trace_pattern;
 
