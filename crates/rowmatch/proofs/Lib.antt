@@ -2,3 +2,4 @@ pub mod Derivations
 pub mod Choices
 pub mod Trees
 pub mod Written
+pub mod Cutting

@@ -1,3 +1,5 @@
 pub mod Grammar
 pub mod Reading
 pub mod Devices
+pub mod Lines
+pub mod Pending

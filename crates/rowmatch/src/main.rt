@@ -2,6 +2,7 @@
 #![tactic(auto)]
 
 mod grammar;
+mod lines;
 mod port;
 
 use crate::grammar::trace_pattern;
