@@ -3,3 +3,6 @@ pub mod Reading
 pub mod Devices
 pub mod Lines
 pub mod Pending
+pub mod Replies
+pub mod LetterTest
+pub mod Faults

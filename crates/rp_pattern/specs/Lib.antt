@@ -5,3 +5,4 @@ pub mod Variables
 pub mod Turns
 pub mod Bounds
 pub mod PatternForm
+pub mod LabelLaws

@@ -6,5 +6,5 @@ mod laws;
 mod word;
 
 pub use form::{Form, Pattern};
-pub use laws::law_words;
+pub use laws::{law_labels, law_words};
 pub use word::{End, Label, Mark, Seen, Word};
