@@ -3,3 +3,5 @@ pub mod Choices
 pub mod Trees
 pub mod Written
 pub mod Cutting
+pub mod Answered
+pub mod Replied

@@ -27,7 +27,7 @@ found_text NoMatch = codes "none"
 -- the search at row 1 of a closed partition with these letters; an empty line has no such row
 abbrev pub search_text : Form → List ℕ → List ℕ
 search_text form [] = codes "none"
-search_text form (letter ∷ letters) = found_text (found (letter_test (letter ∷ letters) 1) (words form (length (letter ∷ letters)) Closed 1))
+search_text form (letter ∷ letters) = found_text (found (letter_test (letter ∷ letters) 1) (words (length (letter ∷ letters)) Closed form 1))
 
 abbrev pub reply_text : Form → List ℕ → List ℕ
 reply_text form line = if is_looked_at line then search_text form line else codes "refused"
