@@ -5,3 +5,4 @@ pub mod Written
 pub mod Cutting
 pub mod Answered
 pub mod Replied
+pub mod Rows

@@ -6,3 +6,5 @@ pub mod Pending
 pub mod Replies
 pub mod LetterTest
 pub mod Faults
+pub mod Commands
+pub mod Jobs
