@@ -26,7 +26,7 @@ module _ (Q : ℕ → Mapping → Type 0) (nothing : (i : ℕ) → Q i (Full [])
   each_followed q b i (Full ls) h = All-map (Q (i + length ls)) (Q i) (preceded ls) (λ w k. goes_on i ls w h k) (q (i + length ls)) (b (i + length ls))
   each_followed q b i (Open ls) h = (h, tt)
 
-  each_concatenation : (p q : Mappings) → Each Q p → Each Q q → Each Q (concatenation p q)
+  pub each_concatenation : (p q : Mappings) → Each Q p → Each Q q → Each Q (concatenation p q)
   each_concatenation p q a b i = All-flat_map (Q i) (Q i) (followed q i) (each_followed q b i) (p i) (a i)
 
   pub each_exclusion : (p : Mappings) → Each Q p → Each Q (exclusion p)
@@ -41,16 +41,16 @@ module _ (Q : ℕ → Mapping → Type 0) (nothing : (i : ℕ) → Q i (Full [])
       go (Full (l ∷ ls) ∷ ws) a = (a.0, go ws a.1)
       go (Open ls ∷ ws) a = (a.0, go ws a.1)
 
-  each_optional : (reluctant : Bool) (p : Mappings) → Each Q p → (h : ℕ) → Each Q (optional reluctant p h)
+  pub each_optional : (reluctant : Bool) (p : Mappings) → Each Q p → (h : ℕ) → Each Q (optional reluctant p h)
   each_optional reluctant p a zero i = (nothing i, tt)
   each_optional false p a (suc h) i = All-append (Q i) (concatenation (moving p) (optional false p h) i) (Full [] ∷ []) (each_concatenation (moving p) (optional false p h) (each_moving p a) (each_optional false p a h) i) (nothing i, tt)
   each_optional true p a (suc h) i = All-append (Q i) (Full [] ∷ []) (concatenation (moving p) (optional true p h) i) (nothing i, tt) (each_concatenation (moving p) (optional true p h) (each_moving p a) (each_optional true p a h) i)
 
-  each_required : (p q : Mappings) → Each Q p → Each Q q → (l : ℕ) → Each Q (required l p q)
+  pub each_required : (p q : Mappings) → Each Q p → Each Q q → (l : ℕ) → Each Q (required l p q)
   each_required p q a b zero = b
   each_required p q a b (suc l) = each_concatenation p (required l p q) a (each_required p q a b l)
 
-  each_permuted : {A : Type 0} (f : A → Mappings) → ((x : A) → Each Q (f x)) → (xs : List A) → Each Q (permuted (map f xs))
+  pub each_permuted : {A : Type 0} (f : A → Mappings) → ((x : A) → Each Q (f x)) → (xs : List A) → Each Q (permuted (map f xs))
   each_permuted {A} f each xs i = subst (AllByRecursion (Q i)) (sym (permuted-map f xs i)) (any_order (orders xs))
     where
       in_order : (ys : List A) → Each Q (sequence (map f ys))

@@ -10,3 +10,4 @@ pub mod PermutedParts
 pub mod Rests
 pub mod Splits
 pub mod Choices
+pub mod LabelLaws

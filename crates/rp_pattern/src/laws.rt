@@ -1,3 +1,4 @@
+ghost use Rattle.rp_pattern.specs.LabelLaws.{LabelsBelow};
 ghost use Rattle.rp_pattern.specs.WordLaws.{WordsExtend, NoBoundStays, GreatBoundsAgree, WordsEnd, WordsWait, WordsClose};
 
 /// The laws of the word list. More rows, or the close, leave a full word, and replace an open one in its own place by
@@ -10,4 +11,9 @@ pub fn law_words()
     ensures within { WordsEnd }
     ensures waits { WordsWait }
     ensures close { WordsClose }
+{}
+
+/// The law of labels: those of a pattern's words are of its variables.
+pub fn law_labels()
+    ensures { LabelsBelow }
 {}

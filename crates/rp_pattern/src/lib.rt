@@ -13,7 +13,7 @@ mod word;
 
 pub use choices::{Choices, Taken};
 pub use form::{Form, Pattern};
-pub use laws::law_words;
+pub use laws::{law_labels, law_words};
 pub use list::{ListFault, list_words};
 pub use orders::permutations;
 pub use word::{End, Label, Mark, Seen, Word};

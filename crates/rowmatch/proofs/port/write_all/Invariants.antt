@@ -1,0 +1,12 @@
+use Rattle.std.proofs.Common.{◌≡◌, length}
+use Rattle.rowmatch.proofs.Written.{WroteFront}
+use Rattle.rowmatch.proofs.port.write_all.Given as goal
+
+abbrev pub invariant-loop-rest : goal.invariant-loop-rest
+invariant-loop-rest g l = record {
+  wrote : WroteFront (g.W.Outlet.contents l.fn.writer) (g.W.Outlet.contents l.writer) l.fn.bytes l.rest;
+  failed : g.W.Outlet.failures l.writer ≡ g.W.Outlet.failures l.fn.writer;
+}
+
+abbrev pub decreases-loop-rest : goal.decreases-loop-rest
+decreases-loop-rest g l = length l.rest

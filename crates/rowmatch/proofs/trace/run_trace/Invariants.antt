@@ -1,0 +1,18 @@
+use Rattle.std.proofs.Common.{◌≡◌}
+use Rattle.rp_pattern.specs.PatternForm.{form_of}
+use Rattle.rowmatch.specs.Devices.{after_calls}
+use Rattle.rowmatch.specs.Pending.{coming, left_in}
+use Rattle.rowmatch.proofs.Replied.{Replied}
+use Rattle.rowmatch.proofs.trace.run_trace.Given as goal
+
+abbrev pub invariant-loop-text : goal.invariant-loop-text
+invariant-loop-text g l = record {
+  replied : Replied (form_of l.pattern) (g.R.Intake.remaining l.fn.reader) (coming l.lines (g.R.Intake.remaining l.reader)) (g.W.Outlet.contents l.fn.writer) (g.W.Outlet.contents l.writer) l.text.items;
+  kept : l.lines.kept ≡ 4097;
+  read : g.R.Intake.failures l.reader ≡ g.R.Intake.failures l.fn.reader;
+  write : g.W.Outlet.failures l.writer ≡ g.W.Outlet.failures l.fn.writer;
+  calls : after_calls l.lines.turns (g.R.Intake.calls l.reader) ≡ after_calls l.turns (g.R.Intake.calls l.fn.reader);
+}
+
+abbrev pub decreases-loop-text : goal.decreases-loop-text
+decreases-loop-text g l = left_in l.lines

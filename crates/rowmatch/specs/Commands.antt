@@ -1,0 +1,23 @@
+-- What each job's command takes, and what it makes of the words.
+use Rattle.std.specs.Prelude.{◌≡◌, ℕ, Bool, true, List, [], ◌∷◌, Option, Some, codes}
+use Rattle.clap.specs.Words.{App, Row, Rule, Text, first_of, matches_of, new_app, new_rule, takes, with_rule}
+use Rattle.clap.specs.declared.builder.ArgAction.TheVariants.{Set}
+
+-- an argument by its place that has one value
+abbrev pub by_place : Text → Rule
+by_place id = record (new_rule id) { required = true; action = Some Set }
+
+unfoldable pub trace_app : App
+trace_app = with_rule (new_app (codes "trace")) (by_place (codes "PATTERN"))
+
+-- what clap makes of the words for a command
+unfoldable pub rows_by : App → List Text → List Row
+rows_by app words = matches_of app words
+
+-- clap takes the words for a command
+unfoldable pub are_taken : App → List Text → Bool
+are_taken app words = takes app words
+
+-- the value of an argument
+abbrev pub HasText : List Row → Text → Text → Type 0
+HasText rows id text = first_of id rows ≡ Some text

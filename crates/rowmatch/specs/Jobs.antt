@@ -1,0 +1,19 @@
+-- The words that a job was read from.
+use Rattle.std.specs.Prelude.{◌≡◌, ℕ, Bool, true, List, [], ◌∷◌, codes, string_bytes, map}
+use Rattle.clap.specs.Words.{Text}
+use Rattle.rowmatch.specs.Commands.{HasText, are_taken, rows_by, trace_app}
+use Rattle.rowmatch.specs.declared.command.Job.{Job}
+use Rattle.rowmatch.specs.declared.command.Job.TheVariants.{Trace}
+
+-- the first word of a job
+abbrev pub name_of : Job → Text
+name_of (Trace pattern) = codes "trace"
+
+-- its values, in what clap makes of the words for the command of that job
+abbrev pub IsRead : List Text → Job → Type 0
+IsRead words (Trace pattern) = HasText (rows_by trace_app words) (codes "PATTERN") (string_bytes pattern)
+
+-- The first word names a job, and clap takes the words for its command.
+abbrev pub NamesJob : List Text → Type 0
+NamesJob [] = ⊥
+NamesJob (name ∷ values) = (name ≡ codes "trace") × (are_taken trace_app (name ∷ values) ≡ true)

@@ -1,0 +1,122 @@
+//! The command line.
+ghost use Rattle.std.specs.Prelude.{◌≡◌, true, Some, IfOk, IfErr, IfSome, codes, map, string_bytes, slice_get};
+ghost use Rattle.clap.specs.Words.{app_of, is_simple, found_of, rows_of, first_of, kind_of, takes};
+ghost use Rattle.clap.specs.declared.error.kind.ErrorKind.TheVariants.{OutOfMemory};
+ghost use Rattle.clap.specs.declared.error.Error.{Error};
+ghost use Rattle.rowmatch.specs.Commands.{rows_by, are_taken, trace_app};
+ghost use Rattle.rowmatch.specs.Jobs.{IsRead, NamesJob, name_of};
+
+use clap::error::ErrorKind;
+use clap::{Arg, ArgAction, ArgMatches, Command, Error};
+use std::alloc::{AllocError, Global};
+
+/// What the program is asked to do.
+#[derive(Debug, Drop)]
+pub enum Job {
+    /// Matches lines of letters against the pattern.
+    Trace { pattern: String },
+}
+
+/// Why the command line names no job.
+#[derive(Debug, Drop)]
+pub enum JobFault {
+    /// What the command line lacks, or the help that was asked for, as clap tells it.
+    Line(Error),
+    OutOfMemory,
+}
+
+/// The job of the words after the program's name. The first one names it.
+pub fn read_command(alloc: Global, words: &[String]) -> Result<Job, JobFault>
+    ensures named { IfOk result (λ job. IfSome (slice_get words.now 0) (λ word. string_bytes word ≡ name_of job)) }
+    ensures value { IfOk result (IsRead (map string_bytes words.now)) }
+    ensures line { (error : Error) → result ≡ Err (JobFault.Line error) → NamesJob (map string_bytes words.now) → ⊥ }
+{
+    match words.first() {
+        Some(name) if name.as_str() == "trace" => read_trace(alloc, words),
+        _ => Err(no_job(alloc, words)),
+    }
+}
+
+#[tactic(auto, using(crate::proofs::Rows::trace_simple))]
+fn read_trace(alloc: Global, words: &[String]) -> Result<Job, JobFault>
+    ensures named { IfOk result (λ job. name_of job ≡ codes "trace") }
+    ensures value { IfOk result (IsRead (map string_bytes words.now)) }
+    ensures line { (error : Error) → result ≡ Err (JobFault.Line error) → are_taken trace_app (map string_bytes words.now) ≡ true → ⊥ }
+{
+    let command = trace_command(alloc)?;
+    let matches = matched(command, words)?;
+    let pattern = text_of(alloc, &matches, "PATTERN")?;
+    Ok(Job::Trace { pattern })
+}
+
+#[tactic(auto, unfolding(crate::specs::Commands::trace_app))]
+fn trace_command<'a>(alloc: Global) -> Result<Command<'a>, AllocError>
+    ensures { IfOk result (λ command. app_of command ≡ trace_app) }
+{
+    let pattern = Arg::new(alloc, "PATTERN")
+        .required(true)
+        .action(ArgAction::Set);
+    Command::new(alloc, "trace").arg(pattern)
+}
+
+/// What clap makes of the words, for a simple command.
+fn matched<'a>(command: Command<'a>, words: &'a [String]) -> Result<ArgMatches<'a>, JobFault>
+    requires { is_simple (app_of command) ≡ true }
+    ensures rows { IfOk result (λ matches. rows_of (found_of matches) ≡ rows_by (app_of command.entry) (map string_bytes words.entry.now)) }
+    ensures line { (error : Error) → result ≡ Err (JobFault.Line error) → are_taken (app_of command.entry) (map string_bytes words.entry.now) ≡ true → ⊥ }
+{
+    match command.try_get_matches_from(words) {
+        Ok(matches) => Ok(matches),
+        Err(error) => Err(line_fault(error)),
+    }
+}
+
+#[tactic(auto, using(crate::proofs::Rows::first_rows))]
+fn text_of(alloc: Global, matches: &ArgMatches, id: &str) -> Result<String, AllocError>
+    ensures { IfOk result (λ text. first_of id.now (rows_of (found_of matches.now)) ≡ Some (string_bytes text)) }
+{
+    let Some(text) = matches.get_str(id) else {
+        return Err(AllocError);
+    };
+    String::from_str(alloc, text)
+}
+
+/// The fault of words whose first one names no job: what all commands together make of them.
+fn no_job(alloc: Global, words: &[String]) -> JobFault {
+    match line_of_no_job(alloc, words) {
+        Ok(error) => line_fault(error),
+        Err(_) => JobFault::OutOfMemory,
+    }
+}
+
+fn line_of_no_job(alloc: Global, words: &[String]) -> Result<Error, AllocError> {
+    let mut command = Command::new(alloc, "rowmatch")
+        .no_binary_name(true)
+        .subcommand_required(true)
+        .subcommand(trace_command(alloc)?)?;
+    match command.try_get_matches_from_mut(words) {
+        Err(error) => Ok(error),
+        Ok(_) => command.error(ErrorKind::InvalidSubcommand, "no such command"),
+    }
+}
+
+fn line_fault(error: Error) -> JobFault
+    ensures { (other : Error) → result ≡ JobFault.Line other → kind_of error ≡ OutOfMemory → ⊥ }
+{
+    if error.kind() == ErrorKind::OutOfMemory {
+        JobFault::OutOfMemory
+    } else {
+        JobFault::Line(error)
+    }
+}
+
+impl From<AllocError> for JobFault {
+    ghost use Rattle.std.specs.Prelude.{◌≡◌};
+    ghost use Rattle.rowmatch.specs.declared.command.JobFault.TheVariants.{OutOfMemory};
+
+    ghost from_gives = { λ _ fault. fault ≡ OutOfMemory };
+
+    fn from(_: AllocError) -> JobFault {
+        JobFault::OutOfMemory
+    }
+}

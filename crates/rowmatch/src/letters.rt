@@ -1,0 +1,90 @@
+//! A line as the rows of a partition.
+ghost use Rattle.std.specs.Prelude.{◌≡◌, ◌≤◌, [], length};
+ghost use Rattle.rowmatch.specs.LetterTest.{admits};
+
+use rp_pattern::{End, Label, Seen};
+use rp_search::Tests;
+use std::alloc::{AllocError, Global};
+
+/// A closed partition with a row for each letter of a line. Variable Z admits every row, any other its own letter.
+#[derive(Drop)]
+pub struct Letters<'a> {
+    line: &'a [u8],
+    /// The labels that were entered.
+    entered: Vec<Label>,
+    /// How many calls of `enter` were made. It stays at its last value.
+    entries: u64,
+    ghost short: { length line.now ≤ 4096 },
+}
+
+/// The variable that admits every row.
+const ANY: usize = 25;
+
+impl<'a> Letters<'a> {
+    pub fn new(alloc: Global, line: &'a [u8]) -> Self
+        requires { length line.now ≤ 4096 }
+        ensures line { result.line.now ≡ line.entry.now }
+        ensures entered { result.entered.items ≡ [] }
+    {
+        Letters {
+            line,
+            entered: Vec::new(alloc),
+            entries: 0,
+        }
+    }
+}
+
+impl Tests for Letters<'_> {
+    ghost use Rattle.std.specs.Prelude.{◌≡◌, ℕ, ◌<◌, ◌≤◌, length};
+    ghost use Rattle.rp_pattern.specs.declared.word.End.TheVariants.{Closed};
+    ghost use Rattle.rowmatch.specs.LetterTest.{letter_test, letter_test-decided, short_fits};
+
+    ghost rows = { λ letters. length letters.line.now };
+
+    ghost ending = { λ _. Closed };
+
+    ghost outcome = { λ letters start labels. letter_test letters.line.now start labels };
+
+    ghost entered = { λ letters. letters.entered.items };
+
+    ghost entries = { λ letters. letters.entries };
+
+    fn known(&self) -> u64 {
+        self.line.len() as u64
+    }
+
+    fn end(&self) -> End {
+        End::Closed
+    }
+
+    fn test(&self, start: u64, labels: &[Label]) -> Seen {
+        let label = labels[labels.len() - 1];
+        let letter = self.line[start as usize + labels.len() - 2];
+        if admits(label.var, letter) {
+            Seen::True
+        } else {
+            Seen::NotTrue
+        }
+    }
+
+    fn enter(&mut self, _start: u64, labels: &[Label]) -> Result<(), AllocError> {
+        self.entries = self.entries.saturating_add(1);
+        self.entered.push(labels[labels.len() - 1])?;
+        Ok(())
+    }
+
+    fn cut(&mut self, depth: usize) {
+        self.entered.truncate(depth);
+    }
+
+    ghost few = { λ letters. short_fits (length letters.line.now) letters.short };
+
+    ghost decided = { λ letters start labels _. letter_test-decided letters.line.now start labels };
+}
+
+/// Whether a row with this letter is admitted for the variable.
+fn admits(var: usize, letter: u8) -> bool
+    ensures { result ≡ admits var letter }
+{
+    var == ANY || (letter >= b'a' && usize::from(letter - b'a') == var)
+}
