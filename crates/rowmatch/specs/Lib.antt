@@ -8,3 +8,4 @@ pub mod LetterTest
 pub mod Faults
 pub mod Commands
 pub mod Jobs
+pub mod Statuses

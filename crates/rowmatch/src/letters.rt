@@ -1,17 +1,15 @@
 //! A line as the rows of a partition.
-ghost use Rattle.std.specs.Prelude.{◌≡◌, ◌≤◌, [], length};
+ghost use Rattle.std.specs.Prelude.{◌≡◌, ◌≤◌, length};
 ghost use Rattle.rowmatch.specs.LetterTest.{admits};
 
 use rp_pattern::{End, Label, Seen};
 use rp_search::Tests;
-use std::alloc::{AllocError, Global};
+use std::alloc::AllocError;
 
 /// A closed partition with a row for each letter of a line. Variable Z admits every row, any other its own letter.
 #[derive(Drop)]
 pub struct Letters<'a> {
     line: &'a [u8],
-    /// The labels that were entered.
-    entered: Vec<Label>,
     /// How many calls of `enter` were made. It stays at its last value.
     entries: u64,
     ghost short: { length line.now ≤ 4096 },
@@ -21,14 +19,12 @@ pub struct Letters<'a> {
 const ANY: usize = 25;
 
 impl<'a> Letters<'a> {
-    pub fn new(alloc: Global, line: &'a [u8]) -> Self
+    pub fn new(line: &'a [u8]) -> Self
         requires { length line.now ≤ 4096 }
-        ensures line { result.line.now ≡ line.entry.now }
-        ensures entered { result.entered.items ≡ [] }
+        ensures { result.line.now ≡ line.entry.now }
     {
         Letters {
             line,
-            entered: Vec::new(alloc),
             entries: 0,
         }
     }
@@ -45,7 +41,7 @@ impl Tests for Letters<'_> {
 
     ghost outcome = { λ letters start labels. letter_test letters.line.now start labels };
 
-    ghost entered = { λ letters. letters.entered.items };
+    ghost entered = { λ _ _ _. Unit {0} };
 
     ghost entries = { λ letters. letters.entries };
 
@@ -67,15 +63,12 @@ impl Tests for Letters<'_> {
         }
     }
 
-    fn enter(&mut self, _start: u64, labels: &[Label]) -> Result<(), AllocError> {
+    fn enter(&mut self, _start: u64, _labels: &[Label]) -> Result<(), AllocError> {
         self.entries = self.entries.saturating_add(1);
-        self.entered.push(labels[labels.len() - 1])?;
         Ok(())
     }
 
-    fn cut(&mut self, depth: usize) {
-        self.entered.truncate(depth);
-    }
+    fn cut(&mut self, _depth: usize) {}
 
     ghost few = { λ letters. short_fits (length letters.line.now) letters.short };
 

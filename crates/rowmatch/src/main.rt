@@ -10,30 +10,27 @@ mod matching;
 mod port;
 mod trace;
 
-use crate::command::{Job, JobFault, read_command};
+use crate::command::{Job, read_command};
 use crate::fault::ProgramFault;
 use crate::grammar::trace_pattern;
 use crate::port::Port;
 use crate::trace::run_trace;
-use std::alloc::AllocError;
 use std::process::ExitCode;
 use std::rt::Env;
 use std::{env, io};
 
+/// How often a device is read at most.
 const TURNS: u64 = 1_000_000_000;
 
 fn main(rt: HostRuntime) -> io::Result<ExitCode> {
-    match run(&rt) {
-        Ok(()) => Ok(ExitCode::SUCCESS),
-        Err(ProgramFault::Line(error)) => {
-            error.print(&rt)?;
-            Ok(ExitCode::from(if error.use_stderr() { 2 } else { 0 }))
-        }
-        Err(fault) => {
-            eprintln!(rt; "rowmatch: {fault}")?;
-            Ok(ExitCode::from(fault.status().unwrap_or(0)))
-        }
+    let Err(fault) = run(&rt) else {
+        return Ok(ExitCode::SUCCESS);
+    };
+    match &fault {
+        ProgramFault::Line(error) => error.print(&rt)?,
+        _ => eprintln!(rt; "rowmatch: {fault}")?,
     }
+    Ok(ExitCode::from(fault.status().unwrap_or(0)))
 }
 
 fn run(rt: &HostRuntime) -> Result<(), ProgramFault> {
@@ -54,3 +51,8 @@ fn run(rt: &HostRuntime) -> Result<(), ProgramFault> {
         }
     }
 }
+
+#[cfg(test)]
+mod memory;
+#[cfg(test)]
+mod tests;

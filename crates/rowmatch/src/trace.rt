@@ -119,7 +119,7 @@ fn push_match<L: Ledger>(
 {
     law_labels();
     let mut steps = Steps::<L>::new(blank);
-    let mut letters = Letters::new(alloc, line);
+    let mut letters = Letters::new(line);
     let mut search = Search::new(alloc, pattern, 1)?;
     if !find(&mut search, &mut letters, &mut steps)? {
         return text.extend_from_slice(b"none");

@@ -9,8 +9,8 @@ use Rattle.rp_pattern.specs.declared.word.Seen.{Seen}
 use Rattle.rp_pattern.specs.declared.word.Seen.TheVariants.{True, NotTrue, Open as OpenTest}
 use Rattle.rp_pattern.specs.Mapping.{Mapping, Full, Open}
 use Rattle.rp_pattern.specs.Words.{preceded}
-use Rattle.rp_search.specs.declared.choices.Choices.{Choices}
-use Rattle.rp_search.specs.Choices.{IsLater, start_of, entered, whole, whole_left, remaining, left, below, below_left, after, after_left, Keeps, IsCutBack, IsCutOff, Splits, TakesRow, TakesFull, TakesOpen, TakesNothing, Admits, GivesUp, BeginsAgain}
+use Rattle.rp_pattern.specs.declared.choices.Choices.{Choices}
+use Rattle.rp_pattern.specs.Choices.{IsLater, start_of, entered, whole, whole_left, remaining, left, below, below_left, after, after_left, Keeps, IsCutBack, IsCutOff, Splits, TakesRow, TakesFull, TakesOpen, TakesNothing, Admits, GivesUp, BeginsAgain}
 use Rattle.rp_search.specs.Found.{Test, tested, Stays, TestsStay, found, Match, NoMatch, Waits}
 use Rattle.rp_search.specs.Fits.{rows_from, RefusedBefore, Stands, MapsRow, Explores}
 use Rattle.rp_search.specs.Turned.{Goes}

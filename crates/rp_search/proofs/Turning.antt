@@ -6,9 +6,9 @@ use Rattle.rp_pattern.specs.declared.word.End.TheVariants.{Open as OpenEnd, Clos
 use Rattle.rp_pattern.specs.declared.word.Seen.{Seen}
 use Rattle.rp_pattern.specs.declared.word.Seen.TheVariants.{True, NotTrue, Open as OpenTest}
 use Rattle.rp_pattern.specs.Mapping.{Mapping, Full, Open}
-use Rattle.rp_search.specs.declared.choices.Choices.{Choices}
+use Rattle.rp_pattern.specs.declared.choices.Choices.{Choices}
 use Rattle.rp_search.specs.declared.search.Search.{Search}
-use Rattle.rp_search.specs.Choices.{IsLater, start_of, entered, whole, remaining, left, below, below_left, after, after_left, Keeps, Splits, TakesRow, TakesFull, TakesOpen, TakesNothing, GivesUp}
+use Rattle.rp_pattern.specs.Choices.{IsLater, start_of, entered, whole, remaining, left, below, below_left, after, after_left, Keeps, Splits, TakesRow, TakesFull, TakesOpen, TakesNothing, GivesUp}
 use Rattle.rp_search.specs.Found.{Test, tested, found, Waits}
 use Rattle.rp_search.specs.Fits.{Stands, MapsRow, Explores, AreAdmitted, Fits, unless_open, left_in}
 use Rattle.rp_search.specs.Turned.{AsksTheSame, Goes, Searches}

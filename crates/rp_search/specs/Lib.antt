@@ -1,4 +1,3 @@
-pub mod Choices
 pub mod Found
 pub mod Fits
 pub mod Turned

@@ -1,9 +1,9 @@
 ghost use Rattle.std.specs.Prelude.{◌≡◌, ℕ, ◌+◌, ◌≤◌, List, length, IfOk, OnOk};
-ghost use Rattle.rp_search.specs.Choices.{start_of, entered, Keeps};
+ghost use Rattle.rp_pattern.specs.Choices.{start_of, entered, Keeps};
 ghost use Rattle.rp_search.specs.Fits.{Stands, MapsRow};
 ghost use Rattle.rp_search.specs.Turned.{AsksTheSame, AddsLabel, AreCutBack, Settled};
 
-use crate::choices::Choices;
+use rp_pattern::Choices;
 use crate::conditions::Tests;
 use rp_pattern::Seen;
 use std::alloc::AllocError;

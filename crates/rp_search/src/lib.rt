@@ -2,7 +2,6 @@
 #![tactic(auto)]
 
 mod asking;
-mod choices;
 mod conditions;
 mod laws;
 mod search;

@@ -7,7 +7,7 @@ ghost use Rattle.rp_pattern.specs.Words.{words};
 ghost use Rattle.rp_pattern.specs.Turns.{turns};
 
 use crate::asking::{enter_row, follow, settle};
-use crate::choices::{Choices, Taken};
+use rp_pattern::{Choices, Taken};
 use crate::conditions::Tests;
 use crate::steps::Steps;
 use rp_pattern::{Label, Pattern, Seen};
@@ -44,7 +44,7 @@ impl Search {
     ghost use Rattle.rp_search.specs.Found.{Test, found, Match, NoMatch, Waits};
     ghost use Rattle.rp_search.specs.Fits.{Fits, IsSameSearch, start_of_search, labels_of_search, pattern_words, most_turns, left_of, Stands, MapsRow, Explores};
     ghost use Rattle.rp_search.specs.Turned.{AsksTheSame, AddsLabel, Searches, Turned};
-    ghost use Rattle.rp_search.specs.Choices.{left, below_left};
+    ghost use Rattle.rp_pattern.specs.Choices.{left, below_left};
 
     /// A search from the row `start`, which is at least 1.
     pub fn new(alloc: Global, pattern: &Pattern, start: u64) -> Result<Search, AllocError>

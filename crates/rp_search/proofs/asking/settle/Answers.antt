@@ -1,6 +1,6 @@
 use Rattle.std.proofs.Common.{◌≡◌}
 use Rattle.rp_pattern.specs.declared.word.Seen.TheVariants.{True, NotTrue}
-use Rattle.rp_search.specs.Choices.{start_of, entered}
+use Rattle.rp_pattern.specs.Choices.{start_of, entered}
 use Rattle.rp_search.proofs.Fitting.{goes_admitted, goes_refused}
 use Rattle.rp_search.proofs.asking.settle.Goals as goal
 

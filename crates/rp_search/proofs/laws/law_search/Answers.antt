@@ -2,8 +2,8 @@ use Rattle.std.proofs.Common.{◌≡◌, ◌+◌, ◌≤◌, ℕ, Option, Some, 
 use Rattle.rp_pattern.specs.declared.word.End.{End}
 use Rattle.rp_pattern.specs.declared.word.Seen.{Seen}
 use Rattle.rp_pattern.specs.declared.word.Seen.TheVariants.{True, NotTrue, Open as OpenTest}
-use Rattle.rp_search.specs.declared.choices.Choices.{Choices}
-use Rattle.rp_search.specs.Choices.{start_of, entered, left, whole_left, below_left, after_left}
+use Rattle.rp_pattern.specs.declared.choices.Choices.{Choices}
+use Rattle.rp_pattern.specs.Choices.{start_of, entered, left, whole_left, below_left, after_left}
 use Rattle.rp_search.specs.Found.{Test}
 use Rattle.rp_search.specs.Fits.{rows_from, Stands, AreAdmitted, Explores, TestsExtend, unless_open, left_in, start_of_search, most_turns, left_of}
 use Rattle.rp_search.proofs.Fitting.{now_later, stands_later, true_later, explores_later}

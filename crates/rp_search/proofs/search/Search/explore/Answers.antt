@@ -1,7 +1,7 @@
 use Rattle.std.proofs.Common.{◌≡◌, ◌+◌, ◌≤◌, ℕ, subst, sym, arith}
 use Rattle.rp_pattern.specs.declared.word.End.{End}
-use Rattle.rp_search.specs.declared.choices.Taken.TheVariants.{Full as FullTaken, Open as OpenTaken, Nothing as NothingTaken}
-use Rattle.rp_search.specs.Choices.{start_of, entered, TakenAs, TakesFull, TakesOpen, TakesNothing}
+use Rattle.rp_pattern.specs.declared.choices.Taken.TheVariants.{Full as FullTaken, Open as OpenTaken, Nothing as NothingTaken}
+use Rattle.rp_pattern.specs.Choices.{start_of, entered, TakenAs, TakesFull, TakesOpen, TakesNothing}
 use Rattle.rp_search.specs.Turned.{Goes}
 use Rattle.rp_search.specs.Fits.{start_of_search, labels_of_search, pattern_words, left_of}
 use Rattle.rp_search.proofs.Fitting.{now_later}

@@ -1,6 +1,6 @@
 use Rattle.std.proofs.Common.{◌≡◌, subst, sym}
 use Rattle.rp_pattern.specs.declared.word.Seen.TheVariants.{True, NotTrue, Open as OpenTest}
-use Rattle.rp_search.specs.Choices.{start_of, entered}
+use Rattle.rp_pattern.specs.Choices.{start_of, entered}
 use Rattle.rp_search.specs.Fits.{start_of_search, left_of}
 use Rattle.rp_search.specs.Turned.{Settled}
 use Rattle.rp_search.proofs.Turning.{left_settled}

@@ -1,8 +1,8 @@
 use Rattle.std.proofs.Common.{◌≡◌, ◌+◌, ◌<◌, ◌≤◌, ℕ, subst, sym, arith}
 use Rattle.rp_pattern.specs.declared.word.End.{End}
 use Rattle.rp_pattern.specs.declared.word.Seen.TheVariants.{True}
-use Rattle.rp_search.specs.declared.choices.Taken.TheVariants.{Row as RowTaken, Split as SplitTaken, Full as FullTaken, Open as OpenTaken, Nothing as NothingTaken}
-use Rattle.rp_search.specs.Choices.{start_of, entered, left, TakenAs, Splits, TakesRow, TakesFull, TakesOpen, TakesNothing}
+use Rattle.rp_pattern.specs.declared.choices.Taken.TheVariants.{Row as RowTaken, Split as SplitTaken, Full as FullTaken, Open as OpenTaken, Nothing as NothingTaken}
+use Rattle.rp_pattern.specs.Choices.{start_of, entered, left, TakenAs, Splits, TakesRow, TakesFull, TakesOpen, TakesNothing}
 use Rattle.rp_search.specs.Found.{tested}
 use Rattle.rp_search.specs.Fits.{start_of_search, labels_of_search, pattern_words, left_of}
 use Rattle.rp_search.proofs.Fitting.{now_later, cut_true, stands_splits, stands_full, stands_open, stands_nothing, maps_row, finds_match, finds_wait, finds_none}

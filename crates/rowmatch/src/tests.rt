@@ -1,0 +1,277 @@
+ghost use Rattle.std.specs.Prelude.{◌≡◌, true};
+ghost use Rattle.rp_pattern.specs.PatternForm.{form_of};
+ghost use Rattle.rp_pattern.specs.Variables.{are_below};
+
+use crate::command::{Job, JobFault, read_command};
+use crate::fault::ProgramFault;
+use crate::grammar::{TracePatternFault, trace_pattern};
+use crate::memory::{Sink, Source};
+use crate::port::Port;
+use crate::trace::{TraceFault, run_trace};
+use rp_pattern::Pattern;
+use std::alloc::{AllocError, Global};
+use std::test::Fail;
+
+/// No call has this number.
+const NEVER: u64 = 0;
+
+const PATTERN: &str = "(A B | A)* C";
+const LINES: &str = "abac\naab\nc\n\nab1\n";
+const REPLIES: &str = "ABAC\nnone\nC\nnone\nrefused\n";
+
+/// What a run came to, and what it wrote.
+#[derive(Drop)]
+struct Ran {
+    result: Result<(), TraceFault>,
+    calls: u64,
+    sink: Sink,
+}
+
+/// Which calls of the devices fail, and how many reads are allowed.
+#[derive(Clone, Copy)]
+struct Limits {
+    read: u64,
+    write: u64,
+    turns: u64,
+}
+
+const ALL: Limits = Limits {
+    read: NEVER,
+    write: NEVER,
+    turns: 10_000,
+};
+
+/// Three bytes are read at a call, and two written.
+fn run_once(
+    alloc: Global,
+    pattern: &Pattern,
+    lines: &[u8],
+    limits: Limits,
+) -> Result<Ran, AllocError>
+    requires { are_below 26 (form_of pattern.now) ≡ true }
+{
+    let mut source = Source::new(lines, 3, limits.read);
+    let mut sink = Sink::new(alloc, 10_000, 2, limits.write)?;
+    let result = run_trace(alloc, &mut source, &mut sink, pattern, limits.turns);
+    let calls = source.calls();
+    Ok(Ran {
+        result,
+        calls,
+        sink,
+    })
+}
+
+/// A run that was refused memory is made again.
+fn run_lines(alloc: Global, pattern: &Pattern, lines: &[u8], limits: Limits) -> Result<Ran, AllocError>
+    requires { are_below 26 (form_of pattern.now) ≡ true }
+{
+    let ran = run_once(alloc, pattern, lines, limits)?;
+    if ran.result == Err(TraceFault::OutOfMemory) {
+        return run_once(alloc, pattern, lines, limits);
+    }
+    Ok(ran)
+}
+
+/// A pattern that was refused memory is read again.
+fn pattern_of(alloc: Global, text: &str) -> Result<Pattern, TracePatternFault>
+    ensures { (pattern : Pattern) → result ≡ Ok pattern → are_below 26 (form_of pattern) ≡ true }
+{
+    match trace_pattern(alloc, text) {
+        Ok(pattern) => Ok(pattern),
+        Err(TracePatternFault::OutOfMemory) => trace_pattern(alloc, text),
+        Err(fault) => Err(fault),
+    }
+}
+
+#[test]
+fn trace_letters(rt: HostRuntime) -> Result<(), Fail> {
+    let pattern = pattern_of(rt.alloc(), PATTERN)?;
+    let ran = run_lines(rt.alloc(), &pattern, LINES.as_bytes(), ALL)?;
+    assert_eq!(rt; ran.result, Ok(()));
+    assert_eq!(rt; ran.sink.bytes(), REPLIES.as_bytes());
+    Ok(())
+}
+
+#[test]
+fn other_lines(rt: HostRuntime) -> Result<(), Fail> {
+    for (text, lines, replies) in [
+        ("A*", "b\n", "empty\n"),
+        ("A*", "aab\n", "AA\n"),
+        ("AB", "ab\n", "AB\n"),
+        ("Z Z", "qx\nq\n", "ZZ\nnone\n"),
+        ("A | A B", "ab\n", "A\n"),
+        ("( ) C", "c", "C\n"),
+        ("C", "", ""),
+        ("C", "\n", "none\n"),
+        ("C", "c\r\n", "refused\n"),
+    ] {
+        let pattern = pattern_of(rt.alloc(), text)?;
+        let ran = run_lines(rt.alloc(), &pattern, lines.as_bytes(), ALL)?;
+        assert_eq!(rt; ran.result, Ok(()));
+        assert_eq!(rt; ran.sink.bytes(), replies.as_bytes(), "{text} on {lines}");
+    }
+    Ok(())
+}
+
+#[test]
+fn longest_line(rt: HostRuntime) -> Result<(), Fail> {
+    let pattern = pattern_of(rt.alloc(), "A*")?;
+    let mut line = Vec::new(rt.alloc());
+    line.resize(4096, b'a')?;
+    let looked_at = run_lines(rt.alloc(), &pattern, line.as_slice(), ALL)?;
+    assert_eq!(rt; looked_at.result, Ok(()));
+    assert_eq!(rt; looked_at.sink.bytes().len(), 4097);
+    line.push(b'a')?;
+    let refused = run_lines(rt.alloc(), &pattern, line.as_slice(), ALL)?;
+    assert_eq!(rt; refused.sink.bytes(), b"refused\n".as_slice());
+    Ok(())
+}
+
+#[test]
+fn failed_reads(rt: HostRuntime) -> Result<(), Fail> {
+    let pattern = pattern_of(rt.alloc(), PATTERN)?;
+    for read in 1..8 {
+        let limits = Limits {
+            read,
+            write: NEVER,
+            turns: 100,
+        };
+        let ran = run_lines(rt.alloc(), &pattern, LINES.as_bytes(), limits)?;
+        assert_eq!(rt; ran.result, Err(TraceFault::Read));
+        assert!(rt; REPLIES.as_bytes().starts_with(ran.sink.bytes()));
+    }
+    Ok(())
+}
+
+#[test]
+fn failed_writes(rt: HostRuntime) -> Result<(), Fail> {
+    let pattern = pattern_of(rt.alloc(), PATTERN)?;
+    for write in 1..14 {
+        let limits = Limits {
+            read: NEVER,
+            write,
+            turns: 100,
+        };
+        let ran = run_lines(rt.alloc(), &pattern, LINES.as_bytes(), limits)?;
+        assert_eq!(rt; ran.result, Err(TraceFault::Write));
+        assert!(rt; REPLIES.as_bytes().starts_with(ran.sink.bytes()));
+    }
+    Ok(())
+}
+
+#[test]
+fn turns(rt: HostRuntime) -> Result<(), Fail> {
+    let pattern = pattern_of(rt.alloc(), PATTERN)?;
+    for turns in 0..8 {
+        let limits = Limits {
+            read: NEVER,
+            write: NEVER,
+            turns,
+        };
+        let ran = run_lines(rt.alloc(), &pattern, LINES.as_bytes(), limits)?;
+        let wanted = if turns < 7 {
+            Err(TraceFault::Turns)
+        } else {
+            Ok(())
+        };
+        assert_eq!(rt; ran.result, wanted);
+        assert_eq!(rt; ran.calls, turns);
+    }
+    Ok(())
+}
+
+#[test]
+fn streams(rt: HostRuntime) -> Result<(), Fail> {
+    let pattern = pattern_of(rt.alloc(), PATTERN)?;
+    let mut bytes = Vec::with_capacity(rt.alloc(), 100)?;
+    let mut reader = Port::new(LINES.as_bytes());
+    let mut writer = Port::new(&mut bytes);
+    run_trace(rt.alloc(), &mut reader, &mut writer, &pattern, 2)?;
+    assert_eq!(rt; bytes.as_slice(), REPLIES.as_bytes());
+    Ok(())
+}
+
+#[test]
+fn expected_places(rt: HostRuntime) -> Result<(), Fail> {
+    for (text, place) in [
+        ("A)", 1),
+        ("", 0),
+        ("  ", 2),
+        ("*", 0),
+        ("a", 0),
+        ("A\tB", 1),
+        ("A**", 2),
+        ("A*?", 2),
+        ("A+", 1),
+        ("A |", 3),
+        ("(A|)", 3),
+        ("(A", 2),
+        (" A B )", 5),
+    ] {
+        match pattern_of(rt.alloc(), text) {
+            Err(TracePatternFault::Expected(offset)) => assert_eq!(rt; offset, place, "{text}"),
+            _ => assert!(rt; false, "{text}"),
+        }
+    }
+    for text in ["()", "( )", "A B", "((A)*|B)C", " A*B | Z "] {
+        let _pattern = pattern_of(rt.alloc(), text)?;
+    }
+    Ok(())
+}
+
+fn words_of(alloc: Global, texts: &[&str]) -> Result<Vec<String>, AllocError> {
+    let mut words = Vec::new(alloc);
+    for text in texts {
+        words.push(String::from_str(alloc, text)?)?;
+    }
+    Ok(words)
+}
+
+#[test]
+fn trace_command(rt: HostRuntime) -> Result<(), Fail> {
+    let words = words_of(rt.alloc(), &["trace", "(A B)*"])?;
+    let job = read_command(rt.alloc(), words.as_slice());
+    match &job {
+        Ok(Job::Trace { pattern }) => assert_eq!(rt; pattern.as_str(), "(A B)*"),
+        Err(JobFault::OutOfMemory) => {}
+        _ => assert!(rt; false),
+    }
+    Ok(())
+}
+
+/// The status of a command line that names no job, unless memory was refused.
+fn line_status(alloc: Global, texts: &[&str]) -> Result<Option<u8>, AllocError> {
+    let words = words_of(alloc, texts)?;
+    match read_command(alloc, words.as_slice()) {
+        Ok(_) => Ok(None),
+        Err(JobFault::OutOfMemory) => Err(AllocError),
+        Err(JobFault::Line(error)) => Ok(ProgramFault::Line(error).status()),
+    }
+}
+
+#[test]
+fn line_statuses(rt: HostRuntime) -> Result<(), Fail> {
+    assert_eq!(rt; line_status(rt.alloc(), &["trace", "--help"])?, Some(0));
+    assert_eq!(rt; line_status(rt.alloc(), &["--help"])?, Some(0));
+    assert_eq!(rt; line_status(rt.alloc(), &[])?, Some(2));
+    assert_eq!(rt; line_status(rt.alloc(), &["trace"])?, Some(2));
+    assert_eq!(rt; line_status(rt.alloc(), &["trace", "A", "B"])?, Some(2));
+    assert_eq!(rt; line_status(rt.alloc(), &["whole"])?, Some(2));
+    Ok(())
+}
+
+#[test]
+fn fault_texts(rt: HostRuntime) -> Result<(), Fail> {
+    for (fault, text, status) in [
+        (ProgramFault::Pattern(1), "pattern: Expected at byte 1", 1),
+        (ProgramFault::Read, "device: read", 3),
+        (ProgramFault::Write, "device: write", 3),
+        (ProgramFault::OutOfMemory, "out of memory", 3),
+        (ProgramFault::Turns, "too many turns", 3),
+    ] {
+        let told = format!(in rt.alloc(); "{fault}")?;
+        assert_eq!(rt; told.as_str(), text);
+        assert_eq!(rt; fault.status(), Some(status));
+    }
+    Ok(())
+}
