@@ -262,7 +262,7 @@ module _ (old new : Choices) (s : ℕ) (ls : List Label) (t : Choice) (cs : List
         parts_left = omega (arith, left_is new s ms (t ∷ cs) m n e, after_left_is new s ms (t ∷ cs) m n e, below_left_is new s ms (t ∷ cs) m n e, count, turns);
       }
 
-take-all : (ls : List Label) → take (length ls) ls ≡ ls
+pub take-all : (ls : List Label) → take (length ls) ls ≡ ls
 take-all [] = refl
 take-all (l ∷ ls) = ap (λ z. l ∷ z) (take-all ls)
 
@@ -369,3 +369,16 @@ module _ (old new : Choices) (n : ℕ) (e : End) (k : Stack old old.start old.la
   pub apart_left : whole_left new n e ≡ after_left old n e
   unfolding whole_left
   apart_left = ap (λ ps. chain_left ps new.start) tail ∙ ap (chain_left (first_later n e (reverse old.stack.items))) start ∙ sym (after_left_is old old.start old.labels.items (reverse old.stack.items) k n e)
+
+pub no_choices : (xs : List Choice) → length xs ≡ 0 → reverse xs ≡ []
+no_choices [] h = refl
+no_choices (x ∷ xs) h = absurd (omega arith)
+
+pub all_front : (ls : List Label) → IsFront ls ls
+all_front ls = (length ls, sym (take-all ls))
+
+pub none_front : (ls of : List Label) → ls ≡ [] → IsFront ls of
+none_front ls of h = (0, h)
+
+pub rises_subst : (m : ℕ) (cs ds : List Choice) → cs ≡ ds → IsTrue (rises m ds) → IsTrue (rises m cs)
+rises_subst m cs ds h r = subst (λ z. IsTrue (rises m z)) (sym h) r

@@ -160,7 +160,8 @@ impl Choices {
         let depth = self.labels.len();
         let rests = follow(&later, self.start + depth as u64)?;
         drop_top(&mut self.stack);
-        push(&mut self.stack, depth, rests)
+        push(&mut self.stack, depth, rests)?;
+        Ok(())
     }
 
     /// The preferred choice is given up. It takes no memory.

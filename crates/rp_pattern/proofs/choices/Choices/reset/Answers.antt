@@ -1,4 +1,5 @@
 use Rattle.std.proofs.Common.{refl}
+use Rattle.rp_pattern.specs.Choices.{remaining, left, whole, whole_left, entered}
 use Rattle.rp_pattern.proofs.Stacks.{same_whole}
 use Rattle.rp_pattern.proofs.choices.Choices.reset.Goals as goal
 
@@ -6,10 +7,13 @@ pub returns-clause-whole : goal.returns-clause-whole
 returns-clause-whole c = same_whole _ _ refl refl
 
 pub returns-clause-remaining : goal.returns-clause-remaining
-returns-clause-remaining c = ?
+unfolding remaining whole
+returns-clause-remaining c = λ n e. refl
 
 pub returns-clause-left : goal.returns-clause-left
-returns-clause-left c = ?
+unfolding left whole_left
+returns-clause-left c = λ n e. refl
 
 pub returns-clause-labels : goal.returns-clause-labels
-returns-clause-labels c = ?
+unfolding entered
+returns-clause-labels c = c.clear-2.ensures.items
