@@ -26,7 +26,7 @@ pub map_same : {A B : Type 0} (f g : A → B) → ((x : A) → f x ≡ g x) → 
 map_same f g h [] = refl
 map_same f g h (x ∷ xs) = let a = h x in let b = map_same f g h xs in cc (a, b)
 
-map_preceded_nothing : (ws : List Mapping) → map (preceded []) ws ≡ ws
+pub map_preceded_nothing : (ws : List Mapping) → map (preceded []) ws ≡ ws
 map_preceded_nothing [] = refl
 map_preceded_nothing (w ∷ ws) = let a = preceded_nothing w in let b = map_preceded_nothing ws in cc (a, b)
 

@@ -2,7 +2,7 @@
 use Rattle.std.proofs.Common.{◌≡◌, ℕ, suc, ◌+◌, ◌<◌, ◌≤◌, List, [], ◌∷◌, ◌++◌, map, length, take, drop, reverse, Bool, true, false, cond, ◌&&◌, Option, Some, None, IsTrue, refl, sym, ap, ◌∙◌, arith, subst, append_assoc, length-append}
 use Rattle.std.specs.Prelude.{nat_le}
 use Rattle.std.proofs.lemmas.Bool.Decides.{nat_tests}
-use Rattle.std.proofs.lemmas.List.{take-append-drop, take-append-le, length-take-le, map-append, length-map}
+use Rattle.std.proofs.lemmas.List.{take-append-drop, take-append-le, length-take-le, map-append, length-map, reverse-append}
 use Rattle.rp_pattern.specs.declared.word.End.{End}
 use Rattle.rp_pattern.specs.declared.word.End.TheVariants.{Open as OpenEnd}
 use Rattle.rp_pattern.specs.declared.word.Label.{Label}
@@ -15,11 +15,11 @@ use Rattle.rp_pattern.specs.Mapping.{Mapping, Full, Open}
 use Rattle.rp_pattern.specs.Words.{preceded}
 use Rattle.rp_pattern.specs.Turns.{Part as Costed, chain_turns}
 use Rattle.rp_pattern.specs.WordLaws.{IsLater}
-use Rattle.rp_pattern.specs.Rests.{tail_parts, rests_parts, later_parts, chain_words, chain_left, choice_words, stack_words, stack_left, rises, pushed}
-use Rattle.rp_pattern.specs.Splits.{option_words, option_turns, split_words, split_turns, Splits, MapsRow as MapsOne, Waits}
-use Rattle.rp_pattern.specs.Choices.{start_of, entered, whole, remaining, left, below, below_left, after, after_left, without_first, first_later, OfFirst, HasTop, AtRow, IsFront, IsSplit, MapsRow, IsFullWord, IsOpenWord, IsNothing}
+use Rattle.rp_pattern.specs.Rests.{tail_parts, rests_parts, later_parts, chain_words, chain_left, choice_words, stack_words, stack_left, rises, pushed, without_first}
+use Rattle.rp_pattern.specs.Splits.{Stands, option_words, option_turns, split_words, split_turns, Splits, MapsRow as MapsOne, Waits}
+use Rattle.rp_pattern.specs.Choices.{start_of, entered, whole, whole_left, remaining, left, below, below_left, after, after_left, first_later, OfFirst, HasTop, AtRow, IsFront, IsSameWhole, IsSplit, MapsRow, IsFullWord, IsOpenWord, IsNothing}
 use Rattle.rp_pattern.proofs.Lists.{map-map}
-use Rattle.rp_pattern.proofs.Algebra.{append_nil, map_same, preceded_twice}
+use Rattle.rp_pattern.proofs.Algebra.{append_nil, map_same, preceded_twice, map_preceded_nothing}
 use Rattle.rp_pattern.proofs.Steps.{later_self}
 
 -- ---- depths that rise
@@ -262,13 +262,123 @@ module _ (old new : Choices) (s : ℕ) (ls : List Label) (t : Choice) (cs : List
         parts_left = omega (arith, left_is new s ms (t ∷ cs) m n e, after_left_is new s ms (t ∷ cs) m n e, below_left_is new s ms (t ∷ cs) m n e, count, turns);
       }
 
+pub take-all : (ls : List Label) → take (length ls) ls ≡ ls
+take-all [] = refl
+take-all (l ∷ ls) = ap (λ z. l ∷ z) (take-all ls)
+
 pub is_nothing : (old new : Choices) (s : ℕ) (ls : List Label) (n : ℕ) (e : End) → Stack old s ls [] → Stack new s ls [] → IsNothing old new n e
 is_nothing old new s ls n e k m = record {
   cut = (length ls, entered_is new s ls [] m ∙ sym (take-all ls) ∙ ap (take (length ls)) (sym (entered_is old s ls [] k)));
   was = λ n' e' later. remaining_is old s ls [] k n' e';
   now = λ n' e' later. remaining_is new s ls [] m n' e';
 }
-  where
-    take-all : (ls : List Label) → take (length ls) ls ≡ ls
-    take-all [] = refl
-    take-all (l ∷ ls) = ap (λ z. l ∷ z) (take-all ls)
+
+pub same_whole : (old new : Choices) → new.start ≡ old.start → new.origin ≡ old.origin → IsSameWhole old new
+unfolding start_of whole whole_left
+same_whole old new s o = record {
+  start = s;
+  words = λ n e. ap (λ t. chain_words (tail_parts n e t) new.start) o ∙ ap (chain_words (tail_parts n e old.origin)) s;
+  left = λ n e. ap (λ t. chain_left (tail_parts n e t) new.start) o ∙ ap (chain_left (tail_parts n e old.origin)) s;
+}
+
+-- the first choice is the last of the list
+pub on_top : (xs ys : List Choice) (x : Choice) → xs ≡ ys ++ x ∷ [] → reverse xs ≡ x ∷ reverse ys
+on_top xs ys x h = ap reverse h ∙ reverse-append ys (x ∷ [])
+
+pub rises_below : (m : ℕ) (cs : List Choice) → IsTrue (rises m cs) → IsTrue (rises m (without_first cs))
+rises_below m [] h = refl
+rises_below m (c ∷ cs) h = let f = rises_first m c cs h in rises_more c.depth m cs f.0 f.1
+
+pub top_begun : (c : Choices) → HasTop c → c.begun ≡ true
+unfolding HasTop
+top_begun c h = h.0
+
+pub row_begun : (c : Choices) → AtRow c → c.begun ≡ true
+unfolding AtRow
+row_begun c h = h.0
+
+-- the whole is put on the stack as one choice, or as none
+module _ (old new : Choices) (r : Option Rests) (n : ℕ) (e : End) (not : old.begun ≡ false) (m : Stack new old.start [] (pushed 0 r [])) (h : Stands n e old.start (tail_parts n e old.origin) r) where
+  at_start : old.start + 0 ≡ old.start
+  at_start = omega arith
+
+  pub begun_remaining : remaining new n e ≡ remaining old n e
+  unfolding remaining
+  begun_remaining =
+      remaining_is new old.start [] (pushed 0 r []) m n e
+      ∙ pushed_words n e old.start 0 [] r []
+      ∙ append_nil (map (preceded []) (option_words n e r (old.start + 0)))
+      ∙ map_preceded_nothing (option_words n e r (old.start + 0))
+      ∙ ap (option_words n e r) at_start ∙ h.words
+      ∙ sym (ap (λ b. cond b (stack_words n e old.start old.labels.items (reverse old.stack.items)) (chain_words (tail_parts n e old.origin) old.start)) not)
+
+  pub begun_left : left new n e ≡ left old n e
+  unfolding left
+  begun_left =
+      left_is new old.start [] (pushed 0 r []) m n e
+      ∙ pushed_left n e old.start 0 r []
+      ∙ ap (λ j. option_turns n e r j + length (option_words n e r j) + 0) at_start
+      ∙ omega (arith, h.turns, ap length h.words)
+      ∙ sym (ap (λ b. cond b (stack_left n e old.start (reverse old.stack.items)) (chain_left (tail_parts n e old.origin) old.start)) not)
+
+-- the first choice is given up
+module _ (old new : Choices) (n : ℕ) (e : End) (k : Stack old old.start old.labels.items (reverse old.stack.items)) (m : Stack new old.start old.labels.items (without_first (reverse old.stack.items))) where
+  pub given_up_remaining : remaining new n e ≡ below old n e
+  given_up_remaining = remaining_is new old.start old.labels.items (without_first (reverse old.stack.items)) m n e ∙ sym (below_is old old.start old.labels.items (reverse old.stack.items) k n e)
+
+  pub given_up_left : left new n e ≡ below_left old n e
+  given_up_left = left_is new old.start old.labels.items (without_first (reverse old.stack.items)) m n e ∙ sym (below_left_is old old.start old.labels.items (reverse old.stack.items) k n e)
+
+-- the row is admitted: what comes after it takes the choice's place
+module _ (old new : Choices) (r : Option Rests) (n : ℕ) (e : End) (k : Stack old old.start old.labels.items (reverse old.stack.items))
+    (m : Stack new old.start old.labels.items (pushed (length old.labels.items) r (without_first (reverse old.stack.items))))
+    (h : Stands n e (old.start + length old.labels.items) (first_later n e (reverse old.stack.items)) r) where
+  pub admitted_remaining : remaining new n e ≡ map (preceded (entered old)) (after old n e) ++ below old n e
+  admitted_remaining =
+      remaining_is new old.start old.labels.items (pushed (length old.labels.items) r (without_first (reverse old.stack.items))) m n e
+      ∙ pushed_words n e old.start (length old.labels.items) old.labels.items r (without_first (reverse old.stack.items))
+      ∙ ap (λ z. map (preceded z) (option_words n e r (old.start + length old.labels.items)) ++ stack_words n e old.start old.labels.items (without_first (reverse old.stack.items))) (take-all old.labels.items ∙ sym (entered_is old old.start old.labels.items (reverse old.stack.items) k))
+      ∙ ap (λ z. map (preceded (entered old)) z ++ stack_words n e old.start old.labels.items (without_first (reverse old.stack.items))) (h.words ∙ sym (after_is old old.start old.labels.items (reverse old.stack.items) k n e))
+      ∙ ap (λ z. map (preceded (entered old)) (after old n e) ++ z) (sym (below_is old old.start old.labels.items (reverse old.stack.items) k n e))
+
+  pub admitted_left : left new n e ≡ after_left old n e + below_left old n e
+  admitted_left =
+      let a = left_is new old.start old.labels.items (pushed (length old.labels.items) r (without_first (reverse old.stack.items))) m n e in
+      let b = pushed_left n e old.start (length old.labels.items) r (without_first (reverse old.stack.items)) in
+      let c = after_left_is old old.start old.labels.items (reverse old.stack.items) k n e in
+      let d = below_left_is old old.start old.labels.items (reverse old.stack.items) k n e in
+      omega (arith, a, b, c, d, h.turns, ap length h.words)
+
+-- ---- values that have not begun
+
+module _ (c : Choices) (not : c.begun ≡ false) (n : ℕ) (e : End) where
+  pub fresh_remaining : remaining c n e ≡ whole c n e
+  unfolding remaining whole
+  fresh_remaining = ap (λ b. cond b (stack_words n e c.start c.labels.items (reverse c.stack.items)) (chain_words (tail_parts n e c.origin) c.start)) not
+
+  pub fresh_left : left c n e ≡ whole_left c n e
+  unfolding left whole_left
+  fresh_left = ap (λ b. cond b (stack_left n e c.start (reverse c.stack.items)) (chain_left (tail_parts n e c.origin) c.start)) not
+
+-- What would follow a row, as choices of their own.
+module _ (old new : Choices) (n : ℕ) (e : End) (k : Stack old old.start old.labels.items (reverse old.stack.items)) (start : new.start ≡ old.start + length old.labels.items) (tail : tail_parts n e new.origin ≡ first_later n e (reverse old.stack.items)) where
+  pub apart_whole : whole new n e ≡ after old n e
+  unfolding whole
+  apart_whole = ap (λ ps. chain_words ps new.start) tail ∙ ap (chain_words (first_later n e (reverse old.stack.items))) start ∙ sym (after_is old old.start old.labels.items (reverse old.stack.items) k n e)
+
+  pub apart_left : whole_left new n e ≡ after_left old n e
+  unfolding whole_left
+  apart_left = ap (λ ps. chain_left ps new.start) tail ∙ ap (chain_left (first_later n e (reverse old.stack.items))) start ∙ sym (after_left_is old old.start old.labels.items (reverse old.stack.items) k n e)
+
+pub no_choices : (xs : List Choice) → length xs ≡ 0 → reverse xs ≡ []
+no_choices [] h = refl
+no_choices (x ∷ xs) h = absurd (omega arith)
+
+pub all_front : (ls : List Label) → IsFront ls ls
+all_front ls = (length ls, sym (take-all ls))
+
+pub none_front : (ls of : List Label) → ls ≡ [] → IsFront ls of
+none_front ls of h = (0, h)
+
+pub rises_subst : (m : ℕ) (cs ds : List Choice) → cs ≡ ds → IsTrue (rises m ds) → IsTrue (rises m cs)
+rises_subst m cs ds h r = subst (λ z. IsTrue (rises m z)) (sym h) r

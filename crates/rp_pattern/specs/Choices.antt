@@ -14,7 +14,7 @@ use Rattle.rp_pattern.specs.Mapping.{Mapping, Full, Open}
 use Rattle.rp_pattern.specs.Words.{preceded}
 use Rattle.rp_pattern.specs.Turns.{Part as Costed}
 use Rattle.rp_pattern.specs.WordLaws.{IsLater}
-use Rattle.rp_pattern.specs.Rests.{tail_parts, rests_parts, later_parts, chain_words, chain_left, stack_words, stack_left}
+use Rattle.rp_pattern.specs.Rests.{tail_parts, rests_parts, later_parts, chain_words, chain_left, stack_words, stack_left, without_first}
 
 -- the start row
 unfoldable pub start_of : Choices → ℕ
@@ -42,10 +42,6 @@ remaining c n e = cond c.begun (stack_words n e c.start c.labels.items (reverse 
 -- turns of the choices, and one more for each word
 unfoldable pub left : Choices → ℕ → End → ℕ
 left c n e = cond c.begun (stack_left n e c.start (reverse c.stack.items)) (chain_left (tail_parts n e c.origin) c.start)
-
-abbrev pub without_first : List Choice → List Choice
-without_first [] = []
-without_first (c ∷ cs) = cs
 
 -- the same without the preferred choice
 unfoldable pub below : Choices → ℕ → End → List Mapping

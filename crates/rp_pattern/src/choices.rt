@@ -1,5 +1,5 @@
 ghost use Rattle.std.specs.Prelude.{◌≡◌, ℕ, ◌∷◌, ◌++◌, ◌+◌, ◌-◌, ◌^◌, ◌<◌, ◌≤◌, IfOk, OnOk, IsTrue, List, [], map, length, reverse};
-ghost use Rattle.rp_pattern.specs.Rests.{rises, pushed};
+ghost use Rattle.rp_pattern.specs.Rests.{rises, pushed, without_first};
 
 use crate::form::{Form, Pattern};
 use crate::rests::{Choice, Node, Part, Rests, Tail};
@@ -159,8 +159,9 @@ impl Choices {
         let later = self.later()?;
         let depth = self.labels.len();
         let rests = follow(&later, self.start + depth as u64)?;
-        let _ = self.stack.pop();
-        push(&mut self.stack, depth, rests)
+        drop_top(&mut self.stack);
+        push(&mut self.stack, depth, rests)?;
+        Ok(())
     }
 
     /// The preferred choice is given up. It takes no memory.
@@ -171,7 +172,7 @@ impl Choices {
         ensures left { (n : ℕ) (e : End) → left self.new n e ≡ below_left self.old n e }
         ensures labels { entered self.new ≡ entered self.old }
     {
-        let _ = self.stack.pop();
+        drop_top(&mut self.stack);
     }
 
     /// What would follow the row that the preferred choice maps, as choices of their own from the next row on.
@@ -220,9 +221,17 @@ impl Choices {
     }
 }
 
+/// Takes the top choice away.
+fn drop_top(stack: &mut Vec<Choice>)
+    ensures { reverse stack.new.items ≡ without_first (reverse stack.old.items) }
+{
+    let _ = stack.pop();
+}
+
 /// Puts a choice on a stack, if there is one.
 fn push(stack: &mut Vec<Choice>, depth: usize, rests: Option<Rests>) -> Result<(), AllocError>
-    ensures { OnOk result (reverse stack.new.items ≡ pushed depth rests (reverse stack.old.items)) }
+    ensures pushed { OnOk result (reverse stack.new.items ≡ pushed depth rests (reverse stack.old.items)) }
+    ensures rises { IsTrue (rises depth (reverse stack.old.items)) → IsTrue (rises depth (reverse stack.new.items)) }
 {
     if let Some(rests) = rests {
         stack.push(Choice { depth, rests })?;
@@ -232,7 +241,8 @@ fn push(stack: &mut Vec<Choice>, depth: usize, rests: Option<Rests>) -> Result<(
 
 /// Puts choices on a stack, the preferred one on top.
 fn push_split(stack: &mut Vec<Choice>, depth: usize, split: Split) -> Result<(), AllocError>
-    ensures { OnOk result (reverse stack.new.items ≡ pushed depth split.preferred (pushed depth split.other (reverse stack.old.items))) }
+    ensures pushed { OnOk result (reverse stack.new.items ≡ pushed depth split.preferred (pushed depth split.other (reverse stack.old.items))) }
+    ensures rises { IsTrue (rises depth (reverse stack.old.items)) → IsTrue (rises depth (reverse stack.new.items)) }
 {
     push(stack, depth, split.other)?;
     push(stack, depth, split.preferred)

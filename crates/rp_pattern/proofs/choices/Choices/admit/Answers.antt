@@ -1,0 +1,54 @@
+use Rattle.std.proofs.Common.{◌≡◌, refl, sym, subst, reverse, length, IsTrue, ◌∙◌, ap, ◌+◌, arith}
+use Rattle.rp_pattern.specs.Choices.{entered}
+use Rattle.rp_pattern.specs.Rests.{rises, pushed, without_first, tail_parts}
+use Rattle.rp_pattern.specs.Splits.{Stands}
+use Rattle.rp_pattern.proofs.Stacks.{Stack, same_whole, row_begun, rises_below, rises_subst, admitted_remaining, admitted_left}
+use Rattle.rp_pattern.proofs.choices.Choices.admit.Goals as goal
+
+pub invariant_of-self : goal.invariant_of-self
+invariant_of-self c = 
+    let old = c.args.self.now in
+    let m = length old.labels.items in
+    let cs = reverse old.stack.items in
+    let long : c.len-depth.result ≡ m = omega (arith, c.len-depth.ensures, old.labels.ok.0) in
+    let lower = rises_subst m (reverse c.drop_top.new.stack.items) (without_first cs) c.drop_top.ensures (rises_below m cs old.rises) in
+    let all = c.push.ensures.rises (subst (λ z. IsTrue (rises z (reverse c.drop_top.new.stack.items))) (sym long) lower) in
+    record { rises = subst (λ z. IsTrue (rises z (reverse c.push.new.stack.items))) long all; ends = old.ends }
+
+pub returns-in_err-later-clause-whole : goal.returns-in_err-later-clause-whole
+returns-in_err-later-clause-whole c = same_whole _ _ refl refl
+
+pub returns-in_err-rests-clause-whole : goal.returns-in_err-rests-clause-whole
+returns-in_err-rests-clause-whole c = same_whole _ _ refl refl
+
+pub returns-in_err-push-clause-whole : goal.returns-in_err-push-clause-whole
+returns-in_err-push-clause-whole c = same_whole _ _ refl refl
+
+pub returns-clause-whole : goal.returns-clause-whole
+returns-clause-whole c = same_whole _ _ refl refl
+
+pub returns-clause-remaining : goal.returns-clause-remaining
+returns-clause-remaining c = λ n e.
+    let old = c.args.self.now in
+    let k : Stack old old.start old.labels.items (reverse old.stack.items) = record { begun = row_begun old c.requires; start = refl; labels = refl; choices = refl } in
+    let long : c.len-depth.result ≡ length old.labels.items = omega (arith, c.len-depth.ensures, old.labels.ok.0) in
+    let r = c.in_ok-rests.rests in
+    let cs = reverse old.stack.items in
+    let on : reverse c.push.new.stack.items ≡ pushed (length old.labels.items) r (without_first cs) = c.in_ok-push.ensures.pushed ∙ ap (pushed c.len-depth.result r) c.drop_top.ensures ∙ ap (λ z. pushed z r (without_first cs)) long in
+    let stands = subst (λ ps. Stands n e (old.start + length old.labels.items) ps r) (c.in_ok-later.ensures n e) (subst (λ z. Stands n e (old.start + z) (tail_parts n e c.in_ok-later.later) r) long (c.in_ok-rests.ensures n e)) in
+    admitted_remaining old _ r n e k (record { begun = row_begun old c.requires; start = refl; labels = refl; choices = on }) stands
+
+pub returns-clause-left : goal.returns-clause-left
+returns-clause-left c = λ n e.
+    let old = c.args.self.now in
+    let k : Stack old old.start old.labels.items (reverse old.stack.items) = record { begun = row_begun old c.requires; start = refl; labels = refl; choices = refl } in
+    let long : c.len-depth.result ≡ length old.labels.items = omega (arith, c.len-depth.ensures, old.labels.ok.0) in
+    let r = c.in_ok-rests.rests in
+    let cs = reverse old.stack.items in
+    let on : reverse c.push.new.stack.items ≡ pushed (length old.labels.items) r (without_first cs) = c.in_ok-push.ensures.pushed ∙ ap (pushed c.len-depth.result r) c.drop_top.ensures ∙ ap (λ z. pushed z r (without_first cs)) long in
+    let stands = subst (λ ps. Stands n e (old.start + length old.labels.items) ps r) (c.in_ok-later.ensures n e) (subst (λ z. Stands n e (old.start + z) (tail_parts n e c.in_ok-later.later) r) long (c.in_ok-rests.ensures n e)) in
+    admitted_left old _ r n e k (record { begun = row_begun old c.requires; start = refl; labels = refl; choices = on }) stands
+
+pub returns-clause-labels : goal.returns-clause-labels
+unfolding entered
+returns-clause-labels c = refl
