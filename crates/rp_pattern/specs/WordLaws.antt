@@ -1,4 +1,4 @@
--- What more rows, or the close, do to a list of words.
+-- What more rows, or the close, do to a list of words. These laws are this project's own.
 use Rattle.std.specs.Prelude.{◌≡◌, ℕ, suc, ◌+◌, ◌-◌, ◌≤◌, Bool, length, List, [], ◌∷◌, ◌++◌, Some, None, ⊤}
 use Rattle.std.specs.List.{AllByRecursion}
 use Rattle.rp_pattern.specs.Mapping.{Mapping, Full, Open, labels_of}
@@ -24,11 +24,12 @@ pub data Extends : List Mapping → List Mapping → Type 0 where
   gone : {ls : List Label} {old new : List Mapping} → Extends old new → Extends (Open ls ∷ old) new
   grows : {ls : List Label} {w : Mapping} {old new : List Mapping} → BeginsWith ls w → Extends (Open ls ∷ old) new → Extends (Open ls ∷ old) (w ∷ new)
 
--- Without an upper bound, what follows an iteration has none either, and any bound of n + 2 or more says the same.
+-- Without an upper bound, what follows an iteration has none either.
 abbrev pub NoBoundStays : Type 0
 NoBoundStays = (f : Form) (n : ℕ) (e : End) (reluctant : Bool) (i : ℕ) →
     quantified n 0 None reluctant (words n e f) i ≡ preferred reluctant (concatenation (moving (words n e f)) (quantified n 0 None reluctant (words n e f)) i) (Full [] ∷ [])
 
+-- Any upper bound of n + 2 or more says the same as none.
 abbrev pub GreatBoundsAgree : Type 0
 GreatBoundsAgree = (f : Form) (n : ℕ) (e : End) (reluctant : Bool) (h i : ℕ) → n + 2 ≤ h →
     quantified n 0 (Some h) reluctant (words n e f) i ≡ quantified n 0 None reluctant (words n e f) i

@@ -4,6 +4,8 @@
 mod form;
 mod laws;
 mod orders;
+#[cfg(test)]
+mod tests;
 mod word;
 
 pub use form::{Form, Pattern};
