@@ -4,11 +4,12 @@
 mod form;
 mod laws;
 mod orders;
-#[cfg(test)]
-mod tests;
 mod word;
 
 pub use form::{Form, Pattern};
 pub use laws::law_words;
 pub use orders::permutations;
 pub use word::{End, Label, Mark, Seen, Word};
+
+#[cfg(test)]
+mod tests;
