@@ -82,6 +82,9 @@ none = refl
 between : concatenation at_start (concatenation a2 (at_end 2 ClosedEnd)) 1 ≡ []
 between = refl
 
+between_one : concatenation at_start (concatenation (one_row 1 ClosedEnd 0) (at_end 1 ClosedEnd)) 1 ≡ Full (shown 0 ∷ []) ∷ []
+between_one = refl
+
 start_late : concatenation a2 at_start 1 ≡ []
 start_late = refl
 
