@@ -1,6 +1,10 @@
 -- What an operation on the stack does to the words of its choices.
 use Rattle.std.proofs.Common.{◌≡◌, ℕ, suc, ◌+◌, ◌<◌, ◌≤◌, List, [], ◌∷◌, ◌++◌, map, length, take, drop, reverse, Bool, true, false, cond, ◌&&◌, Option, Some, None, IsTrue, refl, sym, ap, ◌∙◌, arith, subst, append_assoc, length-append}
-use Rattle.std.specs.Prelude.{nat_le}
+use Rattle.std.specs.Prelude.{nat_le, sum_by}
+use Rattle.std.proofs.lemmas.List.Sums.{sum_by-cons}
+use Rattle.rp_pattern.specs.declared.form.Form.{Form}
+use Rattle.rp_pattern.specs.declared.rests.Node.{Node}
+use Rattle.rp_pattern.specs.declared.rests.Part.TheVariants.{Whole}
 use Rattle.std.proofs.lemmas.Bool.Decides.{nat_tests}
 use Rattle.std.proofs.lemmas.List.{take-append-drop, take-append-le, length-take-le, map-append, length-map, reverse-append}
 use Rattle.rp_pattern.specs.declared.word.End.{End}
@@ -12,14 +16,14 @@ use Rattle.rp_pattern.specs.declared.rests.Choice.{Choice}
 use Rattle.rp_pattern.specs.declared.turn.Split.{Split as Choices'}
 use Rattle.rp_pattern.specs.declared.choices.Choices.{Choices}
 use Rattle.rp_pattern.specs.Mapping.{Mapping, Full, Open}
-use Rattle.rp_pattern.specs.Words.{preceded}
-use Rattle.rp_pattern.specs.Turns.{Part as Costed, chain_turns}
+use Rattle.rp_pattern.specs.Words.{preceded, words}
+use Rattle.rp_pattern.specs.Turns.{Part as Costed, turns, turns_after, chain_turns, within}
 use Rattle.rp_pattern.specs.WordLaws.{IsLater}
-use Rattle.rp_pattern.specs.Rests.{tail_parts, rests_parts, later_parts, chain_words, chain_left, choice_words, stack_words, stack_left, rises, pushed, without_first}
+use Rattle.rp_pattern.specs.Rests.{tail_links, links_parts, tail_parts, rests_parts, later_parts, chain_words, chain_left, choice_words, stack_words, stack_left, rises, pushed, without_first}
 use Rattle.rp_pattern.specs.Splits.{Stands, option_words, option_turns, split_words, split_turns, Splits, MapsRow as MapsOne, Waits}
 use Rattle.rp_pattern.specs.Choices.{start_of, entered, whole, whole_left, remaining, left, below, below_left, after, after_left, first_later, OfFirst, HasTop, AtRow, IsFront, IsSameWhole, IsSplit, MapsRow, IsFullWord, IsOpenWord, IsNothing}
 use Rattle.rp_pattern.proofs.Lists.{map-map}
-use Rattle.rp_pattern.proofs.Algebra.{append_nil, map_same, preceded_twice, map_preceded_nothing}
+use Rattle.rp_pattern.proofs.Algebra.{append_nil, concatenation_nothing_last, map_same, preceded_twice, map_preceded_nothing}
 use Rattle.rp_pattern.proofs.Steps.{later_self}
 
 -- ---- depths that rise
@@ -382,3 +386,27 @@ none_front ls of h = (0, h)
 
 pub rises_subst : (m : ℕ) (cs ds : List Choice) → cs ≡ ds → IsTrue (rises m ds) → IsTrue (rises m cs)
 rises_subst m cs ds h r = subst (λ z. IsTrue (rises m z)) (sym h) r
+
+none_after : (i : ℕ) (ws : List Mapping) → sum_by (turns_after (chain_turns []) i) ws ≡ 0
+none_after i [] = refl
+none_after i (Full ls ∷ ws) = omega (arith, sum_by-cons (turns_after (chain_turns []) i) (Full ls) ws, none_after i ws)
+none_after i (Open ls ∷ ws) = omega (arith, sum_by-cons (turns_after (chain_turns []) i) (Open ls) ws, none_after i ws)
+
+-- a pattern as choices of its own
+module _ (c : Choices) (start : ℕ) (node : Node) (f : Form) (n : ℕ) (e : End) (from : c.start ≡ start) (tail : tail_links c.origin ≡ (None, Whole node) ∷ []) (shown : node.excluded ≡ false) (w : words n e node.form.value ≡ words n e f) (t : turns n e node.form.value ≡ turns n e f) where
+  parts : tail_parts n e c.origin ≡ (words n e f, turns n e f) ∷ []
+  parts =
+      ap (links_parts n e) tail
+      ∙ ap (λ x. within x (words n e node.form.value, turns n e node.form.value) ∷ []) shown
+      ∙ ap (λ p. (p, turns n e node.form.value) ∷ []) w ∙ ap (λ s. (words n e f, s) ∷ []) t
+
+  pub new_whole : whole c n e ≡ words n e f start
+  unfolding whole
+  new_whole = ap (λ ps. chain_words ps c.start) parts ∙ concatenation_nothing_last (words n e f) c.start ∙ ap (words n e f) from
+
+  pub new_left : whole_left c n e ≡ turns n e f start + length (words n e f start)
+  unfolding whole_left
+  new_left =
+      ap (λ ps. chain_left ps c.start) parts
+      ∙ omega (arith, none_after c.start (words n e f c.start), ap length (concatenation_nothing_last (words n e f) c.start))
+      ∙ ap (λ i. turns n e f i + length (words n e f i)) from

@@ -5,9 +5,11 @@ pub mod Variables
 pub mod Turns
 pub mod Bounds
 pub mod PatternForm
+pub mod SameTree
 pub mod Permutations
 pub mod PermutedParts
 pub mod Rests
 pub mod Splits
 pub mod Choices
 pub mod LabelLaws
+pub mod Listing

@@ -1,4 +1,4 @@
-ghost use Rattle.std.specs.Prelude.{◌≡◌, IsTrue};
+ghost use Rattle.std.specs.Prelude.{◌≡◌, IsTrue, IfOk, map};
 ghost use Rattle.rp_pattern.specs.Bounds.{is_allowed, bounds_hold};
 ghost use Rattle.rp_pattern.specs.Variables.{are_below};
 
@@ -67,8 +67,11 @@ impl Pattern {
 }
 
 impl Form {
+    ghost use Rattle.rp_pattern.specs.SameTree.{IsSameTree};
+
     /// A further owner of the parts.
     pub(crate) fn share(&self, alloc: Global) -> Result<Form, AllocError>
+        ensures { IfOk result (IsSameTree self.now) }
     {
         match self {
             Form::Variable(v) => Ok(Form::Variable(*v)),
@@ -81,13 +84,7 @@ impl Form {
             }
             Form::PartitionStart => Ok(Form::PartitionStart),
             Form::PartitionEnd => Ok(Form::PartitionEnd),
-            Form::Permute(parts) => {
-                let mut copies = Vec::new(alloc);
-                for part in parts {
-                    copies.push(part.clone()?)?;
-                }
-                Ok(Form::Permute(copies))
-            }
+            Form::Permute(parts) => Ok(Form::Permute(share_all(alloc, parts)?)),
             Form::Exclusion(body) => Ok(Form::Exclusion(body.clone()?)),
             Form::Quantified {
                 body,
@@ -163,4 +160,15 @@ fn bounds_hold(lower: u32, upper: Option<u32>) -> bool
         None => lower <= MAX_BOUND,
         Some(upper) => lower <= upper && upper <= MAX_BOUND,
     }
+}
+
+/// A further owner of each part.
+fn share_all(alloc: Global, parts: &[Rc<Form>]) -> Result<Vec<Rc<Form>>, AllocError>
+    ensures { IfOk result (λ copies. map (λ p. p.value) copies.items ≡ map (λ p. p.value) parts.now) }
+{
+    let mut copies = Vec::new(alloc);
+    for part in parts {
+        copies.push(part.clone()?)?;
+    }
+    Ok(copies)
 }

@@ -1,24 +1,36 @@
+//! All words of a pattern, up to a given number of them.
+ghost use Rattle.std.specs.Prelude.{◌≡◌, ◌+◌, ◌-◌, ◌^◌, ◌<◌, ◌≤◌, [], ◌∷◌, ◌++◌, length, IfOk, OnOk};
+ghost use Rattle.rp_pattern.specs.Choices.{HasTop, GivesUp, entered};
+ghost use Rattle.rp_pattern.specs.Listing.{ListsNext};
+ghost use Rattle.rp_pattern.specs.Mapping.{marked};
+ghost use Rattle.rp_pattern.specs.PatternForm.{form_of};
+ghost use Rattle.rp_pattern.specs.Words.{words};
+ghost use Rattle.rp_pattern.specs.declared.list.ListFault.TheVariants.{OutOfMemory};
+
 use crate::choices::{Choices, Taken};
 use crate::form::Pattern;
 use crate::word::{End, Mark, Word};
 use std::alloc::{AllocError, Global};
 
-/// Why no list is given.
+/// Why the words of a pattern aren't listed.
 #[derive(Clone, Copy, Debug, PartialEq, Eq)]
 pub enum ListFault {
-    /// There are more words than were asked for.
+    /// There are more than the caller asked for.
     TooMany,
-    /// Memory was refused.
     OutOfMemory,
 }
 
 impl From<AllocError> for ListFault {
+    ghost from_gives = { λ _ fault. fault ≡ OutOfMemory };
+
     fn from(_: AllocError) -> ListFault {
         ListFault::OutOfMemory
     }
 }
 
-/// The words of a pattern from a row on, over the rows 1 to `last` and that end, in preferment order.
+/// All words of the pattern from row `row` on, over the rows 1 to `last` and that end, in preferment order. Equal words
+/// that the pattern lists more than once stand there as often. `TooMany` where there are more than `cap`: no more than
+/// `cap + 1` of them are looked for, so a pattern of countless words is refused at once.
 pub fn list_words(
     alloc: Global,
     pattern: &Pattern,
@@ -26,39 +38,66 @@ pub fn list_words(
     last: u64,
     end: End,
     cap: usize,
-) -> Result<Vec<Word>, ListFault> {
+) -> Result<Vec<Word>, ListFault>
+    requires from_one { 1 ≤ row }
+    requires known { row ≤ last + 1 }
+    requires fits { last < 2 ^ 64 - 1 }
+    ensures words { IfOk result (λ list. list.items ≡ words last end (form_of pattern.now) row) }
+    ensures few { IfOk result (λ list. length list.items ≤ cap) }
+    ensures many { result ≡ Err ListFault.TooMany → cap < length (words last end (form_of pattern.now) row) }
+{
     let mut choices = Choices::new(alloc, pattern, row)?;
-    let mut words = Vec::new(alloc);
-    loop {
-        match choices.take_up(last, end)? {
-            Taken::Nothing => return Ok(words),
-            Taken::Split => {}
-            Taken::Row => choices.admit()?,
-            Taken::Full => {
-                if words.len() >= cap {
-                    return Err(ListFault::TooMany);
-                }
-                enter(alloc, &mut words, &mut choices, Mark::Full)?;
-            }
-            Taken::Open => {
-                if words.len() >= cap {
-                    return Err(ListFault::TooMany);
-                }
-                enter(alloc, &mut words, &mut choices, Mark::Open)?;
-            }
+    let mut list = Vec::new(alloc);
+    while list_next(alloc, &mut choices, last, end, &mut list)? {
+        if list.len() > cap {
+            return Err(ListFault::TooMany);
         }
+    }
+    Ok(list)
+}
+
+/// Takes up the preferred choice, and lists it where it is a word. Says whether there was one.
+fn list_next(
+    alloc: Global,
+    choices: &mut Choices,
+    last: u64,
+    end: End,
+    list: &mut Vec<Word>,
+) -> Result<bool, AllocError>
+    requires { last < 2 ^ 64 - 1 }
+    ensures { IfOk result (λ more. ListsNext choices.old choices.new last end list.old.items list.new.items more) }
+{
+    match choices.take_up(last, end)? {
+        Taken::Row => {
+            choices.admit()?;
+            Ok(true)
+        }
+        Taken::Split => Ok(true),
+        Taken::Full => {
+            list_word(alloc, choices, Mark::Full, list)?;
+            Ok(true)
+        }
+        Taken::Open => {
+            list_word(alloc, choices, Mark::Open, list)?;
+            Ok(true)
+        }
+        Taken::Nothing => Ok(false),
     }
 }
 
-/// Enters the word of the preferred choice, which is given up.
-fn enter(
+/// Lists the labels of the preferred choice, and gives it up.
+fn list_word(
     alloc: Global,
-    words: &mut Vec<Word>,
     choices: &mut Choices,
     mark: Mark,
-) -> Result<(), AllocError> {
-    let labels = choices.labels().to_vec(alloc)?;
-    words.push(Word { labels, mark })?;
+    list: &mut Vec<Word>,
+) -> Result<(), AllocError>
+    requires { HasTop choices.old }
+    ensures list { OnOk result (list.new.items ≡ list.old.items ++ marked mark (entered choices.old) ∷ []) }
+    ensures given_up { OnOk result (GivesUp choices.old choices.new) }
+{
+    let labels = Vec::from_slice(alloc, choices.labels())?;
+    list.push(Word { labels, mark })?;
     choices.give_up();
     Ok(())
 }

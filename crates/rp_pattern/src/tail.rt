@@ -8,7 +8,12 @@ use std::alloc::{AllocError, Global};
 use std::rc::Rc;
 
 /// A part before later ones.
-pub(crate) fn linked(alloc: Global, since: Option<u64>, part: Part, then: Tail) -> Result<Tail, AllocError>
+pub(crate) fn linked(
+    alloc: Global,
+    since: Option<u64>,
+    part: Part,
+    then: Tail,
+) -> Result<Tail, AllocError>
     ensures { IfOk result (λ tail. tail_links tail ≡ (since, part) ∷ tail_links then) }
 {
     Ok(Some(Rc::new(alloc, Link { since, part, then })?))

@@ -64,7 +64,13 @@ impl Split {
 
 impl Rests {
     /// What is left at a row, taken up.
-    pub(crate) fn take_up(&self, alloc: Global, row: u64, n: u64, end: End) -> Result<Turn, AllocError>
+    pub(crate) fn take_up(
+        &self,
+        alloc: Global,
+        row: u64,
+        n: u64,
+        end: End,
+    ) -> Result<Turn, AllocError>
         ensures { IfOk result (TakenUp n end row (λ n e. rests_parts n e self.now)) }
     {
         match self {
@@ -75,7 +81,14 @@ impl Rests {
 }
 
 impl Part {
-    fn take_up(&self, alloc: Global, then: &Tail, row: u64, n: u64, end: End) -> Result<Turn, AllocError>
+    fn take_up(
+        &self,
+        alloc: Global,
+        then: &Tail,
+        row: u64,
+        n: u64,
+        end: End,
+    ) -> Result<Turn, AllocError>
         ensures { IfOk result (TakenUp n end row (λ n e. part_as n e self.now ∷ tail_parts n e then.now)) }
     {
         match self {
@@ -93,7 +106,15 @@ impl Part {
 }
 
 impl Node {
-    fn take_up(&self, alloc: Global, form: &Form, then: &Tail, row: u64, n: u64, end: End) -> Result<Turn, AllocError>
+    fn take_up(
+        &self,
+        alloc: Global,
+        form: &Form,
+        then: &Tail,
+        row: u64,
+        n: u64,
+        end: End,
+    ) -> Result<Turn, AllocError>
         requires { form.now ≡ self.now.form.value }
         ensures { IfOk result (TakenUp n end row (λ n e. node_part n e self.now ∷ tail_parts n e then.now)) }
     {
@@ -154,11 +175,22 @@ impl Node {
     }
 
     /// The two parts, one after the other.
-    fn take_concatenation(&self, alloc: Global, first: &Rc<Form>, second: &Rc<Form>, then: &Tail) -> Result<Split, AllocError>
+    fn take_concatenation(
+        &self,
+        alloc: Global,
+        first: &Rc<Form>,
+        second: &Rc<Form>,
+        then: &Tail,
+    ) -> Result<Split, AllocError>
         requires { self.now.form.value ≡ Form.Concatenation first.now second.now }
         ensures { IfOk result (λ split. (row : ℕ) → AlwaysSplits row (λ n e. node_part n e self.now ∷ tail_parts n e then.now) split) }
     {
-        let later = linked(alloc, None, Part::Whole(Node::of(second, self.excluded)?), share(then)?)?;
+        let later = linked(
+            alloc,
+            None,
+            Part::Whole(Node::of(second, self.excluded)?),
+            share(then)?,
+        )?;
         Ok(Split::one(Some(Rests::Then {
             part: Part::Whole(Node::of(first, self.excluded)?),
             then: later,
@@ -166,7 +198,12 @@ impl Node {
     }
 
     /// Either part.
-    fn take_alternation(&self, first: &Rc<Form>, second: &Rc<Form>, then: &Tail) -> Result<Split, AllocError>
+    fn take_alternation(
+        &self,
+        first: &Rc<Form>,
+        second: &Rc<Form>,
+        then: &Tail,
+    ) -> Result<Split, AllocError>
         requires { self.now.form.value ≡ Form.Alternation first.now second.now }
         ensures { IfOk result (λ split. (row : ℕ) → AlwaysSplits row (λ n e. node_part n e self.now ∷ tail_parts n e then.now) split) }
     {
@@ -227,7 +264,13 @@ impl Node {
     }
 
     /// The iterations of a quantified part.
-    fn iterations(&self, body: &Rc<Form>, lower: u32, upper: Option<u32>, reluctant: bool) -> Result<Iterations, AllocError>
+    fn iterations(
+        &self,
+        body: &Rc<Form>,
+        lower: u32,
+        upper: Option<u32>,
+        reluctant: bool,
+    ) -> Result<Iterations, AllocError>
         requires { self.now.form.value ≡ Form.Quantified body.now lower upper reluctant }
         ensures { IfOk result (λ it. (n : ℕ) (e : End) → IsSamePart (iterations_part n e lower it) (node_part n e self.now)) }
     {

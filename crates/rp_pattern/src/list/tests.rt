@@ -8,7 +8,13 @@ fn variable(alloc: Global, v: usize) -> Result<Rc<Form>, AllocError> {
     Ok(Rc::new(alloc, Form::Variable(v))?)
 }
 
-fn quantified(alloc: Global, body: Form, lower: u32, upper: Option<u32>, reluctant: bool) -> Result<Form, AllocError> {
+fn quantified(
+    alloc: Global,
+    body: Form,
+    lower: u32,
+    upper: Option<u32>,
+    reluctant: bool,
+) -> Result<Form, AllocError> {
     Ok(Form::Quantified {
         body: Rc::new(alloc, body)?,
         lower,
@@ -18,7 +24,14 @@ fn quantified(alloc: Global, body: Form, lower: u32, upper: Option<u32>, relucta
 }
 
 /// The words as texts: a letter for each label, small where it is excluded, and `?` at the end of an open word.
-fn shown(alloc: Global, form: Form, row: u64, last: u64, end: End, cap: usize) -> Result<String, ListFault> {
+fn shown(
+    alloc: Global,
+    form: Form,
+    row: u64,
+    last: u64,
+    end: End,
+    cap: usize,
+) -> Result<String, ListFault> {
     let pattern = Pattern::new(form);
     let words = list_words(alloc, &pattern, row, last, end, cap)?;
     let mut text = String::new(alloc);

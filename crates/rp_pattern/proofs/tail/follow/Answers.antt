@@ -15,7 +15,7 @@ returns c = λ n e.
     let then = c.in_ok-share-2.field-0 in
     let passed : IsPassed (out-Link l).since i =
     elim c.match-deref.branch [
-      in-Some-since+else-row-since w ↦ subst (λ s. IsPassed s i) (sym (ap (λ k. (out-Link k).since) (sym c.deref.ensures) ∙ w.in-Some-since.is)) w.if-row-since.false
+      | in-Some-since+else-row-since w ↦ subst (λ s. IsPassed s i) (sym (ap (λ k. (out-Link k).since) (sym c.deref.ensures) ∙ w.in-Some-since.is)) w.if-row-since.false
       | in_default-since w ↦ subst (λ s. IsPassed s i) (sym (ap (λ k. (out-Link k).since) (sym c.deref.ensures) ∙ w.in_default-since.is)) tt
     ] in
     subst (λ t. Stands n e i (tail_parts n e t) (Some (Then part then))) (sym c.in-Some.is)

@@ -6,7 +6,7 @@ use Rattle.rp_pattern.proofs.Stacks.{Stack, same_whole, row_begun, rises_below, 
 use Rattle.rp_pattern.proofs.choices.Choices.admit.Goals as goal
 
 pub invariant_of-self : goal.invariant_of-self
-invariant_of-self c = 
+invariant_of-self c =
     let old = c.args.self.now in
     let m = length old.labels.items in
     let cs = reverse old.stack.items in

@@ -5,7 +5,7 @@ use Rattle.rp_pattern.proofs.choices.Choices.after_row.Goals as goal
 
 pub returns-clause-start : goal.returns-clause-start
 unfolding start_of entered
-returns-clause-start c = 
+returns-clause-start c =
     let old = c.args.self.now in
     let long : c.len.result ≡ length old.labels.items = omega (arith, c.len.ensures, old.labels.ok.0) in
     ap (λ z. old.start + z) long

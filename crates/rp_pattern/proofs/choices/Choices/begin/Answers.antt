@@ -11,7 +11,7 @@ pub returns-in_err-first-clause-whole : goal.returns-in_err-first-clause-whole
 returns-in_err-first-clause-whole c = same_whole _ _ refl refl
 
 pub invariant_of-self-in-Break-branch-2 : goal.invariant_of-self-in-Break-branch-2
-invariant_of-self-in-Break-branch-2 c = 
+invariant_of-self-in-Break-branch-2 c =
     let none : IsTrue (rises 0 (reverse c.clear.new.self.items)) = subst (λ xs. IsTrue (rises 0 (reverse xs))) (sym c.clear.ensures.items) refl in
     record {
       rises = rises_more 0 (length c.clear-2.new.self.items) (reverse c.push.new.stack.items) (omega arith) (c.push.ensures.rises none);

@@ -1,22 +1,43 @@
+use Rattle.std.proofs.Common.{refl, ap, ◌∙◌}
+use Rattle.rp_pattern.specs.Bounds.{is_allowed}
+use Rattle.rp_pattern.specs.Words.{words}
+use Rattle.rp_pattern.specs.Turns.{turns}
+use Rattle.rp_pattern.specs.PatternForm.{form_of}
+use Rattle.rp_pattern.specs.Choices.{start_of, entered}
+use Rattle.rp_pattern.proofs.Stacks.{new_whole, new_left, fresh_remaining, fresh_left}
 use Rattle.rp_pattern.proofs.choices.Choices.new.Goals as goal
 
 pub invariant_of-part : goal.invariant_of-part
-invariant_of-part c = ?
+invariant_of-part c = record { allowed = ap is_allowed c.in_ok-form.ensures.ok ∙ c.in_ok-share.ensures.allowed ∙ c.form.ensures.allowed }
 
 pub returns-clause-start : goal.returns-clause-start
-returns-clause-start c = ?
+unfolding start_of
+returns-clause-start c = refl
 
 pub returns-clause-labels : goal.returns-clause-labels
-returns-clause-labels c = ?
+unfolding entered
+returns-clause-labels c = c.new-2.ensures.items
 
 pub returns-clause-whole : goal.returns-clause-whole
-returns-clause-whole c = ?
+returns-clause-whole c = λ n e.
+    let is = c.in_ok-form.ensures.ok in
+    let same = c.in_ok-share.ensures in
+    let f = form_of c.args.pattern.now in
+    let w = ap (words n e) is ∙ same.words n e ∙ ap (words n e) c.form.ensures.tree in
+    let t = ap (turns n e) is ∙ same.turns n e ∙ ap (turns n e) c.form.ensures.tree in
+    new_whole _ c.args.start _ f n e refl c.in_ok-linked.ensures refl w t
 
 pub returns-clause-whole_left : goal.returns-clause-whole_left
-returns-clause-whole_left c = ?
+returns-clause-whole_left c = λ n e.
+    let is = c.in_ok-form.ensures.ok in
+    let same = c.in_ok-share.ensures in
+    let f = form_of c.args.pattern.now in
+    let w = ap (words n e) is ∙ same.words n e ∙ ap (words n e) c.form.ensures.tree in
+    let t = ap (turns n e) is ∙ same.turns n e ∙ ap (turns n e) c.form.ensures.tree in
+    new_left _ c.args.start _ f n e refl c.in_ok-linked.ensures refl w t
 
 pub returns-clause-remaining : goal.returns-clause-remaining
-returns-clause-remaining c = ?
+returns-clause-remaining c = λ n e. fresh_remaining _ refl n e
 
 pub returns-clause-left : goal.returns-clause-left
-returns-clause-left c = ?
+returns-clause-left c = λ n e. fresh_left _ refl n e

@@ -44,7 +44,7 @@ pub returns-in_ok-push-in-Full-clause-whole : goal.returns-in_ok-push-in-Full-cl
 returns-in_ok-push-in-Full-clause-whole c = same_whole _ _ refl refl
 
 pub returns-in_ok-push-in-Full-clause-taken : goal.returns-in_ok-push-in-Full-clause-taken
-returns-in_ok-push-in-Full-clause-taken c = 
+returns-in_ok-push-in-Full-clause-taken c =
     let a = c.args in
     let old = a.self.now in
     let t = c.in-Some.choice in
@@ -58,7 +58,7 @@ pub returns-in_ok-push-in-Row-2-clause-whole : goal.returns-in_ok-push-in-Row-2-
 returns-in_ok-push-in-Row-2-clause-whole c = same_whole _ _ refl refl
 
 pub returns-in_ok-push-in-Row-2-clause-taken : goal.returns-in_ok-push-in-Row-2-clause-taken
-returns-in_ok-push-in-Row-2-clause-taken c = 
+returns-in_ok-push-in-Row-2-clause-taken c =
     let a = c.args in
     let old = a.self.now in
     let t = c.in-Some.choice in
@@ -72,7 +72,7 @@ pub returns-in_ok-push-in-Open-clause-whole : goal.returns-in_ok-push-in-Open-cl
 returns-in_ok-push-in-Open-clause-whole c = same_whole _ _ refl refl
 
 pub returns-in_ok-push-in-Open-clause-taken : goal.returns-in_ok-push-in-Open-clause-taken
-returns-in_ok-push-in-Open-clause-taken c = 
+returns-in_ok-push-in-Open-clause-taken c =
     let a = c.args in
     let old = a.self.now in
     let t = c.in-Some.choice in
@@ -86,7 +86,7 @@ pub returns-in_ok-push_split-in-Split-clause-whole : goal.returns-in_ok-push_spl
 returns-in_ok-push_split-in-Split-clause-whole c = same_whole _ _ refl refl
 
 pub returns-in_ok-push_split-in-Split-clause-taken : goal.returns-in_ok-push_split-in-Split-clause-taken
-returns-in_ok-push_split-in-Split-clause-taken c = 
+returns-in_ok-push_split-in-Split-clause-taken c =
     let a = c.args in
     let old = a.self.now in
     let t = c.in-Some.choice in

@@ -11,14 +11,13 @@ returns c = λ n e i.
     let a = c.args in
     let x = a.self.now.excluded in
     let body = node_as n e c.in_ok-of.field-0 a.body.now.value x c.in_ok-of.ensures in
-    let bound = c.further.ensures n in
-    (
+    let bound = c.further.ensures n in (
       ap (λ h. (iterations a.lower h a.reluctant (node_part n e c.in_ok-of.field-0)).0 i) bound
-      ∙ ap (λ p. (iterations a.lower (further n a.lower a.upper) a.reluctant p).0 i) body
-      ∙ quantified_words n e x a.body.now a.lower a.upper a.reluctant i
-      ∙ ap (λ f. (form_part n e f x).0 i) (sym c.requires),
+          ∙ ap (λ p. (iterations a.lower (further n a.lower a.upper) a.reluctant p).0 i) body
+          ∙ quantified_words n e x a.body.now a.lower a.upper a.reluctant i
+          ∙ ap (λ f. (form_part n e f x).0 i) (sym c.requires),
       ap (λ h. (iterations a.lower h a.reluctant (node_part n e c.in_ok-of.field-0)).1 i) bound
-      ∙ ap (λ p. (iterations a.lower (further n a.lower a.upper) a.reluctant p).1 i) body
-      ∙ quantified_turns n e x a.body.now a.lower a.upper a.reluctant i
-      ∙ ap (λ f. (form_part n e f x).1 i) (sym c.requires)
+          ∙ ap (λ p. (iterations a.lower (further n a.lower a.upper) a.reluctant p).1 i) body
+          ∙ quantified_turns n e x a.body.now a.lower a.upper a.reluctant i
+          ∙ ap (λ f. (form_part n e f x).1 i) (sym c.requires),
     )

@@ -16,8 +16,8 @@ returns-then-row-n c =
       known = c.if-row-n.true;
       words = λ n' e' more. row_words _ (node_part n' e' node) (tail_parts n' e' then) i (ap (λ f. (form_part n' e' f x).0 i) c.requires ∙ variable_row n' e' x c.args.var i (omega (arith, more, c.if-row-n.true)));
       turns = row_turns _ (node_part n e node) (tail_parts n e then) i
-      (ap (λ f. (form_part n e f x).0 i) c.requires ∙ variable_row n e x c.args.var i c.if-row-n.true)
-      (ap (λ f. (form_part n e f x).1 i) c.requires ∙ variable_turns n e x c.args.var i);
+          (ap (λ f. (form_part n e f x).0 i) c.requires ∙ variable_row n e x c.args.var i c.if-row-n.true)
+          (ap (λ f. (form_part n e f x).1 i) c.requires ∙ variable_turns n e x c.args.var i);
     }
 
 pub returns-in-Closed : goal.returns-in-Closed

@@ -1,0 +1,15 @@
+use Rattle.std.proofs.Common.{◌≡◌, ◌≤◌, ◌++◌, length}
+use Rattle.rp_pattern.specs.PatternForm.{form_of}
+use Rattle.rp_pattern.specs.Words.{words}
+use Rattle.rp_pattern.specs.Choices.{remaining, left}
+use Rattle.rp_pattern.proofs.list.list_words.Given as goal
+
+-- the words listed, and those to come
+abbrev pub invariant-loop-list : goal.invariant-loop-list
+invariant-loop-list l = record {
+  words : l.list.items ++ remaining l.choices l.last l.end ≡ words l.last l.end (form_of l.pattern) l.row;
+  few : length l.list.items ≤ l.cap;
+}
+
+abbrev pub decreases-loop-list : goal.decreases-loop-list
+decreases-loop-list l = left l.choices l.last l.end
