@@ -21,7 +21,7 @@ use Rattle.rp_pattern.specs.Turns.{Part as Costed, turns, turns_after, chain_tur
 use Rattle.rp_pattern.specs.WordLaws.{IsLater}
 use Rattle.rp_pattern.specs.Rests.{tail_links, links_parts, tail_parts, rests_parts, later_parts, chain_words, chain_left, choice_words, stack_words, stack_left, rises, pushed, without_first}
 use Rattle.rp_pattern.specs.Splits.{Stands, option_words, option_turns, split_words, split_turns, Splits, MapsRow as MapsOne, Waits}
-use Rattle.rp_pattern.specs.Choices.{start_of, entered, whole, whole_left, remaining, left, below, below_left, after, after_left, first_later, OfFirst, HasTop, AtRow, IsFront, IsSameWhole, IsSplit, MapsRow, IsFullWord, IsOpenWord, IsNothing}
+use Rattle.rp_pattern.specs.Choices.{start_of, entered, whole, whole_left, remaining, left, below, below_left, after, after_left, first_later, OfFirst, HasTop, AtRow, IsFront, IsShorterFront, IsSameWhole, IsSplit, MapsRow, IsFullWord, IsOpenWord, IsNothing}
 use Rattle.rp_pattern.proofs.Lists.{map-map}
 use Rattle.rp_pattern.proofs.Algebra.{append_nil, concatenation_nothing_last, map_same, preceded_twice, map_preceded_nothing}
 use Rattle.rp_pattern.proofs.Steps.{later_self}
@@ -186,8 +186,8 @@ module _ (old new : Choices) (s : ℕ) (ls : List Label) (t : Choice) (cs : List
         has_top = has_top new s (take t.depth ls) t cs m;
         was = λ n' e' later. remaining_is old s ls (t ∷ cs) k n' e' ∙ now n' e';
         now = λ n' e' later. remaining_is new s (take t.depth ls) (t ∷ cs) m n' e' ∙ sym (all_cut n' e') ∙ now n' e';
-        same_left = left_is new s (take t.depth ls) (t ∷ cs) m n e ∙ sym (left_is old s ls (t ∷ cs) k n e);
-        less_below = omega (arith, left_is new s (take t.depth ls) (t ∷ cs) m n e, below_left_is new s (take t.depth ls) (t ∷ cs) m n e, ap length (w n e));
+        same_left = λ n' e' later. left_is new s (take t.depth ls) (t ∷ cs) m n' e' ∙ sym (left_is old s ls (t ∷ cs) k n' e');
+        less_below = λ n' e' later. omega (arith, left_is new s (take t.depth ls) (t ∷ cs) m n' e', below_left_is new s (take t.depth ls) (t ∷ cs) m n' e', ap length (w n' e'));
       }
 
   pub is_open : Stack new s (take t.depth ls) (t ∷ cs) → Waits n e (s + t.depth) (λ n e. rests_parts n e t.rests) → IsOpenWord old new n e
@@ -203,8 +203,8 @@ module _ (old new : Choices) (s : ℕ) (ls : List Label) (t : Choice) (cs : List
             ∙ ap (λ z. map (preceded (take t.depth ls)) z ++ stack_words n e s ls cs) w.words
             ∙ ap (λ z. Open z ∷ stack_words n e s ls cs) word
             ∙ ap (λ z. Open (entered new) ∷ z) (below_cut n e ∙ sym (below_is new s (take t.depth ls) (t ∷ cs) m n e));
-        same_left = left_is new s (take t.depth ls) (t ∷ cs) m n e ∙ sym (left_is old s ls (t ∷ cs) k n e);
-        less_below = omega (arith, left_is new s (take t.depth ls) (t ∷ cs) m n e, below_left_is new s (take t.depth ls) (t ∷ cs) m n e, ap length w.words);
+        same_left = λ n' e' later. left_is new s (take t.depth ls) (t ∷ cs) m n' e' ∙ sym (left_is old s ls (t ∷ cs) k n' e');
+        less_below = λ n' e' later. omega (arith, left_is new s (take t.depth ls) (t ∷ cs) m n' e', below_left_is new s (take t.depth ls) (t ∷ cs) m n' e', w.turns n' e');
       }
 
   pub is_split : (x : Choices') → Stack new s (take t.depth ls) (pushed t.depth x.preferred (pushed t.depth x.other cs)) → Splits n e (s + t.depth) (λ n e. rests_parts n e t.rests) x → IsSplit old new n e
@@ -219,12 +219,13 @@ module _ (old new : Choices) (s : ℕ) (ls : List Label) (t : Choice) (cs : List
       ∙ sym (append_assoc (map (preceded (take d l)) (option_words n' e' x.preferred i)) (map (preceded (take d l)) (option_words n' e' x.other i)) (stack_words n' e' s l cs))
       ∙ ap (λ z. z ++ stack_words n' e' s l cs) (sym (map-append (preceded (take d l)) (option_words n' e' x.preferred i) (option_words n' e' x.other i)))
       ∙ ap (λ z. map (preceded (take d l)) z ++ stack_words n' e' s l cs) (w.words n' e' later) in
-      let long = ap length (w.words n e (later_self n e)) in
-      let both = length-append (option_words n e x.preferred i) (option_words n e x.other i) in
       record {
         cut = (t.depth, entered_is new s l (pushed t.depth x.preferred ds) m ∙ ap (take t.depth) (sym (entered_is old s ls (t ∷ cs) k)));
         same = λ n' e' later. remaining_is new s l (pushed t.depth x.preferred ds) m n' e' ∙ words n' e' later ∙ sym (all_cut n' e') ∙ sym (remaining_is old s ls (t ∷ cs) k n' e');
-        less = omega (arith, left_is new s l (pushed t.depth x.preferred ds) m n e, left_is old s ls (t ∷ cs) k n e, pushed_left n e s d x.preferred ds, pushed_left n e s d x.other cs, w.turns, long, both);
+        less = λ n' e' later.
+            let long = ap length (w.words n' e' later) in
+            let both = length-append (option_words n' e' x.preferred i) (option_words n' e' x.other i) in
+            omega (arith, left_is new s l (pushed t.depth x.preferred ds) m n' e', left_is old s ls (t ∷ cs) k n' e', pushed_left n' e' s d x.preferred ds, pushed_left n' e' s d x.other cs, w.turns n' e' later, long, both);
       }
 
   pub maps_row : (l : Label) → Stack new s (take t.depth ls ++ l ∷ []) (t ∷ cs) → MapsOne n e (s + t.depth) (λ n e. rests_parts n e t.rests) l → MapsRow old new n e
@@ -247,12 +248,11 @@ module _ (old new : Choices) (s : ℕ) (ls : List Label) (t : Choice) (cs : List
       ∙ ap (map (preceded ms)) (later n' e')
       ∙ ap (λ z. map (preceded z) (after new n' e')) (sym (entered_is new s ms (t ∷ cs) m)))
       ∙ ap (λ z. map (preceded (entered new)) (after new n' e') ++ z) (lower_same n' e' ∙ sym (below_is new s ms (t ∷ cs) m n' e')) in
-      let same : left new n e ≡ left old n e = left_is new s ms (t ∷ cs) m n e ∙ sym (left_is old s ls (t ∷ cs) k n e) in
-      let count : length (chain_words (rests_parts n e t.rests) i) ≡ length (chain_words (later_parts n e t.rests) (s + length ms)) =
-      ap length (w.words n e (omega arith)) ∙ length-map (chain_words (drop 1 (rests_parts n e t.rests)) (i + 1)) (preceded (l ∷ []))
-      ∙ ap (λ ps. length (chain_words ps (i + 1))) (later_is n e t.rests) ∙ ap (λ j. length (chain_words (later_parts n e t.rests) j)) at in
-      let turns : chain_turns (rests_parts n e t.rests) i ≡ 1 + chain_turns (later_parts n e t.rests) (s + length ms) =
-      w.turns ∙ ap (λ ps. 1 + chain_turns ps (i + 1)) (later_is n e t.rests) ∙ ap (λ j. 1 + chain_turns (later_parts n e t.rests) j) at in
+      let count : (n' : ℕ) (e' : End) → IsLater n e n' e' → length (chain_words (rests_parts n' e' t.rests) i) ≡ length (chain_words (later_parts n' e' t.rests) (s + length ms)) = λ n' e' more.
+      ap length (w.words n' e' more.0) ∙ length-map (chain_words (drop 1 (rests_parts n' e' t.rests)) (i + 1)) (preceded (l ∷ []))
+      ∙ ap (λ ps. length (chain_words ps (i + 1))) (later_is n' e' t.rests) ∙ ap (λ j. length (chain_words (later_parts n' e' t.rests) j)) at in
+      let turns : (n' : ℕ) (e' : End) → IsLater n e n' e' → chain_turns (rests_parts n' e' t.rests) i ≡ 1 + chain_turns (later_parts n' e' t.rests) (s + length ms) = λ n' e' more.
+      w.turns n' e' more.0 ∙ ap (λ ps. 1 + chain_turns ps (i + 1)) (later_is n' e' t.rests) ∙ ap (λ j. 1 + chain_turns (later_parts n' e' t.rests) j) at in
       record {
         depth = t.depth;
         label = l;
@@ -262,8 +262,8 @@ module _ (old new : Choices) (s : ℕ) (ls : List Label) (t : Choice) (cs : List
         has_top = has_top new s ms t cs m;
         was = λ n' e' more. remaining_is old s ls (t ∷ cs) k n' e' ∙ words n' e' more;
         now = λ n' e' more. remaining_is new s ms (t ∷ cs) m n' e' ∙ sym (all_same n' e') ∙ words n' e' more;
-        same_left = same;
-        parts_left = omega (arith, left_is new s ms (t ∷ cs) m n e, after_left_is new s ms (t ∷ cs) m n e, below_left_is new s ms (t ∷ cs) m n e, count, turns);
+        same_left = λ n' e' more. left_is new s ms (t ∷ cs) m n' e' ∙ sym (left_is old s ls (t ∷ cs) k n' e');
+        parts_left = λ n' e' more. omega (arith, left_is new s ms (t ∷ cs) m n' e', after_left_is new s ms (t ∷ cs) m n' e', below_left_is new s ms (t ∷ cs) m n' e', count n' e' more, turns n' e' more);
       }
 
 pub take-all : (ls : List Label) → take (length ls) ls ≡ ls
@@ -275,6 +275,7 @@ is_nothing old new s ls n e k m = record {
   cut = (length ls, entered_is new s ls [] m ∙ sym (take-all ls) ∙ ap (take (length ls)) (sym (entered_is old s ls [] k)));
   was = λ n' e' later. remaining_is old s ls [] k n' e';
   now = λ n' e' later. remaining_is new s ls [] m n' e';
+  less = λ n' e' later. omega (arith, left_is new s ls [] m n' e', left_is old s ls [] k n' e');
 }
 
 pub same_whole : (old new : Choices) → new.start ≡ old.start → new.origin ≡ old.origin → IsSameWhole old new
@@ -296,6 +297,10 @@ rises_below m (c ∷ cs) h = let f = rises_first m c cs h in rises_more c.depth 
 pub top_begun : (c : Choices) → HasTop c → c.begun ≡ true
 unfolding HasTop
 top_begun c h = h.0
+
+pub no_top : (c : Choices) → reverse c.stack.items ≡ [] → HasTop c → ⊥
+unfolding HasTop
+no_top c h t = subst (OfFirst (λ c. Unit {0})) h t.1
 
 pub row_begun : (c : Choices) → AtRow c → c.begun ≡ true
 unfolding AtRow
@@ -325,13 +330,27 @@ module _ (old new : Choices) (r : Option Rests) (n : ℕ) (e : End) (not : old.b
       ∙ omega (arith, h.turns, ap length h.words)
       ∙ sym (ap (λ b. cond b (stack_left n e old.start (reverse old.stack.items)) (chain_left (tail_parts n e old.origin) old.start)) not)
 
--- the first choice is given up
-module _ (old new : Choices) (n : ℕ) (e : End) (k : Stack old old.start old.labels.items (reverse old.stack.items)) (m : Stack new old.start old.labels.items (without_first (reverse old.stack.items))) where
+-- the first choice is given up, and the labels are cut to those before it
+module _ (old new : Choices) (t : Choice) (cs : List Choice) (n : ℕ) (e : End) (k : Stack old old.start old.labels.items (t ∷ cs)) (m : Stack new old.start (take t.depth old.labels.items) cs) where
   pub given_up_remaining : remaining new n e ≡ below old n e
-  given_up_remaining = remaining_is new old.start old.labels.items (without_first (reverse old.stack.items)) m n e ∙ sym (below_is old old.start old.labels.items (reverse old.stack.items) k n e)
+  given_up_remaining =
+      let r : IsTrue (rises (length old.labels.items) (t ∷ cs)) = subst (λ z. IsTrue (rises (length old.labels.items) z)) k.choices old.rises in
+      remaining_is new old.start (take t.depth old.labels.items) cs m n e
+      ∙ sym (below_cut old new old.start old.labels.items t cs n e k r n e)
+      ∙ sym (below_is old old.start old.labels.items (t ∷ cs) k n e)
 
   pub given_up_left : left new n e ≡ below_left old n e
-  given_up_left = left_is new old.start old.labels.items (without_first (reverse old.stack.items)) m n e ∙ sym (below_left_is old old.start old.labels.items (reverse old.stack.items) k n e)
+  given_up_left = left_is new old.start (take t.depth old.labels.items) cs m n e ∙ sym (below_left_is old old.start old.labels.items (t ∷ cs) k n e)
+
+pub cut_front : (old new : Choices) (depth : ℕ) → new.labels.items ≡ take depth old.labels.items → IsFront (entered new) (entered old)
+unfolding entered
+cut_front old new depth h = (depth, h)
+
+pub cut_off : (old new : Choices) (t : Choice) (cs : List Choice) → reverse old.stack.items ≡ t ∷ cs → new.labels.items ≡ take t.depth old.labels.items → AtRow old → IsShorterFront (entered new) (entered old)
+unfolding entered AtRow
+cut_off old new t cs k h r =
+    let row : t.depth + 1 ≡ length old.labels.items = subst (OfFirst (λ c. c.depth + 1 ≡ length old.labels.items)) k r.1 in
+    (t.depth, omega (arith, row), h)
 
 -- the row is admitted: what comes after it takes the choice's place
 module _ (old new : Choices) (r : Option Rests) (n : ℕ) (e : End) (k : Stack old old.start old.labels.items (reverse old.stack.items))

@@ -70,7 +70,7 @@ pub later_self : (n : ℕ) (e : End) → IsLater n e n e
 later_self n e = (omega arith, λ closed. (refl, closed))
 
 pub later_splits : (n : ℕ) (e : End) (i : ℕ) (ps : ℕ → End → List Costed) (s : Split) → ((n' : ℕ) (e' : End) → IsLater n e n' e' → SplitsAt n' e' i (ps n' e') s) → Splits n e i ps s
-later_splits n e i ps s h = record { words = λ n' e' later. (h n' e' later).words; turns = (h n e (later_self n e)).turns }
+later_splits n e i ps s h = record { words = λ n' e' later. (h n' e' later).words; turns = λ n' e' later. (h n' e' later).turns }
 
 pub always_splits : (n : ℕ) (e : End) (i : ℕ) (ps : ℕ → End → List Costed) (s : Split) → AlwaysSplits i ps s → Splits n e i ps s
 always_splits n e i ps s h = later_splits n e i ps s (λ n' e' later. h n' e')

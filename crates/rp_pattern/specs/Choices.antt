@@ -88,6 +88,10 @@ IsLaterTail c tail = (n : ℕ) (e : End) → tail_parts n e tail ≡ first_later
 abbrev pub IsFront : List Label → List Label → Type 0
 IsFront ls of = (k : ℕ) × (ls ≡ take k of)
 
+-- some first ones of these labels, without the last
+abbrev pub IsShorterFront : List Label → List Label → Type 0
+IsShorterFront ls of = (k : ℕ) × (k < length of) × (ls ≡ take k of)
+
 -- The start row and the whole stay.
 pub record IsSameWhole (old new : Choices) : Type 0 where
   pub start : start_of new ≡ start_of old
@@ -98,7 +102,7 @@ pub record IsSameWhole (old new : Choices) : Type 0 where
 pub record IsSplit (old new : Choices) (n : ℕ) (e : End) : Type 0 where
   pub cut : IsFront (entered new) (entered old)
   pub same : (n' : ℕ) (e' : End) → IsLater n e n' e' → remaining new n' e' ≡ remaining old n' e'
-  pub less : left new n e < left old n e
+  pub less : (n' : ℕ) (e' : End) → IsLater n e n' e' → left new n' e' < left old n' e'
 
 -- The preferred choice maps the next known row, whose label was entered.
 pub record MapsRow (old new : Choices) (n : ℕ) (e : End) : Type 0 where
@@ -110,8 +114,8 @@ pub record MapsRow (old new : Choices) (n : ℕ) (e : End) : Type 0 where
   pub has_top : HasTop new
   pub was : (n' : ℕ) (e' : End) → IsLater n e n' e' → remaining old n' e' ≡ map (preceded (entered new)) (after new n' e') ++ below new n' e'
   pub now : (n' : ℕ) (e' : End) → IsLater n e n' e' → remaining new n' e' ≡ map (preceded (entered new)) (after new n' e') ++ below new n' e'
-  pub same_left : left new n e ≡ left old n e
-  pub parts_left : left new n e ≡ 1 + after_left new n e + below_left new n e
+  pub same_left : (n' : ℕ) (e' : End) → IsLater n e n' e' → left new n' e' ≡ left old n' e'
+  pub parts_left : (n' : ℕ) (e' : End) → IsLater n e n' e' → left new n' e' ≡ 1 + after_left new n' e' + below_left new n' e'
 
 -- The preferred choice is a full word.
 pub record IsFullWord (old new : Choices) (n : ℕ) (e : End) : Type 0 where
@@ -119,8 +123,8 @@ pub record IsFullWord (old new : Choices) (n : ℕ) (e : End) : Type 0 where
   pub has_top : HasTop new
   pub was : (n' : ℕ) (e' : End) → IsLater n e n' e' → remaining old n' e' ≡ Full (entered new) ∷ below new n' e'
   pub now : (n' : ℕ) (e' : End) → IsLater n e n' e' → remaining new n' e' ≡ Full (entered new) ∷ below new n' e'
-  pub same_left : left new n e ≡ left old n e
-  pub less_below : below_left new n e < left new n e
+  pub same_left : (n' : ℕ) (e' : End) → IsLater n e n' e' → left new n' e' ≡ left old n' e'
+  pub less_below : (n' : ℕ) (e' : End) → IsLater n e n' e' → below_left new n' e' < left new n' e'
 
 -- The preferred choice runs into the row after the last known one.
 pub record IsOpenWord (old new : Choices) (n : ℕ) (e : End) : Type 0 where
@@ -129,14 +133,15 @@ pub record IsOpenWord (old new : Choices) (n : ℕ) (e : End) : Type 0 where
   pub has_top : HasTop new
   pub same : (n' : ℕ) (e' : End) → IsLater n e n' e' → remaining new n' e' ≡ remaining old n' e'
   pub was : remaining old n e ≡ Open (entered new) ∷ below new n e
-  pub same_left : left new n e ≡ left old n e
-  pub less_below : below_left new n e < left new n e
+  pub same_left : (n' : ℕ) (e' : End) → IsLater n e n' e' → left new n' e' ≡ left old n' e'
+  pub less_below : (n' : ℕ) (e' : End) → IsLater n e n' e' → below_left new n' e' < left new n' e'
 
 -- No choice is left.
 pub record IsNothing (old new : Choices) (n : ℕ) (e : End) : Type 0 where
   pub cut : IsFront (entered new) (entered old)
   pub was : (n' : ℕ) (e' : End) → IsLater n e n' e' → remaining old n' e' ≡ []
   pub now : (n' : ℕ) (e' : End) → IsLater n e n' e' → remaining new n' e' ≡ []
+  pub less : (n' : ℕ) (e' : End) → IsLater n e n' e' → left new n' e' ≤ left old n' e'
 
 -- what the preferred choice came to when it was taken up, over the rows 1 to n and that end
 abbrev pub TakenAs : Choices → Choices → ℕ → End → Taken → Type 0

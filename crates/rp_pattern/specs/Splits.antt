@@ -44,18 +44,19 @@ AlwaysSplits i ps s = (n : ℕ) (e : End) → SplitsAt n e i (ps n e) s
 -- The same, at the rows that are known and at later ones.
 pub record Splits (n : ℕ) (e : End) (i : ℕ) (ps : ℕ → End → List Costed) (s : Choices) : Type 0 where
   pub words : (n' : ℕ) (e' : End) → IsLater n e n' e' → split_words n' e' s i ≡ chain_words (ps n' e') i
-  pub turns : split_turns n e s i < chain_turns (ps n e) i
+  pub turns : (n' : ℕ) (e' : End) → IsLater n e n' e' → split_turns n' e' s i < chain_turns (ps n' e') i
 
 -- A known row is mapped, and the later parts follow.
 pub record MapsRow (n : ℕ) (e : End) (i : ℕ) (ps : ℕ → End → List Costed) (l : Label) : Type 0 where
   pub known : i ≤ n
   pub words : (n' : ℕ) (e' : End) → n ≤ n' → chain_words (ps n' e') i ≡ map (preceded (l ∷ [])) (chain_words (drop 1 (ps n' e')) (i + 1))
-  pub turns : chain_turns (ps n e) i ≡ 1 + chain_turns (drop 1 (ps n e)) (i + 1)
+  pub turns : (n' : ℕ) (e' : End) → n ≤ n' → chain_turns (ps n' e') i ≡ 1 + chain_turns (drop 1 (ps n' e')) (i + 1)
 
 -- It runs into the row after the last known one.
 pub record Waits (n : ℕ) (e : End) (i : ℕ) (ps : ℕ → End → List Costed) : Type 0 where
   pub end : e ≡ OpenEnd
   pub words : chain_words (ps n e) i ≡ Open [] ∷ []
+  pub turns : (n' : ℕ) (e' : End) → 0 < chain_turns (ps n' e') i
 
 -- What parts came to at a row, by their words and turns over the rows that are known and over later ones.
 abbrev pub TakenUp : ℕ → End → ℕ → (ℕ → End → List Costed) → Turn → Type 0

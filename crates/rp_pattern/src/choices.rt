@@ -44,7 +44,7 @@ impl Choices {
     ghost use Rattle.rp_pattern.specs.Turns.{turns};
     ghost use Rattle.rp_pattern.specs.PatternForm.{form_of};
     ghost use Rattle.rp_pattern.specs.Rests.{tail_links};
-    ghost use Rattle.rp_pattern.specs.Choices.{start_of, entered, whole, whole_left, remaining, left, below, below_left, after, after_left, HasTop, AtRow, IsFront, IsSameWhole, TakenAs, HasBegun, IsLaterTail};
+    ghost use Rattle.rp_pattern.specs.Choices.{start_of, entered, whole, whole_left, remaining, left, below, below_left, after, after_left, HasTop, AtRow, IsFront, IsShorterFront, IsSameWhole, TakenAs, HasBegun, IsLaterTail};
 
     /// The words of the pattern from the start row on.
     pub fn new(alloc: Global, pattern: &Pattern, start: u64) -> Result<Choices, AllocError>
@@ -170,9 +170,12 @@ impl Choices {
         ensures whole { IsSameWhole self.old self.new }
         ensures remaining { (n : ℕ) (e : End) → remaining self.new n e ≡ below self.old n e }
         ensures left { (n : ℕ) (e : End) → left self.new n e ≡ below_left self.old n e }
-        ensures labels { entered self.new ≡ entered self.old }
+        ensures labels { IsFront (entered self.new) (entered self.old) }
+        ensures cut_off { AtRow self.old → IsShorterFront (entered self.new) (entered self.old) }
     {
-        drop_top(&mut self.stack);
+        if let Some(choice) = self.stack.pop() {
+            self.labels.truncate(choice.depth);
+        }
     }
 
     /// What would follow the row that the preferred choice maps, as choices of their own from the next row on.

@@ -1,6 +1,7 @@
 //! All words of a pattern, up to a given number of them.
-ghost use Rattle.std.specs.Prelude.{◌≡◌, ◌+◌, ◌-◌, ◌^◌, ◌<◌, ◌≤◌, [], ◌∷◌, ◌++◌, length, IfOk, OnOk};
-ghost use Rattle.rp_pattern.specs.Choices.{HasTop, GivesUp, entered};
+ghost use Rattle.std.specs.Prelude.{◌≡◌, ℕ, ◌+◌, ◌-◌, ◌^◌, ◌<◌, ◌≤◌, [], ◌∷◌, ◌++◌, length, IfOk, OnOk};
+ghost use Rattle.rp_pattern.specs.Choices.{HasTop, entered, remaining, left, below, below_left};
+ghost use Rattle.rp_pattern.specs.declared.word.End.{End};
 ghost use Rattle.rp_pattern.specs.Listing.{ListsNext};
 ghost use Rattle.rp_pattern.specs.Mapping.{marked};
 ghost use Rattle.rp_pattern.specs.PatternForm.{form_of};
@@ -94,7 +95,8 @@ fn list_word(
 ) -> Result<(), AllocError>
     requires { HasTop choices.old }
     ensures list { OnOk result (list.new.items ≡ list.old.items ++ marked mark (entered choices.old) ∷ []) }
-    ensures given_up { OnOk result (GivesUp choices.old choices.new) }
+    ensures remaining { OnOk result ((n : ℕ) (e : End) → remaining choices.new n e ≡ below choices.old n e) }
+    ensures left { OnOk result ((n : ℕ) (e : End) → left choices.new n e ≡ below_left choices.old n e) }
 {
     let labels = Vec::from_slice(alloc, choices.labels())?;
     list.push(Word { labels, mark })?;

@@ -1,31 +1,55 @@
-use Rattle.std.proofs.Common.{refl, reverse, length}
-use Rattle.rp_pattern.specs.Rests.{without_first}
-use Rattle.rp_pattern.specs.Choices.{entered}
-use Rattle.rp_pattern.proofs.Stacks.{Stack, same_whole, top_begun, rises_below, rises_subst, given_up_remaining, given_up_left}
+use Rattle.std.proofs.Common.{◌≡◌, ◌∷◌, refl, reverse, length, arith}
+use Rattle.rp_pattern.proofs.Stacks.{Stack, same_whole, top_begun, on_top, no_choices, no_top, given_up_remaining, given_up_left, cut_front, cut_off}
 use Rattle.rp_pattern.proofs.choices.Choices.give_up.Goals as goal
 
-pub invariant_of-self : goal.invariant_of-self
-invariant_of-self c =
+pub returns-in-Some-clause-whole : goal.returns-in-Some-clause-whole
+returns-in-Some-clause-whole c = same_whole _ _ refl refl
+
+pub returns-in-Some-clause-remaining : goal.returns-in-Some-clause-remaining
+returns-in-Some-clause-remaining c = λ n e.
     let old = c.args.self.now in
-    let m = length old.labels.items in
-    let cs = reverse old.stack.items in
-    record { rises = rises_subst m (reverse c.drop_top.new.stack.items) (without_first cs) c.drop_top.ensures (rises_below m cs old.rises); ends = old.ends }
+    let t = c.in-Some.choice in
+    let cs = reverse c.pop.new.self.items in
+    let k : Stack old old.start old.labels.items (t ∷ cs) = record { begun = top_begun old c.requires; start = refl; labels = refl; choices = on_top _ _ _ c.in-Some.ensures.items } in
+    given_up_remaining old _ t cs n e k (record { begun = top_begun old c.requires; start = refl; labels = c.truncate.ensures.items; choices = refl })
 
-pub returns-clause-whole : goal.returns-clause-whole
-returns-clause-whole c = same_whole _ _ refl refl
-
-pub returns-clause-remaining : goal.returns-clause-remaining
-returns-clause-remaining c = λ n e.
+pub returns-in-Some-clause-left : goal.returns-in-Some-clause-left
+returns-in-Some-clause-left c = λ n e.
     let old = c.args.self.now in
-    let k : Stack old old.start old.labels.items (reverse old.stack.items) = record { begun = top_begun old c.requires; start = refl; labels = refl; choices = refl } in
-    given_up_remaining old _ n e k (record { begun = top_begun old c.requires; start = refl; labels = refl; choices = c.drop_top.ensures })
+    let t = c.in-Some.choice in
+    let cs = reverse c.pop.new.self.items in
+    let k : Stack old old.start old.labels.items (t ∷ cs) = record { begun = top_begun old c.requires; start = refl; labels = refl; choices = on_top _ _ _ c.in-Some.ensures.items } in
+    given_up_left old _ t cs n e k (record { begun = top_begun old c.requires; start = refl; labels = c.truncate.ensures.items; choices = refl })
 
-pub returns-clause-left : goal.returns-clause-left
-returns-clause-left c = λ n e.
+pub returns-in-Some-clause-labels : goal.returns-in-Some-clause-labels
+returns-in-Some-clause-labels c = cut_front c.args.self.now _ c.in-Some.choice.depth c.truncate.ensures.items
+
+pub returns-in-Some-clause-cut_off : goal.returns-in-Some-clause-cut_off
+returns-in-Some-clause-cut_off c = cut_off c.args.self.now _ c.in-Some.choice (reverse c.pop.new.self.items) (on_top _ _ _ c.in-Some.ensures.items) c.truncate.ensures.items
+
+pub returns-in_default-clause-whole : goal.returns-in_default-clause-whole
+returns-in_default-clause-whole c = same_whole _ _ refl refl
+
+pub returns-in_default-clause-remaining : goal.returns-in_default-clause-remaining
+returns-in_default-clause-remaining c =
     let old = c.args.self.now in
-    let k : Stack old old.start old.labels.items (reverse old.stack.items) = record { begun = top_begun old c.requires; start = refl; labels = refl; choices = refl } in
-    given_up_left old _ n e k (record { begun = top_begun old c.requires; start = refl; labels = refl; choices = c.drop_top.ensures })
+    let none : length old.stack.items ≡ 0 = omega (arith, c.in_default.ensures.cases.0, old.stack.ok.0) in
+    absurd (no_top old (no_choices old.stack.items none) c.requires)
 
-pub returns-clause-labels : goal.returns-clause-labels
-unfolding entered
-returns-clause-labels c = refl
+pub returns-in_default-clause-left : goal.returns-in_default-clause-left
+returns-in_default-clause-left c =
+    let old = c.args.self.now in
+    let none : length old.stack.items ≡ 0 = omega (arith, c.in_default.ensures.cases.0, old.stack.ok.0) in
+    absurd (no_top old (no_choices old.stack.items none) c.requires)
+
+pub returns-in_default-clause-labels : goal.returns-in_default-clause-labels
+returns-in_default-clause-labels c =
+    let old = c.args.self.now in
+    let none : length old.stack.items ≡ 0 = omega (arith, c.in_default.ensures.cases.0, old.stack.ok.0) in
+    absurd (no_top old (no_choices old.stack.items none) c.requires)
+
+pub returns-in_default-clause-cut_off : goal.returns-in_default-clause-cut_off
+returns-in_default-clause-cut_off c =
+    let old = c.args.self.now in
+    let none : length old.stack.items ≡ 0 = omega (arith, c.in_default.ensures.cases.0, old.stack.ok.0) in
+    absurd (no_top old (no_choices old.stack.items none) c.requires)

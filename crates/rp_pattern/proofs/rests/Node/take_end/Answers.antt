@@ -1,6 +1,6 @@
 use Rattle.std.proofs.Common.{ap, ◌∙◌, ◌∷◌, arith}
 use Rattle.rp_pattern.specs.Rests.{form_part, node_part, tail_parts}
-use Rattle.rp_pattern.proofs.Expansions.{passed, no_words, some_turns, end_words, end_none, end_turns}
+use Rattle.rp_pattern.proofs.Expansions.{passed, no_words, some_turns, open_words, end_words, end_open, end_none, end_turns}
 use Rattle.rp_pattern.proofs.Steps.{one_splits, none_splits, later_splits}
 use Rattle.rp_pattern.proofs.rests.Node.take_end.Goals as goal
 
@@ -27,3 +27,17 @@ returns-in_ok-follow-in-Closed c =
     (passed (node_part n e node) (tail_parts n e then) i
     (ap (λ f. (form_part n e f x).0 i) c.requires ∙ end_words n e x i (omega (arith, stays.0, c.if-row-n.false)) stays.1)
     (ap (λ f. (form_part n e f x).1 i) c.requires ∙ end_turns n e x i)))
+
+pub returns-in-Open : goal.returns-in-Open
+returns-in-Open c =
+    let node = c.args.self.now in
+    let x = node.excluded in
+    let i = c.args.row in
+    let n = c.args.n in
+    let e = c.args.end in
+    let then = c.args.then.now in
+    record {
+      end = c.in-Open.is;
+      words = open_words (node_part n e node) (tail_parts n e then) i (ap (λ f. (form_part n e f x).0 i) c.requires ∙ end_open n e x i (omega (arith, c.if-row-n.false)) c.in-Open.is);
+      turns = λ n' e'. some_turns (node_part n' e' node) (tail_parts n' e' then) i (ap (λ f. (form_part n' e' f x).1 i) c.requires ∙ end_turns n' e' x i);
+    }

@@ -1,6 +1,6 @@
 use Rattle.std.proofs.Common.{ap, ◌∙◌, ◌∷◌, arith}
 use Rattle.rp_pattern.specs.Rests.{form_part, node_part, tail_parts}
-use Rattle.rp_pattern.proofs.Expansions.{no_words, some_turns, row_words, row_turns, variable_row, variable_closed, variable_turns}
+use Rattle.rp_pattern.proofs.Expansions.{no_words, some_turns, open_words, row_words, row_turns, variable_row, variable_open, variable_closed, variable_turns}
 use Rattle.rp_pattern.proofs.Steps.{none_splits, later_splits}
 use Rattle.rp_pattern.proofs.rests.Node.take_variable.Goals as goal
 
@@ -9,15 +9,13 @@ returns-then-row-n c =
     let node = c.args.self.now in
     let x = node.excluded in
     let i = c.args.row in
-    let n = c.args.n in
-    let e = c.args.end in
     let then = c.args.then.now in
     record {
       known = c.if-row-n.true;
       words = λ n' e' more. row_words _ (node_part n' e' node) (tail_parts n' e' then) i (ap (λ f. (form_part n' e' f x).0 i) c.requires ∙ variable_row n' e' x c.args.var i (omega (arith, more, c.if-row-n.true)));
-      turns = row_turns _ (node_part n e node) (tail_parts n e then) i
-          (ap (λ f. (form_part n e f x).0 i) c.requires ∙ variable_row n e x c.args.var i c.if-row-n.true)
-          (ap (λ f. (form_part n e f x).1 i) c.requires ∙ variable_turns n e x c.args.var i);
+      turns = λ n' e' more. row_turns _ (node_part n' e' node) (tail_parts n' e' then) i
+          (ap (λ f. (form_part n' e' f x).0 i) c.requires ∙ variable_row n' e' x c.args.var i (omega (arith, more, c.if-row-n.true)))
+          (ap (λ f. (form_part n' e' f x).1 i) c.requires ∙ variable_turns n' e' x c.args.var i);
     }
 
 pub returns-in-Closed : goal.returns-in-Closed
@@ -31,3 +29,17 @@ returns-in-Closed c =
     none_splits n e i (node_part n e node ∷ tail_parts n e then) c.none.result c.none.ensures
     (no_words (node_part n e node) (tail_parts n e then) i (ap (λ f. (form_part n e f x).0 i) c.requires ∙ variable_closed n e x c.args.var i (omega (arith, stays.0, c.if-row-n.false)) stays.1))
     (some_turns (node_part n e node) (tail_parts n e then) i (ap (λ f. (form_part n e f x).1 i) c.requires ∙ variable_turns n e x c.args.var i)))
+
+pub returns-in-Open : goal.returns-in-Open
+returns-in-Open c =
+    let node = c.args.self.now in
+    let x = node.excluded in
+    let i = c.args.row in
+    let n = c.args.n in
+    let e = c.args.end in
+    let then = c.args.then.now in
+    record {
+      end = c.in-Open.is;
+      words = open_words (node_part n e node) (tail_parts n e then) i (ap (λ f. (form_part n e f x).0 i) c.requires ∙ variable_open n e x c.args.var i (omega (arith, c.if-row-n.false)) c.in-Open.is);
+      turns = λ n' e'. some_turns (node_part n' e' node) (tail_parts n' e' then) i (ap (λ f. (form_part n' e' f x).1 i) c.requires ∙ variable_turns n' e' x c.args.var i);
+    }
