@@ -11,20 +11,24 @@ use Rattle.rp_pattern.specs.declared.form.Form.TheVariants as V
 use Rattle.rp_pattern.specs.declared.form.Form.TheViews.{out-Form, out-roll-Form}
 use Rattle.rp_pattern.specs.declared.word.End.{End}
 use Rattle.rp_pattern.specs.declared.turn.Split.{Split}
+use Rattle.rp_pattern.specs.declared.rests.Node.{Node}
+use Rattle.rp_pattern.specs.declared.rests.Link.{Link}
+use Rattle.rp_pattern.specs.declared.rests.Part.TheVariants.{Whole}
 use Rattle.rp_pattern.specs.Bounds.{is_allowed}
 use Rattle.rp_pattern.specs.Variables.{all_true}
 use Rattle.rp_pattern.specs.Permutations.{upto, factorial}
 use Rattle.rp_pattern.specs.PermutedParts.{layer_parts, permuted_parts}
 use Rattle.rp_pattern.specs.Words.{Mappings, nothing_mapped, followed, concatenation, sequence, orders, picks, led, arrangements, permuted, words, within_exclusion}
 use Rattle.rp_pattern.specs.Turns.{Part, one_turn, turns, chain_turns, words_of, orders_from, within, permuted_turns}
-use Rattle.rp_pattern.specs.Rests.{form_part, chain_words, in_order}
+use Rattle.rp_pattern.specs.Rests.{form_part, chain_words, in_order, permuted_costed, IsNodeOf, tail_links, tail_parts, links_parts}
 use Rattle.rp_pattern.specs.Splits.{Stands, SplitsAt}
 use Rattle.rp_pattern.proofs.Lists.{All-map, All-flat_map, map-map}
 use Rattle.rp_pattern.proofs.FormEquations.{words_permute}
 use Rattle.rp_pattern.proofs.TurnEquations.{whole_part, turns_permute}
 use Rattle.rp_pattern.proofs.Places.{length-orders, orders_at}
 use Rattle.rp_pattern.proofs.TurnsPermuted.{sequence-append, order_words, no_order_words, permuted_words, order_taken, no_order_taken, permuted_taken}
-use Rattle.rp_pattern.proofs.Expansions.{LeavesTwo, same_first_words}
+use Rattle.rp_pattern.proofs.Expansions.{LeavesTwo}
+use Rattle.rp_pattern.proofs.Steps.{node_as}
 
 -- ---- positions of an order
 
@@ -125,3 +129,20 @@ permute_splits n e i x f ps ts s is h =
 pub IfOk-map : {T E : Type 0} (P Q : T → Type 0) → ((v : T) → P v → Q v) → (r : Result T E) → IfOk r P → IfOk r Q
 IfOk-map P Q f (Ok v) h = f v h
 IfOk-map P Q f (Err e) h = h
+
+pub permuted_same : (n : ℕ) (e : End) (copy node : Node) → IsNodeOf node.form.value node.excluded copy → permuted_costed n e copy ≡ permuted_costed n e node
+permuted_same n e copy node h =
+    ap (λ f. map (λ g. form_part n e g copy.excluded) (permuted_parts f)) h.0 ∙ ap (λ x. map (λ g. form_part n e g x) (permuted_parts node.form.value)) h.1
+
+-- the parts in an order, one before the others
+pub next_linked : (n : ℕ) (e : End) (self node : Node) (ps : List (Rc Form Global)) (r : Rc Form Global) (k : ℕ) (ks all : List ℕ) (tail rest then : Option (Rc Link Global)) →
+    map (λ p. p.value) ps ≡ permuted_parts self.form.value → AllByRecursion (λ k. k < length (permuted_parts self.form.value)) all → all ≡ k ∷ ks → r ≡ get_or ps k r → IsNodeOf r.value self.excluded node →
+    tail_parts n e rest ≡ in_order (permuted_costed n e self) ks ++ tail_parts n e then → tail_links tail ≡ (None, Whole node) ∷ tail_links rest → tail_parts n e tail ≡ in_order (permuted_costed n e self) all ++ tail_parts n e then
+next_linked n e self node ps r k ks all tail rest then same within is read made later linked =
+    let P : List ℕ → Type 0 = AllByRecursion (λ k. k < length (permuted_parts self.form.value)) in
+    let below = subst P is within in
+    let room : k < length ps = omega (arith, below.0, ap length same, length-map ps (λ p. p.value)) in
+    ap (links_parts n e) linked
+    ∙ ap (λ p. p ∷ tail_parts n e rest) (node_as n e node r.value self.excluded made ∙ sym (part_at n e self.excluded (permuted_parts self.form.value) ps k r same room read))
+    ∙ ap (λ z. get_or (permuted_costed n e self) k (nothing_mapped, one_turn) ∷ z) later
+    ∙ ap (λ z. in_order (permuted_costed n e self) z ++ tail_parts n e then) (sym is)

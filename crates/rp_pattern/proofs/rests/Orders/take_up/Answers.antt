@@ -1,4 +1,4 @@
-use Rattle.std.proofs.Common.{◌≡◌, ◌∷◌, ◌++◌, ◌+◌, length, sym, subst}
+use Rattle.std.proofs.Common.{◌≡◌, ◌∷◌, ◌++◌, ◌+◌, length, sym, ap, ◌∙◌, subst}
 use Rattle.std.proofs.lemmas.List.{length-map}
 use Rattle.rp_pattern.specs.PermutedParts.{permuted_parts}
 use Rattle.rp_pattern.specs.Turns.{orders_from}
@@ -17,4 +17,7 @@ returns c = λ n e.
     let fs = permuted_parts o.permute.form.value in
     let items = c.in_ok-order.order.items in
     let r = c.in_ok-follow.field-0 in
-    (let a = c.in_ok-first.ensures n e in let b = c.deref.ensures in ?)
+    let order : tail_parts n e c.in_ok-first.first ≡ in_order ps items ++ ts = c.in_ok-first.ensures n e ∙ ap (λ z. in_order ps z ++ ts) c.deref.ensures.value in
+    two_splits n e i (orders_from o.from ps ∷ ts) (in_order ps items ++ ts) (orders_from (o.from + 1) ps ∷ ts) r c.in_ok-after.field-0
+    (subst (λ z. Stands n e i z r) order (c.in_ok-follow.ensures n e)) (c.in_ok-after.ensures n e i)
+    (order_leaves o.from ps (length fs) items ts i (sym (length-map fs (λ f. form_part n e f o.permute.excluded))) c.in_ok-order.ensures.order)
