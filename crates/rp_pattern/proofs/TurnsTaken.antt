@@ -1,5 +1,5 @@
 -- How many turns are left of a choice when it is taken up, for each part that it may begin with.
-use Rattle.std.proofs.Common.{◌≡◌, ℕ, zero, suc, ◌+◌, ◌<◌, ◌≤◌, List, [], ◌∷◌, map, Bool, true, false, cond, refl, sym, ap, ◌∙◌, arith}
+use Rattle.std.proofs.Common.{length-append, length, ◌++◌, ◌≡◌, ℕ, zero, suc, ◌+◌, ◌<◌, ◌≤◌, List, [], ◌∷◌, map, Bool, true, false, cond, refl, sym, ap, ◌∙◌, arith}
 use Rattle.std.specs.Prelude.{sum_by, nat_lt, nat_le, nat_eq}
 use Rattle.std.specs.List.{flat_map}
 use Rattle.std.proofs.lemmas.List.{length-map}
@@ -219,3 +219,7 @@ within_iterations_words true l h reluctant p i = exclusion_required p.0 (optiona
 pub within_iterations_taken : (x : Bool) (l h : ℕ) (reluctant : Bool) (p : Part) (ps : List Part) (i : ℕ) → chain_turns (within x (iterations l h reluctant p) ∷ ps) i ≡ chain_turns (iterations l h reluctant (within x p) ∷ ps) i
 within_iterations_taken x l h reluctant p ps i =
     same_first (within x (iterations l h reluctant p)) (iterations l h reluctant (within x p)) ps i (within_iterations_words x l h reluctant p i) (sym (within_iterations_turns x l h reluctant p i))
+
+-- What is left of a choice is its turns and its words. Where two choices with fewer turns have its words, less is left.
+pub left_falls : {A : Type 0} (old first second : List A) (t u v : ℕ) → old ≡ first ++ second → u + v < t → (u + length first) + (v + length second) < t + length old
+left_falls old first second t u v same fewer = omega (arith, ap length same, length-append first second)

@@ -1,4 +1,5 @@
 -- Which patterns are allowed: bounds in order and at most 1,000, and 1 to 8 parts of a PERMUTE.
+-- That bounds are in order is the rule of ISO/IEC 9075-2:2016. The two limits are this project's own.
 use Rattle.std.specs.Prelude.{ℕ, Bool, true, ◌&&◌, map, length, nat_le, Option, Some, None}
 use Rattle.rp_pattern.specs.Variables.{all_true}
 use Rattle.rp_pattern.specs.declared.form.Form.{Form}

@@ -15,7 +15,7 @@ factorial zero = 1
 factorial (suc n) = suc n * factorial n
 
 -- Each list is a permutation of 0 to k - 1, each such permutation is there, and a list comes before each that is
--- lexicographically greater. So each is there once, and no other list of lists is so.
+-- lexicographically greater. So each is there once.
 pub record AreAllPermutations (k : ℕ) (lists : List (List ℕ)) : Type 0 where
   pub each : All (IsPermutation (upto k)) lists
   pub every : (order : List ℕ) → IsPermutation (upto k) order → Contains lists order

@@ -1,4 +1,5 @@
--- How many turns a search takes at most, over rows that no condition refuses.
+-- How many turns a search takes at most, over rows that no condition refuses. A turn takes up one choice.
+-- The count is this project's own: the standard has none.
 use Rattle.std.specs.Prelude.{ℕ, zero, suc, ◌+◌, ◌-◌, Bool, List, [], ◌∷◌, map, length, drop, sum_by, nat_lt, if◌then◌else◌}
 use Rattle.std.specs.List.{flat_map}
 use Rattle.rp_pattern.specs.Mapping.{Mapping, Full, Open}

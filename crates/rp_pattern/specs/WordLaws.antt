@@ -1,4 +1,4 @@
--- What more rows, or the close, do to a list of words.
+-- What more rows, or the close, do to a list of words. These laws are this project's own.
 use Rattle.std.specs.Prelude.{◌≡◌, ℕ, suc, ◌+◌, ◌-◌, ◌≤◌, Bool, length, List, [], ◌∷◌, ◌++◌, Some, None, ⊤}
 use Rattle.std.specs.List.{AllByRecursion}
 use Rattle.rp_pattern.specs.Mapping.{Mapping, Full, Open, labels_of}
@@ -8,14 +8,12 @@ use Rattle.rp_pattern.specs.declared.word.End.{End}
 use Rattle.rp_pattern.specs.declared.word.End.TheVariants.{Closed as ClosedEnd}
 use Rattle.rp_pattern.specs.Words.{words, quantified, preferred, concatenation, moving}
 
+-- ---- more rows, or the close
+
 -- a word begins with these labels
 pub record BeginsWith (ls : List Label) (w : Mapping) : Type 0 where
   pub rest : List Label
   pub begins : ls ++ rest ≡ labels_of w
-
--- no label of the words from row i lies past row n
-abbrev pub IsWithin : ℕ → ℕ → Mapping → Type 0
-IsWithin n i w = length (labels_of w) ≤ suc n - i
 
 -- A full word stays, and an open one is replaced in its own place by words that begin with its labels.
 pub data Extends : List Mapping → List Mapping → Type 0 where
@@ -24,20 +22,37 @@ pub data Extends : List Mapping → List Mapping → Type 0 where
   gone : {ls : List Label} {old new : List Mapping} → Extends old new → Extends (Open ls ∷ old) new
   grows : {ls : List Label} {w : Mapping} {old new : List Mapping} → BeginsWith ls w → Extends (Open ls ∷ old) new → Extends (Open ls ∷ old) (w ∷ new)
 
--- Without an upper bound, what follows an iteration has none either, and any bound of n + 2 or more says the same.
+-- later rows, or the close: a closed end stays, and so do its rows
+abbrev pub IsLater : ℕ → End → ℕ → End → Type 0
+IsLater n e n' e' = (n ≤ n') × (e ≡ ClosedEnd → (n' ≡ n) × (e' ≡ ClosedEnd))
+
+-- Over every continuation the words of every pattern from every row are extended.
+abbrev pub WordsExtend : Type 0
+WordsExtend = (f : Form) (n n' : ℕ) (e e' : End) (i : ℕ) → IsLater n e n' e' → Extends (words n e f i) (words n' e' f i)
+
+-- ---- iterations without an upper bound
+
+-- What follows an iteration has no upper bound either.
 abbrev pub NoBoundStays : Type 0
 NoBoundStays = (f : Form) (n : ℕ) (e : End) (reluctant : Bool) (i : ℕ) →
     quantified n 0 None reluctant (words n e f) i ≡ preferred reluctant (concatenation (moving (words n e f)) (quantified n 0 None reluctant (words n e f)) i) (Full [] ∷ [])
 
+-- An upper bound of n + 2 or more says the same as none.
 abbrev pub GreatBoundsAgree : Type 0
 GreatBoundsAgree = (f : Form) (n : ℕ) (e : End) (reluctant : Bool) (h i : ℕ) → n + 2 ≤ h →
     quantified n 0 (Some h) reluctant (words n e f) i ≡ quantified n 0 None reluctant (words n e f) i
+
+-- ---- the rows of a word
+
+-- no label of a word from row i lies past row n
+abbrev pub IsWithin : ℕ → ℕ → Mapping → Type 0
+IsWithin n i w = length (labels_of w) ≤ suc n - i
 
 -- A word's labels are of known rows.
 abbrev pub WordsEnd : Type 0
 WordsEnd = (f : Form) (n : ℕ) (e : End) (i : ℕ) → AllByRecursion (IsWithin n i) (words n e f i)
 
--- an open word has a label for each row from i to the last known one
+-- where the word from row i is open, it has a label for each row from i to n
 abbrev pub RunsToEnd : ℕ → ℕ → Mapping → Type 0
 RunsToEnd n i (Full ls) = ⊤
 RunsToEnd n i (Open ls) = length ls ≡ suc n - i
@@ -53,11 +68,3 @@ IsFull (Open ls) = ⊥
 -- Over a closed end each word is full.
 abbrev pub WordsClose : Type 0
 WordsClose = (f : Form) (n i : ℕ) → AllByRecursion IsFull (words n ClosedEnd f i)
-
--- later rows, or the close: a closed end stays, and so do its rows
-abbrev pub IsLater : ℕ → End → ℕ → End → Type 0
-IsLater n e n' e' = (n ≤ n') × (e ≡ ClosedEnd → (n' ≡ n) × (e' ≡ ClosedEnd))
-
--- Over every continuation the words of every pattern from every row are extended.
-abbrev pub WordsExtend : Type 0
-WordsExtend = (f : Form) (n n' : ℕ) (e e' : End) (i : ℕ) → IsLater n e n' e' → Extends (words n e f i) (words n' e' f i)

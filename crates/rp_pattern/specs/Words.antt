@@ -1,4 +1,6 @@
 -- The words of a pattern: the ways to map rows to it from a row on, in preferment order.
+-- Source: the row patterns of ISO/IEC 9075-2:2016, as ISO/IEC TR 19075-5:2016 explains them. Three rules are this project's own:
+-- an iteration past the required ones takes a row, a bound may be 0, and past the last row of an open partition a word is open.
 use Rattle.std.specs.Prelude.{ℕ, zero, suc, ◌+◌, ◌-◌, Bool, true, false, List, [], ◌∷◌, ◌++◌, map, length, nat_le, nat_lt, nat_eq, if◌then◌else◌, Option, Some, None}
 use Rattle.std.specs.List.{flat_map, filter}
 use Rattle.rp_pattern.specs.declared.form.Form.{Form}

@@ -17,3 +17,6 @@ pub use laws::law_words;
 pub use list::{ListFault, list_words};
 pub use orders::permutations;
 pub use word::{End, Label, Mark, Seen, Word};
+
+#[cfg(test)]
+mod tests;

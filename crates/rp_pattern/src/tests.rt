@@ -1,0 +1,123 @@
+ghost use Rattle.std.specs.Prelude.{◌≤◌};
+
+use crate::{Form, Pattern, permutations};
+use std::alloc::{AllocError, Global};
+use std::rc::Rc;
+use std::test::Fail;
+
+/// All permutations, asked for again where memory is refused once.
+fn orders_of(alloc: Global, k: usize) -> Result<Vec<Vec<usize>>, AllocError>
+    requires { k ≤ 8 }
+{
+    match permutations(alloc, k) {
+        Ok(orders) => Ok(orders),
+        Err(_) => permutations(alloc, k),
+    }
+}
+
+#[test]
+fn orders_of_three(rt: HostRuntime) -> Result<(), Fail> {
+    let orders = orders_of(rt.alloc(), 3)?;
+    let expected = [
+        [0, 1, 2],
+        [0, 2, 1],
+        [1, 0, 2],
+        [1, 2, 0],
+        [2, 0, 1],
+        [2, 1, 0],
+    ];
+    assert_eq!(rt; orders.len(), expected.len());
+    for (order, wanted) in orders.iter().zip(expected.iter()) {
+        assert_eq!(rt; order.as_slice(), wanted.as_slice());
+    }
+    Ok(())
+}
+
+#[test]
+fn orders_of_none(rt: HostRuntime) -> Result<(), Fail> {
+    let orders = orders_of(rt.alloc(), 0)?;
+    assert_eq!(rt; orders.len(), 1);
+    assert!(rt; orders[0].is_empty());
+    Ok(())
+}
+
+#[test]
+fn orders_of_eight(rt: HostRuntime) -> Result<(), Fail> {
+    let orders = orders_of(rt.alloc(), 8)?;
+    assert_eq!(rt; orders.len(), 40320);
+    assert_eq!(rt; orders[0].as_slice(), [0, 1, 2, 3, 4, 5, 6, 7].as_slice());
+    assert_eq!(rt;
+        orders[40319].as_slice(),
+        [7, 6, 5, 4, 3, 2, 1, 0].as_slice()
+    );
+    Ok(())
+}
+
+/// `PERMUTE` of so many As.
+fn permuted(alloc: Global, count: usize) -> Result<Form, AllocError> {
+    let mut parts = Vec::new(alloc);
+    for _ in 0..count {
+        parts.push(Rc::new(alloc, Form::Variable(0))?)?;
+    }
+    Ok(Form::Permute(parts))
+}
+
+/// `A` with these bounds.
+fn quantified(alloc: Global, lower: u32, upper: Option<u32>) -> Result<Form, AllocError> {
+    Ok(Form::Quantified {
+        body: Rc::new(alloc, Form::Variable(0))?,
+        lower,
+        upper,
+        reluctant: false,
+    })
+}
+
+#[test]
+fn few_parts_are_allowed(rt: HostRuntime) -> Result<(), Fail> {
+    assert!(rt; !permuted(rt.alloc(), 0)?.is_allowed());
+    assert!(rt; permuted(rt.alloc(), 1)?.is_allowed());
+    assert!(rt; permuted(rt.alloc(), 8)?.is_allowed());
+    assert!(rt; !permuted(rt.alloc(), 9)?.is_allowed());
+    Ok(())
+}
+
+#[test]
+fn bounds_in_order_are_allowed(rt: HostRuntime) -> Result<(), Fail> {
+    assert!(rt; quantified(rt.alloc(), 0, Some(0))?.is_allowed());
+    assert!(rt; quantified(rt.alloc(), 1000, Some(1000))?.is_allowed());
+    assert!(rt; quantified(rt.alloc(), 1000, None)?.is_allowed());
+    assert!(rt; !quantified(rt.alloc(), 2, Some(1))?.is_allowed());
+    assert!(rt; !quantified(rt.alloc(), 0, Some(1001))?.is_allowed());
+    assert!(rt; !quantified(rt.alloc(), 1001, None)?.is_allowed());
+    Ok(())
+}
+
+#[test]
+fn variables_are_below(rt: HostRuntime) -> Result<(), Fail> {
+    let first = Rc::new(rt.alloc(), permuted(rt.alloc(), 2)?)?;
+    let second = Rc::new(rt.alloc(), Form::Variable(2))?;
+    let form = Form::Concatenation(first, second);
+    assert!(rt; form.are_below(3));
+    assert!(rt; !form.are_below(2));
+    Ok(())
+}
+
+#[test]
+fn pattern_keeps_its_tree(rt: HostRuntime) -> Result<(), Fail> {
+    let form = quantified(rt.alloc(), 1, Some(2))?;
+    assert!(rt; form.is_allowed());
+    let pattern = Pattern::new(form);
+    match pattern.form() {
+        Form::Quantified {
+            body,
+            lower,
+            upper,
+            reluctant,
+        } => {
+            assert!(rt; matches!(**body, Form::Variable(0)));
+            assert_eq!(rt; (*lower, *upper, *reluctant), (1, Some(2), false));
+        }
+        _ => panic!(rt; "another form"),
+    }
+    Ok(())
+}
