@@ -1,4 +1,5 @@
-ghost use Rattle.std.specs.Prelude.{◌≡◌, ℕ, suc, ◌∷◌, ◌+◌, ◌-◌, ◌^◌, ◌<◌, ◌≤◌, ◌++◌, All, IfOk, IsTrue, List, map, length, drop};
+ghost use Rattle.std.specs.Prelude.{◌≡◌, ℕ, suc, ◌∷◌, ◌+◌, ◌-◌, ◌^◌, ◌<◌, ◌≤◌, ◌++◌, IfOk, IsTrue, List, map, length, drop};
+ghost use Rattle.std.specs.List.{AllByRecursion};
 ghost use Rattle.rp_pattern.specs.declared.word.End.{End};
 ghost use Rattle.rp_pattern.specs.Rests.{tail_parts, rests_parts, part_as, node_part, iterations_part, permuted_costed, in_order, still, IsOneLess, IsSamePart};
 ghost use Rattle.rp_pattern.specs.Bounds.{is_allowed};
@@ -307,7 +308,7 @@ impl Node {
 
     /// The parts in an order, before later ones.
     fn in_order(&self, alloc: Global, order: &[usize], then: &Tail) -> Result<Tail, AllocError>
-        requires { All (λ k. k < length (permuted_parts self.now.form.value)) order.now }
+        requires { AllByRecursion (λ k. k < length (permuted_parts self.now.form.value)) order.now }
         ensures { IfOk result (λ tail. (n : ℕ) (e : End) → tail_parts n e tail ≡ in_order (permuted_costed n e self.now) order.now ++ tail_parts n e then.now) }
     {
         let Some((place, places)) = order.split_first() else {
@@ -334,7 +335,7 @@ impl Orders {
     /// The places of the parts in the first of the orders.
     fn order(&self, alloc: Global) -> Result<Vec<usize>, AllocError>
         ensures order { IfOk result (λ v. drop self.now.from (orders (upto (length (permuted_parts self.now.permute.form.value)))) ≡ v.items ∷ drop (self.now.from + 1) (orders (upto (length (permuted_parts self.now.permute.form.value))))) }
-        ensures within { IfOk result (λ v. All (λ k. k < length (permuted_parts self.now.permute.form.value)) v.items) }
+        ensures within { IfOk result (λ v. AllByRecursion (λ k. k < length (permuted_parts self.now.permute.form.value)) v.items) }
     {
         permutation_at(alloc, self.permute.parts().len(), self.from)
     }
@@ -343,8 +344,9 @@ impl Orders {
     fn after(&self, then: &Tail) -> Result<Option<Rests>, AllocError>
         ensures { IfOk result (λ rests. (n : ℕ) (e : End) (i : ℕ) → Stands n e i (orders_from (self.now.from + 1) (permuted_costed n e self.now.permute) ∷ tail_parts n e then.now) rests) }
     {
+        let count = factorial(self.permute.parts().len());
         let from = self.from + 1;
-        if from >= factorial(self.permute.parts().len()) {
+        if from >= count {
             return Ok(None);
         }
         Ok(Some(Rests::Then {

@@ -1,7 +1,25 @@
+use Rattle.std.proofs.Common.{◌≡◌, ◌≤◌, ◌+◌, length, map, sym, ap, ◌∙◌, arith}
+use Rattle.std.proofs.lemmas.List.{length-map}
+use Rattle.rp_pattern.specs.PermutedParts.{permuted_parts}
+use Rattle.rp_pattern.specs.Permutations.{factorial}
+use Rattle.rp_pattern.specs.Rests.{permuted_costed, tail_parts, form_part}
+use Rattle.rp_pattern.proofs.Places.{factorial_small}
+use Rattle.rp_pattern.proofs.OrderRests.{no_order}
 use Rattle.rp_pattern.proofs.rests.Orders.after.Goals as goal
 
 pub overflow_add-from : goal.overflow_add-from
-overflow_add-from c = ?
+overflow_add-from c =
+    let o = c.args.self.now in
+    let long : length (permuted_parts o.permute.form.value) ≡ length c.parts.result.now = sym (ap length c.parts.ensures.parts) ∙ length-map c.parts.result.now (λ p. p.value) in
+    let room = o.there in
+    let count = ap factorial long in
+    let few = factorial_small (length c.parts.result.now) c.parts.ensures.few in
+    omega (arith, room, count, few)
 
-pub returns-then-from-factorial : goal.returns-then-from-factorial
-returns-then-from-factorial c = ?
+pub returns-then-from-count : goal.returns-then-from-count
+returns-then-from-count c = λ n e i.
+    let o = c.args.self.now in
+    let fs = permuted_parts o.permute.form.value in
+    let long : length fs ≡ length c.parts.result.now = sym (ap length c.parts.ensures.parts) ∙ length-map c.parts.result.now (λ p. p.value) in
+    let longs : length (permuted_costed n e o.permute) ≡ length c.parts.result.now = length-map fs (λ f. form_part n e f o.permute.excluded) ∙ long in
+    no_order n e i (o.from + 1) (permuted_costed n e o.permute) (tail_parts n e c.args.then.now) (omega (arith, c.factorial-count.ensures, ap factorial longs, c.if-from-count.true))
