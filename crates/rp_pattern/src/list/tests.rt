@@ -64,10 +64,7 @@ fn question(alloc: Global, body: Form) -> Result<Form, AllocError> {
 }
 
 fn then(alloc: Global, first: Form, second: Form) -> Result<Form, AllocError> {
-    Ok(Form::Concatenation(
-        Rc::new(alloc, first)?,
-        Rc::new(alloc, second)?,
-    ))
+    Ok(Form::Concatenation(Rc::new(alloc, first)?, Rc::new(alloc, second)?))
 }
 
 /// How many words there are over three closed rows, and the first of them.
@@ -113,7 +110,10 @@ fn caps(rt: HostRuntime) -> Result<(), Fail> {
 fn bounds(rt: HostRuntime) -> Result<(), Fail> {
     let alloc = rt.alloc();
     let greedy = quantified(alloc, Form::Variable(0), 1, Some(2), false)?;
-    assert_eq!(rt; shown(alloc, greedy, 1, 2, End::Closed, 9)?.as_str(), "AA A ");
+    assert_eq!(rt;
+        shown(alloc, greedy, 1, 2, End::Closed, 9)?.as_str(),
+        "AA A "
+    );
     let lazy = quantified(alloc, Form::Variable(0), 1, Some(2), true)?;
     assert_eq!(rt; shown(alloc, lazy, 1, 2, End::Closed, 9)?.as_str(), "A AA ");
     let none = quantified(alloc, Form::Variable(0), 0, Some(0), false)?;

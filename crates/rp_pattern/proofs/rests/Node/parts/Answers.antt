@@ -7,7 +7,7 @@ use Rattle.rp_pattern.proofs.OrderRests.{and_last}
 use Rattle.rp_pattern.proofs.rests.Node.parts.Goals as goal
 
 pub returns-in-Permute-clause-allowed : goal.returns-in-Permute-clause-allowed
-returns-in-Permute-clause-allowed c = 
+returns-in-Permute-clause-allowed c =
     let ps = c.in-Permute.parts in
     let whole = sym (allowed_permute ps) ∙ ap is_allowed (sym c.in-Permute.is ∙ c.deref.ensures) ∙ c.args.self.now.allowed in
     subst (λ xs. IsTrue (all_true (map (λ p. is_allowed p.value) xs))) (sym c.deref-in-Permute.ensures.value)

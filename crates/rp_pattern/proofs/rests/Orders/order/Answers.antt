@@ -8,7 +8,7 @@ use Rattle.rp_pattern.proofs.OrderRests.{items_below, IfOk-map}
 use Rattle.rp_pattern.proofs.rests.Orders.order.Goals as goal
 
 pub returns-clause-within : goal.returns-clause-within
-returns-clause-within c = 
+returns-clause-within c =
     let o = c.args.self.now in
     let k = length c.parts.result.now in
     let long : k ≡ length (permuted_parts o.permute.form.value) = sym (length-map c.parts.result.now (λ p. p.value)) ∙ ap length c.parts.ensures.parts in
