@@ -10,7 +10,8 @@ use Rattle.rp_pattern.specs.declared.word.Seen.TheVariants.{True, NotTrue, Open 
 use Rattle.rp_pattern.specs.Mapping.{Mapping, Full, Open}
 use Rattle.rp_pattern.specs.Words.{preceded}
 use Rattle.rp_pattern.specs.declared.choices.Choices.{Choices}
-use Rattle.rp_pattern.specs.Choices.{IsLater, start_of, entered, whole, whole_left, remaining, left, below, below_left, after, after_left, Keeps, IsCutBack, IsCutOff, Splits, TakesRow, TakesFull, TakesOpen, TakesNothing, Admits, GivesUp, BeginsAgain}
+use Rattle.rp_pattern.specs.WordLaws.{IsLater}
+use Rattle.rp_pattern.specs.Choices.{AtRow, start_of, entered, whole, whole_left, remaining, left, below, below_left, after, after_left, IsFront, IsShorterFront, IsSameWhole, IsSplit, MapsRow as TakesRow, IsFullWord, IsOpenWord, IsNothing}
 use Rattle.rp_search.specs.Found.{Test, tested, Stays, TestsStay, found, Match, NoMatch, Waits}
 use Rattle.rp_search.specs.Fits.{rows_from, RefusedBefore, Stands, MapsRow, Explores}
 use Rattle.rp_search.specs.Turned.{Goes}
@@ -18,14 +19,14 @@ use Rattle.rp_search.proofs.FoundLaws.{itself_stays, tested_stays}
 use Rattle.rp_search.proofs.Tested.{tested_take, refused_row, before_more, before_stays, found_before, full_matches, open_waits, begun_waits, last_decides, cut_admitted}
 
 pub now_later : (n : ℕ) (e : End) → IsLater n e n e
-now_later n e = record { rows = omega arith; closed = λ h. (refl, h) }
+now_later n e = (omega arith, λ h. (refl, h))
 
 pub later_still : (n n' n'' : ℕ) (e e' e'' : End) → IsLater n e n' e' → IsLater n' e' n'' e'' → IsLater n e n'' e''
 later_still n n' n'' e e' e'' a b =
-    record { rows = omega (arith, a.rows, b.rows); closed = λ h. ((b.closed (a.closed h).1).0 ∙ (a.closed h).0, (b.closed (a.closed h).1).1) }
+    (omega (arith, a.0, b.0), λ h. ((b.1 (a.1 h).1).0 ∙ (a.1 h).0, (b.1 (a.1 h).1).1))
 
 -- choices stand where those of before did, with what they are now
-stands_from : (old new : Choices) (n : ℕ) (e : End) (test : Test) → Keeps old new → 1 ≤ start_of old → length (entered new) ≤ rows_from (start_of old) n →
+stands_from : (old new : Choices) (n : ℕ) (e : End) (test : Test) → IsSameWhole old new → 1 ≤ start_of old → length (entered new) ≤ rows_from (start_of old) n →
     ((n' : ℕ) (e' : End) → IsLater n e n' e' → RefusedBefore (rows_from (start_of old) n) test (whole old n' e') (remaining new n' e')) →
     ((n' : ℕ) (e' : End) → IsLater n e n' e' → left new n' e' ≤ whole_left old n' e') → Stands new n e test
 stands_from old new n e test keeps one known words turns =
@@ -35,42 +36,42 @@ stands_from old new n e test keeps one known words turns =
       words = λ n' e' h.
           subst (λ s. RefusedBefore (rows_from s n) test (whole new n' e') (remaining new n' e')) (sym keeps.start)
           (subst (λ ws. RefusedBefore (rows_from (start_of old) n) test ws (remaining new n' e')) (sym (keeps.words n' e')) (words n' e' h));
-      turns = λ n' e' h. subst (λ k. left new n' e' ≤ k) (sym (keeps.turns n' e')) (turns n' e' h);
+      turns = λ n' e' h. subst (λ k. left new n' e' ≤ k) (sym (keeps.left n' e')) (turns n' e' h);
     }
 
 cut_known : (ls : List Label) (k r : ℕ) → length ls ≤ r → length (take k ls) ≤ r
 cut_known ls k r h = omega (arith, length-take k ls)
 
 -- the labels cut back, and the same words
-pub stands_cut : (old new : Choices) (n : ℕ) (e : End) (test : Test) → Stands old n e test → Keeps old new → IsCutBack old new →
+pub stands_cut : (old new : Choices) (n : ℕ) (e : End) (test : Test) → Stands old n e test → IsSameWhole old new → IsFront (entered new) (entered old) →
     ((n' : ℕ) (e' : End) → IsLater n e n' e' → remaining new n' e' ≡ remaining old n' e') →
     ((n' : ℕ) (e' : End) → IsLater n e n' e' → left new n' e' ≤ left old n' e') → Stands new n e test
 stands_cut old new n e test s keeps cut same fewer =
     stands_from old new n e test keeps s.from_one
-    (subst (λ ls. length ls ≤ rows_from (start_of old) n) (sym cut.labels) (cut_known (entered old) cut.depth (rows_from (start_of old) n) s.known))
+    (subst (λ ls. length ls ≤ rows_from (start_of old) n) (sym cut.1) (cut_known (entered old) cut.0 (rows_from (start_of old) n) s.known))
     (λ n' e' h. subst (λ ws. RefusedBefore (rows_from (start_of old) n) test (whole old n' e') ws) (sym (same n' e' h)) (s.words n' e' h))
     (λ n' e' h. omega (arith, fewer n' e' h, s.turns n' e' h))
 
-pub cut_true : (old new : Choices) (test : Test) → IsCutBack old new → tested test (entered old) ≡ True → tested test (entered new) ≡ True
-cut_true old new test cut h = subst (λ ls. tested test ls ≡ True) (sym cut.labels) (tested_take (entered old) cut.depth test h)
+pub cut_true : (old new : Choices) (test : Test) → IsFront (entered new) (entered old) → tested test (entered old) ≡ True → tested test (entered new) ≡ True
+cut_true old new test cut h = subst (λ ls. tested test ls ≡ True) (sym cut.1) (tested_take (entered old) cut.0 test h)
 
-pub stands_splits : (old new : Choices) (n : ℕ) (e : End) (test : Test) → Stands old n e test → Keeps old new → Splits old new n e → Stands new n e test
-stands_splits old new n e test s keeps t = stands_cut old new n e test s keeps t.cut t.words (λ n' e' h. omega (arith, t.turns n' e' h))
+pub stands_splits : (old new : Choices) (n : ℕ) (e : End) (test : Test) → Stands old n e test → IsSameWhole old new → IsSplit old new n e → Stands new n e test
+stands_splits old new n e test s keeps t = stands_cut old new n e test s keeps t.cut t.same (λ n' e' h. omega (arith, t.less n' e' h))
 
-pub stands_full : (old new : Choices) (n : ℕ) (e : End) (test : Test) → Stands old n e test → Keeps old new → TakesFull old new n e → Stands new n e test
-stands_full old new n e test s keeps t = stands_cut old new n e test s keeps t.cut t.words (λ n' e' h. omega (arith, t.turns n' e' h))
+pub stands_full : (old new : Choices) (n : ℕ) (e : End) (test : Test) → Stands old n e test → IsSameWhole old new → IsFullWord old new n e → Stands new n e test
+stands_full old new n e test s keeps t = stands_cut old new n e test s keeps t.cut (λ n' e' h. t.now n' e' h ∙ sym (t.was n' e' h)) (λ n' e' h. omega (arith, t.same_left n' e' h))
 
-pub stands_open : (old new : Choices) (n : ℕ) (e : End) (test : Test) → Stands old n e test → Keeps old new → TakesOpen old new n e → Stands new n e test
-stands_open old new n e test s keeps t = stands_cut old new n e test s keeps t.cut t.words (λ n' e' h. omega (arith, t.turns n' e' h))
+pub stands_open : (old new : Choices) (n : ℕ) (e : End) (test : Test) → Stands old n e test → IsSameWhole old new → IsOpenWord old new n e → Stands new n e test
+stands_open old new n e test s keeps t = stands_cut old new n e test s keeps t.cut t.same (λ n' e' h. omega (arith, t.same_left n' e' h))
 
-pub stands_nothing : (old new : Choices) (n : ℕ) (e : End) (test : Test) → Stands old n e test → Keeps old new → TakesNothing old new n e → Stands new n e test
-stands_nothing old new n e test s keeps t = stands_cut old new n e test s keeps t.cut t.words t.turns
+pub stands_nothing : (old new : Choices) (n : ℕ) (e : End) (test : Test) → Stands old n e test → IsSameWhole old new → IsNothing old new n e → Stands new n e test
+stands_nothing old new n e test s keeps t = stands_cut old new n e test s keeps t.cut (λ n' e' h. t.now n' e' h ∙ sym (t.was n' e' h)) t.less
 
-pub stands_row : (old new : Choices) (n : ℕ) (e : End) (test : Test) → Stands old n e test → Keeps old new → TakesRow old new n e → Stands new n e test
+pub stands_row : (old new : Choices) (n : ℕ) (e : End) (test : Test) → Stands old n e test → IsSameWhole old new → TakesRow old new n e → Stands new n e test
 stands_row old new n e test s keeps t =
     stands_from old new n e test keeps s.from_one (omega (arith, t.known, keeps.start))
-    (λ n' e' h. subst (λ ws. RefusedBefore (rows_from (start_of old) n) test (whole old n' e') ws) (sym (t.words n' e' h)) (s.words n' e' h))
-    (λ n' e' h. omega (arith, t.turns n' e' h, s.turns n' e' h))
+    (λ n' e' h. subst (λ ws. RefusedBefore (rows_from (start_of old) n) test (whole old n' e') ws) (t.was n' e' h ∙ sym (t.now n' e' h)) (s.words n' e' h))
+    (λ n' e' h. omega (arith, t.same_left n' e' h, s.turns n' e' h))
 
 pub maps_row : (old new : Choices) (n : ℕ) (e : End) (test : Test) → tested test (entered old) ≡ True → TakesRow old new n e → MapsRow new n e test
 maps_row old new n e test h t =
@@ -79,10 +80,10 @@ maps_row old new n e test h t =
       has_top = t.has_top;
       before = take t.depth (entered old);
       last = t.label;
-      labels = t.labels;
+      labels = t.enters;
       admitted = tested_take (entered old) t.depth test h;
-      words = t.words_parts;
-      turns = t.turns_parts;
+      words = t.now;
+      turns = t.parts_left;
     }
 
 -- the last label's test decides
@@ -90,28 +91,36 @@ pub row_decides : (c : Choices) (n : ℕ) (e : End) (test : Test) → MapsRow c 
 row_decides c n e test r = last_decides r.before r.last (entered c) test r.labels r.admitted
 
 -- a row that is admitted
-pub goes_admitted : (old new : Choices) (n : ℕ) (e : End) (test : Test) → Stands old n e test → MapsRow old n e test → test (entered old) ≡ True → Keeps old new → Admits old new → Goes old new n e test
-goes_admitted old new n e test s r seen keeps a =
+pub goes_admitted : (old new : Choices) (n : ℕ) (e : End) (test : Test) → Stands old n e test → MapsRow old n e test → test (entered old) ≡ True → IsSameWhole old new →
+    entered new ≡ entered old → ((n' : ℕ) (e' : End) → remaining new n' e' ≡ map (preceded (entered old)) (after old n' e') ++ below old n' e') → ((n' : ℕ) (e' : End) → left new n' e' ≡ after_left old n' e' + below_left old n' e') → Goes old new n e test
+goes_admitted old new n e test s r seen keeps labels words turns =
     record {
       stands = stands_from old new n e test keeps s.from_one
-          (subst (λ ls. length ls ≤ rows_from (start_of old) n) (sym a.labels) s.known)
-          (λ n' e' h. subst (λ ws. RefusedBefore (rows_from (start_of old) n) test (whole old n' e') ws) (r.words n' e' h ∙ sym (a.words n' e')) (s.words n' e' h))
-          (λ n' e' h. omega (arith, a.turns n' e', r.turns n' e' h, s.turns n' e' h));
-      admitted = subst (λ ls. tested test ls ≡ True) (sym a.labels) (row_decides old n e test r ∙ seen);
-      turns = omega (arith, a.turns n e, r.turns n e (now_later n e));
+          (subst (λ ls. length ls ≤ rows_from (start_of old) n) (sym labels) s.known)
+          (λ n' e' h. subst (λ ws. RefusedBefore (rows_from (start_of old) n) test (whole old n' e') ws) (r.words n' e' h ∙ sym (words n' e')) (s.words n' e' h))
+          (λ n' e' h. omega (arith, turns n' e', r.turns n' e' h, s.turns n' e' h));
+      admitted = subst (λ ls. tested test ls ≡ True) (sym labels) (row_decides old n e test r ∙ seen);
+      turns = omega (arith, turns n e, r.turns n e (now_later n e));
     }
 
+-- the preferred choice is given up
+pub record GivesUp (old new : Choices) : Type 0 where
+  pub cut : IsFront (entered new) (entered old)
+  pub cut_off : AtRow old → IsShorterFront (entered new) (entered old)
+  pub words : (n : ℕ) (e : End) → remaining new n e ≡ below old n e
+  pub turns : (n : ℕ) (e : End) → left new n e ≡ below_left old n e
+
 -- a row whose choice is given up, where its words are refused or there are none
-goes_without : (old new : Choices) (n : ℕ) (e : End) (test : Test) → Stands old n e test → MapsRow old n e test → Keeps old new → GivesUp old new →
+goes_without : (old new : Choices) (n : ℕ) (e : End) (test : Test) → Stands old n e test → MapsRow old n e test → IsSameWhole old new → GivesUp old new →
     ((n' : ℕ) (e' : End) → IsLater n e n' e' → RefusedBefore (rows_from (start_of old) n) test (whole old n' e') (below old n' e')) → Goes old new n e test
 goes_without old new n e test s r keeps g words =
-    let off : IsCutOff old new = g.cut_off r.at_row in
+    let off : IsShorterFront (entered new) (entered old) = g.cut_off r.at_row in
     record {
       stands = stands_from old new n e test keeps s.from_one
-          (subst (λ ls. length ls ≤ rows_from (start_of old) n) (sym g.cut.labels) (cut_known (entered old) g.cut.depth (rows_from (start_of old) n) s.known))
+          (subst (λ ls. length ls ≤ rows_from (start_of old) n) (sym g.cut.1) (cut_known (entered old) g.cut.0 (rows_from (start_of old) n) s.known))
           (λ n' e' h. subst (λ ws. RefusedBefore (rows_from (start_of old) n) test (whole old n' e') ws) (sym (g.words n' e')) (words n' e' h))
           (λ n' e' h. omega (arith, g.turns n' e', r.turns n' e' h, s.turns n' e' h));
-      admitted = subst (λ ls. tested test ls ≡ True) (sym off.labels) (cut_admitted r.before r.last (entered old) off.depth test r.labels off.shorter r.admitted);
+      admitted = subst (λ ls. tested test ls ≡ True) (sym off.2) (cut_admitted r.before r.last (entered old) off.0 test r.labels off.1 r.admitted);
       turns = omega (arith, g.turns n e, r.turns n e (now_later n e));
     }
 
@@ -119,14 +128,14 @@ row_words : (old : Choices) (n : ℕ) (e : End) (test : Test) → Stands old n e
     RefusedBefore (rows_from (start_of old) n) test (whole old n' e') (map (preceded (entered old)) (after old n' e') ++ below old n' e')
 row_words old n e test s r n' e' h = subst (λ ws. RefusedBefore (rows_from (start_of old) n) test (whole old n' e') ws) (r.words n' e' h) (s.words n' e' h)
 
-pub goes_refused : (old new : Choices) (n : ℕ) (e : End) (test : Test) → Stands old n e test → MapsRow old n e test → test (entered old) ≡ NotTrue → Keeps old new → GivesUp old new → Goes old new n e test
+pub goes_refused : (old new : Choices) (n : ℕ) (e : End) (test : Test) → Stands old n e test → MapsRow old n e test → test (entered old) ≡ NotTrue → IsSameWhole old new → GivesUp old new → Goes old new n e test
 goes_refused old new n e test s r seen keeps g =
     goes_without old new n e test s r keeps g
     (λ n' e' h. before_more (rows_from (start_of old) n) test (whole old n' e') (map (preceded (entered old)) (after old n' e')) (below old n' e')
     (row_words old n e test s r n' e' h)
     (refused_row (entered old) (after old n' e') (rows_from (start_of old) n) test s.known (row_decides old n e test r ∙ seen)))
 
-pub goes_wordless : (old new : Choices) (n : ℕ) (e : End) (test : Test) → Stands old n e test → MapsRow old n e test → ((n' : ℕ) (e' : End) → IsLater n e n' e' → after old n' e' ≡ []) → Keeps old new → GivesUp old new → Goes old new n e test
+pub goes_wordless : (old new : Choices) (n : ℕ) (e : End) (test : Test) → Stands old n e test → MapsRow old n e test → ((n' : ℕ) (e' : End) → IsLater n e n' e' → after old n' e' ≡ []) → IsSameWhole old new → GivesUp old new → Goes old new n e test
 goes_wordless old new n e test s r none keeps g =
     goes_without old new n e test s r keeps g
     (λ n' e' h. subst (λ ws. RefusedBefore (rows_from (start_of old) n) test (whole old n' e') (map (preceded (entered old)) ws ++ below old n' e')) (none n' e' h) (row_words old n e test s r n' e' h))
@@ -135,17 +144,17 @@ goes_wordless old new n e test s r none keeps g =
 found_remaining : (c : Choices) (n : ℕ) (e : End) (test : Test) → Stands c n e test → found test (whole c n e) ≡ found test (remaining c n e)
 found_remaining c n e test s = found_before (rows_from (start_of c) n) test (whole c n e) (remaining c n e) (s.words n e (now_later n e))
 
-pub finds_match : (old new : Choices) (n : ℕ) (e : End) (test : Test) → Stands old n e test → tested test (entered old) ≡ True → TakesFull old new n e → found test (whole old n e) ≡ Match (entered new)
+pub finds_match : (old new : Choices) (n : ℕ) (e : End) (test : Test) → Stands old n e test → tested test (entered old) ≡ True → IsFullWord old new n e → found test (whole old n e) ≡ Match (entered new)
 finds_match old new n e test s h t =
-    found_remaining old n e test s ∙ ap (found test) (sym (t.words n e (now_later n e)) ∙ t.words_parts n e (now_later n e)) ∙ full_matches (entered new) test (below new n e) (cut_true old new test t.cut h)
+    found_remaining old n e test s ∙ ap (found test) (t.was n e (now_later n e)) ∙ full_matches (entered new) test (below new n e) (cut_true old new test t.cut h)
 
-pub finds_wait : (old new : Choices) (n : ℕ) (e : End) (test : Test) → Stands old n e test → tested test (entered old) ≡ True → TakesOpen old new n e → found test (whole old n e) ≡ Waits
+pub finds_wait : (old new : Choices) (n : ℕ) (e : End) (test : Test) → Stands old n e test → tested test (entered old) ≡ True → IsOpenWord old new n e → found test (whole old n e) ≡ Waits
 finds_wait old new n e test s h t =
-    found_remaining old n e test s ∙ ap (found test) (sym (t.words n e (now_later n e)) ∙ t.words_parts) ∙ open_waits (entered new) test (below new n e) (cut_true old new test t.cut h)
+    found_remaining old n e test s ∙ ap (found test) t.was ∙ open_waits (entered new) test (below new n e) (cut_true old new test t.cut h)
 
-pub finds_none : (old new : Choices) (n : ℕ) (e : End) (test : Test) → Stands old n e test → TakesNothing old new n e → found test (whole old n e) ≡ NoMatch
+pub finds_none : (old new : Choices) (n : ℕ) (e : End) (test : Test) → Stands old n e test → IsNothing old new n e → found test (whole old n e) ≡ NoMatch
 finds_none old new n e test s t =
-    found_remaining old n e test s ∙ ap (found test) (sym (t.words n e (now_later n e)) ∙ t.none n e (now_later n e))
+    found_remaining old n e test s ∙ ap (found test) (t.was n e (now_later n e))
 
 -- where a row's test is open, and something would follow it
 pub finds_begun : (c : Choices) (n : ℕ) (e : End) (test : Test) (w : Mapping) (ws : List Mapping) → Stands c n e test → MapsRow c n e test → test (entered c) ≡ OpenTest → after c n e ≡ w ∷ ws → found test (whole c n e) ≡ Waits
@@ -162,11 +171,12 @@ explores_on c old new n e test x same fewer =
     record { row = x.row; words = λ n' e' h. same n' e' h ∙ x.words n' e' h; turns = λ n' e' h. omega (arith, fewer n' e' h, x.turns n' e' h) }
 
 -- at its start again
-pub stands_again : (old new : Choices) (n : ℕ) (e : End) (test : Test) → 1 ≤ start_of old → Keeps old new → BeginsAgain old new → Stands new n e test
-stands_again old new n e test one keeps b =
-    stands_from old new n e test keeps one (subst (λ ls. length ls ≤ rows_from (start_of old) n) (sym b.labels) (omega arith))
-    (λ n' e' h. record { front = []; is = sym (b.words n' e'); refused = tt })
-    (λ n' e' h. omega (arith, b.turns n' e'))
+pub stands_again : (old new : Choices) (n : ℕ) (e : End) (test : Test) → 1 ≤ start_of old → IsSameWhole old new →
+    entered new ≡ [] → ((n' : ℕ) (e' : End) → remaining new n' e' ≡ whole old n' e') → ((n' : ℕ) (e' : End) → left new n' e' ≡ whole_left old n' e') → Stands new n e test
+stands_again old new n e test one keeps labels words turns =
+    stands_from old new n e test keeps one (subst (λ ls. length ls ≤ rows_from (start_of old) n) (sym labels) (omega arith))
+    (λ n' e' h. record { front = []; is = sym (words n' e'); refused = tt })
+    (λ n' e' h. omega (arith, turns n' e'))
 
 -- LATER
 
@@ -175,8 +185,8 @@ module _ (n n' : ℕ) (e e' : End) (test test' : Test) (later : IsLater n e n' e
   stands_later c stay s =
       record {
         from_one = s.from_one;
-        known = omega (arith, s.known, later.rows);
-        words = λ m f h. before_stays (rows_from (start_of c) n) (rows_from (start_of c) n') test test' (whole c m f) (remaining c m f) stay (omega (arith, later.rows)) (s.words m f (later_still n n' m e e' f later h));
+        known = omega (arith, s.known, later.0);
+        words = λ m f h. before_stays (rows_from (start_of c) n) (rows_from (start_of c) n') test test' (whole c m f) (remaining c m f) stay (omega (arith, later.0)) (s.words m f (later_still n n' m e e' f later h));
         turns = λ m f h. s.turns m f (later_still n n' m e e' f later h);
       }
 

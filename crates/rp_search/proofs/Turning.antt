@@ -8,11 +8,12 @@ use Rattle.rp_pattern.specs.declared.word.Seen.TheVariants.{True, NotTrue, Open 
 use Rattle.rp_pattern.specs.Mapping.{Mapping, Full, Open}
 use Rattle.rp_pattern.specs.declared.choices.Choices.{Choices}
 use Rattle.rp_search.specs.declared.search.Search.{Search}
-use Rattle.rp_pattern.specs.Choices.{IsLater, start_of, entered, whole, remaining, left, below, below_left, after, after_left, Keeps, Splits, TakesRow, TakesFull, TakesOpen, TakesNothing, GivesUp}
+use Rattle.rp_pattern.specs.WordLaws.{IsLater}
+use Rattle.rp_pattern.specs.Choices.{start_of, entered, whole, remaining, left, below, below_left, after, after_left, IsSameWhole, IsFullWord, IsOpenWord, IsNothing}
 use Rattle.rp_search.specs.Found.{Test, tested, found, Waits}
 use Rattle.rp_search.specs.Fits.{Stands, MapsRow, Explores, AreAdmitted, Fits, unless_open, left_in}
 use Rattle.rp_search.specs.Turned.{AsksTheSame, Goes, Searches}
-use Rattle.rp_search.proofs.Fitting.{now_later, finds_begun, goes_wordless}
+use Rattle.rp_search.proofs.Fitting.{GivesUp, now_later, finds_begun, goes_wordless}
 
 -- a fact at the rows and the end that were read is one at those of the tests
 pub at_known : (P : ℕ → End → Type 0) (n n' : ℕ) (e e' : End) → n ≡ n' → e ≡ e' → P n e → P n' e'
@@ -56,18 +57,18 @@ left_settled old new probe p q n e test some none decided h =
     (subst (λ r. left new n e ≤ left_in r old n e test) (sym some) (settled_in (test (entered old)) (left new n e) (left old n e) (below_left old n e + left probe n e) decided h))
 
 -- what would follow a row has a word
-pub explored_full : (c old new : Choices) (n : ℕ) (e : End) (test : Test) → Stands c n e test → Explores c old n e test → test (entered c) ≡ OpenTest → TakesFull old new n e → found test (whole c n e) ≡ Waits
+pub explored_full : (c old new : Choices) (n : ℕ) (e : End) (test : Test) → Stands c n e test → Explores c old n e test → test (entered c) ≡ OpenTest → IsFullWord old new n e → found test (whole c n e) ≡ Waits
 explored_full c old new n e test s x seen t =
-    finds_begun c n e test (Full (entered new)) (below new n e) s x.row seen (sym (x.words n e (now_later n e)) ∙ (sym (t.words n e (now_later n e)) ∙ t.words_parts n e (now_later n e)))
+    finds_begun c n e test (Full (entered new)) (below new n e) s x.row seen (sym (x.words n e (now_later n e)) ∙ t.was n e (now_later n e))
 
-pub explored_open : (c old new : Choices) (n : ℕ) (e : End) (test : Test) → Stands c n e test → Explores c old n e test → test (entered c) ≡ OpenTest → TakesOpen old new n e → found test (whole c n e) ≡ Waits
+pub explored_open : (c old new : Choices) (n : ℕ) (e : End) (test : Test) → Stands c n e test → Explores c old n e test → test (entered c) ≡ OpenTest → IsOpenWord old new n e → found test (whole c n e) ≡ Waits
 explored_open c old new n e test s x seen t =
-    finds_begun c n e test (Open (entered new)) (below new n e) s x.row seen (sym (x.words n e (now_later n e)) ∙ (sym (t.words n e (now_later n e)) ∙ t.words_parts))
+    finds_begun c n e test (Open (entered new)) (below new n e) s x.row seen (sym (x.words n e (now_later n e)) ∙ t.was)
 
 -- nothing would follow it
-pub explored_nothing : (c d old new : Choices) (n : ℕ) (e : End) (test : Test) → Stands c n e test → Explores c old n e test → TakesNothing old new n e → Keeps c d → GivesUp c d → Goes c d n e test
+pub explored_nothing : (c d old new : Choices) (n : ℕ) (e : End) (test : Test) → Stands c n e test → Explores c old n e test → IsNothing old new n e → IsSameWhole c d → GivesUp c d → Goes c d n e test
 explored_nothing c d old new n e test s x t keeps g =
-    goes_wordless c d n e test s x.row (λ n' e' h. sym (x.words n' e' h) ∙ (sym (t.words n' e' h) ∙ t.none n' e' h)) keeps g
+    goes_wordless c d n e test s x.row (λ n' e' h. sym (x.words n' e' h) ∙ t.was n' e' h) keeps g
 
 -- what fits the tests fits them where they ask the same
 pub searches_asked : (s : Search) (n n' : ℕ) (e e' : End) (asked asked' : ℕ → List Label → Seen) (start start' : ℕ) → AsksTheSame n n' e e' asked asked' → start' ≡ start → Searches s n e (asked start) → Searches s n' e' (asked' start')

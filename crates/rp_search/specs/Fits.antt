@@ -9,7 +9,8 @@ use Rattle.rp_pattern.specs.declared.word.Seen.TheVariants.{True, NotTrue, Open 
 use Rattle.rp_pattern.specs.Mapping.{Mapping, labels_of}
 use Rattle.rp_pattern.specs.Words.{preceded}
 use Rattle.rp_pattern.specs.declared.choices.Choices.{Choices}
-use Rattle.rp_pattern.specs.Choices.{IsLater, start_of, entered, whole, whole_left, remaining, left, below, below_left, after, after_left, HasTop, AtRow}
+use Rattle.rp_pattern.specs.WordLaws.{IsLater}
+use Rattle.rp_pattern.specs.Choices.{start_of, entered, whole, whole_left, remaining, left, below, below_left, after, after_left, HasTop, AtRow}
 use Rattle.rp_search.specs.declared.search.Search.{Search}
 use Rattle.rp_search.specs.Found.{Test, tested, TestsStay}
 

@@ -2,3 +2,4 @@ pub mod Found
 pub mod Fits
 pub mod Turned
 pub mod Counts
+pub mod Grid

@@ -1,11 +1,10 @@
 ghost use Rattle.std.specs.Prelude.{◌≡◌, ℕ, ◌+◌, ◌≤◌, List, length, IfOk, OnOk};
-ghost use Rattle.rp_pattern.specs.Choices.{start_of, entered, Keeps};
+ghost use Rattle.rp_pattern.specs.Choices.{start_of, entered, IsSameWhole};
 ghost use Rattle.rp_search.specs.Fits.{Stands, MapsRow};
 ghost use Rattle.rp_search.specs.Turned.{AsksTheSame, AddsLabel, AreCutBack, Settled};
 
-use rp_pattern::Choices;
 use crate::conditions::Tests;
-use rp_pattern::Seen;
+use rp_pattern::{Choices, Seen};
 use std::alloc::AllocError;
 
 /// The tests are cut back to the labels of the choices.
@@ -38,7 +37,7 @@ pub fn settle<T: Tests>(choices: &mut Choices, tests: &mut T) -> Result<Seen, Al
     requires stands { Stands choices.old (T.rows tests.old) (T.ending tests.old) (T.outcome tests.old (start_of choices.old)) }
     requires row { MapsRow choices.old (T.rows tests.old) (T.ending tests.old) (T.outcome tests.old (start_of choices.old)) }
     requires entered { T.entered tests.old (start_of choices.old) (entered choices.old) }
-    ensures same { Keeps choices.old choices.new }
+    ensures same { IsSameWhole choices.old choices.new }
     ensures asks { AsksTheSame (T.rows tests.old) (T.rows tests.new) (T.ending tests.old) (T.ending tests.new) (T.outcome tests.old) (T.outcome tests.new) }
     ensures entries { T.entries tests.new ≡ T.entries tests.old }
     ensures entered { OnOk result (T.entered tests.new (start_of choices.new) (entered choices.new)) }

@@ -2,6 +2,8 @@
 #![tactic(auto)]
 
 mod asking;
+#[cfg(test)]
+mod cases;
 mod conditions;
 mod laws;
 mod search;

@@ -6,11 +6,12 @@ ghost use Rattle.rp_pattern.specs.PatternForm.{form_of};
 ghost use Rattle.rp_pattern.specs.Words.{words};
 ghost use Rattle.rp_pattern.specs.Turns.{turns};
 
+mod probe;
+
 use crate::asking::{enter_row, follow, settle};
-use rp_pattern::{Choices, Taken};
 use crate::conditions::Tests;
 use crate::steps::Steps;
-use rp_pattern::{Label, Pattern, Seen};
+use rp_pattern::{Choices, Label, Pattern, Seen, Taken};
 use std::alloc::{AllocError, Global};
 use std::sync::ledger::Ledger;
 
@@ -42,9 +43,8 @@ pub struct Search {
 #[tactic(auto, unfolding(crate::specs::Fits::start_of_search, crate::specs::Fits::labels_of_search, crate::specs::Fits::pattern_words, crate::specs::Fits::most_turns, crate::specs::Fits::left_of))]
 impl Search {
     ghost use Rattle.rp_search.specs.Found.{Test, found, Match, NoMatch, Waits};
-    ghost use Rattle.rp_search.specs.Fits.{Fits, IsSameSearch, start_of_search, labels_of_search, pattern_words, most_turns, left_of, Stands, MapsRow, Explores};
+    ghost use Rattle.rp_search.specs.Fits.{Fits, IsSameSearch, start_of_search, labels_of_search, pattern_words, most_turns, left_of, Stands, MapsRow};
     ghost use Rattle.rp_search.specs.Turned.{AsksTheSame, AddsLabel, Searches, Turned};
-    ghost use Rattle.rp_pattern.specs.Choices.{left, below_left};
 
     /// A search from the row `start`, which is at least 1.
     pub fn new(alloc: Global, pattern: &Pattern, start: u64) -> Result<Search, AllocError>
@@ -92,6 +92,7 @@ impl Search {
         ensures paused { result ≡ Ok Outcome.Paused → left_of self.new (T.rows tests.old) (T.ending tests.old) (T.outcome tests.old (start_of_search self.old)) + budget ≤ left_of self.old (T.rows tests.old) (T.ending tests.old) (T.outcome tests.old (start_of_search self.old)) }
         ensures left { OnOk result (left_of self.new (T.rows tests.old) (T.ending tests.old) (T.outcome tests.old (start_of_search self.old)) ≤ left_of self.old (T.rows tests.old) (T.ending tests.old) (T.outcome tests.old (start_of_search self.old))) }
         ensures turns { steps.new ≤ steps.old + budget }
+        ensures spent { result ≡ Ok Outcome.Paused → steps.new ≡ steps.old + budget }
         ensures enters { T.entries tests.new ≤ T.entries tests.old + budget }
 
         ensures nothing { budget ≡ 0 → (result ≡ Ok Outcome.Paused) × (self.new ≡ self.old) × (tests.new ≡ tests.old) × (steps.new ≡ steps.old) }
@@ -150,6 +151,7 @@ impl Search {
         ensures asks { AsksTheSame (T.rows tests.old) (T.rows tests.new) (T.ending tests.old) (T.ending tests.new) (T.outcome tests.old) (T.outcome tests.new) }
         ensures entries { T.entries tests.new ≤ T.entries tests.old + budget }
         ensures steps { steps.new ≤ steps.old + budget }
+        ensures spent { result ≡ Ok Outcome.Paused → steps.new ≡ steps.old + budget }
         ensures entered { OnOk result (T.entered tests.new (start_of_search self.new) (labels_of_search self.new)) }
         ensures fits { OnOk result (Fits self.new (T.rows tests.old) (T.ending tests.old) (T.outcome tests.old (start_of_search self.old))) }
         ensures turned { IfOk result (Turned budget (pattern_words self.old (T.rows tests.old) (T.ending tests.old)) (labels_of_search self.new) (T.ending tests.old) (T.outcome tests.old (start_of_search self.old)) (left_of self.old (T.rows tests.old) (T.ending tests.old) (T.outcome tests.old (start_of_search self.old))) (left_of self.new (T.rows tests.old) (T.ending tests.old) (T.outcome tests.old (start_of_search self.old)))) }
@@ -271,53 +273,6 @@ impl Search {
             }
             Seen::True => Ok(()),
             Seen::NotTrue => Ok(()),
-        }
-    }
-
-    /// Takes up what would follow a row whose test is open. There each row is taken without a test. Where nothing would
-    /// follow it, the choice that maps it is given up, and the next one is taken up.
-    fn explore<T: Tests>(
-        &mut self,
-        mut probe: Choices,
-        tests: &mut T,
-    ) -> Result<Outcome, AllocError>
-        requires known { start_of_search self.old ≤ T.rows tests.old }
-        requires stands { Stands self.old.choices (T.rows tests.old) (T.ending tests.old) (T.outcome tests.old (start_of_search self.old)) }
-        requires explores { Explores self.old.choices probe (T.rows tests.old) (T.ending tests.old) (T.outcome tests.old (start_of_search self.old)) }
-        requires is_open { T.outcome tests.old (start_of_search self.old) (labels_of_search self.old) ≡ OpenTest }
-        requires none { self.old.probe ≡ None }
-        requires entered { T.entered tests.old (start_of_search self.old) (labels_of_search self.old) }
-
-        ensures same { IsSameSearch self.old self.new }
-        ensures asks { AsksTheSame (T.rows tests.old) (T.rows tests.new) (T.ending tests.old) (T.ending tests.new) (T.outcome tests.old) (T.outcome tests.new) }
-        ensures entries { T.entries tests.new ≤ T.entries tests.old + 1 }
-        ensures entered { OnOk result (T.entered tests.new (start_of_search self.new) (labels_of_search self.new)) }
-        ensures searches { OnOk result (Searches self.new (T.rows tests.old) (T.ending tests.old) (T.outcome tests.old (start_of_search self.old))) }
-        ensures turned { IfOk result (Turned 1 (pattern_words self.old (T.rows tests.old) (T.ending tests.old)) (labels_of_search self.new) (T.ending tests.old) (T.outcome tests.old (start_of_search self.old)) (below_left self.old.choices (T.rows tests.old) (T.ending tests.old) + left probe (T.rows tests.old) (T.ending tests.old)) (left_of self.new (T.rows tests.old) (T.ending tests.old) (T.outcome tests.old (start_of_search self.old)))) }
-    {
-        match probe.take_up(tests.known(), tests.end())? {
-            Taken::Split => {
-                self.probe = Some(probe);
-                Ok(Outcome::Paused)
-            }
-            Taken::Row => {
-                probe.admit()?;
-                self.probe = Some(probe);
-                Ok(Outcome::Paused)
-            }
-            Taken::Full => {
-                self.probe = Some(probe);
-                Ok(Outcome::Waits)
-            }
-            Taken::Open => {
-                self.probe = Some(probe);
-                Ok(Outcome::Waits)
-            }
-            Taken::Nothing => {
-                self.choices.give_up();
-                follow(&self.choices, tests);
-                self.take_up(tests)
-            }
         }
     }
 }

@@ -7,9 +7,9 @@ use Rattle.rp_search.proofs.asking.settle.Goals as goal
 pub returns-in_ok-admit-in-True-clause-settled : goal.returns-in_ok-admit-in-True-clause-settled
 returns-in_ok-admit-in-True-clause-settled g c =
     let seen : g.T.Tests.outcome c.args.tests.now (start_of c.args.choices.now) (entered c.args.choices.now) ≡ True = cc (c.in-True.ensures, c.start.ensures, c.labels.ensures) in
-    goes_admitted c.args.choices.now c.admit.new.self _ _ _ c.requires.stands c.requires.row seen c.in_ok-admit-in-True.ensures.same c.in_ok-admit-in-True.ensures.admitted
+    goes_admitted c.args.choices.now c.admit.new.self _ _ _ c.requires.stands c.requires.row seen c.in_ok-admit-in-True.ensures.whole c.in_ok-admit-in-True.ensures.labels c.in_ok-admit-in-True.ensures.remaining c.in_ok-admit-in-True.ensures.left
 
 pub returns-in-NotTrue-clause-settled : goal.returns-in-NotTrue-clause-settled
 returns-in-NotTrue-clause-settled g c =
     let seen : g.T.Tests.outcome c.args.tests.now (start_of c.args.choices.now) (entered c.args.choices.now) ≡ NotTrue = cc (c.in-NotTrue.ensures, c.start.ensures, c.labels.ensures) in
-    goes_refused c.args.choices.now c.give_up.new.self _ _ _ c.requires.stands c.requires.row seen c.give_up.ensures.same c.give_up.ensures.given_up
+    goes_refused c.args.choices.now c.give_up.new.self _ _ _ c.requires.stands c.requires.row seen c.give_up.ensures.whole (record { cut = c.give_up.ensures.labels; cut_off = c.give_up.ensures.cut_off; words = c.give_up.ensures.remaining; turns = c.give_up.ensures.left })

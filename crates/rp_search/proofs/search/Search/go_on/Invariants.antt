@@ -10,4 +10,4 @@ invariant-loop-turn g l =
     × AsksTheSame (g.T.Tests.rows l.fn.tests) (g.T.Tests.rows l.tests) (g.T.Tests.ending l.fn.tests) (g.T.Tests.ending l.tests) (g.T.Tests.outcome l.fn.tests) (g.T.Tests.outcome l.tests)
     × g.T.Tests.entered l.tests (start_of_search l.self) (labels_of_search l.self)
     × (g.T.Tests.entries l.tests ≤ g.T.Tests.entries l.fn.tests + l._turn)
-    × (l.steps ≤ l.fn.steps + l._turn)
+    × (l.steps ≡ l.fn.steps + l._turn)
