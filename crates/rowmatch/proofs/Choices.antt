@@ -178,8 +178,11 @@ primaries-group s m r r' t left some only right used rest tree (group {s = a} d)
     (read.0, tail_same 41 41 r' rest (sym right ∙ read.1))
 
 pub ruleset alternatives_read = (alternatives-none, alternatives-one, alternatives-second_none, alternatives-either)
+
 pub ruleset sequences_read = (sequences-none, sequences-one, sequences-second_none, sequences-both)
+
 pub ruleset factors_read = (factors-none, factors-one, factors-starred)
+
 pub ruleset primaries_read = (primaries-letter, primaries-none, primaries-nothing, primaries-inner_none, primaries-unclosed, primaries-group)
 
 -- the whole of the symbols

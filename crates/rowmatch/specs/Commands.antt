@@ -1,6 +1,7 @@
 -- What each job's command takes, and what it makes of the words.
-use Rattle.std.specs.Prelude.{◌≡◌, ℕ, Bool, true, List, [], ◌∷◌, Option, Some, codes}
-use Rattle.clap.specs.Words.{App, Row, Rule, Text, first_of, matches_of, new_app, new_rule, takes, with_rule}
+use Rattle.std.specs.Prelude.{◌≡◌, ℕ, Bool, true, List, [], ◌∷◌, Option, Some, codes, is_some}
+use Rattle.clap.specs.Words.{App, Row, Rule, Text, first_of, first_value, found_of, matches_of, new_app, new_rule, takes, with_rule}
+use Rattle.clap.specs.declared.parser.matches.ArgMatches.{ArgMatches}
 use Rattle.clap.specs.declared.builder.ArgAction.TheVariants.{Set}
 
 -- an argument by its place that has one value
@@ -17,6 +18,10 @@ rows_by app words = matches_of app words
 -- clap takes the words for a command
 unfoldable pub are_taken : App → List Text → Bool
 are_taken app words = takes app words
+
+-- the argument has a value
+abbrev pub HasValue : Text → ArgMatches → Type 0
+HasValue id matches = is_some (first_value (found_of matches) id) ≡ true
 
 -- the value of an argument
 abbrev pub HasText : List Row → Text → Text → Type 0

@@ -1,9 +1,10 @@
 //! The command line.
 ghost use Rattle.std.specs.Prelude.{◌≡◌, true, Some, IfOk, IfErr, IfSome, codes, map, string_bytes, slice_get};
-ghost use Rattle.clap.specs.Words.{app_of, is_simple, found_of, rows_of, first_of, kind_of, takes};
+ghost use Rattle.clap.specs.Words.{IsParsedFrom, app_of, is_simple, found_of, rows_of, first_of, kind_of, takes};
 ghost use Rattle.clap.specs.declared.error.kind.ErrorKind.TheVariants.{OutOfMemory};
 ghost use Rattle.clap.specs.declared.error.Error.{Error};
-ghost use Rattle.rowmatch.specs.Commands.{rows_by, are_taken, trace_app};
+ghost use Rattle.clap.specs.declared.parser.matches.ArgMatches.{ArgMatches};
+ghost use Rattle.rowmatch.specs.Commands.{HasValue, rows_by, are_taken, trace_app};
 ghost use Rattle.rowmatch.specs.Jobs.{IsRead, NamesJob, name_of};
 
 use clap::error::ErrorKind;
@@ -51,7 +52,8 @@ fn read_trace(alloc: Global, words: &[String]) -> Result<Job, JobFault>
 
 #[tactic(auto, unfolding(crate::specs::Commands::trace_app))]
 fn trace_command<'a>(alloc: Global) -> Result<Command<'a>, AllocError>
-    ensures { IfOk result (λ command. app_of command ≡ trace_app) }
+    ensures app { IfOk result (λ command. app_of command ≡ trace_app) }
+    ensures required { IfOk result (λ command. (matches : ArgMatches) → IsParsedFrom command matches → HasValue (codes "PATTERN") matches) }
 {
     let pattern = Arg::new(alloc, "PATTERN")
         .required(true)
@@ -63,6 +65,7 @@ fn trace_command<'a>(alloc: Global) -> Result<Command<'a>, AllocError>
 fn matched<'a>(command: Command<'a>, words: &'a [String]) -> Result<ArgMatches<'a>, JobFault>
     requires { is_simple (app_of command) ≡ true }
     ensures rows { IfOk result (λ matches. rows_of (found_of matches) ≡ rows_by (app_of command.entry) (map string_bytes words.entry.now)) }
+    ensures parsed { IfOk result (λ matches. IsParsedFrom command.entry matches) }
     ensures line { (error : Error) → result ≡ Err (JobFault.Line error) → are_taken (app_of command.entry) (map string_bytes words.entry.now) ≡ true → ⊥ }
 {
     match command.try_get_matches_from(words) {
@@ -71,12 +74,14 @@ fn matched<'a>(command: Command<'a>, words: &'a [String]) -> Result<ArgMatches<'
     }
 }
 
+/// The value of an argument that has one.
 #[tactic(auto, using(crate::proofs::Rows::first_rows))]
 fn text_of(alloc: Global, matches: &ArgMatches, id: &str) -> Result<String, AllocError>
+    requires { HasValue id.now matches.now }
     ensures { IfOk result (λ text. first_of id.now (rows_of (found_of matches.now)) ≡ Some (string_bytes text)) }
 {
     let Some(text) = matches.get_str(id) else {
-        return Err(AllocError);
+        unreachable!()
     };
     String::from_str(alloc, text)
 }

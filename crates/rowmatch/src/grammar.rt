@@ -196,10 +196,7 @@ fn alternation(alloc: Global, first: Form, second: Form) -> Result<Form, AllocEr
     ensures lettered { IfOk result IsLettered }
     ensures tree { IfOk result (λ form. tree_of form ≡ Either (tree_of first) (tree_of second)) }
 {
-    Ok(Form::Alternation(
-        Rc::new(alloc, first)?,
-        Rc::new(alloc, second)?,
-    ))
+    Ok(Form::Alternation(Rc::new(alloc, first)?, Rc::new(alloc, second)?))
 }
 
 fn concatenation(alloc: Global, first: Form, second: Form) -> Result<Form, AllocError>
@@ -208,10 +205,7 @@ fn concatenation(alloc: Global, first: Form, second: Form) -> Result<Form, Alloc
     ensures lettered { IfOk result IsLettered }
     ensures tree { IfOk result (λ form. tree_of form ≡ Both (tree_of first) (tree_of second)) }
 {
-    Ok(Form::Concatenation(
-        Rc::new(alloc, first)?,
-        Rc::new(alloc, second)?,
-    ))
+    Ok(Form::Concatenation(Rc::new(alloc, first)?, Rc::new(alloc, second)?))
 }
 
 impl From<AllocError> for Stop {

@@ -41,6 +41,7 @@ impl Tests for Letters<'_> {
 
     ghost outcome = { λ letters start labels. letter_test letters.line.now start labels };
 
+    // A letter is tested alone, so no labels are kept.
     ghost entered = { λ _ _ _. Unit {0} };
 
     ghost entries = { λ letters. letters.entries };

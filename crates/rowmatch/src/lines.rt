@@ -55,11 +55,7 @@ impl Lines {
     }
 
     /// Puts the front of the next line into `line`, without its LF, and says whether there is one.
-    pub fn next<R: Intake>(
-        &mut self,
-        reader: &mut R,
-        line: &mut Vec<u8>,
-    ) -> Result<bool, LineFault>
+    pub fn next<R: Intake>(&mut self, reader: &mut R, line: &mut Vec<u8>) -> Result<bool, LineFault>
         requires { 0 < self.old.kept }
         ensures line { IfOk result (λ found. TakesLine self.old.kept
             (coming self.old (R.remaining reader.old)) (coming self.new (R.remaining reader.new)) (if found then Some line.new.items else None)) }

@@ -20,7 +20,7 @@ pub fn find<T: Tests, L: Ledger>(
     requires closed { T.ending tests.old ≡ Closed }
     requires known { start_of_search search.old ≤ T.rows tests.old }
     requires fits { Fits search.old (T.rows tests.old) (T.ending tests.old) (T.outcome tests.old (start_of_search search.old)) }
-    requires entered { T.entered tests.old ≡ labels_of_search search.old }
+    requires entered { T.entered tests.old (start_of_search search.old) (labels_of_search search.old) }
     ensures { IfOk result (λ is_match. let search' = found (T.outcome tests.old (start_of_search search.old)) (pattern_words search.old (T.rows tests.old) (T.ending tests.old)) in
         MatchBool is_match (search' ≡ Match (labels_of_search search.new)) (search' ≡ NoMatch)) }
 {

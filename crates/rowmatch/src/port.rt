@@ -54,14 +54,18 @@ pub trait Outlet {
 /// A stream, with a count of its calls and of those that failed.
 #[derive(Drop)]
 pub struct Port<D> {
-    device: D,
-    calls: u64,
-    failures: u64,
+    pub device: D,
+    pub calls: u64,
+    pub failures: u64,
 }
 
 impl<D> Port<D> {
     /// A stream that was not called yet.
-    pub fn new(device: D) -> Self {
+    pub fn new(device: D) -> Self
+        ensures device { result.device ≡ device }
+        ensures calls { result.calls ≡ 0 }
+        ensures failures { result.failures ≡ 0 }
+    {
         Port {
             device,
             calls: 0,

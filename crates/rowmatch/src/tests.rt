@@ -16,7 +16,9 @@ use std::test::Fail;
 const NEVER: u64 = 0;
 
 const PATTERN: &str = "(A B | A)* C";
+
 const LINES: &str = "abac\naab\nc\n\nab1\n";
+
 const REPLIES: &str = "ABAC\nnone\nC\nnone\nrefused\n";
 
 /// What a run came to, and what it wrote.
@@ -62,7 +64,12 @@ fn run_once(
 }
 
 /// A run that was refused memory is made again.
-fn run_lines(alloc: Global, pattern: &Pattern, lines: &[u8], limits: Limits) -> Result<Ran, AllocError>
+fn run_lines(
+    alloc: Global,
+    pattern: &Pattern,
+    lines: &[u8],
+    limits: Limits,
+) -> Result<Ran, AllocError>
     requires { are_below 26 (form_of pattern.now) ≡ true }
 {
     let ran = run_once(alloc, pattern, lines, limits)?;

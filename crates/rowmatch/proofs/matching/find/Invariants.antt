@@ -11,7 +11,7 @@ invariant-loop g l = record {
   ending : g.T.Tests.ending l.tests ≡ g.T.Tests.ending l.fn.tests;
   outcome : g.T.Tests.outcome l.tests ≡ g.T.Tests.outcome l.fn.tests;
   fits : Fits l.search (g.T.Tests.rows l.tests) (g.T.Tests.ending l.tests) (g.T.Tests.outcome l.tests (start_of_search l.search));
-  entered : g.T.Tests.entered l.tests ≡ labels_of_search l.search;
+  entered : g.T.Tests.entered l.tests (start_of_search l.search) (labels_of_search l.search);
 }
 
 abbrev pub decreases-loop : goal.decreases-loop
