@@ -5,7 +5,7 @@ use Rattle.std.specs.Cmp.Lexicographic.{pointwise}
 use Rattle.std.specs.declared.alloc.Global.{Global}
 use Rattle.rp_value.specs.declared.table.Column.{Column}
 use Rattle.rp_value.specs.declared.table.TableFault.{TableFault}
-use Rattle.rp_value.specs.declared.table.TableFault.TheVariants.{NoColumns, BadName, DoubleName}
+use Rattle.rp_value.specs.declared.table.TableFault.TheVariants.{NoColumns, BadName, DoubleName, OutOfMemory}
 use Rattle.rp_value.specs.declared.value.Kind.{Kind}
 
 -- whether a name is empty or above 128 bytes
@@ -31,6 +31,11 @@ table_fault [] = Some NoColumns
 table_fault (c ∷ cs) =
     if has_bad_name (c ∷ cs) then Some BadName
     else (if has_double_name (c ∷ cs) then Some DoubleName else None)
+
+-- the fault of the list that a refusal tells of: none where it tells of want of memory
+abbrev pub list_fault : TableFault → Option TableFault
+list_fault OutOfMemory = None
+list_fault fault = Some fault
 
 -- the column of a name and a kind
 abbrev pub column_of : String Global × Kind → Column

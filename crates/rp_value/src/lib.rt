@@ -9,10 +9,10 @@ mod text;
 mod truth;
 mod value;
 
-pub use cells::Cells;
+pub use cells::{Cells, same_values};
 pub use row::{Row, RowFault};
-pub use sum::RunningSum;
-pub use table::{Column, Table, TableFault};
+pub use sum::{RunningSum, total};
+pub use table::{Column, MAX_NAME_LEN, Table, TableFault};
 pub use text::Text;
 pub use truth::{Judged, Tri, law_told_stays};
 pub use value::{Kind, Value};

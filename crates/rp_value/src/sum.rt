@@ -1,6 +1,7 @@
 //! A running sum that no partial sum can overflow.
 ghost use Rattle.std.specs.Prelude.{◌≡◌, ◌+◌, ◌-◌, ◌^◌, ◌<◌, pos, ◌+ℤ◌};
 ghost use Rattle.rp_value.specs.Arithmetic.{fitted};
+ghost use Rattle.rp_value.specs.Sums.{total};
 
 use crate::Value;
 use crate::value::null_if_none;
@@ -28,6 +29,14 @@ impl Model for RunningSum {
         (neg_ℤ (pos (r.count * 2 ^ 63)) ≤ℤ r.sum) × (r.sum ≤ℤ pos (r.count * 2 ^ 63)) };
 
     ghost inverse = { λ s. record { count = s.count; sum = s.sum } };
+}
+
+impl Default for RunningSum {
+    ghost is_default = { λ s. s ≡ record { count = 0; sum = pos 0 } };
+
+    fn default() -> RunningSum {
+        RunningSum::new()
+    }
 }
 
 impl RunningSum {
@@ -61,4 +70,16 @@ impl RunningSum {
     {
         null_if_none(i64::try_from(self.sum).ok())
     }
+}
+
+/// The exact sum of whole numbers as a value: null where it is outside 64 bits with sign,
+/// whatever the partial sums are, and 0 for no number.
+pub fn total(numbers: &[i64]) -> Value
+    ensures { result ≡ total numbers.now }
+{
+    let mut sum = RunningSum::new();
+    for number in numbers {
+        sum.add(*number);
+    }
+    sum.value()
 }

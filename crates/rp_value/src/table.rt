@@ -1,9 +1,9 @@
 //! Tables.
-ghost use Rattle.std.specs.Prelude.{◌≡◌, ◌↔◌, IsTrue, IfOk, IfSome, IfNone, IsOkUnless, None, not, position, zip, length, ◌<◌, ◌==◌, string_bytes};
+ghost use Rattle.std.specs.Prelude.{◌≡◌, ◌↔◌, IsTrue, IfOk, IfErr, IfSome, None, not, position, zip, length, ◌<◌, ◌==◌, string_bytes};
 ghost use Rattle.std.specs.List.{list_any};
 ghost use Rattle.std.specs.Cmp.Lexicographic.{pointwise, lists_per, lists_equiv};
-ghost use Rattle.rp_value.specs.Rows.{row_fault, admits};
-ghost use Rattle.rp_value.specs.Tables.{is_bad_name, has_double_name, table_fault, columns_of, kinds_of};
+ghost use Rattle.rp_value.specs.Rows.{row_fault, cells_fault, admits};
+ghost use Rattle.rp_value.specs.Tables.{is_bad_name, has_double_name, table_fault, list_fault, columns_of, kinds_of};
 ghost use Rattle.rp_value.specs.declared.table.TableFault.TheVariants.{OutOfMemory};
 ghost use Rattle.rp_value.specs.contracts.table.ColumnPartialEq.TheImpl.Laws.{laws-law as column_per};
 ghost use Rattle.rp_value.specs.contracts.table.ColumnEq.TheImpl.Laws.{laws-law as column_equiv};
@@ -60,11 +60,13 @@ impl Eq for Table {
 impl Table {
     /// The table of these columns, in this order.
     ///
-    /// The whole list is asked first for `NoColumns`, then for `BadName`, then for `DoubleName`.
+    /// The whole list is looked through for `NoColumns`, then for `BadName`, then for
+    /// `DoubleName`; `OutOfMemory` comes last.
     pub fn new(alloc: Global, columns: Vec<(String, Kind)>) -> Result<Table, TableFault>
-        ensures refused { IfSome (table_fault (columns_of columns.items)) (λ fault. result ≡ Err fault) }
-        ensures accepted { IfNone (table_fault (columns_of columns.items)) (IsOkUnless result TableFault.OutOfMemory) }
-        ensures columns { IfOk result (λ table. table ≡ columns_of columns.items) }
+        ensures ok { IfOk result
+            (λ table. (table ≡ columns_of columns.items) × (table_fault table ≡ None)) }
+        ensures err { IfErr result
+            (λ fault. table_fault (columns_of columns.items) ≡ list_fault fault) }
     {
         if let Some(fault) = fault_of(&columns) {
             return Err(fault);
@@ -83,11 +85,13 @@ impl Table {
 
     /// A row of these cells, in the order of the columns.
     ///
-    /// The number of cells is asked first, then the columns from the first on.
+    /// The number of cells is looked at first, then the columns from the first on;
+    /// `OutOfMemory` comes last.
     pub fn row(&self, alloc: Global, cells: Vec<Value>) -> Result<Row, RowFault>
-        ensures refused { IfSome (row_fault (kinds_of self.now) cells.items) (λ fault. result ≡ Err fault) }
-        ensures accepted { IfNone (row_fault (kinds_of self.now) cells.items) (IsOkUnless result RowFault.OutOfMemory) }
-        ensures cells { IfOk result (λ row. row ≡ cells.items) }
+        ensures ok { IfOk result
+            (λ row. (row ≡ cells.items) × (row_fault (kinds_of self.now) row ≡ None)) }
+        ensures err { IfErr result
+            (λ fault. row_fault (kinds_of self.now) cells.items ≡ cells_fault fault) }
     {
         if let Some(fault) = fault_in(self.columns(), &cells) {
             return Err(fault);
@@ -158,9 +162,7 @@ fn fault_of(columns: &[(String, Kind)]) -> Option<TableFault>
 fn has_bad_name(columns: &[(String, Kind)]) -> bool
     ensures { result ≡ list_any (λ c. is_bad_name (string_bytes c.0)) columns.now }
 {
-    columns
-        .iter()
-        .any(|column| column.0.is_empty() || MAX_NAME_LEN < column.0.len())
+    columns.iter().any(|column| column.0.is_empty() || MAX_NAME_LEN < column.0.len())
 }
 
 fn has_name(name: &str, columns: &[(String, Kind)]) -> bool
@@ -205,7 +207,8 @@ fn fault_in(columns: &[Column], cells: &[Value]) -> Option<RowFault>
 
 /// The index of the first column that may not hold its cell.
 fn first_misfit(columns: &[Column], cells: &[Value]) -> Option<usize>
-    ensures place { result ≡ position (λ p. not (admits p.0.kind p.1)) (zip columns.now cells.now) }
+    ensures place { result
+        ≡ position (λ p. not (admits p.0.kind p.1)) (zip columns.now cells.now) }
     ensures bound { IfSome result (λ index. index < length columns.now) }
 {
     columns

@@ -94,5 +94,4 @@ impl Judged {
 /// change no more, so does the result.
 pub fn law_told_stays()
     ensures { ToldStays }
-{
-}
+{}

@@ -47,7 +47,7 @@ impl Value {
     {
         match (self, other) {
             (Value::Int(left), Value::Int(right)) => Some(left.cmp(right)),
-            (Value::Text(left), Value::Text(right)) => Some(left.as_str().cmp(right.as_str())),
+            (Value::Text(left), Value::Text(right)) => Some(left.cmp(right)),
             _ => None,
         }
     }
