@@ -1,15 +1,13 @@
 -- The faults of tables and of rows, over the lists that the code has.
-use Rattle.std.proofs.Common.{◌≡◌, ℕ, ◌+◌, ◌-◌, ◌<◌, ◌==◌, Bool, true, false, not, ◌||◌, cond, Option, None, Some, List, [], ◌∷◌, length, get_or, take, drop, refl, ap, sym, ◌∙◌, eq-eqb, add-one, drop-cons}
+use Rattle.std.proofs.Common.{◌≡◌, ℕ, ◌+◌, ◌-◌, ◌<◌, ◌==◌, true, false, not, ◌||◌, cond, None, Some, List, [], ◌∷◌, length, get_or, take, drop, ap, sym, ◌∙◌, eq-eqb, add-one, drop-cons}
 use Rattle.std.proofs.Math.Seq.{take-length}
 use Rattle.std.specs.Prelude.{String, string_bytes, option_map, position, zip}
 use Rattle.std.specs.List.{list_any}
 use Rattle.std.specs.Cmp.Lexicographic.{pointwise}
 use Rattle.std.specs.declared.alloc.Global.{Global}
 use Rattle.std.proofs.lemmas.List.{length-drop, length-map}
-use Rattle.rp_value.specs.declared.row.RowFault.{RowFault}
 use Rattle.rp_value.specs.declared.row.RowFault.TheVariants.{Width, Kind as KindAt}
 use Rattle.rp_value.specs.declared.table.Column.{Column}
-use Rattle.rp_value.specs.declared.table.TableFault.{TableFault}
 use Rattle.rp_value.specs.declared.table.TableFault.TheVariants.{BadName, DoubleName}
 use Rattle.rp_value.specs.declared.value.Kind.{Kind}
 use Rattle.rp_value.specs.declared.value.Value.{Value}

@@ -1,5 +1,5 @@
 -- Tests and places in the list that a function makes of another.
-use Rattle.std.proofs.Common.{◌≡◌, ℕ, ◌+◌, Bool, not, ◌||◌, cond, ltb, Option, None, Some, List, [], ◌∷◌, length, map, refl, ap, sym, ◌∙◌}
+use Rattle.std.proofs.Common.{◌≡◌, ◌+◌, Bool, not, ◌||◌, cond, List, [], ◌∷◌, map, refl, ap}
 use Rattle.std.specs.List.{list_any, prefix_len, position, zip}
 use Rattle.std.proofs.lemmas.List.{length-map}
 

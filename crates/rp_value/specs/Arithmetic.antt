@@ -1,7 +1,7 @@
 -- Arithmetic on values: exact on whole numbers, and null where the result is outside 64 bits with sign.
 use Rattle.std.specs.Prelude.{Bool, ◌&&◌, ℤ, pos, neg_ℤ, int_le, int_lt, ◌^◌, if◌then◌else◌}
 use Rattle.rp_value.specs.declared.value.Value.{Value}
-use Rattle.rp_value.specs.declared.value.Value.TheVariants.{Null, Int, Text}
+use Rattle.rp_value.specs.declared.value.Value.TheVariants.{Null, Int}
 
 -- whether a whole number is one of 64 bits with sign
 abbrev pub fits_64_bits : ℤ → Bool

@@ -1,5 +1,5 @@
 -- Which lists of values are rows of a table.
-use Rattle.std.specs.Prelude.{ℕ, ◌+◌, ◌-◌, ◌==◌, Bool, true, false, not, List, length, map, zip, Option, None, Some, option_map, position, slice_get, if◌then◌else◌}
+use Rattle.std.specs.Prelude.{ℕ, ◌+◌, ◌-◌, ◌==◌, Bool, true, false, not, List, length, zip, Option, None, Some, option_map, position, slice_get, if◌then◌else◌}
 use Rattle.rp_value.specs.declared.row.RowFault.{RowFault}
 use Rattle.rp_value.specs.declared.row.RowFault.TheVariants.{Width, Kind as KindAt, OutOfMemory}
 use Rattle.rp_value.specs.declared.value.Kind.{Kind}
