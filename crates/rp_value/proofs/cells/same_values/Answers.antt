@@ -1,0 +1,10 @@
+use Rattle.std.proofs.Common.{◌≡◌, rules}
+use Rattle.std.specs.Bool.{Decides}
+use Rattle.std.proofs.lemmas.Slice.Eq.{slice_eq-Decides}
+use Rattle.rp_value.specs.declared.value.Value.{Value}
+use Rattle.rp_value.proofs.cells.same_values.Goals as goal
+
+pub returns : goal.returns
+returns c =
+    let same : Decides c.eq.result (c.args.left.now ≡ c.args.right.now) = slice_eq-Decides (λ (a b : Value). search rules) _ _ _ c.eq.ensures in
+    search rules

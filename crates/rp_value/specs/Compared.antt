@@ -1,0 +1,13 @@
+-- The order of two values.
+use Rattle.std.specs.Prelude.{Option, None, Some}
+use Rattle.std.specs.declared.cmp.Ordering.{Ordering}
+use Rattle.std.specs.Ordering.{int_cmp, nat_cmp}
+use Rattle.std.specs.Cmp.Lexicographic.{slice_cmp}
+use Rattle.rp_value.specs.declared.value.Value.{Value}
+use Rattle.rp_value.specs.declared.value.Value.TheVariants.{Int, Text}
+
+-- whole numbers by their size, texts by their bytes from the first on, and else none
+abbrev pub comparison : Value → Value → Option Ordering
+comparison (Int a) (Int b) = Some (int_cmp a b)
+comparison (Text a) (Text b) = Some (slice_cmp nat_cmp a b)
+comparison _ _ = None

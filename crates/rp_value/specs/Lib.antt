@@ -1,0 +1,7 @@
+pub mod Arithmetic
+pub mod Compared
+pub mod Rows
+pub mod Sums
+pub mod Tables
+pub mod Truth
+pub mod TruthLaws

@@ -1,0 +1,101 @@
+//! A list of values that clauses see as the list.
+ghost use Rattle.std.specs.Prelude.{◌≡◌, ◌↔◌, IsTrue, IfOk};
+ghost use Rattle.std.specs.Hash as fed;
+ghost use Rattle.std.specs.Hash.{items_Alike};
+ghost use Rattle.std.specs.Cmp.Lexicographic.{pointwise, lists_per, lists_equiv};
+ghost use Rattle.rp_value.specs.contracts.value.ValuePartialEq.TheImpl.Laws.{laws-law as value_per};
+ghost use Rattle.rp_value.specs.contracts.value.ValueEq.TheImpl.Laws.{laws-law as value_equiv};
+ghost use Rattle.rp_value.specs.contracts.value.ValueHash.TheImpl.Laws.{respects_eq-law as value_fed};
+
+use crate::Value;
+use std::alloc::{AllocError, Global};
+use std::hash::{Hash, Hasher};
+use std::marker::Model;
+
+/// The values of a partition's key, of an item or of a row to be, which contracts see as
+/// their list.
+#[derive(Debug, Drop)]
+pub struct Cells {
+    values: Vec<Value>,
+}
+
+impl Model for Cells {
+    ghost use Rattle.std.specs.Prelude.{List};
+    ghost use Rattle.rp_value.specs.declared.value.Value.{Value as Cell};
+
+    ghost Value = { List Cell };
+
+    ghost view = { λ c. c.values.items };
+}
+
+impl PartialEq for Cells {
+    ghost eq = { pointwise ⟦<Value as PartialEq>⟧.eq };
+
+    ghost laws = { lists_per value_per };
+
+    fn eq(&self, other: &Cells) -> bool {
+        self.values == other.values
+    }
+}
+
+impl Eq for Cells {
+    ghost laws = { lists_equiv value_equiv };
+}
+
+impl Hash for Cells {
+    ghost hash_input = { fed.slice ⟦<Value as Hash>⟧.hash_input };
+
+    ghost respects_eq = { (items_Alike (record { fed = value_fed })).fed };
+
+    fn hash<H: Hasher>(&self, state: &mut H) {
+        self.values.hash(state);
+    }
+}
+
+impl Cells {
+    /// The cells of a vector, which is kept as it is.
+    pub fn new(values: Vec<Value>) -> Cells
+        ensures { result ≡ values.items }
+    {
+        Cells { values }
+    }
+
+    /// The cells as a slice.
+    pub fn as_slice(&self) -> &[Value]
+        ensures { result.now ≡ self.now }
+    {
+        self.values.as_slice()
+    }
+
+    /// The vector that the cells were made of.
+    pub fn into_vec(self) -> Vec<Value>
+        ensures { result.items ≡ self }
+    {
+        self.values
+    }
+
+    /// Equal cells, with a copy of each text.
+    pub fn share(&self, alloc: Global) -> Result<Cells, AllocError>
+        ensures { IfOk result (λ cells. cells ≡ self.now) }
+    {
+        let mut values = Vec::with_capacity(alloc, self.values.len())?;
+        for value in &self.values {
+            values.push(value.share(alloc)?)?;
+        }
+        Ok(Cells { values })
+    }
+
+    /// Whether two lists of cells are equal.
+    pub fn same(&self, other: &Cells) -> bool
+        ensures { IsTrue result ↔ (self.now ≡ other.now) }
+    {
+        same_values(&self.values, &other.values)
+    }
+}
+
+/// Whether two lists of values are equal, null being equal to null.
+pub fn same_values(left: &[Value], right: &[Value]) -> bool
+    ensures { IsTrue result ↔ (left.now ≡ right.now) }
+{
+    left == right
+}

@@ -1,0 +1,85 @@
+//! A running sum that no partial sum can overflow.
+ghost use Rattle.std.specs.Prelude.{◌≡◌, ◌+◌, ◌-◌, ◌^◌, ◌<◌, pos, ◌+ℤ◌};
+ghost use Rattle.rp_value.specs.Arithmetic.{fitted};
+ghost use Rattle.rp_value.specs.Sums.{total};
+
+use crate::Value;
+use crate::value::null_if_none;
+use std::marker::Model;
+
+/// The exact sum of the whole numbers added so far, and how many they are.
+///
+/// Adding 9223372036854775807, 1 and -1 gives 9223372036854775807, though the sum of the
+/// first two is outside 64 bits.
+#[derive(Clone, Copy, Debug, PartialEq, Eq)]
+pub struct RunningSum {
+    count: u64,
+    sum: i128,
+}
+
+impl Model for RunningSum {
+    ghost use Rattle.std.specs.Prelude.{◌*◌, ◌^◌, pos, neg_ℤ, ◌≤ℤ◌};
+    ghost use Rattle.rp_value.specs.Sums.{Summed};
+
+    ghost Value = { Summed };
+
+    ghost view = { λ r. record { count = r.count; sum = r.sum } };
+
+    ghost invariant = { λ r.
+        (neg_ℤ (pos (r.count * 2 ^ 63)) ≤ℤ r.sum) × (r.sum ≤ℤ pos (r.count * 2 ^ 63)) };
+
+    ghost inverse = { λ s. record { count = s.count; sum = s.sum } };
+}
+
+impl Default for RunningSum {
+    ghost is_default = { λ s. s ≡ record { count = 0; sum = pos 0 } };
+
+    fn default() -> RunningSum {
+        RunningSum::new()
+    }
+}
+
+impl RunningSum {
+    /// The sum of no number.
+    pub fn new() -> RunningSum
+        ensures { result ≡ record { count = 0; sum = pos 0 } }
+    {
+        RunningSum { count: 0, sum: 0 }
+    }
+
+    /// Adds one more number.
+    pub fn add(&mut self, number: i64)
+        requires room { self.old.count < 2 ^ 64 - 1 }
+        ensures added { self.new
+            ≡ record { count = self.old.count + 1; sum = self.old.sum +ℤ number } }
+    {
+        self.count += 1;
+        self.sum += i128::from(number);
+    }
+
+    /// How many numbers were added.
+    pub fn count(&self) -> u64
+        ensures { result ≡ self.now.count }
+    {
+        self.count
+    }
+
+    /// The sum as a value: null where it is outside 64 bits with sign, and 0 for no number.
+    pub fn value(&self) -> Value
+        ensures { result ≡ fitted self.now.sum }
+    {
+        null_if_none(i64::try_from(self.sum).ok())
+    }
+}
+
+/// The exact sum of whole numbers as a value: null where it is outside 64 bits with sign,
+/// whatever the partial sums are, and 0 for no number.
+pub fn total(numbers: &[i64]) -> Value
+    ensures { result ≡ total numbers.now }
+{
+    let mut sum = RunningSum::new();
+    for number in numbers {
+        sum.add(*number);
+    }
+    sum.value()
+}

@@ -1,0 +1,283 @@
+//! Values, tables and rows at work.
+use super::*;
+use std::alloc::{AllocError, Global};
+use std::cmp::Ordering;
+use std::test::Fail;
+
+const LEAST: i64 = -9_223_372_036_854_775_808;
+
+const GREATEST: i64 = 9_223_372_036_854_775_807;
+
+fn text(alloc: Global, letters: &str) -> Result<Value, AllocError> {
+    Ok(Value::Text(Text::new(String::from_str(alloc, letters)?)))
+}
+
+fn column(alloc: Global, name: &str, kind: Kind) -> Result<(String, Kind), AllocError> {
+    Ok((String::from_str(alloc, name)?, kind))
+}
+
+/// The columns SYM text, P int.
+fn headings(alloc: Global) -> Result<Vec<(String, Kind)>, AllocError> {
+    let sym = column(alloc, "SYM", Kind::Text)?;
+    let p = column(alloc, "P", Kind::Int)?;
+    Ok(vec![in alloc; sym, p]?)
+}
+
+fn sales(alloc: Global) -> Result<Table, TableFault> {
+    Table::new(alloc, headings(alloc)?)
+}
+
+/// What a table of one column of this name is refused with.
+fn refusal(alloc: Global, name: &str) -> Result<Option<TableFault>, AllocError> {
+    let named = column(alloc, name, Kind::Int)?;
+    let columns = vec![in alloc; named]?;
+    Ok(Table::new(alloc, columns).err())
+}
+
+/// The order of two texts.
+fn order(alloc: Global, left: &str, right: &str) -> Result<Option<Ordering>, AllocError> {
+    Ok(text(alloc, left)?.compare(&text(alloc, right)?))
+}
+
+#[test]
+fn comparisons(rt: HostRuntime) -> Result<(), Fail> {
+    let alloc = rt.alloc();
+    let one = Value::Int(1);
+    assert_eq!(rt; one.compare(&Value::Null), None);
+    assert_eq!(rt; one.compare(&text(alloc, "1")?), None);
+    assert_eq!(rt; one.compare(&Value::Int(-2)), Some(Ordering::Greater));
+    let texts = [
+        ("a", "B", Ordering::Greater),
+        ("ab", "b", Ordering::Less),
+        ("", "a", Ordering::Less),
+        ("z", "é", Ordering::Less),
+        ("é", "é", Ordering::Equal),
+    ];
+    for (left, right, expected) in texts {
+        assert_eq!(rt; order(alloc, left, right)?, Some(expected));
+    }
+    Ok(())
+}
+
+/// The value of a whole number, or null.
+fn number(number: Option<i64>) -> Value {
+    number.map_or(Value::Null, Value::Int)
+}
+
+#[test]
+fn arithmetic(rt: HostRuntime) -> Result<(), Fail> {
+    let numbers = [
+        (GREATEST, 1, None, Some(GREATEST - 1), Some(GREATEST)),
+        (LEAST, -1, None, Some(LEAST + 1), None),
+        (LEAST, 1, Some(LEAST + 1), None, Some(LEAST)),
+        (5, -7, Some(-2), Some(12), Some(-35)),
+    ];
+    for (left, right, sum, difference, product) in numbers {
+        let left = Value::Int(left);
+        let right = Value::Int(right);
+        assert_eq!(rt; left.plus(&right), number(sum));
+        assert_eq!(rt; left.minus(&right), number(difference));
+        assert_eq!(rt; left.times(&right), number(product));
+    }
+    assert_eq!(rt; Value::Int(5).minus(&Value::Null), Value::Null);
+    assert_eq!(rt; Value::Int(5).plus(&text(rt.alloc(), "1")?), Value::Null);
+    Ok(())
+}
+
+#[test]
+fn sums_are_exact(rt: HostRuntime) -> Result<(), Fail> {
+    assert_eq!(rt; total(&[GREATEST, 1, -1]), Value::Int(GREATEST));
+    assert_eq!(rt; total(&[GREATEST, 1]), Value::Null);
+    assert_eq!(rt; total(&[]), Value::Int(0));
+    let mut sum = RunningSum::default();
+    sum.add(LEAST);
+    let half_way = sum;
+    sum.add(-1);
+    assert_eq!(rt; sum.value(), Value::Null);
+    sum.add(1);
+    assert_eq!(rt; sum.value(), Value::Int(LEAST));
+    assert_eq!(rt; sum.count(), 3);
+    assert_eq!(rt; half_way.value(), Value::Int(LEAST));
+    assert_eq!(rt; half_way.count(), 1);
+    Ok(())
+}
+
+#[test]
+fn three_truth_values(rt: HostRuntime) -> Result<(), Fail> {
+    let table = [
+        (Tri::True, Tri::True, Tri::True, Tri::True),
+        (Tri::True, Tri::Unknown, Tri::Unknown, Tri::True),
+        (Tri::True, Tri::False, Tri::False, Tri::True),
+        (Tri::Unknown, Tri::Unknown, Tri::Unknown, Tri::Unknown),
+        (Tri::Unknown, Tri::False, Tri::False, Tri::Unknown),
+        (Tri::False, Tri::False, Tri::False, Tri::False),
+    ];
+    for (left, right, least, greatest) in table {
+        assert_eq!(rt; left.and(right), least);
+        assert_eq!(rt; right.and(left), least);
+        assert_eq!(rt; left.or(right), greatest);
+        assert_eq!(rt; right.or(left), greatest);
+    }
+    assert_eq!(rt; Tri::True.not(), Tri::False);
+    assert_eq!(rt; Tri::False.not(), Tri::True);
+    assert_eq!(rt; Tri::Unknown.not(), Tri::Unknown);
+    Ok(())
+}
+
+#[test]
+fn a_decided_side_decides(rt: HostRuntime) -> Result<(), Fail> {
+    let yes = Judged::Told(Tri::True);
+    let no = Judged::Told(Tri::False);
+    let unknown = Judged::Told(Tri::Unknown);
+    let open = Judged::Open;
+    let table = [
+        (yes, yes, yes, yes),
+        (yes, unknown, unknown, yes),
+        (yes, no, no, yes),
+        (yes, open, open, yes),
+        (unknown, unknown, unknown, unknown),
+        (unknown, no, no, unknown),
+        (unknown, open, open, open),
+        (no, no, no, no),
+        (no, open, no, open),
+        (open, open, open, open),
+    ];
+    for (left, right, both, either) in table {
+        assert_eq!(rt; left.and(right), both);
+        assert_eq!(rt; right.and(left), both);
+        assert_eq!(rt; left.or(right), either);
+        assert_eq!(rt; right.or(left), either);
+    }
+    assert_eq!(rt; yes.not(), no);
+    assert_eq!(rt; no.not(), yes);
+    assert_eq!(rt; unknown.not(), unknown);
+    assert_eq!(rt; open.not(), open);
+    Ok(())
+}
+
+#[test]
+fn names(rt: HostRuntime) -> Result<(), Fail> {
+    let alloc = rt.alloc();
+    let longest = "n".repeat(alloc, 128)?;
+    let longer = "n".repeat(alloc, 129)?;
+    assert_eq!(rt; refusal(alloc, longest.as_str())?, None);
+    assert_eq!(rt; refusal(alloc, longer.as_str())?, Some(TableFault::BadName));
+    assert_eq!(rt; refusal(alloc, "")?, Some(TableFault::BadName));
+    Ok(())
+}
+
+#[test]
+fn tables(rt: HostRuntime) -> Result<(), Fail> {
+    let alloc = rt.alloc();
+    assert_eq!(rt;
+        Table::new(alloc, Vec::new(alloc)).err(),
+        Some(TableFault::NoColumns)
+    );
+    let first = column(alloc, "A", Kind::Int)?;
+    let second = column(alloc, "A", Kind::Text)?;
+    let mut columns = vec![in alloc; first, second]?;
+    assert_eq!(rt;
+        Table::new(alloc, columns).err(),
+        Some(TableFault::DoubleName)
+    );
+    let first = column(alloc, "A", Kind::Int)?;
+    let second = column(alloc, "A", Kind::Int)?;
+    let nameless = column(alloc, "", Kind::Int)?;
+    let worse = vec![in alloc; first, second, nameless]?;
+    assert_eq!(rt; Table::new(alloc, worse).err(), Some(TableFault::BadName));
+    let table = sales(alloc)?;
+    let kinds: Vec<Kind> = table
+        .columns()
+        .iter()
+        .map(|column| column.kind)
+        .collect(alloc)?;
+    assert_eq!(rt; kinds.as_slice(), [Kind::Text, Kind::Int].as_slice());
+    Ok(())
+}
+
+#[test]
+fn rows(rt: HostRuntime) -> Result<(), Fail> {
+    let alloc = rt.alloc();
+    let table = sales(alloc)?;
+    let cells = vec![in alloc; Value::Int(1), Value::Int(2)]?;
+    assert_eq!(rt; table.row(alloc, cells).err(), Some(RowFault::Kind(1)));
+    let cells = vec![in alloc; text(alloc, "x")?, text(alloc, "y")?]?;
+    assert_eq!(rt; table.row(alloc, cells).err(), Some(RowFault::Kind(2)));
+    let cells = vec![in alloc; text(alloc, "x")?]?;
+    assert_eq!(rt; table.row(alloc, cells).err(), Some(RowFault::Width));
+    let cells = vec![in alloc; Value::Null, Value::Null]?;
+    let nulls = table.row(alloc, cells)?;
+    assert_eq!(rt; nulls.cells().len(), 2);
+    let cells = vec![in alloc; text(alloc, "x")?, Value::Int(2)]?;
+    let row = table.row(alloc, cells)?;
+    assert_eq!(rt; row.cell(0), None);
+    assert_eq!(rt; row.cell(2), Some(&Value::Int(2)));
+    assert_eq!(rt; row.cell(3), None);
+    assert!(rt; !row.same(&nulls));
+    Ok(())
+}
+
+/// The cells of a row of the table SYM text, P int.
+fn sale(alloc: Global) -> Result<Vec<Value>, AllocError> {
+    Ok(vec![in alloc; text(alloc, "x")?, Value::Int(2)]?)
+}
+
+fn row_of(alloc: Global, table: &Table) -> Result<Row, RowFault> {
+    table.row(alloc, sale(alloc)?)
+}
+
+// A call that is refused memory, made again, gives what it gives with ample memory.
+
+#[test]
+fn refused_copies(rt: HostRuntime) -> Result<(), Fail> {
+    let alloc = rt.alloc();
+    let value = text(alloc, "x")?;
+    let copy = value.share(alloc).or_else(|_| value.share(alloc))?;
+    assert_eq!(rt; copy, value);
+    Ok(())
+}
+
+#[test]
+fn refused_keys(rt: HostRuntime) -> Result<(), Fail> {
+    let alloc = rt.alloc();
+    let key = Cells::new(sale(alloc)?);
+    let copy = key.share(alloc).or_else(|_| key.share(alloc))?;
+    assert!(rt; copy.same(&key));
+    assert_eq!(rt; copy.into_vec(), key.into_vec());
+    Ok(())
+}
+
+#[test]
+fn refused_tables_and_rows(rt: HostRuntime) -> Result<(), Fail> {
+    let alloc = rt.alloc();
+    let table = sales(alloc).or_else(|_| sales(alloc))?;
+    let copy = table.share()?;
+    assert_eq!(rt; copy, table);
+    let row = row_of(alloc, &copy).or_else(|_| row_of(alloc, &copy))?;
+    let twin = row.share()?;
+    assert!(rt; twin.same(&row));
+    Ok(())
+}
+
+#[test]
+fn fault_texts(rt: HostRuntime) -> Result<(), Fail> {
+    let alloc = rt.alloc();
+    assert_eq!(rt;
+        format!(in alloc; "{}", TableFault::NoColumns)?.as_str(),
+        "NoColumns"
+    );
+    assert_eq!(rt;
+        format!(in alloc; "{}", TableFault::BadName)?.as_str(),
+        "BadName"
+    );
+    assert_eq!(rt;
+        format!(in alloc; "{}", TableFault::DoubleName)?.as_str(),
+        "DoubleName"
+    );
+    assert_eq!(rt; format!(in alloc; "{}", RowFault::Width)?.as_str(), "width");
+    assert_eq!(rt;
+        format!(in alloc; "{}", RowFault::Kind(2))?.as_str(),
+        "kind 2"
+    );
+    Ok(())
+}

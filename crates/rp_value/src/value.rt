@@ -1,0 +1,105 @@
+//! Values, and their comparison and arithmetic.
+ghost use Rattle.std.specs.Prelude.{◌≡◌, ◌+ℤ◌, ◌-ℤ◌, ◌*ℤ◌, IfOk};
+ghost use Rattle.std.specs.Option.{option_map_or};
+ghost use Rattle.rp_value.specs.Arithmetic.{on_numbers};
+ghost use Rattle.rp_value.specs.Compared.{comparison};
+ghost use Rattle.rp_value.specs.Rows.{admits};
+
+use crate::Text;
+use std::alloc::{AllocError, Global};
+use std::cmp::Ordering;
+
+/// The kind of a column.
+#[derive(Clone, Copy, Debug, PartialEq, Eq, Hash)]
+pub enum Kind {
+    Int,
+    Text,
+}
+
+impl Kind {
+    /// Whether a column of this kind may hold a value: null, or a value of this kind.
+    pub fn admits(self, value: &Value) -> bool
+        ensures { result ≡ admits self value.now }
+    {
+        match (self, value) {
+            (_, Value::Null) | (Kind::Int, Value::Int(_)) | (Kind::Text, Value::Text(_)) => true,
+            _ => false,
+        }
+    }
+}
+
+/// A cell of a row, or the result of an expression.
+///
+/// `==` is equality of values, for which null equals null, as in a partition's key.
+/// What a condition asks is `compare`.
+#[derive(Debug, PartialEq, Eq, Hash, Drop)]
+pub enum Value {
+    Null,
+    Int(i64),
+    Text(Text),
+}
+
+impl Value {
+    /// The order of two values: of whole numbers by size, of texts by their UTF-8 bytes,
+    /// so that `'B'` is before `'a'`. None for null and for values of different kinds.
+    pub fn compare(&self, other: &Value) -> Option<Ordering>
+        ensures { result ≡ comparison self.now other.now }
+    {
+        match (self, other) {
+            (Value::Int(left), Value::Int(right)) => Some(left.cmp(right)),
+            (Value::Text(left), Value::Text(right)) => Some(left.cmp(right)),
+            _ => None,
+        }
+    }
+
+    /// The sum of two whole numbers. Null for null, for a text, and where the sum is
+    /// outside 64 bits with sign.
+    pub fn plus(&self, other: &Value) -> Value
+        ensures { result ≡ on_numbers ◌+ℤ◌ self.now other.now }
+    {
+        match (self, other) {
+            (Value::Int(left), Value::Int(right)) => null_if_none(left.checked_add(*right)),
+            _ => Value::Null,
+        }
+    }
+
+    /// The difference of two whole numbers. Null for null, for a text, and where it is
+    /// outside 64 bits with sign.
+    pub fn minus(&self, other: &Value) -> Value
+        ensures { result ≡ on_numbers ◌-ℤ◌ self.now other.now }
+    {
+        match (self, other) {
+            (Value::Int(left), Value::Int(right)) => null_if_none(left.checked_sub(*right)),
+            _ => Value::Null,
+        }
+    }
+
+    /// The product of two whole numbers. Null for null, for a text, and where it is
+    /// outside 64 bits with sign.
+    pub fn times(&self, other: &Value) -> Value
+        ensures { result ≡ on_numbers ◌*ℤ◌ self.now other.now }
+    {
+        match (self, other) {
+            (Value::Int(left), Value::Int(right)) => null_if_none(left.checked_mul(*right)),
+            _ => Value::Null,
+        }
+    }
+
+    /// An equal value. Only a text takes memory.
+    pub fn share(&self, alloc: Global) -> Result<Value, AllocError>
+        ensures { IfOk result (λ value. value ≡ self.now) }
+    {
+        match self {
+            Value::Null => Ok(Value::Null),
+            Value::Int(number) => Ok(Value::Int(*number)),
+            Value::Text(text) => Ok(Value::Text(text.share(alloc)?)),
+        }
+    }
+}
+
+/// A whole number, or null where there is none.
+pub(crate) fn null_if_none(number: Option<i64>) -> Value
+    ensures { result ≡ option_map_or Value.Int number Value.Null }
+{
+    number.map_or(Value::Null, Value::Int)
+}
