@@ -1,0 +1,18 @@
+//! Cuts a text into tokens, and says what names, texts and numbers mean.
+#![tactic(auto)]
+
+mod fault;
+mod gap;
+mod kind;
+mod laws;
+mod lexer;
+mod scan;
+mod token;
+#[cfg(test)]
+mod tests;
+
+pub use fault::LexFault;
+pub use kind::{Keyword, Mark, TokenKind};
+pub use laws::law_lexes;
+pub use lexer::lex;
+pub use token::{Token, name_of, number_of, text_of};

@@ -1,0 +1,179 @@
+//! Cuts the token that stands at a place of a text.
+
+ghost use Rattle.std.specs.Prelude.{◌≡◌, ◌≢◌, ℕ, ◌+◌, ◌<◌, ◌≤◌, true, false, length, slice_index, slice_range, drop, take, All, IfOk, IfErr, MatchOption};
+ghost use Rattle.std.specs.Char.{is_ascii_digit};
+ghost use Rattle.std.specs.List.{prefix_len};
+ghost use Rattle.std.specs.Str.Parse.{digits_value};
+ghost use Rattle.rp_lexer.specs.Spelling.{keyword_spelling, mark_spelling};
+ghost use Rattle.rp_lexer.specs.Forms.{is_name_start, is_name_byte, SpellsAlike, single_quote, double_quote};
+ghost use Rattle.rp_lexer.specs.Lexes.{Stops, IsToken, IsInRange};
+ghost use Rattle.rp_lexer.specs.Faults.{IsFault, offset};
+ghost use Rattle.rp_lexer.specs.Scan.{Closes, NeverCloses, IsLongestMark, BeginsNoMark, IsSign};
+
+use crate::fault::LexFault;
+use crate::kind::{KEYWORDS, Keyword, MARKS, Mark, TokenKind};
+use crate::token::Token;
+
+/// How many letters, digits and `_` the bytes begin with.
+fn name_len(rest: &[u8]) -> usize
+    ensures { result ≡ prefix_len is_name_byte rest.now }
+{
+    rest.iter()
+        .position(|b| !(b.is_ascii_alphanumeric() || *b == b'_'))
+        .unwrap_or(rest.len())
+}
+
+/// How many digits the bytes begin with.
+fn digits_len(rest: &[u8]) -> usize
+    ensures { result ≡ prefix_len is_ascii_digit rest.now }
+{
+    rest.iter()
+        .position(|b| !b.is_ascii_digit())
+        .unwrap_or(rest.len())
+}
+
+/// The reserved word, where the name is one.
+fn keyword(name: &[u8]) -> Option<Keyword>
+    ensures { MatchOption result ((word : Keyword) → SpellsAlike name.now (keyword_spelling word) → ⊥)
+        (λ word. SpellsAlike name.now (keyword_spelling word)) }
+{
+    for (spelling, word) in &KEYWORDS {
+        if name.eq_ignore_ascii_case(spelling) {
+            return Some(*word);
+        }
+    }
+    None
+}
+
+/// A name or a reserved word.
+fn word(text: &[u8], start: usize) -> Token
+    requires starts { is_name_start (slice_index text.now start) ≡ true }
+    requires within { start < length text.now }
+    ensures token { IsToken text.now result }
+    ensures start { result.start ≡ start }
+{
+    let end = start + name_len(&text[start..]);
+    let kind = match keyword(&text[start..end]) {
+        Some(word) => TokenKind::Keyword(word),
+        None => TokenKind::Name,
+    };
+    Token { kind, start, end }
+}
+
+/// The value of the digits, where it is at most 9223372036854775807.
+pub(crate) fn value_of(digits: &[u8]) -> Option<u64>
+    requires { All (λ b. is_ascii_digit b ≡ true) digits.now }
+    ensures { MatchOption result (IsInRange digits.now → ⊥)
+        (λ value. (value ≡ digits_value 10 digits.now) × IsInRange digits.now) }
+{
+    let mut value = 0;
+    for digit in digits {
+        value = value * 10 + u64::from(*digit - b'0');
+        if value > GREATEST {
+            return None;
+        }
+    }
+    Some(value)
+}
+
+const GREATEST: u64 = 9_223_372_036_854_775_807;
+
+/// Where the quote that the bytes begin with closes, or nothing where it never does.
+fn closing(rest: &[u8]) -> Option<usize>
+    requires { 0 < length rest.now }
+    ensures { MatchOption result (NeverCloses (slice_index rest.now 0) rest.now)
+        (λ len. Closes (slice_index rest.now 0) rest.now len) }
+{
+    let quote = rest[0];
+    let mut at = 1;
+    while at < rest.len() {
+        if rest[at] != quote {
+            at += 1;
+            continue;
+        }
+        if at + 1 == rest.len() || rest[at + 1] != quote {
+            return Some(at + 1);
+        }
+        at += 2;
+    }
+    None
+}
+
+/// The mark that the bytes begin with, and its length.
+fn mark(rest: &[u8]) -> Option<(Mark, usize)>
+    ensures { MatchOption result (BeginsNoMark rest.now) (λ found. IsLongestMark rest.now found.0 found.1) }
+{
+    for (spelling, mark) in &MARKS {
+        if rest.starts_with(spelling) {
+            return Some((*mark, spelling.len()));
+        }
+    }
+    None
+}
+
+fn number(text: &[u8], start: usize) -> Result<Token, LexFault>
+    requires digit { is_ascii_digit (slice_index text.now start) ≡ true }
+    requires within { start < length text.now }
+    ensures ok { IfOk result (λ token. IsToken text.now token × (token.start ≡ start)) }
+    ensures err { IfErr result (λ fault. IsFault text.now fault × (offset fault ≡ start)) }
+{
+    let end = start + digits_len(&text[start..]);
+    match value_of(&text[start..end]) {
+        Some(_) => Ok(Token { kind: TokenKind::Number, start, end }),
+        None => Err(LexFault::NumberRange(start)),
+    }
+}
+
+fn literal(text: &[u8], start: usize) -> Result<Token, LexFault>
+    requires quote { slice_index text.now start ≡ single_quote }
+    requires within { start < length text.now }
+    ensures ok { IfOk result (λ token. IsToken text.now token × (token.start ≡ start)) }
+    ensures err { IfErr result (λ fault. IsFault text.now fault × (offset fault ≡ start)) }
+{
+    match closing(&text[start..]) {
+        Some(length) => Ok(Token { kind: TokenKind::Text, start, end: start + length }),
+        None => Err(LexFault::OpenText(start)),
+    }
+}
+
+fn quoted(text: &[u8], start: usize) -> Result<Token, LexFault>
+    requires quote { slice_index text.now start ≡ double_quote }
+    requires within { start < length text.now }
+    ensures ok { IfOk result (λ token. IsToken text.now token × (token.start ≡ start)) }
+    ensures err { IfErr result (λ fault. IsFault text.now fault × (offset fault ≡ start)) }
+{
+    match closing(&text[start..]) {
+        Some(2) => Err(LexFault::BadChar(start)),
+        Some(length) => Ok(Token { kind: TokenKind::Quoted, start, end: start + length }),
+        None => Err(LexFault::OpenName(start)),
+    }
+}
+
+fn marked(text: &[u8], start: usize) -> Result<Token, LexFault>
+    requires stops { Stops text.now start }
+    requires sign { IsSign (slice_index text.now start) }
+    requires within { start < length text.now }
+    ensures ok { IfOk result (λ token. IsToken text.now token × (token.start ≡ start)) }
+    ensures err { IfErr result (λ fault. IsFault text.now fault × (offset fault ≡ start)) }
+{
+    match mark(&text[start..]) {
+        Some((mark, length)) => Ok(Token { kind: TokenKind::Mark(mark), start, end: start + length }),
+        None => Err(LexFault::BadChar(start)),
+    }
+}
+
+/// The token that stands at the place, or the fault there.
+pub(crate) fn token_at(text: &[u8], start: usize) -> Result<Token, LexFault>
+    requires stops { Stops text.now start }
+    requires within { start < length text.now }
+    ensures ok { IfOk result (λ token. IsToken text.now token × (token.start ≡ start)) }
+    ensures err { IfErr result (λ fault. IsFault text.now fault × (offset fault ≡ start)) }
+{
+    match text[start] {
+        b'a'..=b'z' | b'A'..=b'Z' | b'_' => Ok(word(text, start)),
+        b'0'..=b'9' => number(text, start),
+        b'\'' => literal(text, start),
+        b'"' => quoted(text, start),
+        _ => marked(text, start),
+    }
+}
