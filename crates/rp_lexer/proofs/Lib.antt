@@ -1,3 +1,4 @@
 pub mod Doubled
 pub mod FormLemmas
 pub mod Places
+pub mod Readings
