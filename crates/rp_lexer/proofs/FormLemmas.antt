@@ -197,7 +197,7 @@ same_class (kind.Mark mark) kind.Text bytes e form form' = absurd (omega arith)
 same_class (kind.Mark mark) kind.Number bytes e form form' = absurd (omega arith)
 same_class (kind.Mark mark) (kind.Mark other) bytes e form form' = ap kind.Mark (marks_same mark other (sym form ∙ form'))
 
-mark_some : (mark : Mark) → 0 < length (mark_spelling mark)
+pub mark_some : (mark : Mark) → 0 < length (mark_spelling mark)
 mark_some mark.LeftBraceMinus = lit< tt
 mark_some mark.RightBraceMinus = lit< tt
 mark_some mark.NotEquals = lit< tt

@@ -2,34 +2,67 @@
 
 ghost use Rattle.std.specs.Prelude.{◌≡◌, ◌≢◌, ℕ, ◌+◌, ◌<◌, ◌≤◌, true, false, length, slice_index, slice_range, drop, take, All, IfOk, IfErr, MatchOption};
 ghost use Rattle.std.specs.Char.{is_ascii_digit};
-ghost use Rattle.std.specs.List.{prefix_len};
+ghost use Rattle.std.specs.Str.{str_eq_ignore_ascii_case};
 ghost use Rattle.std.specs.Str.Parse.{digits_value};
 ghost use Rattle.rp_lexer.specs.Spelling.{keyword_spelling, mark_spelling};
 ghost use Rattle.rp_lexer.specs.Forms.{is_name_start, is_name_byte, SpellsAlike, single_quote, double_quote};
 ghost use Rattle.rp_lexer.specs.Lexes.{Stops, IsToken, IsInRange};
 ghost use Rattle.rp_lexer.specs.Faults.{IsFault, offset};
-ghost use Rattle.rp_lexer.specs.Scan.{Closes, NeverCloses, IsLongestMark, BeginsNoMark, IsSign};
+ghost use Rattle.rp_lexer.specs.Scan.{IsRun, entries, word_in, begins_with, mark_in, Closes, NeverCloses, IsLongestMark, BeginsNoMark, IsSign};
 
 use crate::fault::LexFault;
 use crate::kind::{KEYWORDS, Keyword, MARKS, Mark, TokenKind};
 use crate::token::Token;
 
+/// Whether the byte may stand in a name.
+fn is_name_byte(byte: u8) -> bool
+    ensures { result ≡ is_name_byte byte }
+{
+    byte.is_ascii_alphanumeric() || byte == b'_'
+}
+
 /// How many letters, digits and `_` the bytes begin with.
 fn name_len(rest: &[u8]) -> usize
-    ensures { result ≡ prefix_len is_name_byte rest.now }
+    ensures { IsRun is_name_byte rest.now result }
 {
-    rest.iter()
-        .position(|b| !(b.is_ascii_alphanumeric() || *b == b'_'))
-        .unwrap_or(rest.len())
+    for (len, byte) in rest.iter().enumerate() {
+        if !is_name_byte(*byte) {
+            return len;
+        }
+    }
+    rest.len()
 }
 
 /// How many digits the bytes begin with.
 fn digits_len(rest: &[u8]) -> usize
-    ensures { result ≡ prefix_len is_ascii_digit rest.now }
+    ensures { IsRun is_ascii_digit rest.now result }
 {
-    rest.iter()
-        .position(|b| !b.is_ascii_digit())
-        .unwrap_or(rest.len())
+    for (len, byte) in rest.iter().enumerate() {
+        if !byte.is_ascii_digit() {
+            return len;
+        }
+    }
+    rest.len()
+}
+
+/// Whether the words are the same but for the case of their letters.
+fn spells_alike(name: &[u8], other: &[u8]) -> bool
+    ensures { result ≡ str_eq_ignore_ascii_case name.now other.now }
+{
+    name.eq_ignore_ascii_case(other)
+}
+
+/// The first word of the table that the name spells.
+fn find_word(mut table: &[(&[u8], Keyword)], name: &[u8]) -> Option<Keyword>
+    ensures { result ≡ word_in (entries table.entry.now) name.now }
+{
+    while let [(spelling, word), rest @ ..] = table {
+        if spells_alike(spelling, name) {
+            return Some(*word);
+        }
+        table = rest;
+    }
+    None
 }
 
 /// The reserved word, where the name is one.
@@ -37,12 +70,7 @@ fn keyword(name: &[u8]) -> Option<Keyword>
     ensures { MatchOption result ((word : Keyword) → SpellsAlike name.now (keyword_spelling word) → ⊥)
         (λ word. SpellsAlike name.now (keyword_spelling word)) }
 {
-    for (spelling, word) in &KEYWORDS {
-        if name.eq_ignore_ascii_case(spelling) {
-            return Some(*word);
-        }
-    }
-    None
+    find_word(&KEYWORDS, name)
 }
 
 /// A name or a reserved word.
@@ -60,6 +88,9 @@ fn word(text: &[u8], start: usize) -> Token
     Token { kind, start, end }
 }
 
+/// The greatest number.
+const GREATEST: u64 = 9_223_372_036_854_775_807;
+
 /// The value of the digits, where it is at most 9223372036854775807.
 pub(crate) fn value_of(digits: &[u8]) -> Option<u64>
     requires { All (λ b. is_ascii_digit b ≡ true) digits.now }
@@ -67,16 +98,15 @@ pub(crate) fn value_of(digits: &[u8]) -> Option<u64>
         (λ value. (value ≡ digits_value 10 digits.now) × IsInRange digits.now) }
 {
     let mut value = 0;
-    for digit in digits {
-        value = value * 10 + u64::from(*digit - b'0');
-        if value > GREATEST {
+    for byte in digits {
+        let digit = u64::from(*byte - b'0');
+        if value > (GREATEST - digit) / 10 {
             return None;
         }
+        value = value * 10 + digit;
     }
     Some(value)
 }
-
-const GREATEST: u64 = 9_223_372_036_854_775_807;
 
 /// Where the quote that the bytes begin with closes, or nothing where it never does.
 fn closing(rest: &[u8]) -> Option<usize>
@@ -99,16 +129,32 @@ fn closing(rest: &[u8]) -> Option<usize>
     None
 }
 
-/// The mark that the bytes begin with, and its length.
-fn mark(rest: &[u8]) -> Option<(Mark, usize)>
-    ensures { MatchOption result (BeginsNoMark rest.now) (λ found. IsLongestMark rest.now found.0 found.1) }
+/// Whether the text begins with these bytes.
+fn begins_with(rest: &[u8], front: &[u8]) -> bool
+    ensures { result ≡ begins_with rest.now front.now }
 {
-    for (spelling, mark) in &MARKS {
-        if rest.starts_with(spelling) {
+    rest.starts_with(front)
+}
+
+/// The first mark of the table that the bytes begin with, and its length.
+fn find_mark(mut table: &[(&[u8], Mark)], rest: &[u8]) -> Option<(Mark, usize)>
+    ensures { result ≡ mark_in (entries table.entry.now) rest.now }
+{
+    while let [(spelling, mark), others @ ..] = table {
+        if begins_with(rest, spelling) {
             return Some((*mark, spelling.len()));
         }
+        table = others;
     }
     None
+}
+
+/// The longest mark that the bytes begin with, and its length.
+fn mark(rest: &[u8]) -> Option<(Mark, usize)>
+    ensures { MatchOption result (BeginsNoMark rest.now)
+        (λ found. IsLongestMark rest.now found.0 found.1) }
+{
+    find_mark(&MARKS, rest)
 }
 
 fn number(text: &[u8], start: usize) -> Result<Token, LexFault>
