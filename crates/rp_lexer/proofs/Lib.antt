@@ -5,3 +5,6 @@ pub mod Readings
 pub mod Quotes
 pub mod Tokens
 pub mod Scanned
+pub mod Numbers
+pub mod Tables
+pub mod Lexed

@@ -1,0 +1,17 @@
+use Rattle.std.proofs.Common.{◌≡◌, is_ok, [], ◌∷◌, ◌++◌, sym, ap, subst}
+use Rattle.std.proofs.ResultArms.{chosen}
+use Rattle.rp_lexer.specs.Lexes.{LexesUpTo}
+use Rattle.rp_lexer.proofs.Lexed.{lexed_more}
+use Rattle.rp_lexer.proofs.lexer.lex.Goals as goal
+
+pub loop-at-preserved : goal.loop-at-preserved
+loop-at-preserved c =
+    let pushed = chosen _ _ _ _ c.push.ensures.items (ap is_ok c.in_ok-push.was) in
+    let text = c.as_bytes-bytes.result.now in
+    let end = c.gap_end-at-in-loop-at.result in
+    record {
+      lexed = subst (λ l. LexesUpTo text 0 l end) (sym pushed)
+          (lexed_more text 0 c.loop-at.tokens.items c.in_ok-token.token c.loop-at.at end c.loop-at.invariant.lexed c.in_ok-token.ensures.ok.0 c.in_ok-token.ensures.ok.1 c.gap_end-at-in-loop-at.ensures.gap);
+      stops = c.gap_end-at-in-loop-at.ensures.stops;
+      within = c.gap_end-at-in-loop-at.ensures.within.1;
+    }
