@@ -8,3 +8,5 @@ pub mod Scanned
 pub mod Numbers
 pub mod Tables
 pub mod Lexed
+pub mod Undoubling
+pub mod Edges

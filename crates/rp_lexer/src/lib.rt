@@ -6,6 +6,7 @@ mod gap;
 mod kind;
 mod laws;
 mod lexer;
+mod meaning;
 mod scan;
 mod token;
 #[cfg(test)]
@@ -15,4 +16,5 @@ pub use fault::LexFault;
 pub use kind::{Keyword, Mark, TokenKind};
 pub use laws::law_lexes;
 pub use lexer::lex;
-pub use token::{Token, name_of, number_of, text_of};
+pub use meaning::{name_of, number_of, text_of};
+pub use token::Token;
