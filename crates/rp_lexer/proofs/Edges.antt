@@ -63,5 +63,5 @@ module _ (text : List ℕ) (utf8 : IsUtf8 text) (start end quote : ℕ) (ascii :
       let len : end - start ≡ 1 + (n + 1) = omega arith in
       let rest : drop 1 (take (1 + (n + 1)) (drop start text)) ≡ take (n + 1) (drop 1 (drop start text)) = drop-take 1 (n + 1) (drop start text) in
       let tail : take (n + 1) (drop (start + 1) text) ≡ doubled quote inside ++ quote ∷ [] =
-          ap (λ l. take (n + 1) l) (sym (drop-drop 1 start text)) ∙ sym rest ∙ ap (λ k. drop 1 (take k (drop start text))) (sym len) ∙ ap (λ l. drop 1 l) spelled in
+      ap (λ l. take (n + 1) l) (sym (drop-drop 1 start text)) ∙ sym rest ∙ ap (λ k. drop 1 (take k (drop start text))) (sym len) ∙ ap (λ l. drop 1 l) spelled in
       ap (λ k. take k (drop (start + 1) text)) all ∙ sym (take-take n (n + 1) (drop (start + 1) text) (omega arith)) ∙ ap (λ l. take n l) tail ∙ take_at (doubled quote inside) (quote ∷ []) n refl

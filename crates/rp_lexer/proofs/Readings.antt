@@ -100,10 +100,10 @@ enclosed_third q [] some e = absurd (some refl)
 enclosed_third q (b ∷ bytes) some e =
     ⊎_elim
     (λ is. let along : (c : ℕ) → c ≡ q → doubled q (c ∷ bytes) ≡ q ∷ q ∷ doubled q bytes = λ c is'. ap (λ d. doubled q (d ∷ bytes)) is' ∙ doubled-quote q bytes in
-        let spelled : enclosed q (b ∷ bytes) ≡ q ∷ q ∷ q ∷ (doubled q bytes ++ q ∷ []) = ap (λ l. q ∷ (l ++ q ∷ [])) (along b is) in
-        (ap (λ l. get_or l 2 0) spelled, omega (arith, ap length spelled)))
+    let spelled : enclosed q (b ∷ bytes) ≡ q ∷ q ∷ q ∷ (doubled q bytes ++ q ∷ []) = ap (λ l. q ∷ (l ++ q ∷ [])) (along b is) in
+    (ap (λ l. get_or l 2 0) spelled, omega (arith, ap length spelled)))
     (λ other. let spelled : enclosed q (b ∷ bytes) ≡ q ∷ b ∷ (doubled q bytes ++ q ∷ []) = ap (λ l. q ∷ (l ++ q ∷ [])) (doubled-other q b bytes other) in
-        absurd (other (sym (ap (λ l. get_or l 1 0) spelled) ∙ e)))
+    absurd (other (sym (ap (λ l. get_or l 1 0) spelled) ∙ e)))
     (cases_eq b q)
 
 empty_no_quoted : (text : List ℕ) (at end : ℕ) → IsEmptyQuoted text at → IsLongest text kind.Quoted at end → ⊥
@@ -135,11 +135,11 @@ open_no_token text q at end kind some open' inside h spelled form =
     let rest = part_to_end text at ∙ open'.1 in
     ⊎_elim
     (λ all. closed_not_open q inside open'.0 [] some
-        (let e : enclosed q inside ≡ q ∷ doubled q open'.0 = sym spelled ∙ ap (λ n. slice_range text at n) all ∙ rest in cc))
+    (let e : enclosed q inside ≡ q ∷ doubled q open'.0 = sym spelled ∙ ap (λ n. slice_range text at n) all ∙ rest in cc))
     (λ differ. ⊎_elim
-        (λ sooner. h.longest (length text) sooner (omega arith) (record { kind = kind; more = q ∷ []; form = subst (λ l. HasForm kind (l ++ q ∷ [])) (sym rest) form }))
-        (λ later. omega (arith, later, h.within))
-        differ)
+    (λ sooner. h.longest (length text) sooner (omega arith) (record { kind = kind; more = q ∷ []; form = subst (λ l. HasForm kind (l ++ q ∷ [])) (sym rest) form }))
+    (λ later. omega (arith, later, h.within))
+    differ)
     (cases_order end (length text))
 
 -- a single quote stays open, so it is no quoted name
@@ -215,7 +215,7 @@ pub no_tokens_with_fault : NoTokensWithFault
 no_tokens_with_fault text tokens fault h f =
     before_end text fault f.cause (sym (one_reading text 0 tokens f.tokens (length text) (offset fault) h f.before (end_is_last text) (fault_is_last text fault f.cause)).1)
 
-each_stands_from : (text : List ℕ) (at : ℕ) (tokens : List Token) (end : ℕ) → LexesUpTo text at tokens end → All (IsToken text) tokens
+pub each_stands_from : (text : List ℕ) (at : ℕ) (tokens : List Token) (end : ℕ) → LexesUpTo text at tokens end → All (IsToken text) tokens
 each_stands_from text at [] end h = All-nil (IsToken text)
 each_stands_from text at (t ∷ ts) end h = All-cons (IsToken text) t ts h.1 (each_stands_from text t.end ts end h.2)
 
@@ -240,9 +240,9 @@ empty_not_open text at empty (b ∷ bytes, is) =
     let second : get_or (drop at text) 1 0 ≡ 34 = get_or-drop at text 1 0 ∙ empty.1 in
     ⊎_elim
     (λ quote. let spelled : drop at text ≡ 34 ∷ 34 ∷ 34 ∷ doubled 34 bytes = is ∙ ap (λ c. 34 ∷ doubled 34 (c ∷ bytes)) quote ∙ ap (λ l. 34 ∷ l) (doubled-quote 34 bytes) in
-        empty.2 (sym (get_or-drop at text 2 0) ∙ ap (λ l. get_or l 2 0) spelled))
+    empty.2 (sym (get_or-drop at text 2 0) ∙ ap (λ l. get_or l 2 0) spelled))
     (λ other. let spelled : drop at text ≡ 34 ∷ b ∷ doubled 34 bytes = is ∙ ap (λ l. 34 ∷ l) (doubled-other 34 b bytes other) in
-        other (sym (ap (λ l. get_or l 1 0) spelled) ∙ second))
+    other (sym (ap (λ l. get_or l 1 0) spelled) ∙ second))
     (cases_eq b 34)
 
 -- where a bad character stands, no quote stays open and no number begins

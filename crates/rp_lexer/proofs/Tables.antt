@@ -123,12 +123,12 @@ word_found (e ∷ table) name spelled =
     (λ yes'. subst Q (sym (cond-true test (Some e.1) (word_in table name) yes')) (sym (decides.0 yes') ∙ ap (λ l. map to_ascii_lowercase l) spelled.0))
     (λ no'. subst Q (sym (cond-false test (Some e.1) (word_in table name) no')) (later (word_in table name) no' rest))
     (cases_Bool test)
-    where
-      later : (r : Option Keyword) → str_eq_ignore_ascii_case e.0 name ≡ false → MatchOption r ((word : Keyword) → Has table word → SpellsAlike name (keyword_spelling word) → ⊥) (λ word. SpellsAlike name (keyword_spelling word)) → MatchOption r ((word : Keyword) → Has (e ∷ table) word → SpellsAlike name (keyword_spelling word) → ⊥) (λ word. SpellsAlike name (keyword_spelling word))
-      later (Some word) no' h = h
-      later None no' h = λ word has alike. ⊎_elim
-          (λ here. both_ways _ no' ((bytes_eq-Decides (map to_ascii_lowercase e.0) (map to_ascii_lowercase name)).1 (ap (λ l. map to_ascii_lowercase l) (spelled.0 ∙ ap keyword_spelling here) ∙ sym alike)))
-          (λ there. h word there alike) has
+  where
+    later : (r : Option Keyword) → str_eq_ignore_ascii_case e.0 name ≡ false → MatchOption r ((word : Keyword) → Has table word → SpellsAlike name (keyword_spelling word) → ⊥) (λ word. SpellsAlike name (keyword_spelling word)) → MatchOption r ((word : Keyword) → Has (e ∷ table) word → SpellsAlike name (keyword_spelling word) → ⊥) (λ word. SpellsAlike name (keyword_spelling word))
+    later (Some word) no' h = h
+    later None no' h = λ word has alike. ⊎_elim
+        (λ here. both_ways _ no' ((bytes_eq-Decides (map to_ascii_lowercase e.0) (map to_ascii_lowercase name)).1 (ap (λ l. map to_ascii_lowercase l) (spelled.0 ∙ ap keyword_spelling here) ∙ sym alike)))
+        (λ there. h word there alike) has
 
 no_word_at : (r : Option Keyword) (name : List ℕ) → MatchOption r ((word : Keyword) → Has words word → SpellsAlike name (keyword_spelling word) → ⊥) (λ word. SpellsAlike name (keyword_spelling word)) → MatchOption r ((word : Keyword) → SpellsAlike name (keyword_spelling word) → ⊥) (λ word. SpellsAlike name (keyword_spelling word))
 no_word_at None name h = λ word alike. h word (words_have word) alike
@@ -152,7 +152,7 @@ signs_descend = refl
 no_longer : (table : List (List ℕ × Mark)) (n : ℕ) (m : Mark) → Spelled mark_spelling table → list_all (λ later. leb (length later.0) n) table ≡ true → Has table m → length (mark_spelling m) ≤ n
 no_longer [] n m spelled all has = absurd has
 no_longer (e ∷ table) n m spelled all has =
-    let parts = and_parts _ _ all in
+    let parts = and_parts (leb (length e.0) n) (list_all (λ later. leb (length later.0) n) table) all in
     ⊎_elim
     (λ here. omega (arith, leb-true (length e.0) n parts.0, ap length (spelled.0 ∙ ap mark_spelling here)))
     (λ there. no_longer table n m spelled.1 parts.1 there)
@@ -176,12 +176,13 @@ mark_found_in [] rest spelled descending = λ m has begun. has
 mark_found_in (e ∷ table) rest spelled descending =
     let parts = and_parts _ _ descending in
     ⊎_elim
-    (λ yes'. subst (FoundIn (e ∷ table) rest) (sym (cond-true (begins_with rest e.0) (Some (e.1, length e.0)) (mark_in table rest) yes'))
-        (ap length spelled.0,
-         ap (λ l. take (length l) rest) (sym spelled.0) ∙ sym ((bytes_eq-Decides e.0 (take (length e.0) rest)).0 yes') ∙ spelled.0,
-         λ other has longer begun. let short = no_longer (e ∷ table) (length e.0) other spelled (and_from _ _ (le-leb (length e.0) (length e.0) (omega arith)) parts.0) has in omega arith))
+    (λ yes'. subst (FoundIn (e ∷ table) rest) (sym (cond-true (begins_with rest e.0) (Some (e.1, length e.0)) (mark_in table rest) yes')) (
+      ap length spelled.0,
+      ap (λ l. take (length l) rest) (sym spelled.0) ∙ sym ((bytes_eq-Decides e.0 (take (length e.0) rest)).0 yes') ∙ spelled.0,
+      λ other has longer begun. let short = no_longer (e ∷ table) (length e.0) other spelled (and_from _ _ (le-leb (length e.0) (length e.0) (omega arith)) parts.0) has in omega arith,
+    ))
     (λ no'. subst (FoundIn (e ∷ table) rest) (sym (cond-false (begins_with rest e.0) (Some (e.1, length e.0)) (mark_in table rest) no'))
-        (later_mark e table rest (mark_in table rest) spelled.0 no' (mark_found_in table rest spelled.1 parts.1)))
+    (later_mark e table rest (mark_in table rest) spelled.0 no' (mark_found_in table rest spelled.1 parts.1)))
     (cases_Bool (begins_with rest e.0))
 
 mark_of_signs : (rest : List ℕ) (r : Option (Mark × ℕ)) → FoundIn signs rest r → MatchOption r (BeginsNoMark rest) (λ found. IsLongestMark rest found.0 found.1)

@@ -136,12 +136,12 @@ closes_longest q rest len closes some more past within tail other longer =
     let x = drop len (take more rest) in
     let split : take more rest ≡ take len rest ++ x = sym (take-append-drop len (take more rest)) ∙ ap (λ l. l ++ x) (take-take len more rest (omega arith)) in
     let first : get_or (x ++ tail) 0 0 ≡ get_or rest len 0 =
-        get_or_append_left x tail 0 0 (omega (arith, length-drop len (take more rest), length-take-le more rest within))
-        ∙ rest_first (take more rest) len ∙ get_or-take more rest len 0 past in
+    get_or_append_left x tail 0 0 (omega (arith, length-drop len (take more rest), length-take-le more rest within))
+    ∙ rest_first (take more rest) len ∙ get_or-take more rest len 0 past in
     let whole : enclosed q closes.inside ++ (x ++ tail) ≡ enclosed q other =
-        ap (λ l. l ++ (x ++ tail)) (sym closes.front) ∙ sym (append_assoc (take len rest) x tail) ∙ ap (λ l. l ++ tail) (sym split) ∙ longer in
+    ap (λ l. l ++ (x ++ tail)) (sym closes.front) ∙ sym (append_assoc (take len rest) x tail) ∙ ap (λ l. l ++ tail) (sym split) ∙ longer in
     let inner : doubled q closes.inside ++ q ∷ (x ++ tail) ≡ doubled q other ++ q ∷ [] =
-        sym (append_assoc (doubled q closes.inside) (q ∷ []) (x ++ tail)) ∙ ap (λ l. drop 1 l) whole in
+    sym (append_assoc (doubled q closes.inside) (q ∷ []) (x ++ tail)) ∙ ap (λ l. drop 1 l) whole in
     let same = closed_same q closes.inside other (x ++ tail) [] (λ is. closed_next q rest len closes some (sym first ∙ is)) some inner in
     omega (arith, ap length same.1, length-append x tail, length-drop len (take more rest), length-take-le more rest within)
 
@@ -192,10 +192,11 @@ pub empty_quoted : (text : List ℕ) (start : ℕ) → get_or text start 0 ≡ 3
 empty_quoted text start first closes =
     let rest = drop start text in
     let len = closes_length 34 rest 2 closes in
-    let second : get_or (enclosed 34 closes.inside) 1 0 ≡ 34 = empty_second (doubled 34 closes.inside) (omega (arith, len)) in
-    (first,
-     sym (get_or-drop start text 1 0) ∙ sym (get_or-take 2 rest 1 0 (omega arith)) ∙ ap (λ l. get_or l 1 0) closes.front ∙ second,
-     λ third. closed_next 34 rest 2 closes (λ e. omega arith) (get_or-drop start text 2 0 ∙ third))
+    let second : get_or (enclosed 34 closes.inside) 1 0 ≡ 34 = empty_second (doubled 34 closes.inside) (omega (arith, len)) in (
+      first,
+      sym (get_or-drop start text 1 0) ∙ sym (get_or-take 2 rest 1 0 (omega arith)) ∙ ap (λ l. get_or l 1 0) closes.front ∙ second,
+      λ third. closed_next 34 rest 2 closes (λ e. omega arith) (get_or-drop start text 2 0 ∙ third),
+    )
 
 -- ---- marks
 
@@ -305,10 +306,12 @@ mark_longest rest m len sign found =
     }
 
 pub no_mark_stray : (rest : List ℕ) → 0 < length rest → is_separator (get_or rest 0 0) ≡ false → IsSign (get_or rest 0 0) → BeginsNoMark rest → IsStray (get_or rest 0 0)
-no_mark_stray rest some no_separator sign none' =
-    (no_separator, λ found more form.
-        let b = get_or rest 0 0 in
-        let spelled = mark_of_class found (b ∷ more) (sym (sign_class b sign) ∙ class_of_form found (b ∷ more) form) form in
-        let one : mark_spelling (first_mark spelled.0) ≡ b ∷ [] = first_mark-spelling spelled.0 ∙ ap (λ l. get_or l 0 0 ∷ []) (sym spelled.1) in
-        let front : take 1 rest ≡ b ∷ [] = take_more rest 0 0 some in
-        none' (first_mark spelled.0) (ap (λ l. take (length l) rest) one ∙ front ∙ sym one))
+no_mark_stray rest some no_separator sign none' = (
+  no_separator,
+  λ found more form.
+      let b = get_or rest 0 0 in
+      let spelled = mark_of_class found (b ∷ more) (sym (sign_class b sign) ∙ class_of_form found (b ∷ more) form) form in
+      let one : mark_spelling (first_mark spelled.0) ≡ b ∷ [] = first_mark-spelling spelled.0 ∙ ap (λ l. get_or l 0 0 ∷ []) (sym spelled.1) in
+      let front : take 1 rest ≡ b ∷ [] = take_more rest 0 0 some in
+      none' (first_mark spelled.0) (ap (λ l. take (length l) rest) one ∙ front ∙ sym one),
+)

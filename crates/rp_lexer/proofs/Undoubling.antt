@@ -17,10 +17,10 @@ first_double q (b ∷ bytes) l (suc at) e lt is earlier =
     ⊎_elim
     (λ quote. absurd (earlier 0 (omega arith) (ap (λ k. get_or k 0 0) (e ∙ ap (λ c. doubled q (c ∷ bytes)) quote ∙ doubled-quote q bytes))))
     (λ other.
-        let spelled : l ≡ b ∷ doubled q bytes = e ∙ doubled-other q b bytes other in
-        let rest = first_double q bytes (doubled q bytes) at refl (omega (arith, ap length spelled)) (sym (ap (λ k. get_or k (suc at) 0) spelled) ∙ is)
-            (λ i below same. earlier (suc i) (omega arith) (ap (λ k. get_or k (suc i) 0) spelled ∙ same)) in
-        (rest.0, ap (λ k. drop (suc at) k) spelled ∙ rest.1))
+    let spelled : l ≡ b ∷ doubled q bytes = e ∙ doubled-other q b bytes other in
+    let rest = first_double q bytes (doubled q bytes) at refl (omega (arith, ap length spelled)) (sym (ap (λ k. get_or k (suc at) 0) spelled) ∙ is)
+    (λ i below same. earlier (suc i) (omega arith) (ap (λ k. get_or k (suc i) 0) spelled ∙ same)) in
+    (rest.0, ap (λ k. drop (suc at) k) spelled ∙ rest.1))
     (cases_eq b q)
 
 -- bytes with no quote stay as they are
@@ -53,9 +53,9 @@ module _ (q : ℕ) (inside rest : List ℕ) (at : ℕ) (left : rest ≡ doubled 
       let plain : doubled q front ≡ front = doubled_none q front (λ i below same. earlier i (omega (arith, length-take-le at rest (omega arith))) (sym (get_or-take at rest i 0 (omega (arith, length-take-le at rest (omega arith)))) ∙ same)) in
       let one : take (at + 1) rest ≡ front ++ q ∷ [] = take_more rest at 0 lt ∙ ap (λ b. front ++ b ∷ []) is in
       let twice : doubled q (take (at + 1) rest) ≡ front ++ q ∷ q ∷ [] =
-          ap (λ l. doubled q l) one ∙ doubled-append q front (q ∷ []) ∙ ap (λ l. l ++ doubled q (q ∷ [])) plain ∙ ap (λ l. front ++ l) (doubled-quote q []) in
+      ap (λ l. doubled q l) one ∙ doubled-append q front (q ∷ []) ∙ ap (λ l. l ++ doubled q (q ∷ [])) plain ∙ ap (λ l. front ++ l) (doubled-quote q []) in
       let split : rest ≡ (front ++ q ∷ q ∷ []) ++ drop (at + 2) rest =
-          sym (take-append-drop at rest) ∙ ap (λ l. front ++ l) (drop_at ∙ ap (λ l. q ∷ q ∷ l) (sym left_more)) ∙ sym (append_assoc front (q ∷ q ∷ []) (drop (at + 2) rest)) in
+      sym (take-append-drop at rest) ∙ ap (λ l. front ++ l) (drop_at ∙ ap (λ l. q ∷ q ∷ l) (sym left_more)) ∙ sym (append_assoc front (q ∷ q ∷ []) (drop (at + 2) rest)) in
       so_far ∙ ap (λ l. doubled q text ++ l) (split ∙ ap (λ l. l ++ drop (at + 2) rest) (sym twice))
       ∙ sym (append_assoc (doubled q text) (doubled q (take (at + 1) rest)) (drop (at + 2) rest))
       ∙ ap (λ l. l ++ drop (at + 2) rest) (sym (doubled-append q text (take (at + 1) rest)))

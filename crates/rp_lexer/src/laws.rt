@@ -11,5 +11,4 @@ pub fn law_lexes()
     ensures each_stands { EachStands }
     ensures one_name { OneNameMeaning }
     ensures one_text { OneTextMeaning }
-{
-}
+{}

@@ -1,7 +1,7 @@
 //! Cuts a text into its tokens.
 
-ghost use Rattle.std.specs.Prelude.{◌≡◌, ◌≢◌, IfOk, IfErr};
-ghost use Rattle.rp_lexer.specs.Lexes.{Lexes};
+ghost use Rattle.std.specs.Prelude.{◌≡◌, ◌≢◌, All, IfOk, IfErr};
+ghost use Rattle.rp_lexer.specs.Lexes.{IsToken, Lexes};
 ghost use Rattle.rp_lexer.specs.Faults.{IsFirstFault};
 
 use crate::fault::LexFault;
@@ -14,6 +14,8 @@ use std::alloc::Global;
 /// stand between tokens and mean nothing else.
 pub fn lex(alloc: Global, text: &str) -> Result<Vec<Token>, LexFault>
     ensures tokens { IfOk result (λ tokens. Lexes text.now tokens.items) }
+    // So each may be asked for its meaning.
+    ensures each_stands { IfOk result (λ tokens. All (IsToken text.now) tokens.items) }
     ensures fault { IfErr result (λ fault. fault ≢ LexFault.OutOfMemory → IsFirstFault text.now fault) }
 {
     let bytes = text.as_bytes();

@@ -8,9 +8,9 @@ mod laws;
 mod lexer;
 mod meaning;
 mod scan;
-mod token;
 #[cfg(test)]
 mod tests;
+mod token;
 
 pub use fault::LexFault;
 pub use kind::{Keyword, Mark, TokenKind};

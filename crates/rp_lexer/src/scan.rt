@@ -165,7 +165,11 @@ fn number(text: &[u8], start: usize) -> Result<Token, LexFault>
 {
     let end = start + digits_len(&text[start..]);
     match value_of(&text[start..end]) {
-        Some(_) => Ok(Token { kind: TokenKind::Number, start, end }),
+        Some(_) => Ok(Token {
+            kind: TokenKind::Number,
+            start,
+            end,
+        }),
         None => Err(LexFault::NumberRange(start)),
     }
 }
@@ -177,7 +181,11 @@ fn literal(text: &[u8], start: usize) -> Result<Token, LexFault>
     ensures err { IfErr result (λ fault. IsFault text.now fault × (offset fault ≡ start)) }
 {
     match closing(&text[start..]) {
-        Some(length) => Ok(Token { kind: TokenKind::Text, start, end: start + length }),
+        Some(length) => Ok(Token {
+            kind: TokenKind::Text,
+            start,
+            end: start + length,
+        }),
         None => Err(LexFault::OpenText(start)),
     }
 }
@@ -190,7 +198,11 @@ fn quoted(text: &[u8], start: usize) -> Result<Token, LexFault>
 {
     match closing(&text[start..]) {
         Some(2) => Err(LexFault::BadChar(start)),
-        Some(length) => Ok(Token { kind: TokenKind::Quoted, start, end: start + length }),
+        Some(length) => Ok(Token {
+            kind: TokenKind::Quoted,
+            start,
+            end: start + length,
+        }),
         None => Err(LexFault::OpenName(start)),
     }
 }
@@ -203,7 +215,11 @@ fn marked(text: &[u8], start: usize) -> Result<Token, LexFault>
     ensures err { IfErr result (λ fault. IsFault text.now fault × (offset fault ≡ start)) }
 {
     match mark(&text[start..]) {
-        Some((mark, length)) => Ok(Token { kind: TokenKind::Mark(mark), start, end: start + length }),
+        Some((mark, length)) => Ok(Token {
+            kind: TokenKind::Mark(mark),
+            start,
+            end: start + length,
+        }),
         None => Err(LexFault::BadChar(start)),
     }
 }

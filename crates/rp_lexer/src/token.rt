@@ -1,6 +1,5 @@
 //! A token, and what it means.
 
-
 use crate::kind::TokenKind;
 
 /// A token of a text: the bytes from `start` up to `end` of it. Offsets count bytes from 0.

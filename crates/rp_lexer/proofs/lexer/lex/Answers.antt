@@ -1,6 +1,8 @@
 use Rattle.std.proofs.Common.{◌≡◌, is_ok, [], ◌∷◌, ◌++◌, sym, ap, subst}
 use Rattle.std.proofs.ResultArms.{chosen}
-use Rattle.rp_lexer.specs.Lexes.{LexesUpTo}
+use Rattle.std.specs.Prelude.{All}
+use Rattle.rp_lexer.specs.Lexes.{IsToken, LexesUpTo}
+use Rattle.rp_lexer.proofs.Readings.{each_stands_from}
 use Rattle.rp_lexer.proofs.Lexed.{lexed_more}
 use Rattle.rp_lexer.proofs.lexer.lex.Goals as goal
 
@@ -15,3 +17,9 @@ loop-at-preserved c =
       stops = c.gap_end-at-in-loop-at.ensures.stops;
       within = c.gap_end-at-in-loop-at.ensures.within.1;
     }
+
+pub returns-clause-each_stands : goal.returns-clause-each_stands
+returns-clause-each_stands c =
+    let text = c.as_bytes-bytes.result.now in
+    subst (λ l. All (IsToken l) c.loop-at.tokens.items) c.as_bytes-bytes.ensures.value
+    (each_stands_from text 0 c.loop-at.tokens.items c.loop-at.at c.loop-at.invariant.lexed)

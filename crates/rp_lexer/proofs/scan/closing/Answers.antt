@@ -22,9 +22,9 @@ returns-then-at-rest c =
       front = inside_closed c.args.rest.now (get_or c.args.rest.now 0 0) c.loop-at.at i.inside i.front c.loop-at-test.true c.if-rest-at.false;
       within = omega arith;
       closed = λ more. elim c.then-at-rest.branch [
-          then-at-rest-via-then-at-rest w ↦ absurd (omega arith)
+        | then-at-rest-via-then-at-rest w ↦ absurd (omega arith)
         | then-at-rest-via-else-at-rest+then-rest-at-2 w ↦ w.if-rest-at-2.true
-        ];
+      ];
     }
 
 pub loop-at-preserved : goal.loop-at-preserved
