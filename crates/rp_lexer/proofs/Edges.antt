@@ -13,10 +13,10 @@ use Rattle.rp_lexer.proofs.Tokens.{enclosed_length}
 use Rattle.rp_lexer.specs.declared.kind.TokenKind.TheVariants as kind
 use Rattle.rp_lexer.specs.declared.token.Token.{Token}
 
-name_byte_ascii : (b : ℕ) → is_name_byte b ≡ true → b < 128
+pub name_byte_ascii : (b : ℕ) → is_name_byte b ≡ true → b < 128
 name_byte_ascii b is = grind (arith, nat_tests)
 
-last_place : (start end : ℕ) → start < end → start + (end - start - 1) ≡ end - 1
+pub last_place : (start end : ℕ) → start < end → start + (end - start - 1) ≡ end - 1
 last_place start end lt = omega arith
 
 -- a name may be cut out

@@ -10,3 +10,4 @@ pub mod Tables
 pub mod Lexed
 pub mod Undoubling
 pub mod Edges
+pub mod Characters

@@ -2,7 +2,8 @@
 
 ghost use Rattle.std.specs.Prelude.{◌≡◌, ◌≢◌, All, IfOk, IfErr};
 ghost use Rattle.rp_lexer.specs.Lexes.{IsToken, Lexes};
-ghost use Rattle.rp_lexer.specs.Faults.{IsFirstFault};
+ghost use Rattle.std.specs.Str.{IsCharBoundary};
+ghost use Rattle.rp_lexer.specs.Faults.{IsFirstFault, offset};
 
 use crate::fault::LexFault;
 use crate::gap::gap_end;
@@ -17,6 +18,8 @@ pub fn lex(alloc: Global, text: &str) -> Result<Vec<Token>, LexFault>
     // So each may be asked for its meaning.
     ensures each_stands { IfOk result (λ tokens. All (IsToken text.now) tokens.items) }
     ensures fault { IfErr result (λ fault. fault ≢ LexFault.OutOfMemory → IsFirstFault text.now fault) }
+    // A fault stands at the first byte of a character.
+    ensures character { IfErr result (λ fault. IsCharBoundary text.now (offset fault)) }
 {
     let bytes = text.as_bytes();
     let mut tokens = Vec::new(alloc);
