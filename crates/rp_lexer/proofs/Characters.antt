@@ -1,14 +1,13 @@
 -- Tokens, separators and comments end where a character does.
-use Rattle.std.proofs.Common.{◌≡◌, ℕ, suc, ◌+◌, ◌-◌, ◌<◌, ◌≤◌, true, false, List, [], ◌∷◌, ◌++◌, length, get_or, IsUtf8, sym, refl, ap, ◌∙◌, subst, ⊎_elim, add-one, arith, lit<}
-use Rattle.std.proofs.lemmas.List.{get_or_at, get_or_past, nil_from_length}
+use Rattle.std.proofs.Common.{◌≡◌, ℕ, suc, ◌+◌, ◌-◌, ◌<◌, true, List, [], ◌∷◌, length, get_or, IsUtf8, sym, refl, ap, ◌∙◌, subst, ⊎_elim, add-one, arith, lit<}
+use Rattle.std.proofs.lemmas.List.{get_or_at, get_or_past}
 use Rattle.std.proofs.lemmas.Bool.{both_ways, cases_lt}
 use Rattle.std.proofs.lemmas.Bool.Decides.{nat_tests}
 use Rattle.std.proofs.lemmas.Str.{IsCharBoundary-start, IsCharBoundary-end, IsCharBoundary-before_ascii, IsCharBoundary-after_ascii}
-use Rattle.std.specs.Char.{is_ascii_digit}
 use Rattle.std.specs.List.{slice_range}
 use Rattle.std.specs.Str.{IsCharBoundary}
 use Rattle.rp_lexer.specs.Spelling.{mark_spelling}
-use Rattle.rp_lexer.specs.Forms.{is_name_byte, doubled, enclosed, HasForm}
+use Rattle.rp_lexer.specs.Forms.{doubled, enclosed, HasForm}
 use Rattle.rp_lexer.specs.Lexes.{is_separator, IsGap, nothing, separator, comment, IsComment, IsToken, LexesUpTo}
 use Rattle.rp_lexer.proofs.FormLemmas.{form_some}
 use Rattle.rp_lexer.proofs.Numbers.{digit_bounds}
@@ -79,7 +78,7 @@ module _ (text : List ℕ) (utf8 : IsUtf8 text) where
       let lens = length_part text token.start token.end h.within in
       let n : length bytes - 1 ≡ token.end - token.start - 1 = omega arith in
       let at : get_or bytes (length bytes - 1) 0 ≡ get_or text (token.end - 1) 0 =
-          ap (λ i. get_or bytes i 0) n ∙ at_part text token.start token.end (token.end - token.start - 1) (omega (arith, h.order)) ∙ ap (λ i. get_or text i 0) (last_place token.start token.end h.order) in
+      ap (λ i. get_or bytes i 0) n ∙ at_part text token.start token.end (token.end - token.start - 1) (omega (arith, h.order)) ∙ ap (λ i. get_or text i 0) (last_place token.start token.end h.order) in
       let e : token.end - 1 + 1 ≡ token.end = omega (arith, h.order) in
       subst (IsCharBoundary text) e (IsCharBoundary-after_ascii text (token.end - 1) utf8 (omega (arith, h.order, h.within)) (omega (arith, at, last)))
 

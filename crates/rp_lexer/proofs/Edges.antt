@@ -1,17 +1,15 @@
 -- Where tokens may be cut out of a text: each begins and ends with an ASCII byte.
-use Rattle.std.proofs.Common.{◌≡◌, ℕ, ◌+◌, ◌-◌, ◌<◌, ◌≤◌, true, List, [], ◌∷◌, ◌++◌, length, get_or, take, drop, IsUtf8, sym, refl, ap, ◌∙◌, subst, arith, length-append}
+use Rattle.std.proofs.Common.{◌≡◌, ℕ, ◌+◌, ◌-◌, ◌<◌, ◌≤◌, true, List, [], ◌∷◌, ◌++◌, length, get_or, take, drop, IsUtf8, sym, refl, ap, ◌∙◌, subst, arith}
 use Rattle.std.proofs.lemmas.List.{get_or_at, take_at, take-take, drop-take, drop-drop}
 use Rattle.std.proofs.lemmas.Bool.Decides.{nat_tests}
 use Rattle.std.proofs.lemmas.Str.{IsCharBoundary-before_ascii, IsCharBoundary-after_ascii}
 use Rattle.std.specs.List.{slice_range}
 use Rattle.std.specs.Str.{IsCharBoundary}
-use Rattle.rp_lexer.specs.Forms.{is_name_byte, doubled, enclosed, IsIdentifier}
-use Rattle.rp_lexer.specs.Lexes.{IsLongest, IsToken}
-use Rattle.rp_lexer.specs.Meanings.{bytes_of}
+use Rattle.rp_lexer.specs.Forms.{is_name_byte, doubled, enclosed}
+use Rattle.rp_lexer.specs.Lexes.{IsLongest}
 use Rattle.rp_lexer.proofs.Places.{length_part, at_part, first_of_part}
 use Rattle.rp_lexer.proofs.Tokens.{enclosed_length}
 use Rattle.rp_lexer.specs.declared.kind.TokenKind.TheVariants as kind
-use Rattle.rp_lexer.specs.declared.token.Token.{Token}
 
 pub name_byte_ascii : (b : ℕ) → is_name_byte b ≡ true → b < 128
 name_byte_ascii b is = grind (arith, nat_tests)

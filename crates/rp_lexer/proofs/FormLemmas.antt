@@ -1,10 +1,10 @@
 -- The forms of two kinds have no bytes in common.
-use Rattle.std.proofs.Common.{◌≡◌, ◌≢◌, ℕ, ◌<◌, Bool, true, false, cond, eqb, List, [], ◌∷◌, ◌++◌, length, map, get_or, Option, Some, None, sym, refl, ap, ◌∙◌, subst, arith, lit<}
+use Rattle.std.proofs.Common.{◌≡◌, ◌≢◌, ℕ, ◌<◌, true, false, cond, eqb, List, [], ◌∷◌, length, map, get_or, Option, Some, None, sym, refl, ap, ◌∙◌, arith, lit<}
 use Rattle.std.specs.Char.{is_ascii_digit, to_ascii_lowercase}
 use Rattle.std.specs.Str.{bytes_eq}
 use Rattle.std.proofs.lemmas.Bool.Decides.{nat_tests}
 use Rattle.rp_lexer.specs.Spelling.{keyword_spelling, mark_spelling}
-use Rattle.rp_lexer.specs.Forms.{is_name_start, is_name_byte, IsIdentifier, IsDigits, SpellsAlike, doubled, enclosed, HasForm, BeginsToken}
+use Rattle.rp_lexer.specs.Forms.{is_name_start, SpellsAlike, enclosed, HasForm}
 use Rattle.rp_lexer.specs.Lexes.{is_separator}
 use Rattle.rp_lexer.specs.declared.kind.Keyword.{Keyword}
 use Rattle.rp_lexer.specs.declared.kind.Keyword.TheVariants as keyword

@@ -1,9 +1,9 @@
 -- Tokens, comments and gaps at a place of a text: no two of one sort begin there.
-use Rattle.std.proofs.Common.{◌≡◌, ℕ, suc, ◌+◌, ◌-◌, ◌<◌, ◌≤◌, Bool, true, false, List, [], ◌∷◌, ◌++◌, length, get_or, take, drop, sym, refl, ap, ◌∙◌, subst, ⊎_elim, arith, length-drop, get_or-drop, get_or-take, add-zero}
-use Rattle.std.proofs.lemmas.List.{append-nil, drop_more, length-take, take_rest, get_or_past}
+use Rattle.std.proofs.Common.{◌≡◌, ℕ, ◌+◌, ◌-◌, ◌<◌, ◌≤◌, true, List, [], ◌++◌, length, get_or, take, drop, sym, refl, ap, ◌∙◌, subst, ⊎_elim, arith, length-drop, get_or-drop, get_or-take, add-zero}
+use Rattle.std.proofs.lemmas.List.{append-nil, length-take, take_rest}
 use Rattle.std.proofs.lemmas.Bool.{cases_order, both_ways}
 use Rattle.std.specs.List.{slice_range}
-use Rattle.rp_lexer.specs.Forms.{HasForm, BeginsToken}
+use Rattle.rp_lexer.specs.Forms.{HasForm}
 use Rattle.rp_lexer.specs.Lexes.{is_separator, CommentBegins, IsComment, Stops, IsGap, nothing, separator, comment, IsLongest, IsToken}
 use Rattle.rp_lexer.proofs.FormLemmas.{one_kind, form_no_separator}
 use Rattle.rp_lexer.specs.declared.kind.TokenKind.{TokenKind}

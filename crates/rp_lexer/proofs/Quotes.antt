@@ -1,5 +1,5 @@
 -- A scan for the quote that closes, a byte or a double quote at a time.
-use Rattle.std.proofs.Common.{◌≡◌, ℕ, ◌+◌, ◌<◌, List, [], ◌∷◌, ◌++◌, length, get_or, take, sym, refl, ap, ◌∙◌, append_assoc, add_assoc, arith}
+use Rattle.std.proofs.Common.{◌≡◌, ℕ, ◌+◌, ◌<◌, List, [], ◌∷◌, ◌++◌, length, get_or, take, sym, ap, ◌∙◌, append_assoc, add_assoc}
 use Rattle.std.proofs.lemmas.List.{take_more}
 use Rattle.rp_lexer.specs.Forms.{doubled, enclosed}
 use Rattle.rp_lexer.proofs.Doubled.{doubled-append, doubled-quote, doubled-other}

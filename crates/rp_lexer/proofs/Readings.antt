@@ -1,14 +1,13 @@
 -- A text has one reading: one token list or one first fault.
-use Rattle.std.proofs.Common.{◌≡◌, ◌≢◌, ℕ, suc, ◌+◌, ◌-◌, ◌<◌, ◌≤◌, ◌⊎◌, Bool, true, false, List, [], ◌∷◌, ◌++◌, length, get_or, take, drop, sym, refl, ap, ◌∙◌, subst, inl, inr, ⊎_elim, arith, length-append}
+use Rattle.std.proofs.Common.{◌≡◌, ◌≢◌, ℕ, ◌<◌, ◌≤◌, false, List, [], ◌∷◌, ◌++◌, length, get_or, drop, sym, refl, ap, ◌∙◌, subst, ⊎_elim, arith, length-append}
 use Rattle.std.proofs.lemmas.List.{get_or_past, get_or-drop, drop_more, length-drop}
-use Rattle.std.proofs.lemmas.Bool.{cases_order, cases_eq, both_ways}
+use Rattle.std.proofs.lemmas.Bool.{cases_order, cases_eq}
 use Rattle.std.proofs.lemmas.List.Elements.{All-nil, All-cons}
 use Rattle.std.specs.Prelude.{All}
 use Rattle.std.specs.List.{slice_range}
-use Rattle.std.specs.Char.{is_ascii_digit}
-use Rattle.rp_lexer.specs.Forms.{is_name_start, doubled, enclosed, HasForm, BeginsToken}
-use Rattle.rp_lexer.specs.Lexes.{is_separator, CommentBegins, Stops, IsGap, IsLongest, IsToken, IsInRange, LexesUpTo, Lexes}
-use Rattle.rp_lexer.specs.Faults.{IsStray, IsEmptyQuoted, IsOpen, IsFault, offset, IsFirstFault}
+use Rattle.rp_lexer.specs.Forms.{doubled, enclosed, HasForm}
+use Rattle.rp_lexer.specs.Lexes.{is_separator, Stops, IsLongest, IsToken, IsInRange, LexesUpTo}
+use Rattle.rp_lexer.specs.Faults.{IsStray, IsEmptyQuoted, IsOpen, IsFault, offset}
 use Rattle.rp_lexer.specs.Laws.{OneTokenList, OneFirstFault, NoTokensWithFault, EachStands}
 use Rattle.rp_lexer.proofs.Doubled.{doubled-quote, doubled-other, closed_not_open}
 use Rattle.rp_lexer.proofs.FormLemmas.{class_of, class_of_kind, class_of_form, form_no_separator}

@@ -1,5 +1,5 @@
 -- What the scanners return at a place of a text, from what they found in the rest of it.
-use Rattle.std.proofs.Common.{◌≡◌, ◌≢◌, ℕ, ◌+◌, ◌-◌, ◌<◌, ◌≤◌, Bool, true, false, List, [], ◌∷◌, length, get_or, take, drop, sym, refl, ap, ◌∙◌, subst, inl, inr, arith, length-drop}
+use Rattle.std.proofs.Common.{◌≡◌, ℕ, ◌+◌, ◌-◌, ◌<◌, Bool, true, List, length, get_or, take, drop, sym, refl, ap, ◌∙◌, subst, inl, inr, arith, length-drop}
 use Rattle.std.proofs.lemmas.List.{take_rest}
 use Rattle.std.proofs.lemmas.Bool.{both_ways}
 use Rattle.std.specs.Prelude.{All}
@@ -7,8 +7,8 @@ use Rattle.std.specs.List.{slice_range}
 use Rattle.std.specs.Char.{is_ascii_digit}
 use Rattle.rp_lexer.specs.Spelling.{keyword_spelling}
 use Rattle.rp_lexer.specs.Forms.{is_name_start, is_name_byte, SpellsAlike, HasForm}
-use Rattle.rp_lexer.specs.Lexes.{is_separator, Stops, IsLongest, IsToken, IsInRange}
-use Rattle.rp_lexer.specs.Faults.{IsFault, IsStray, IsEmptyQuoted}
+use Rattle.rp_lexer.specs.Lexes.{is_separator, Stops, IsToken, IsInRange}
+use Rattle.rp_lexer.specs.Faults.{IsFault, IsStray}
 use Rattle.rp_lexer.specs.Scan.{IsRun, Closes, IsLongestMark, BeginsNoMark, IsSign}
 use Rattle.rp_lexer.proofs.Places.{Longest, longest_at, part_is_front, rest_first}
 use Rattle.rp_lexer.proofs.Tokens.{token_from, no_comment_at, identifier_from, name_longest, digits_from, number_longest, text_longest, quoted_longest, empty_quoted, mark_longest, no_mark_stray}

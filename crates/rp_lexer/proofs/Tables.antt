@@ -1,13 +1,13 @@
 -- What the tables of reserved words and marks have, and what a search in them finds.
-use Rattle.std.proofs.Common.{◌≡◌, ℕ, ◌+◌, ◌<◌, ◌≤◌, ◌⊎◌, Bool, true, false, cond, ◌&&◌, leb, Option, Some, None, MatchOption, List, [], ◌∷◌, length, map, take, sym, refl, ap, ◌∙◌, subst, inl, inr, ⊎_elim, arith}
+use Rattle.std.proofs.Common.{◌≡◌, ℕ, ◌<◌, ◌≤◌, ◌⊎◌, Bool, true, false, ◌&&◌, leb, Option, Some, None, MatchOption, List, [], ◌∷◌, length, map, take, sym, refl, ap, ◌∙◌, subst, inl, inr, ⊎_elim, arith}
 use Rattle.std.proofs.lemmas.Bool.{cond-true, cond-false, cases_Bool, and_parts, leb-true, both_ways, and_from, le-leb}
 use Rattle.std.proofs.lemmas.Slice.Eq.{bytes_eq-Decides}
 use Rattle.std.specs.List.{list_all}
 use Rattle.std.specs.Char.{to_ascii_lowercase}
-use Rattle.std.specs.Str.{bytes_eq, str_eq_ignore_ascii_case}
+use Rattle.std.specs.Str.{str_eq_ignore_ascii_case}
 use Rattle.rp_lexer.specs.Spelling.{keyword_spelling, mark_spelling}
 use Rattle.rp_lexer.specs.Forms.{SpellsAlike}
-use Rattle.rp_lexer.specs.Scan.{entries, word_in, begins_with, mark_in, BeginsWithMark, IsLongestMark, BeginsNoMark}
+use Rattle.rp_lexer.specs.Scan.{word_in, begins_with, mark_in, BeginsWithMark, IsLongestMark, BeginsNoMark}
 use Rattle.rp_lexer.specs.declared.kind.Keyword.{Keyword}
 use Rattle.rp_lexer.specs.declared.kind.Keyword.TheVariants as keyword
 use Rattle.rp_lexer.specs.declared.kind.Mark.{Mark}

@@ -1,15 +1,15 @@
 -- What a scan finds at the front of what is left is the token there.
-use Rattle.std.proofs.Common.{◌≡◌, ◌≢◌, ℕ, zero, suc, ◌+◌, ◌-◌, ◌<◌, ◌≤◌, Bool, true, false, List, [], ◌∷◌, ◌++◌, length, get_or, take, drop, sym, refl, ap, ◌∙◌, subst, ⊎_elim, inl, inr, arith, append_assoc, length-append, length-drop, get_or-drop, get_or-take, add-zero, lit≤}
-use Rattle.std.proofs.lemmas.List.{append-nil, length-take, length-take-le, take-append-drop, take-take, get_or_append_left, get_or_past, drop_more, take_more, nil_from_length}
+use Rattle.std.proofs.Common.{◌≡◌, ℕ, zero, suc, ◌+◌, ◌<◌, ◌≤◌, Bool, true, false, List, [], ◌∷◌, ◌++◌, length, get_or, take, drop, sym, refl, ap, ◌∙◌, subst, ⊎_elim, arith, append_assoc, length-append, length-drop, get_or-drop, get_or-take, lit≤}
+use Rattle.std.proofs.lemmas.List.{append-nil, length-take, length-take-le, take-append-drop, take-take, get_or_append_left, get_or_past, take_more, nil_from_length}
 use Rattle.std.proofs.lemmas.List.Elements.{All-from_get_or}
 use Rattle.std.proofs.lemmas.Bool.{both_ways, ne_eqb, cases_lt}
 use Rattle.std.proofs.lemmas.Bool.Decides.{nat_tests}
 use Rattle.std.specs.Char.{is_ascii_digit}
 use Rattle.rp_lexer.specs.Spelling.{mark_spelling}
 use Rattle.rp_lexer.specs.Forms.{is_name_start, is_name_byte, IsIdentifier, IsDigits, doubled, enclosed, HasForm}
-use Rattle.rp_lexer.specs.Lexes.{is_separator, CommentBegins, Stops, IsToken, IsInRange}
+use Rattle.rp_lexer.specs.Lexes.{is_separator, CommentBegins, IsToken, IsInRange}
 use Rattle.rp_lexer.specs.Faults.{IsStray, IsEmptyQuoted}
-use Rattle.rp_lexer.specs.Scan.{IsRun, Closes, BeginsWithMark, IsLongestMark, BeginsNoMark, IsSign}
+use Rattle.rp_lexer.specs.Scan.{IsRun, Closes, IsLongestMark, BeginsNoMark, IsSign}
 use Rattle.rp_lexer.proofs.Doubled.{closed_same}
 use Rattle.rp_lexer.proofs.FormLemmas.{class_of, class_of_kind, class_of_form, mark_some}
 use Rattle.rp_lexer.proofs.Places.{Longest, longest_at, part_is_front, rest_first}
@@ -17,7 +17,6 @@ use Rattle.rp_lexer.specs.declared.kind.Mark.{Mark}
 use Rattle.rp_lexer.specs.declared.kind.Mark.TheVariants as mark
 use Rattle.rp_lexer.specs.declared.kind.TokenKind.{TokenKind}
 use Rattle.rp_lexer.specs.declared.kind.TokenKind.TheVariants as kind
-use Rattle.rp_lexer.specs.declared.token.Token.{Token}
 
 -- a token of the text, from what is left of it
 pub token_from : (text : List ℕ) (start : ℕ) (found : TokenKind) (len : ℕ) → start ≤ length text → Longest (drop start text) found len → (CommentBegins text start → ⊥) → (found ≡ kind.Number → IsInRange (take len (drop start text))) → IsToken text (record { kind = found; start = start; end = start + len })

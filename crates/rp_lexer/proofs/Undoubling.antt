@@ -1,8 +1,8 @@
 -- Doubled bytes read from one quote to the next.
-use Rattle.std.proofs.Common.{◌≡◌, ℕ, zero, suc, ◌+◌, ◌<◌, ◌≤◌, List, [], ◌∷◌, ◌++◌, length, get_or, take, drop, sym, refl, ap, ◌∙◌, subst, ⊎_elim, append_assoc, length-drop, get_or-drop, arith}
-use Rattle.std.proofs.lemmas.List.{take-append-drop, drop-drop, take_more, length-take-le, get_or-take, append-nil}
+use Rattle.std.proofs.Common.{◌≡◌, ℕ, zero, suc, ◌+◌, ◌<◌, List, [], ◌∷◌, ◌++◌, length, get_or, take, drop, sym, refl, ap, ◌∙◌, ⊎_elim, append_assoc, length-drop, get_or-drop, arith}
+use Rattle.std.proofs.lemmas.List.{take-append-drop, drop-drop, take_more, length-take-le, get_or-take}
 use Rattle.std.proofs.lemmas.Bool.{cases_eq}
-use Rattle.rp_lexer.specs.Forms.{doubled, enclosed}
+use Rattle.rp_lexer.specs.Forms.{doubled}
 use Rattle.rp_lexer.proofs.Doubled.{doubled-quote, doubled-other, doubled-append}
 
 -- the first quote in doubled bytes is followed by a second, and by doubled bytes

@@ -1,6 +1,6 @@
 -- What is wrong with a text that has no token list.
 use Rattle.std.specs.Prelude.{◌≡◌, ◌≢◌, ℕ, ◌+◌, ◌<◌, ◌⊎◌, false, List, ◌∷◌, length, drop, slice_index, slice_range}
-use Rattle.rp_lexer.specs.Forms.{HasForm, BeginsToken, doubled, single_quote, double_quote}
+use Rattle.rp_lexer.specs.Forms.{HasForm, doubled, single_quote, double_quote}
 use Rattle.rp_lexer.specs.Lexes.{is_separator, IsLongest, IsInRange, LexesUpTo}
 use Rattle.rp_lexer.specs.declared.fault.LexFault.{LexFault}
 use Rattle.rp_lexer.specs.declared.fault.LexFault.TheVariants.{BadChar, OpenText, OpenName, NumberRange, OutOfMemory}

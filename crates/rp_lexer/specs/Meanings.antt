@@ -1,5 +1,5 @@
 -- What names, texts and numbers mean.
-use Rattle.std.specs.Prelude.{◌≡◌, ℕ, List, ◌⊎◌, map, slice_range}
+use Rattle.std.specs.Prelude.{◌≡◌, ℕ, List, map, slice_range}
 use Rattle.std.specs.Char.{to_ascii_uppercase}
 use Rattle.std.specs.Str.Parse.{digits_value}
 use Rattle.rp_lexer.specs.Forms.{enclosed, single_quote, double_quote}

@@ -1,5 +1,5 @@
-use Rattle.std.proofs.Common.{true, sym, ◌∙◌, arith, add-one}
-use Rattle.rp_lexer.specs.Lexes.{IsGap, separator, comment}
+use Rattle.std.proofs.Common.{sym, ◌∙◌, arith, add-one}
+use Rattle.rp_lexer.specs.Lexes.{separator, comment}
 use Rattle.rp_lexer.proofs.gap.step_end.Goals as goal
 
 pub returns-then-is_separator-clause-some : goal.returns-then-is_separator-clause-some

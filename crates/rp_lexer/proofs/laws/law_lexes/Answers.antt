@@ -1,4 +1,4 @@
-use Rattle.std.proofs.Common.{◌≡◌, ap, sym, ◌∙◌, arith}
+use Rattle.std.proofs.Common.{sym, ◌∙◌, arith}
 use Rattle.rp_lexer.proofs.Doubled.{enclosed_same}
 use Rattle.rp_lexer.proofs.Readings.{one_token_list, one_first_fault, no_tokens_with_fault, each_stands}
 use Rattle.rp_lexer.specs.Laws.{OneNameMeaning}

@@ -1,4 +1,4 @@
-use Rattle.std.proofs.Common.{subst, sym}
+use Rattle.std.proofs.Common.{subst}
 use Rattle.rp_lexer.specs.Lexes.{IsLongest}
 use Rattle.rp_lexer.proofs.Edges.{name_end}
 use Rattle.rp_lexer.proofs.meaning.upper_case.Goals as goal

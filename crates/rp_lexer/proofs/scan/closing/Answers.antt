@@ -1,5 +1,4 @@
-use Rattle.std.proofs.Common.{◌≡◌, ◌<◌, ◌+◌, [], ◌∷◌, ◌++◌, length, get_or, sym, ◌∙◌, ap, arith}
-use Rattle.std.proofs.lemmas.List.{get_or_past}
+use Rattle.std.proofs.Common.{◌<◌, ◌+◌, [], ◌∷◌, ◌++◌, length, get_or, arith}
 use Rattle.rp_lexer.proofs.Quotes.{inside_more, inside_closed, inside_doubled}
 use Rattle.rp_lexer.proofs.scan.closing.Goals as goal
 use Rattle.rp_lexer.proofs.scan.closing.Goals.{then-at-rest-via-then-at-rest, then-at-rest-via-else-at-rest+then-rest-at-2}

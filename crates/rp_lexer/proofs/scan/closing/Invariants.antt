@@ -1,4 +1,4 @@
-use Rattle.std.proofs.Common.{◌≡◌, ℕ, ◌-◌, ◌≤◌, List, ◌∷◌, length, get_or, take}
+use Rattle.std.proofs.Common.{◌≡◌, ℕ, ◌-◌, ◌≤◌, List, ◌∷◌, length, take}
 use Rattle.rp_lexer.specs.Forms.{doubled}
 use Rattle.rp_lexer.proofs.scan.closing.Given as goal
 
