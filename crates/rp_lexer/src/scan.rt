@@ -157,6 +157,7 @@ fn mark(rest: &[u8]) -> Option<(Mark, usize)>
     find_mark(&MARKS, rest)
 }
 
+/// The number that begins at the place.
 fn number(text: &[u8], start: usize) -> Result<Token, LexFault>
     requires digit { is_ascii_digit (slice_index text.now start) ≡ true }
     requires within { start < length text.now }
@@ -174,6 +175,7 @@ fn number(text: &[u8], start: usize) -> Result<Token, LexFault>
     }
 }
 
+/// The text that begins at the place.
 fn literal(text: &[u8], start: usize) -> Result<Token, LexFault>
     requires quote { slice_index text.now start ≡ single_quote }
     requires within { start < length text.now }
@@ -190,6 +192,7 @@ fn literal(text: &[u8], start: usize) -> Result<Token, LexFault>
     }
 }
 
+/// The quoted name that begins at the place.
 fn quoted(text: &[u8], start: usize) -> Result<Token, LexFault>
     requires quote { slice_index text.now start ≡ double_quote }
     requires within { start < length text.now }
@@ -207,6 +210,7 @@ fn quoted(text: &[u8], start: usize) -> Result<Token, LexFault>
     }
 }
 
+/// The mark that begins at the place.
 fn marked(text: &[u8], start: usize) -> Result<Token, LexFault>
     requires stops { Stops text.now start }
     requires sign { IsSign (slice_index text.now start) }
