@@ -1,0 +1,13 @@
+pub mod Doubled
+pub mod FormLemmas
+pub mod Places
+pub mod Readings
+pub mod Quotes
+pub mod Tokens
+pub mod Scanned
+pub mod Numbers
+pub mod Tables
+pub mod Lexed
+pub mod Undoubling
+pub mod Edges
+pub mod Characters

@@ -1,0 +1,59 @@
+-- The lexical table: which bytes have the form of a token of each kind.
+use Rattle.std.specs.Prelude.{◌≡◌, ◌≢◌, ℕ, ◌<◌, Bool, true, ◌||◌, ◌==◌, if◌then◌else◌, List, [], ◌∷◌, ◌++◌, length, map, slice_index, All}
+use Rattle.std.specs.Char.{is_ascii_alphabetic, is_ascii_alphanumeric, is_ascii_digit, to_ascii_lowercase}
+use Rattle.rp_lexer.specs.Spelling.{keyword_spelling, mark_spelling}
+use Rattle.rp_lexer.specs.declared.kind.Keyword.{Keyword}
+use Rattle.rp_lexer.specs.declared.kind.TokenKind.{TokenKind}
+use Rattle.rp_lexer.specs.declared.kind.TokenKind.TheVariants as kind
+
+-- a letter or `_`, and what may follow it in a name
+abbrev pub is_name_start : ℕ → Bool
+is_name_start b = is_ascii_alphabetic b || b == 95
+
+abbrev pub is_name_byte : ℕ → Bool
+is_name_byte b = is_ascii_alphanumeric b || b == 95
+
+-- a letter or `_`, and then letters, digits and `_`
+pub record IsIdentifier (bytes : List ℕ) : Type 0 where
+  pub start : is_name_start (slice_index bytes 0) ≡ true
+  pub each : All (λ b. is_name_byte b ≡ true) bytes
+
+-- the same word, but for the case of its ASCII letters
+abbrev pub SpellsAlike : List ℕ → List ℕ → Type 0
+SpellsAlike a b = map to_ascii_lowercase a ≡ map to_ascii_lowercase b
+
+-- the bytes, with each quote doubled
+abbrev pub doubled : ℕ → List ℕ → List ℕ
+doubled quote [] = []
+doubled quote (b ∷ bytes) = if b == quote then quote ∷ quote ∷ doubled quote bytes else b ∷ doubled quote bytes
+
+-- the bytes between quotes, with each quote among them doubled
+abbrev pub enclosed : ℕ → List ℕ → List ℕ
+enclosed quote inside = quote ∷ (doubled quote inside ++ quote ∷ [])
+
+-- `'` and `"`
+abbrev pub single_quote : ℕ
+single_quote = 39
+
+abbrev pub double_quote : ℕ
+double_quote = 34
+
+-- one or more digits
+pub record IsDigits (bytes : List ℕ) : Type 0 where
+  pub some : 0 < length bytes
+  pub each : All (λ b. is_ascii_digit b ≡ true) bytes
+
+-- the bytes have the form of a token of the kind
+abbrev pub HasForm : TokenKind → List ℕ → Type 0
+HasForm kind.Name bytes = IsIdentifier bytes × ((word : Keyword) → SpellsAlike bytes (keyword_spelling word) → ⊥)
+HasForm (kind.Keyword word) bytes = IsIdentifier bytes × SpellsAlike bytes (keyword_spelling word)
+HasForm kind.Quoted bytes = (inside : List ℕ) × (inside ≢ []) × (bytes ≡ enclosed double_quote inside)
+HasForm kind.Text bytes = (inside : List ℕ) × (bytes ≡ enclosed single_quote inside)
+HasForm kind.Number bytes = IsDigits bytes
+HasForm (kind.Mark mark) bytes = bytes ≡ mark_spelling mark
+
+-- a token of some kind begins with these bytes, or is these bytes
+pub record BeginsToken (bytes : List ℕ) : Type 0 where
+  pub kind : TokenKind
+  pub more : List ℕ
+  pub form : HasForm kind (bytes ++ more)

@@ -1,0 +1,34 @@
+-- What names, texts and numbers mean.
+use Rattle.std.specs.Prelude.{◌≡◌, ℕ, List, map, slice_range}
+use Rattle.std.specs.Char.{to_ascii_uppercase}
+use Rattle.std.specs.Str.Parse.{digits_value}
+use Rattle.rp_lexer.specs.Forms.{enclosed, single_quote, double_quote}
+use Rattle.rp_lexer.specs.declared.kind.TokenKind.{TokenKind}
+use Rattle.rp_lexer.specs.declared.kind.TokenKind.TheVariants as kind
+use Rattle.rp_lexer.specs.declared.token.Token.{Token}
+
+-- the bytes of a token
+abbrev pub bytes_of : List ℕ → Token → List ℕ
+bytes_of text token = slice_range text token.start token.end
+
+-- A name means its upper-case form; a quoted one what stands inside, with each double quote as one.
+abbrev pub NameMeans : TokenKind → List ℕ → List ℕ → Type 0
+NameMeans kind.Name bytes name = name ≡ map to_ascii_uppercase bytes
+NameMeans kind.Quoted bytes name = bytes ≡ enclosed double_quote name
+NameMeans _ bytes name = ⊥
+
+-- A text means what stands inside, with each double quote as one.
+abbrev pub TextMeans : List ℕ → List ℕ → Type 0
+TextMeans bytes text = bytes ≡ enclosed single_quote text
+
+-- the token means the name
+abbrev pub IsNameOf : List ℕ → Token → List ℕ → Type 0
+IsNameOf text token name = NameMeans token.kind (bytes_of text token) name
+
+-- the token means the text
+abbrev pub IsTextOf : List ℕ → Token → List ℕ → Type 0
+IsTextOf text token means = TextMeans (bytes_of text token) means
+
+-- the value of a number
+abbrev pub number_of : List ℕ → Token → ℕ
+number_of text token = digits_value 10 (bytes_of text token)

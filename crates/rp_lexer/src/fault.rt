@@ -1,0 +1,43 @@
+//! What is wrong with a text.
+
+ghost use Rattle.std.specs.Prelude.{◌≡◌};
+ghost use Rattle.rp_lexer.specs.declared.fault.LexFault.TheVariants.{OutOfMemory};
+
+use std::alloc::{AllocError, AllocFailed};
+use thiserror::Error;
+
+/// The first fault of a text, each with its byte offset from 0.
+#[derive(Clone, Copy, Debug, PartialEq, Eq, Error)]
+pub enum LexFault {
+    /// No token begins with this character; or `""` stands here, a name without a character.
+    #[error("BadChar at byte {0}")]
+    BadChar(usize),
+    /// The `'` here never closes.
+    #[error("OpenText at byte {0}")]
+    OpenText(usize),
+    /// The `"` here never closes.
+    #[error("OpenName at byte {0}")]
+    OpenName(usize),
+    /// The number that begins here is above 9223372036854775807.
+    #[error("NumberRange at byte {0}")]
+    NumberRange(usize),
+    /// No memory was left for the tokens. It says nothing of the text.
+    #[error("out of memory")]
+    OutOfMemory,
+}
+
+impl From<AllocError> for LexFault {
+    ghost from_gives = { λ _ e. e ≡ OutOfMemory };
+
+    fn from(_error: AllocError) -> LexFault {
+        LexFault::OutOfMemory
+    }
+}
+
+impl<T: Drop> From<AllocFailed<T>> for LexFault {
+    ghost from_gives = { λ _ e. e ≡ OutOfMemory };
+
+    fn from(_error: AllocFailed<T>) -> LexFault {
+        LexFault::OutOfMemory
+    }
+}

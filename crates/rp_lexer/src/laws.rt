@@ -1,0 +1,14 @@
+//! Laws of the token list.
+
+ghost use Rattle.rp_lexer.specs.Laws.{OneTokenList, OneFirstFault, NoTokensWithFault, EachStands, OneNameMeaning, OneTextMeaning};
+
+/// A text has one reading: one token list or one first fault, and not both. Each token of the list stands in the
+/// text, and means one name or one text.
+pub fn law_lexes()
+    ensures one_list { OneTokenList }
+    ensures one_fault { OneFirstFault }
+    ensures exclusive { NoTokensWithFault }
+    ensures each_stands { EachStands }
+    ensures one_name { OneNameMeaning }
+    ensures one_text { OneTextMeaning }
+{}

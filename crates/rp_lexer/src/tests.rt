@@ -1,0 +1,264 @@
+ghost use Rattle.std.specs.Prelude.{All, IfOk};
+ghost use Rattle.rp_lexer.specs.Lexes.{IsToken};
+
+use crate::{Keyword, LexFault, Mark, Token, TokenKind, lex, name_of, number_of, text_of};
+use std::alloc::Global;
+use std::process::Abort;
+use std::test::Fail;
+
+/// What `lex` answers where memory is left: a call that is refused is made again.
+fn lexed(alloc: Global, text: &str) -> Result<Vec<Token>, LexFault>
+    ensures { IfOk result (λ tokens. All (IsToken text.now) tokens.items) }
+{
+    match lex(alloc, text) {
+        Err(LexFault::OutOfMemory) => lex(alloc, text),
+        found => found,
+    }
+}
+
+/// Asserts that the text has these tokens, each by its kind, start and end.
+fn check_tokens(rt: &impl Abort, alloc: Global, text: &str, want: &[(TokenKind, usize, usize)]) {
+    match lexed(alloc, text) {
+        Ok(tokens) => {
+            assert_eq!(rt; tokens.len(), want.len(), "tokens of {text}");
+            for (token, (kind, start, end)) in tokens.iter().zip(want) {
+                assert!(rt; token.kind == *kind, "a kind in {text}");
+                assert_eq!(rt; token.start, *start, "a start in {text}");
+                assert_eq!(rt; token.end, *end, "an end in {text}");
+            }
+        }
+        Err(_) => assert!(rt; false, "a fault in {text}"),
+    }
+}
+
+/// Asserts that the text has this first fault.
+fn check_fault(rt: &impl Abort, alloc: Global, text: &str, want: LexFault) {
+    match lexed(alloc, text) {
+        Ok(_) => assert!(rt; false, "no fault in {text}"),
+        Err(fault) => assert!(rt; fault == want, "another fault in {text}"),
+    }
+}
+
+/// Each mark, with blanks between.
+const SIGNS: &str = "( ) , . * + - ? { } {- -} | ^ $ = <> < <= > >=";
+
+const MARKS: [Mark; 21] = [
+    Mark::LeftParenthesis,
+    Mark::RightParenthesis,
+    Mark::Comma,
+    Mark::Period,
+    Mark::Asterisk,
+    Mark::Plus,
+    Mark::Minus,
+    Mark::QuestionMark,
+    Mark::LeftBrace,
+    Mark::RightBrace,
+    Mark::LeftBraceMinus,
+    Mark::RightBraceMinus,
+    Mark::VerticalBar,
+    Mark::Circumflex,
+    Mark::DollarSign,
+    Mark::Equals,
+    Mark::NotEquals,
+    Mark::LessThan,
+    Mark::LessThanOrEquals,
+    Mark::GreaterThan,
+    Mark::GreaterThanOrEquals,
+];
+
+/// Each reserved word in mixed case, with blanks between.
+const MIXED_CASE: &str =
+    "aFTER aLL aND aS aSC bY cLASSIFIER cOUNT dEFINE dESC eMPTY fINAL fIRST iS lAST mATCH mATCHES mATCH_nUMBER mATCH_rECOGNIZE mAX mEASURES mIN nEXT nOT nULL oMIT oNE oR oRDER pARTITION pAST pATTERN pER pERMUTE pREV rOW rOWS rUNNING sHOW sKIP sUBSET sUM tO uNMATCHED wITH";
+
+const WORDS: [Keyword; 45] = [
+    Keyword::After,
+    Keyword::All,
+    Keyword::And,
+    Keyword::As,
+    Keyword::Asc,
+    Keyword::By,
+    Keyword::Classifier,
+    Keyword::Count,
+    Keyword::Define,
+    Keyword::Desc,
+    Keyword::Empty,
+    Keyword::Final,
+    Keyword::First,
+    Keyword::Is,
+    Keyword::Last,
+    Keyword::Match,
+    Keyword::Matches,
+    Keyword::MatchNumber,
+    Keyword::MatchRecognize,
+    Keyword::Max,
+    Keyword::Measures,
+    Keyword::Min,
+    Keyword::Next,
+    Keyword::Not,
+    Keyword::Null,
+    Keyword::Omit,
+    Keyword::One,
+    Keyword::Or,
+    Keyword::Order,
+    Keyword::Partition,
+    Keyword::Past,
+    Keyword::Pattern,
+    Keyword::Per,
+    Keyword::Permute,
+    Keyword::Prev,
+    Keyword::Row,
+    Keyword::Rows,
+    Keyword::Running,
+    Keyword::Show,
+    Keyword::Skip,
+    Keyword::Subset,
+    Keyword::Sum,
+    Keyword::To,
+    Keyword::Unmatched,
+    Keyword::With,
+];
+
+/// Asserts that the text has these marks.
+fn check_marks(rt: &impl Abort, alloc: Global, text: &str, want: &[Mark]) {
+    match lexed(alloc, text) {
+        Ok(tokens) => {
+            assert_eq!(rt; tokens.len(), want.len());
+            for (token, mark) in tokens.iter().zip(want) {
+                assert!(rt; token.kind == TokenKind::Mark(*mark), "{mark:?}");
+            }
+        }
+        Err(_) => assert!(rt; false, "a fault in {text}"),
+    }
+}
+
+/// Asserts that the text has these reserved words.
+fn check_words(rt: &impl Abort, alloc: Global, text: &str, want: &[Keyword]) {
+    match lexed(alloc, text) {
+        Ok(tokens) => {
+            assert_eq!(rt; tokens.len(), want.len());
+            for (token, word) in tokens.iter().zip(want) {
+                assert!(rt; token.kind == TokenKind::Keyword(*word), "{word:?}");
+            }
+        }
+        Err(_) => assert!(rt; false, "a fault in {text}"),
+    }
+}
+
+#[test]
+fn comments_and_separators(rt: HostRuntime) {
+    let alloc = rt.alloc();
+    let name = TokenKind::Name;
+    check_tokens(&rt, alloc, "", &[]);
+    check_tokens(&rt, alloc, " \t\r\n--", &[]);
+    check_tokens(
+        &rt,
+        alloc,
+        "a--b\n'it''s'",
+        &[(name, 0, 1), (TokenKind::Text, 5, 12)],
+    );
+    check_tokens(&rt, alloc, "a---}b\nc", &[(name, 0, 1), (name, 7, 8)]);
+    check_tokens(&rt, alloc, "a\rb--\r", &[(name, 0, 1), (name, 2, 3)]);
+}
+
+#[test]
+fn marks(rt: HostRuntime) {
+    let alloc = rt.alloc();
+    let number = TokenKind::Number;
+    let left = TokenKind::Mark(Mark::LeftBraceMinus);
+    let right = TokenKind::Mark(Mark::RightBraceMinus);
+    check_tokens(&rt, alloc, "{--}", &[(left, 0, 2), (right, 2, 4)]);
+    check_tokens(
+        &rt,
+        alloc,
+        "a<>1",
+        &[
+            (TokenKind::Name, 0, 1),
+            (TokenKind::Mark(Mark::NotEquals), 1, 3),
+            (number, 3, 4),
+        ],
+    );
+    check_marks(&rt, alloc, SIGNS, &MARKS);
+}
+
+#[test]
+fn numbers_and_names(rt: HostRuntime) {
+    let alloc = rt.alloc();
+    let number = TokenKind::Number;
+    check_tokens(&rt, alloc, "9223372036854775807", &[(number, 0, 19)]);
+    check_tokens(&rt, alloc, "00000000000000000000001", &[(number, 0, 23)]);
+    check_tokens(&rt, alloc, "1a", &[(number, 0, 1), (TokenKind::Name, 1, 2)]);
+    check_tokens(&rt, alloc, "_1", &[(TokenKind::Name, 0, 2)]);
+    check_tokens(&rt, alloc, "\"a\"\"b\"", &[(TokenKind::Quoted, 0, 6)]);
+    check_tokens(&rt, alloc, "\"and\"", &[(TokenKind::Quoted, 0, 5)]);
+    check_tokens(&rt, alloc, "\"\"\"\"", &[(TokenKind::Quoted, 0, 4)]);
+    check_tokens(&rt, alloc, "''", &[(TokenKind::Text, 0, 2)]);
+}
+
+#[test]
+fn reserved_words(rt: HostRuntime) {
+    let alloc = rt.alloc();
+    check_words(&rt, alloc, MIXED_CASE, &WORDS);
+    check_tokens(&rt, alloc, "ands", &[(TokenKind::Name, 0, 4)]);
+}
+
+#[test]
+fn lexer_faults(rt: HostRuntime) {
+    let alloc = rt.alloc();
+    check_fault(&rt, alloc, "#", LexFault::BadChar(0));
+    check_fault(&rt, alloc, "\"\"", LexFault::BadChar(0));
+    check_fault(&rt, alloc, "\"\" \"", LexFault::BadChar(0));
+    check_fault(&rt, alloc, "\"u", LexFault::OpenName(0));
+    check_fault(&rt, alloc, "\"a\"\"", LexFault::OpenName(0));
+    check_fault(&rt, alloc, "\"\"\"", LexFault::OpenName(0));
+    check_fault(&rt, alloc, "'a''", LexFault::OpenText(0));
+    check_fault(&rt, alloc, "a 'u", LexFault::OpenText(2));
+    check_fault(&rt, alloc, "9223372036854775808", LexFault::NumberRange(0));
+    check_fault(
+        &rt,
+        alloc,
+        "- 92233720368547758070",
+        LexFault::NumberRange(2),
+    );
+    check_fault(&rt, alloc, "a! #", LexFault::BadChar(1));
+}
+
+#[test]
+fn beyond_ascii(rt: HostRuntime) {
+    let alloc = rt.alloc();
+    let name = TokenKind::Name;
+    check_tokens(
+        &rt,
+        alloc,
+        "'é'\"λ\"",
+        &[(TokenKind::Text, 0, 4), (TokenKind::Quoted, 4, 8)],
+    );
+    check_tokens(&rt, alloc, "a--é\nb", &[(name, 0, 1), (name, 6, 7)]);
+    check_fault(&rt, alloc, "é", LexFault::BadChar(0));
+    check_fault(&rt, alloc, "a é", LexFault::BadChar(2));
+    check_fault(&rt, alloc, "aé", LexFault::BadChar(1));
+}
+
+#[test]
+fn meanings(rt: HostRuntime) -> Result<(), Fail> {
+    let alloc = rt.alloc();
+    let text = "aB_1 \"a\"\"é\" 'it''s' 042";
+    let tokens = lexed(alloc, text)?;
+    assert_eq!(rt; tokens.len(), 4);
+    assert!(rt; tokens[0].kind == TokenKind::Name);
+    assert_eq!(rt; name_of(alloc, text, tokens[0])?.as_str(), "AB_1");
+    assert!(rt; tokens[1].kind == TokenKind::Quoted);
+    assert_eq!(rt; name_of(alloc, text, tokens[1])?.as_str(), "a\"é");
+    assert!(rt; tokens[2].kind == TokenKind::Text);
+    assert_eq!(rt; text_of(alloc, text, tokens[2])?.as_str(), "it's");
+    assert!(rt; tokens[3].kind == TokenKind::Number);
+    assert_eq!(rt; number_of(text, tokens[3]), 42);
+    Ok(())
+}
+
+#[test]
+fn fault_texts(rt: HostRuntime) -> Result<(), Fail> {
+    let alloc = rt.alloc();
+    let written = format!(in alloc; "{}, {}", LexFault::BadChar(3), LexFault::OutOfMemory)?;
+    assert_eq!(rt; written.as_str(), "BadChar at byte 3, out of memory");
+    Ok(())
+}
