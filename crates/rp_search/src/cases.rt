@@ -1,9 +1,11 @@
 mod grid;
 mod script;
+mod table;
 
+use crate::search::Outcome;
 use grid::Grid;
 use rp_pattern::{End, Form};
-use script::{a, b, both, either, outcomes, star};
+use script::{a, b, both, either, one_run, outcomes, star};
 use std::test::Fail;
 
 /// A shorter match first, where nothing preferred waits.
@@ -112,5 +114,36 @@ fn budgets_agree(rt: HostRuntime) -> Result<(), Fail> {
         let text = outcomes(alloc, pattern, grid, &[(10, End::Closed)], budget)?;
         assert_eq!(rt; text.as_str(), "none ");
     }
+    Ok(())
+}
+
+/// Forty refused rows take more turns than the budget.
+#[test]
+fn forty_rows_pause(rt: HostRuntime) -> Result<(), Fail> {
+    let alloc = rt.alloc();
+    let mut grid = Grid::new(alloc, 0);
+    for row in 1..41 {
+        grid.refuse_second(row)?;
+    }
+    let pattern = both(alloc, star(alloc, either(alloc, a(), a())?)?, b())?;
+    let (outcome, entries) = one_run(alloc, pattern, grid, 40, 1_000)?;
+    assert_eq!(rt; outcome, Outcome::Paused);
+    assert!(rt; entries <= 1_000);
+    Ok(())
+}
+
+/// The first test is asked before the words are listed, of which there are more than 2 to the 40th.
+#[test]
+fn rows_are_entered_one_by_one(rt: HostRuntime) -> Result<(), Fail> {
+    let alloc = rt.alloc();
+    let grid = Grid::new(alloc, 0);
+    let pattern = either(
+        alloc,
+        a(),
+        both(alloc, star(alloc, either(alloc, a(), a())?)?, b())?,
+    )?;
+    let (outcome, entries) = one_run(alloc, pattern, grid, 40, 10)?;
+    assert_eq!(rt; outcome, Outcome::Match);
+    assert_eq!(rt; entries, 1);
     Ok(())
 }

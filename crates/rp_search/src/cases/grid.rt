@@ -16,7 +16,7 @@ pub struct Grid {
     known: u64,
     end: End,
     entered: Vec<Label>,
-    entries: u64,
+    pub entries: u64,
     ghost few: { known < 2 ^ 64 - 1 },
 }
 
@@ -90,7 +90,7 @@ impl Tests for Grid {
 
     ghost outcome = { λ t start labels. grid_outcome t.refused_first.items t.refused_second.items t.reach t.known t.end start labels };
 
-    ghost entered = { λ t. t.entered.items };
+    ghost entered = { λ t start labels. t.entered.items ≡ labels };
 
     ghost entries = { λ t. t.entries };
 

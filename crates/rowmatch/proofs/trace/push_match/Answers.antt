@@ -14,7 +14,7 @@ returns-then-not-branch g c =
     let line = c.new-letters.result.line.now in
     let search' = c.in_ok-search.search in
     let none = when_false _ _ c.in_ok-find.field-0 c.if-not-branch.true c.in_ok-find.ensures in
-    rw (search-text (form_of c.args.pattern.now) c.args.line.now line (start_of_search search') (pattern_words search' (length line) Closed) NoMatch c.requires.some c.new-letters.ensures.line
+    rw (search-text (form_of c.args.pattern.now) c.args.line.now line (start_of_search search') (pattern_words search' (length line) Closed) NoMatch c.requires.some c.new-letters.ensures
     c.in_ok-search.ensures.start (c.in_ok-search.ensures.words (length line) Closed) none)
     (search rules)
 
@@ -33,6 +33,6 @@ returns g c =
     let line = c.new-letters.result.line.now in
     let search' = c.in_ok-search.search in
     let found' = when_true _ _ c.in_ok-find.field-0 c.if-not-branch.false c.in_ok-find.ensures in
-    rw (search-text (form_of c.args.pattern.now) c.args.line.now line (start_of_search search') (pattern_words search' (length line) Closed) (Match (labels_of_search c.find.new.search)) c.requires.some c.new-letters.ensures.line
+    rw (search-text (form_of c.args.pattern.now) c.args.line.now line (start_of_search search') (pattern_words search' (length line) Closed) (Match (labels_of_search c.find.new.search)) c.requires.some c.new-letters.ensures
     c.in_ok-search.ensures.start (c.in_ok-search.ensures.words (length line) Closed) found')
     (rw c.labels.ensures at c.push_labels.ensures)
