@@ -36,3 +36,6 @@ returns g c =
     rw (search-text (form_of c.args.pattern.now) c.args.line.now line (start_of_search search') (pattern_words search' (length line) Closed) (Match (labels_of_search c.find.new.search)) c.requires.some c.new-letters.ensures
     c.in_ok-search.ensures.start (c.in_ok-search.ensures.words (length line) Closed) found')
     (rw c.labels.ensures at c.push_labels.ensures)
+
+pub find-requires-clause-fits : goal.find-requires-clause-fits
+find-requires-clause-fits g c = c.in_ok-search.ensures.fits _ _ _
