@@ -23,10 +23,7 @@ impl<'a> Letters<'a> {
         requires { length line.now ≤ 4096 }
         ensures { result.line.now ≡ line.entry.now }
     {
-        Letters {
-            line,
-            entries: 0,
-        }
+        Letters { line, entries: 0 }
     }
 }
 
