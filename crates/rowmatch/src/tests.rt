@@ -240,7 +240,7 @@ fn trace_command(rt: HostRuntime) -> Result<(), Fail> {
     let job = read_command(rt.alloc(), words.as_slice());
     match &job {
         Ok(Job::Trace { pattern }) => assert_eq!(rt; pattern.as_str(), "(A B)*"),
-        Err(JobFault::OutOfMemory) => {}
+        Err(JobFault::OutOfMemory) => return Err(Fail::from(AllocError)),
         _ => assert!(rt; false),
     }
     Ok(())
@@ -270,11 +270,19 @@ fn line_statuses(rt: HostRuntime) -> Result<(), Fail> {
 #[test]
 fn fault_texts(rt: HostRuntime) -> Result<(), Fail> {
     for (fault, text, status) in [
-        (ProgramFault::Pattern(1), "pattern: Expected at byte 1", 1),
-        (ProgramFault::Read, "device: read", 3),
-        (ProgramFault::Write, "device: write", 3),
-        (ProgramFault::OutOfMemory, "out of memory", 3),
-        (ProgramFault::Turns, "too many turns", 3),
+        (
+            ProgramFault::from(TracePatternFault::Expected(1)),
+            "pattern: Expected at byte 1",
+            1,
+        ),
+        (ProgramFault::from(TraceFault::Read), "device: read", 3),
+        (ProgramFault::from(TraceFault::Write), "device: write", 3),
+        (
+            ProgramFault::from(TraceFault::OutOfMemory),
+            "out of memory",
+            3,
+        ),
+        (ProgramFault::from(TraceFault::Turns), "too many turns", 3),
     ] {
         let told = format!(in rt.alloc(); "{fault}")?;
         assert_eq!(rt; told.as_str(), text);

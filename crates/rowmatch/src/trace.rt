@@ -52,6 +52,8 @@ pub fn run_trace<R: Intake, W: Outlet>(
     ensures front { OnErr result (IfSome (R.remaining reader.old) (λ input.
         AppendsFront (W.contents writer.old) (W.contents writer.new) (replies_to (form_of pattern.now) (lines_of input)))) }
     ensures end { OnOk result (IsAtEnd (R.remaining reader.new)) }
+    ensures reads_go { OnOk result (R.failures reader.new ≡ R.failures reader.old) }
+    ensures writes_go { OnOk result (W.failures writer.new ≡ W.failures writer.old) }
     ensures read { result ≡ Err TraceFault.Read → R.failures reader.new ≡ raised (R.failures reader.old) }
     ensures write { result ≡ Err TraceFault.Write → W.failures writer.new ≡ raised (W.failures writer.old) }
     ensures turns { result ≡ Err TraceFault.Turns → R.calls reader.new ≡ after_calls turns (R.calls reader.old) }

@@ -93,10 +93,12 @@ impl Search {
         ensures left { OnOk result (left_of self.new (T.rows tests.old) (T.ending tests.old) (T.outcome tests.old (start_of_search self.old)) ≤ left_of self.old (T.rows tests.old) (T.ending tests.old) (T.outcome tests.old (start_of_search self.old))) }
         ensures turns { steps.new ≤ steps.old + budget }
         ensures spent { result ≡ Ok Outcome.Paused → steps.new ≡ steps.old + budget }
+        ensures counted { T.entries tests.new + steps.old ≤ T.entries tests.old + steps.new }
         ensures enters { T.entries tests.new ≤ T.entries tests.old + budget }
 
         ensures nothing { budget ≡ 0 → (result ≡ Ok Outcome.Paused) × (self.new ≡ self.old) × (tests.new ≡ tests.old) × (steps.new ≡ steps.old) }
         ensures begins_again { OnErr result (labels_of_search self.new ≡ []) }
+        ensures nothing_given_up { OnErr result ((n : ℕ) (e : End) (test : Test) → left_of self.new n e test ≡ most_turns self.new n e) }
     {
         if budget == 0 {
             return Ok(Outcome::Paused);
@@ -130,6 +132,7 @@ impl Search {
         ensures entries { T.entries tests.new ≡ T.entries tests.old }
         ensures entered { T.entered tests.new (start_of_search self.new) [] }
         ensures labels { labels_of_search self.new ≡ [] }
+        ensures left { (n : ℕ) (e : End) (test : Test) → left_of self.new n e test ≡ most_turns self.new n e }
         ensures fits { 1 ≤ start_of_search self.old → (n : ℕ) (e : End) (test : Test) → Fits self.new n e test }
     {
         self.choices.reset();
@@ -152,6 +155,7 @@ impl Search {
         ensures entries { T.entries tests.new ≤ T.entries tests.old + budget }
         ensures steps { steps.new ≤ steps.old + budget }
         ensures spent { result ≡ Ok Outcome.Paused → steps.new ≡ steps.old + budget }
+        ensures counted { T.entries tests.new + steps.old ≤ T.entries tests.old + steps.new }
         ensures entered { OnOk result (T.entered tests.new (start_of_search self.new) (labels_of_search self.new)) }
         ensures fits { OnOk result (Fits self.new (T.rows tests.old) (T.ending tests.old) (T.outcome tests.old (start_of_search self.old))) }
         ensures turned { IfOk result (Turned budget (pattern_words self.old (T.rows tests.old) (T.ending tests.old)) (labels_of_search self.new) (T.ending tests.old) (T.outcome tests.old (start_of_search self.old)) (left_of self.old (T.rows tests.old) (T.ending tests.old) (T.outcome tests.old (start_of_search self.old))) (left_of self.new (T.rows tests.old) (T.ending tests.old) (T.outcome tests.old (start_of_search self.old)))) }

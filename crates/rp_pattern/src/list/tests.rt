@@ -189,7 +189,7 @@ fn one_row_of_two(rt: HostRuntime) -> Result<(), Fail> {
 #[test]
 fn start_after_a_row(rt: HostRuntime) -> Result<(), Fail> {
     let form = then(rt.alloc(), Form::Variable(0), Form::PartitionStart)?;
-    let text = shown(&rt, rt.alloc(), form, 2, End::Open)?;
+    let text = shown(&rt, rt.alloc(), form, 2, End::Closed)?;
     assert_eq!(rt; text.as_str(), "");
     Ok(())
 }
