@@ -18,6 +18,7 @@ use std::alloc::{AllocError, Global};
 pub enum ListFault {
     /// There are more than the caller asked for.
     TooMany,
+    /// Memory was refused.
     OutOfMemory,
 }
 

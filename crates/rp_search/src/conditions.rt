@@ -30,9 +30,11 @@ pub trait Tests {
     /// How many calls of `enter` were made. It stays at its last value.
     ghost entries: { Self → ℕ };
 
+    /// How many rows are known, from row 1 on.
     fn known(&self) -> u64
         ensures { result ≡ rows self.now };
 
+    /// Whether further rows may come.
     fn end(&self) -> End
         ensures { result ≡ ending self.now };
 
@@ -66,7 +68,9 @@ pub trait Tests {
         ensures ending { ending self.new ≡ ending self.old }
         ensures outcome { outcome self.new ≡ outcome self.old };
 
+    /// Row numbers leave room for one more.
     ghost few: { (tests : Self) → rows tests < 2 ^ 64 - 1 };
 
+    /// Over a closed end each row is decided.
     ghost decided: { (tests : Self) (start : ℕ) (labels : List Label) → ending tests ≡ Closed → outcome tests start labels ≢ Open };
 }
