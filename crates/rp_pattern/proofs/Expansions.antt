@@ -1,6 +1,6 @@
 -- What a choice leaves when its first part is taken up: the same words, and fewer turns.
-use Rattle.std.proofs.Common.{◌≡◌, ℕ, zero, suc, ◌+◌, ◌<◌, ◌≤◌, List, [], ◌∷◌, ◌++◌, map, length, Bool, true, false, cond, Option, Some, None, refl, sym, ap, ◌∙◌, arith, subst}
-use Rattle.std.specs.Prelude.{nat_le, nat_eq, nat_lt}
+use Rattle.std.proofs.Common.{◌≡◌, ℕ, suc, ◌+◌, ◌<◌, ◌≤◌, List, [], ◌∷◌, ◌++◌, map, Bool, true, false, cond, Option, refl, sym, ap, ◌∙◌, arith, subst}
+use Rattle.std.specs.Prelude.{nat_le, nat_eq}
 use Rattle.std.specs.List.{flat_map}
 use Rattle.std.proofs.lemmas.Grind.{flat_map-append}
 use Rattle.std.proofs.lemmas.Bool.Decides.{nat_tests}
@@ -12,9 +12,10 @@ use Rattle.rp_pattern.specs.declared.word.End.{End}
 use Rattle.rp_pattern.specs.declared.word.End.TheVariants.{Open as OpenEnd, Closed as ClosedEnd}
 use Rattle.rp_pattern.specs.declared.word.Label.{Label}
 use Rattle.rp_pattern.specs.Mapping.{Mapping, Full, Open}
-use Rattle.rp_pattern.specs.Words.{Mappings, one_row, at_start, at_end, may_go_on, may_end, nothing_mapped, preceded, followed, concatenation, alternation, excluded_label, excluded_mapping, exclusion, within_exclusion, moving, moved_past, optional, preferred, required, quantified, further, words}
-use Rattle.rp_pattern.specs.Turns.{Costs, Part, turns, one_turn, concatenation_turns, chain_turns, within, iterations, past}
-use Rattle.rp_pattern.specs.Rests.{chain_words, form_part, still}
+use Rattle.rp_pattern.specs.Words.{Mappings, may_go_on, may_end, nothing_mapped, preceded, followed, concatenation, alternation, excluded_label, excluded_mapping, exclusion, within_exclusion, moving, moved_past, optional, further, words}
+use Rattle.rp_pattern.specs.Turns.{Part, turns, one_turn, concatenation_turns, chain_turns, within, iterations}
+use Rattle.rp_pattern.specs.Rests.{chain_words, form_part}
+use Rattle.rp_pattern.specs.Splits.{repeated}
 use Rattle.rp_pattern.proofs.Lists.{map-map}
 use Rattle.rp_pattern.proofs.Algebra.{append_nil, concatenation_assoc, concatenation_alternation, concatenation_nothing_first, moving_is}
 use Rattle.rp_pattern.proofs.Bounds.{AreWithin, unbounded}
@@ -22,7 +23,7 @@ use Rattle.rp_pattern.proofs.Excluded.{exclusion_concatenation, exclusion_altern
 use Rattle.rp_pattern.proofs.Within.{words_within, exclusion_within}
 use Rattle.rp_pattern.proofs.FormEquations.{words_variable, words_empty, words_start, words_end, words_concatenation, words_alternation, words_exclusion, words_quantified}
 use Rattle.rp_pattern.proofs.TurnEquations.{whole_part, turns_variable, turns_empty, turns_start, turns_end, turns_concatenation, turns_alternation, turns_exclusion, turns_quantified}
-use Rattle.rp_pattern.proofs.TurnsTaken.{same_first, past_reached, past_missed, past_there, past_not_there, within_concatenation_taken, within_alternation_taken, within_exclusion_taken, none_left_taken, required_taken, optional_taken, unbounded_taken, within_iterations_words, within_iterations_turns}
+use Rattle.rp_pattern.proofs.TurnsTaken.{same_first, within_concatenation_taken, within_alternation_taken, within_exclusion_taken, required_taken, optional_taken, unbounded_taken, within_iterations_words, within_iterations_turns}
 
 -- The words of parts are those of others, which take a turn less.
 pub record Leaves (i : ℕ) (ps qs : List Part) : Type 0 where
@@ -265,10 +266,6 @@ module _ (p : Part) (o : Mappings) (ps : List Part) (i : ℕ) where
       flat_map-append (followed (chain_words ps) i) (Full [] ∷ []) (concatenation (moving p.0) o i)
       ∙ ap (λ z. flat_map (followed (chain_words ps) i) (Full [] ∷ []) ++ z) another
       ∙ ap (λ z. z ++ concatenation p.0 (concatenation (concatenation (moved_past i) o) (chain_words ps)) i) stop
-
--- what another iteration leaves
-abbrev pub repeated : ℕ → Bool → Part → List Part → ℕ → List Part
-repeated h reluctant p ps i = p ∷ past i (iterations 0 h reluctant p) ∷ ps
 
 pub greedy_leaves : (h : ℕ) (p : Part) (ps : List Part) (i : ℕ) → LeavesTwo i (iterations 0 (suc h) false p ∷ ps) (repeated h false p ps i) ps
 greedy_leaves h p ps i = record {

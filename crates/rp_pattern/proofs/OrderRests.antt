@@ -1,5 +1,5 @@
 -- Taking up an order of a PERMUTE.
-use Rattle.std.proofs.Common.{◌≡◌, ℕ, zero, suc, ◌+◌, ◌<◌, ◌≤◌, List, [], ◌∷◌, ◌++◌, map, length, get_or, drop, Bool, true, false, ◌&&◌, Option, None, Result, Ok, Err, IfOk, IsTrue, All, refl, sym, ap, ◌∙◌, arith, subst}
+use Rattle.std.proofs.Common.{◌≡◌, ℕ, zero, suc, ◌+◌, ◌<◌, ◌≤◌, List, [], ◌∷◌, ◌++◌, map, length, get_or, drop, Bool, true, false, ◌&&◌, Option, None, Result, Ok, Err, IfOk, IsTrue, refl, sym, ap, ◌∙◌, arith, subst}
 use Rattle.std.specs.List.{flat_map, range_with_len, AllByRecursion}
 use Rattle.std.proofs.lemmas.List.{length-map, map-append, get_or-map}
 use Rattle.std.specs.declared.vec.Vec.{Vec}
@@ -8,7 +8,7 @@ use Rattle.std.specs.declared.alloc.Global.{Global}
 use Rattle.rp_pattern.specs.declared.form.Form.{Form}
 use Rattle.rp_pattern.specs.declared.form.Form.TheOpen as F
 use Rattle.rp_pattern.specs.declared.form.Form.TheVariants as V
-use Rattle.rp_pattern.specs.declared.form.Form.TheViews.{out-Form, out-roll-Form}
+use Rattle.rp_pattern.specs.declared.form.Form.TheViews.{out-roll-Form}
 use Rattle.rp_pattern.specs.declared.word.End.{End}
 use Rattle.rp_pattern.specs.declared.turn.Split.{Split}
 use Rattle.rp_pattern.specs.declared.rests.Node.{Node}
@@ -18,8 +18,8 @@ use Rattle.rp_pattern.specs.Bounds.{is_allowed}
 use Rattle.rp_pattern.specs.Variables.{all_true}
 use Rattle.rp_pattern.specs.Permutations.{upto, factorial}
 use Rattle.rp_pattern.specs.PermutedParts.{layer_parts, permuted_parts}
-use Rattle.rp_pattern.specs.Words.{Mappings, nothing_mapped, followed, concatenation, sequence, orders, picks, led, arrangements, permuted, words, within_exclusion}
-use Rattle.rp_pattern.specs.Turns.{Part, one_turn, turns, chain_turns, words_of, orders_from, within, permuted_turns}
+use Rattle.rp_pattern.specs.Words.{nothing_mapped, followed, concatenation, sequence, orders, picks, led, arrangements, permuted, words}
+use Rattle.rp_pattern.specs.Turns.{Part, one_turn, turns, words_of, orders_from, within, permuted_turns}
 use Rattle.rp_pattern.specs.Rests.{form_part, chain_words, in_order, permuted_costed, IsNodeOf, tail_links, tail_parts, links_parts}
 use Rattle.rp_pattern.specs.Splits.{Stands, SplitsAt}
 use Rattle.rp_pattern.proofs.Lists.{All-map, All-flat_map, map-map}

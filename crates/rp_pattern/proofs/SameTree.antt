@@ -1,5 +1,5 @@
 -- A copy of a tree, form by form.
-use Rattle.std.proofs.Common.{◌≡◌, ℕ, ◌+◌, Bool, ◌&&◌, List, map, length, Option, refl, sym, ap, ◌∙◌, subst}
+use Rattle.std.proofs.Common.{◌≡◌, ℕ, ◌+◌, Bool, ◌&&◌, map, length, Option, refl, sym, ap, ◌∙◌, subst}
 use Rattle.std.specs.Prelude.{nat_le}
 use Rattle.std.proofs.lemmas.List.{length-map}
 use Rattle.std.specs.declared.vec.Vec.{Vec}
@@ -9,9 +9,8 @@ use Rattle.rp_pattern.specs.declared.form.Form.{Form}
 use Rattle.rp_pattern.specs.declared.form.Form.TheOpen as F
 use Rattle.rp_pattern.specs.declared.form.Form.TheVariants as V
 use Rattle.rp_pattern.specs.declared.form.Form.TheFolds.{fold-roll-Form}
-use Rattle.rp_pattern.specs.declared.word.End.{End}
-use Rattle.rp_pattern.specs.Words.{Mappings, words, concatenation, alternation, exclusion, quantified, further, permuted}
-use Rattle.rp_pattern.specs.Turns.{Costs, Part, turns, concatenation_turns, iterations, permuted_turns}
+use Rattle.rp_pattern.specs.Words.{words, concatenation, alternation, exclusion, quantified, further, permuted}
+use Rattle.rp_pattern.specs.Turns.{turns, concatenation_turns, iterations, permuted_turns}
 use Rattle.rp_pattern.specs.Bounds.{is_allowed, allowed_step, bounds_hold}
 use Rattle.rp_pattern.specs.Variables.{all_true}
 use Rattle.rp_pattern.specs.SameTree.{IsSameTree}

@@ -1,30 +1,29 @@
 -- What an operation on the stack does to the words of its choices.
-use Rattle.std.proofs.Common.{◌≡◌, ℕ, suc, ◌+◌, ◌<◌, ◌≤◌, List, [], ◌∷◌, ◌++◌, map, length, take, drop, reverse, Bool, true, false, cond, ◌&&◌, Option, Some, None, IsTrue, refl, sym, ap, ◌∙◌, arith, subst, append_assoc, length-append}
+use Rattle.std.proofs.Common.{◌≡◌, ℕ, ◌+◌, ◌≤◌, List, [], ◌∷◌, ◌++◌, map, length, take, drop, reverse, Bool, true, false, cond, ◌&&◌, Option, Some, None, IsTrue, refl, sym, ap, ◌∙◌, arith, subst, append_assoc, length-append}
 use Rattle.std.specs.Prelude.{nat_le, sum_by}
 use Rattle.std.proofs.lemmas.List.Sums.{sum_by-cons}
 use Rattle.rp_pattern.specs.declared.form.Form.{Form}
 use Rattle.rp_pattern.specs.declared.rests.Node.{Node}
+use Rattle.rp_pattern.specs.declared.rests.Part.{Part}
 use Rattle.rp_pattern.specs.declared.rests.Part.TheVariants.{Whole}
 use Rattle.std.proofs.lemmas.Bool.Decides.{nat_tests}
 use Rattle.std.proofs.lemmas.List.{take-append-drop, take-append-le, length-take-le, map-append, length-map, reverse-append}
 use Rattle.rp_pattern.specs.declared.word.End.{End}
-use Rattle.rp_pattern.specs.declared.word.End.TheVariants.{Open as OpenEnd}
 use Rattle.rp_pattern.specs.declared.word.Label.{Label}
 use Rattle.rp_pattern.specs.declared.rests.Rests.{Rests}
-use Rattle.rp_pattern.specs.declared.rests.Rests.TheVariants.{Done, Then}
+use Rattle.rp_pattern.specs.declared.rests.Rests.TheVariants.{Done, Then, Reached}
 use Rattle.rp_pattern.specs.declared.rests.Choice.{Choice}
 use Rattle.rp_pattern.specs.declared.turn.Split.{Split as Choices'}
 use Rattle.rp_pattern.specs.declared.choices.Choices.{Choices}
 use Rattle.rp_pattern.specs.Mapping.{Mapping, Full, Open}
 use Rattle.rp_pattern.specs.Words.{preceded, words}
-use Rattle.rp_pattern.specs.Turns.{Part as Costed, turns, turns_after, chain_turns, within}
+use Rattle.rp_pattern.specs.Turns.{turns, turns_after, chain_turns, within}
 use Rattle.rp_pattern.specs.WordLaws.{IsLater}
-use Rattle.rp_pattern.specs.Rests.{tail_links, links_parts, tail_parts, rests_parts, later_parts, chain_words, chain_left, choice_words, stack_words, stack_left, rises, pushed, without_first}
-use Rattle.rp_pattern.specs.Splits.{Stands, option_words, option_turns, split_words, split_turns, Splits, MapsRow as MapsOne, Waits}
+use Rattle.rp_pattern.specs.Rests.{links_from, reached_parts, tail_links, links_parts, tail_parts, rests_parts, later_parts, chain_words, chain_left, choice_words, stack_words, stack_left, rises, pushed, without_first}
+use Rattle.rp_pattern.specs.Splits.{Stands, option_words, option_turns, Splits, MapsRow as MapsOne, Waits}
 use Rattle.rp_pattern.specs.Choices.{start_of, entered, whole, whole_left, remaining, left, below, below_left, after, after_left, first_later, OfFirst, HasTop, AtRow, IsFront, IsShorterFront, IsSameWhole, IsSplit, MapsRow, IsFullWord, IsOpenWord, IsNothing}
 use Rattle.rp_pattern.proofs.Lists.{map-map}
 use Rattle.rp_pattern.proofs.Algebra.{append_nil, concatenation_nothing_last, map_same, preceded_twice, map_preceded_nothing}
-use Rattle.rp_pattern.proofs.Steps.{later_self}
 
 -- ---- depths that rise
 
@@ -56,6 +55,10 @@ pub take_take : (a b : ℕ) (ls : List Label) → a ≤ b → b ≤ length ls �
 take_take a b ls h k =
     let long = length-take-le b ls k in
     sym (take-append-le a (take b ls) (drop b ls) (omega (arith, long))) ∙ ap (take a) (take-append-drop b ls)
+
+-- the top of a stack, and the choices below it
+pub top_is : (t : Choice) (xs ys : List Choice) → xs ≡ ys → reverse xs ≡ t ∷ without_first (reverse xs) → reverse ys ≡ t ∷ without_first (reverse ys)
+top_is t xs ys same h = subst (λ (zs : List Choice). reverse zs ≡ t ∷ without_first (reverse zs)) same h
 
 -- choices see only the labels before them
 pub same_labels : (n : ℕ) (e : End) (s d : ℕ) (ls ls' : List Label) (cs : List Choice) → d ≤ length ls → d ≤ length ls' → take d ls ≡ take d ls' → IsTrue (rises d cs) → stack_words n e s ls cs ≡ stack_words n e s ls' cs
@@ -148,7 +151,12 @@ at_row c s ls t cs k h = (k.begun, subst (OfFirst (λ t. t.depth + 1 ≡ length 
 
 later_is : (n : ℕ) (e : End) (r : Rests) → drop 1 (rests_parts n e r) ≡ later_parts n e r
 later_is n e Done = refl
-later_is n e (Then part then) = refl
+later_is n e (Then node then) = refl
+later_is n e (Reached link) = go (links_from link.value)
+  where
+    go : (ls : List (Option ℕ × Part)) → drop 1 (reached_parts n e ls) ≡ links_parts n e (drop 1 ls)
+    go [] = refl
+    go (l ∷ ls) = refl
 
 module _ (old new : Choices) (s : ℕ) (ls : List Label) (t : Choice) (cs : List Choice) (n : ℕ) (e : End) (k : Stack old s ls (t ∷ cs)) (r : IsTrue (rises (length ls) (t ∷ cs))) where
   deep : t.depth ≤ length ls

@@ -1,5 +1,5 @@
 -- The choices that a function makes, as what a part leaves.
-use Rattle.std.proofs.Common.{◌≡◌, ℕ, suc, ◌+◌, ◌<◌, ◌≤◌, List, [], ◌∷◌, ◌++◌, map, Bool, true, false, Option, Some, None, refl, sym, ap, ◌∙◌, arith, subst}
+use Rattle.std.proofs.Common.{◌≡◌, ℕ, suc, ◌+◌, ◌<◌, ◌≤◌, List, [], ◌∷◌, ◌++◌, map, Bool, true, false, IsTrue, drop, Option, Some, None, refl, sym, ap, ◌∙◌, arith, subst}
 use Rattle.std.specs.declared.rc.Rc.{Rc}
 use Rattle.std.specs.declared.alloc.Global.{Global}
 use Rattle.rp_pattern.specs.declared.form.Form.{Form}
@@ -11,13 +11,18 @@ use Rattle.rp_pattern.specs.declared.rests.Link.{Link}
 use Rattle.rp_pattern.specs.declared.rests.Rests.{Rests}
 use Rattle.rp_pattern.specs.declared.rests.Rests.TheVariants.{Then}
 use Rattle.rp_pattern.specs.declared.turn.Split.{Split}
+use Rattle.rp_pattern.specs.declared.turn.Turn.{Turn}
+use Rattle.rp_pattern.specs.declared.turn.Turn.TheVariants.{Full as FullTurn, Row as RowTurn, Open as OpenTurn, Split as SplitTurn}
+use Rattle.rp_pattern.specs.Movement.{always_moves}
+use Rattle.rp_pattern.proofs.Moves.{form_moves, again_words, again_turns}
 use Rattle.rp_pattern.specs.Turns.{Part as Costed, chain_turns, iterations, past}
 use Rattle.rp_pattern.specs.WordLaws.{IsLater}
+use Rattle.rp_pattern.specs.Words.{preceded}
 use Rattle.rp_pattern.specs.Rests.{part_as, form_part, node_part, iterations_part, still, tail_links, tail_parts, links_parts, guarded, rests_parts, chain_words, IsNodeOf, AreIterationsOf, IsOneLess}
-use Rattle.rp_pattern.specs.Splits.{Stands, SplitsAt, AlwaysSplits, Splits, option_words}
+use Rattle.rp_pattern.specs.Splits.{Stands, SplitsAt, AlwaysSplits, Splits, ComesAgain, repeated, TakenUp, option_words, split_turns}
 use Rattle.rp_pattern.proofs.Algebra.{append_nil}
 use Rattle.rp_pattern.proofs.TurnsTaken.{same_first}
-use Rattle.rp_pattern.proofs.Expansions.{Leaves, LeavesTwo, same_first_words, repeated, greedy_leaves, lazy_leaves, greedy_unbounded, lazy_unbounded, none_left_leaves, form_within}
+use Rattle.rp_pattern.proofs.Expansions.{Leaves, LeavesTwo, same_first_words, greedy_leaves, lazy_leaves, greedy_unbounded, lazy_unbounded, none_left_leaves, form_within}
 
 -- ---- parts that were copied or put together
 
@@ -35,8 +40,8 @@ pub linked_parts : (n : ℕ) (e : End) (later shared then : Option (Rc Link Glob
     tail_links later ≡ (since, part) ∷ tail_links shared → tail_links shared ≡ tail_links then → tail_parts n e later ≡ guarded since (part_as n e part) ∷ tail_parts n e then
 linked_parts n e later shared then since part a b = ap (links_parts n e) a ∙ ap (λ ls. guarded since (part_as n e part) ∷ links_parts n e ls) b
 
-pub then_parts : (n : ℕ) (e : End) (part : Part) (copy then : Option (Rc Link Global)) (p : Costed) → part_as n e part ≡ p → tail_links copy ≡ tail_links then → rests_parts n e (Then part copy) ≡ p ∷ tail_parts n e then
-then_parts n e part copy then p a b = ap (λ z. z ∷ links_parts n e (tail_links copy)) a ∙ ap (λ ls. p ∷ links_parts n e ls) b
+pub then_parts : (n : ℕ) (e : End) (node : Node) (copy then : Option (Rc Link Global)) (p : Costed) → node_part n e node ≡ p → tail_links copy ≡ tail_links then → rests_parts n e (Then node copy) ≡ p ∷ tail_parts n e then
+then_parts n e node copy then p a b = ap (λ z. z ∷ links_parts n e (tail_links copy)) a ∙ ap (λ ls. p ∷ links_parts n e ls) b
 
 -- ---- what stands for parts
 
@@ -75,35 +80,76 @@ later_splits n e i ps s h = record { words = λ n' e' later. (h n' e' later).wor
 pub always_splits : (n : ℕ) (e : End) (i : ℕ) (ps : ℕ → End → List Costed) (s : Split) → AlwaysSplits i ps s → Splits n e i ps s
 always_splits n e i ps s h = later_splits n e i ps s (λ n' e' later. h n' e')
 
+-- what parts came to, others that are as they came to
+pub taken_as : (n : ℕ) (e : End) (i : ℕ) (ps qs : ℕ → End → List Costed) → ((n' : ℕ) (e' : End) → ps n' e' ≡ qs n' e') → (t : Turn) → TakenUp n e i ps t → TakenUp n e i qs t
+taken_as n e i ps qs h FullTurn k = λ n' e'. ap (λ z. chain_words z i) (sym (h n' e')) ∙ k n' e'
+taken_as n e i ps qs h (RowTurn l) k = record {
+  known = k.known;
+  words = λ n' e' more. subst (λ z. chain_words z i ≡ map (preceded (l ∷ [])) (chain_words (drop 1 z) (i + 1))) (h n' e') (k.words n' e' more);
+  turns = λ n' e' more. subst (λ z. chain_turns z i ≡ 1 + chain_turns (drop 1 z) (i + 1)) (h n' e') (k.turns n' e' more);
+}
+taken_as n e i ps qs h OpenTurn k = record {
+  end = k.end;
+  words = ap (λ z. chain_words z i) (sym (h n e)) ∙ k.words;
+  turns = λ n' e'. subst (λ z. 0 < chain_turns z i) (h n' e') (k.turns n' e');
+}
+taken_as n e i ps qs h (SplitTurn s) k = record {
+  words = λ n' e' more. k.words n' e' more ∙ ap (λ z. chain_words z i) (h n' e');
+  turns = λ n' e' more. subst (λ z. split_turns n' e' s i < chain_turns z i) (h n' e') (k.turns n' e' more);
+}
+
+pub splits_as : (n : ℕ) (e : End) (i : ℕ) (ps qs : List Costed) (s : Split) → ps ≡ qs → SplitsAt n e i ps s → SplitsAt n e i qs s
+splits_as n e i ps qs s h k = subst (λ z. SplitsAt n e i z s) h k
+
 -- ---- another iteration
 
-module _ (n : ℕ) (e : End) (row : ℕ) (it : Iterations) (less : Option ℕ) (then : Option (Rc Link Global)) (another : Rests) (stop : Option Rests) (fewer : IsOneLess it.further less) where
-  abbrev ts : List Costed
-  ts = tail_parts n e then
+module _ (n : ℕ) (e : End) (row : ℕ) (it : Iterations) (less : Option ℕ) (ts again : List Costed) where
+  abbrev p : Costed
+  p = node_part n e it.body
 
-  leaves_greedy : (further less : Option ℕ) → IsOneLess further less → LeavesTwo row (iterations 0 (still n further) false (node_part n e it.body) ∷ ts) (repeated (still n less) false (node_part n e it.body) ts row) ts
-  leaves_greedy None less h = subst (λ k. LeavesTwo row (iterations 0 (suc (suc n)) false (node_part n e it.body) ∷ ts) (repeated (still n k) false (node_part n e it.body) ts row) ts) (sym h) (greedy_unbounded n (node_part n e it.body) ts row (form_within n e it.body.form.value it.body.excluded))
-  leaves_greedy (Some k) less h =
-      subst (λ k. LeavesTwo row (iterations 0 k false (node_part n e it.body) ∷ ts) (repeated (still n less) false (node_part n e it.body) ts row) ts) (sym h.1)
-      (subst (λ l. LeavesTwo row (iterations 0 (suc h.0) false (node_part n e it.body) ∷ ts) (repeated (still n l) false (node_part n e it.body) ts row) ts) (sym h.2) (greedy_leaves h.0 (node_part n e it.body) ts row))
+  abbrev more : Costed
+  more = iterations 0 (still n less) it.reluctant p
 
-  leaves_lazy : (further less : Option ℕ) → IsOneLess further less → LeavesTwo row (iterations 0 (still n further) true (node_part n e it.body) ∷ ts) ts (repeated (still n less) true (node_part n e it.body) ts row)
-  leaves_lazy None less h = subst (λ k. LeavesTwo row (iterations 0 (suc (suc n)) true (node_part n e it.body) ∷ ts) ts (repeated (still n k) true (node_part n e it.body) ts row)) (sym h) (lazy_unbounded n (node_part n e it.body) ts row (form_within n e it.body.form.value it.body.excluded))
-  leaves_lazy (Some k) less h =
-      subst (λ k. LeavesTwo row (iterations 0 k true (node_part n e it.body) ∷ ts) ts (repeated (still n less) true (node_part n e it.body) ts row)) (sym h.1)
-      (subst (λ l. LeavesTwo row (iterations 0 (suc h.0) true (node_part n e it.body) ∷ ts) ts (repeated (still n l) true (node_part n e it.body) ts row)) (sym h.2) (lazy_leaves h.0 (node_part n e it.body) ts row))
+  -- after an iteration that takes a row for sure
+  pub comes_moving : IsTrue (always_moves it.body.form.value) → again ≡ more ∷ ts → ComesAgain n e row it less ts again
+  comes_moving m is =
+      let all = form_moves n e it.body.form.value it.body.excluded m in
+      record {
+        words = ap (λ z. chain_words (p ∷ z) row) is ∙ again_words p more ts row all;
+        turns = ap (λ z. chain_turns (p ∷ z) row) is ∙ again_turns p more ts row all;
+      }
 
-  pub greedy_splits : it.reluctant ≡ false → Stands n e row ts stop → rests_parts n e another ≡ repeated (still n less) it.reluctant (node_part n e it.body) ts row →
-      SplitsAt n e row (iterations_part n e 0 it ∷ ts) (record { preferred = Some another; other = stop })
-  greedy_splits is h k =
-      two_splits n e row _ _ ts (Some another) stop (stands_as n e row another _ k) h
-      (subst (λ r. LeavesTwo row (iterations 0 (still n it.further) r (node_part n e it.body) ∷ ts) (repeated (still n less) r (node_part n e it.body) ts row) ts) (sym is) (leaves_greedy it.further less fewer))
+  pub comes_past : again ≡ past row more ∷ ts → ComesAgain n e row it less ts again
+  comes_past is = record { words = ap (λ z. chain_words (p ∷ z) row) is; turns = ap (λ z. chain_turns (p ∷ z) row) is }
 
-  pub lazy_splits : it.reluctant ≡ true → Stands n e row ts stop → rests_parts n e another ≡ repeated (still n less) it.reluctant (node_part n e it.body) ts row →
-      SplitsAt n e row (iterations_part n e 0 it ∷ ts) (record { preferred = stop; other = Some another })
-  lazy_splits is h k =
-      two_splits n e row _ ts _ stop (Some another) h (stands_as n e row another _ k)
-      (subst (λ r. LeavesTwo row (iterations 0 (still n it.further) r (node_part n e it.body) ∷ ts) ts (repeated (still n less) r (node_part n e it.body) ts row)) (sym is) (leaves_lazy it.further less fewer))
+  module _ (another : Rests) (stop : Option Rests) (fewer : IsOneLess it.further less) (comes : ComesAgain n e row it less ts again) (is_another : rests_parts n e another ≡ p ∷ again) (stops : Stands n e row ts stop) where
+    stands : Stands n e row (repeated (still n less) it.reluctant p ts row) (Some another)
+    stands = record {
+      words = ap (λ z. chain_words z row) is_another ∙ comes.words;
+      turns = ap (λ z. chain_turns z row) is_another ∙ comes.turns;
+    }
+
+    leaves_greedy : (further less : Option ℕ) → IsOneLess further less → LeavesTwo row (iterations 0 (still n further) false p ∷ ts) (repeated (still n less) false p ts row) ts
+    leaves_greedy None less h = subst (λ k. LeavesTwo row (iterations 0 (suc (suc n)) false p ∷ ts) (repeated (still n k) false p ts row) ts) (sym h) (greedy_unbounded n p ts row (form_within n e it.body.form.value it.body.excluded))
+    leaves_greedy (Some k) less h =
+        subst (λ k. LeavesTwo row (iterations 0 k false p ∷ ts) (repeated (still n less) false p ts row) ts) (sym h.1)
+        (subst (λ l. LeavesTwo row (iterations 0 (suc h.0) false p ∷ ts) (repeated (still n l) false p ts row) ts) (sym h.2) (greedy_leaves h.0 p ts row))
+
+    leaves_lazy : (further less : Option ℕ) → IsOneLess further less → LeavesTwo row (iterations 0 (still n further) true p ∷ ts) ts (repeated (still n less) true p ts row)
+    leaves_lazy None less h = subst (λ k. LeavesTwo row (iterations 0 (suc (suc n)) true p ∷ ts) ts (repeated (still n k) true p ts row)) (sym h) (lazy_unbounded n p ts row (form_within n e it.body.form.value it.body.excluded))
+    leaves_lazy (Some k) less h =
+        subst (λ k. LeavesTwo row (iterations 0 k true p ∷ ts) ts (repeated (still n less) true p ts row)) (sym h.1)
+        (subst (λ l. LeavesTwo row (iterations 0 (suc h.0) true p ∷ ts) ts (repeated (still n l) true p ts row)) (sym h.2) (lazy_leaves h.0 p ts row))
+
+    pub greedy_splits : it.reluctant ≡ false → SplitsAt n e row (iterations_part n e 0 it ∷ ts) (record { preferred = Some another; other = stop })
+    greedy_splits is =
+        two_splits n e row _ _ ts (Some another) stop stands stops
+        (subst (λ r. LeavesTwo row (iterations 0 (still n it.further) r p ∷ ts) (repeated (still n less) r p ts row) ts) (sym is) (leaves_greedy it.further less fewer))
+
+    pub lazy_splits : it.reluctant ≡ true → SplitsAt n e row (iterations_part n e 0 it ∷ ts) (record { preferred = stop; other = Some another })
+    lazy_splits is =
+        two_splits n e row _ ts _ stop (Some another) stops stands
+        (subst (λ r. LeavesTwo row (iterations 0 (still n it.further) r p ∷ ts) ts (repeated (still n less) r p ts row)) (sym is) (leaves_lazy it.further less fewer))
 
 -- no iteration is left
 pub none_left : (n : ℕ) (e : End) (i : ℕ) (lower : ℕ) (it : Iterations) (k : ℕ) (ts : List Costed) → lower ≤ 0 → it.further ≡ Some k → k ≡ 0 → Leaves i (iterations_part n e lower it ∷ ts) ts

@@ -1,19 +1,17 @@
 -- What stands behind a list of later parts.
-use Rattle.std.proofs.Common.{◌≡◌, ℕ, ◌<◌, List, ◌∷◌, map, Option, Some, None, refl, sym, ap, ◌∙◌, subst}
+use Rattle.std.proofs.Common.{◌≡◌, ℕ, ◌<◌, List, ◌∷◌, drop, Option, Some, None, refl, sym, ap, ◌∙◌}
 use Rattle.std.specs.List.{flat_map}
 use Rattle.std.specs.declared.rc.Rc.{Rc}
 use Rattle.std.specs.declared.alloc.Global.{Global}
 use Rattle.rp_pattern.specs.declared.rests.Part.{Part}
 use Rattle.rp_pattern.specs.declared.rests.Link.{Link}
-use Rattle.rp_pattern.specs.declared.rests.Link.TheOpen.{Link-F}
 use Rattle.rp_pattern.specs.declared.rests.Link.TheViews.{out-Link}
 use Rattle.rp_pattern.specs.declared.rests.Link.TheFolds.{map-Link, fold_out-Link}
-use Rattle.rp_pattern.specs.declared.rests.Rests.{Rests}
-use Rattle.rp_pattern.specs.declared.rests.Rests.TheVariants.{Then}
+use Rattle.rp_pattern.specs.declared.rests.Rests.TheVariants.{Reached}
 use Rattle.rp_pattern.specs.declared.word.End.{End}
 use Rattle.rp_pattern.specs.Words.{followed}
-use Rattle.rp_pattern.specs.Turns.{Part as Costed, chain_turns, past}
-use Rattle.rp_pattern.specs.Rests.{part_as, link_step, links_from, tail_links, links_parts, guarded, chain_words}
+use Rattle.rp_pattern.specs.Turns.{Part as Costed, chain_turns}
+use Rattle.rp_pattern.specs.Rests.{part_as, link_step, links_from, reached_parts, tail_links, tail_parts, links_parts, guarded, chain_words}
 use Rattle.rp_pattern.specs.Splits.{Stands}
 use Rattle.rp_pattern.proofs.TurnsTaken.{past_reached, past_there}
 
@@ -38,14 +36,28 @@ guarded_turns : (since : Option ℕ) (p : Costed) (ps : List Costed) (i : ℕ) �
 guarded_turns None p ps i h = refl
 guarded_turns (Some since) p ps i h = sym (past_reached since p ps i h)
 
--- what is left at a row is the first of later parts, with those after it
-pub follow_stands : (n : ℕ) (e : End) (i : ℕ) (l : Link) (part : Part) (then : Option (Rc Link Global)) → part_as n e part ≡ part_as n e (out-Link l).part → tail_links then ≡ tail_links (out-Link l).then → IsPassed (out-Link l).since i →
-    Stands n e i (links_parts n e (links_from l)) (Some (Then part then))
-follow_stands n e i l part then a b h =
-    let f : Option ℕ × Part → Costed = λ k. guarded k.0 (part_as n e k.1) in
-    let whole : links_parts n e (links_from l) ≡ guarded (out-Link l).since (part_as n e (out-Link l).part) ∷ links_parts n e (tail_links (out-Link l).then) = ap (links_parts n e) (links_out l) in
-    let mine : part_as n e part ∷ links_parts n e (tail_links then) ≡ part_as n e (out-Link l).part ∷ links_parts n e (tail_links (out-Link l).then) = let c = ap (links_parts n e) b in cc (a, c) in
+-- the first of later parts, with those after it
+pub reached_out : (n : ℕ) (e : End) (l : Link) → reached_parts n e (links_from l) ≡ part_as n e (out-Link l).part ∷ tail_parts n e (out-Link l).then
+reached_out n e l = ap (reached_parts n e) (links_out l)
+
+pub tail_out : (n : ℕ) (e : End) (l : Link) → links_parts n e (links_from l) ≡ guarded (out-Link l).since (part_as n e (out-Link l).part) ∷ tail_parts n e (out-Link l).then
+tail_out n e l = ap (links_parts n e) (links_out l)
+
+pub follow_stands : (n : ℕ) (e : End) (i : ℕ) (l : Link) (copy : Rc Link Global) → copy.value ≡ l → IsPassed (out-Link l).since i → Stands n e i (links_parts n e (links_from l)) (Some (Reached copy))
+follow_stands n e i l copy is h =
+    let p = part_as n e (out-Link l).part in
+    let later = tail_parts n e (out-Link l).then in
+    let mine : reached_parts n e (links_from copy.value) ≡ p ∷ later = ap (λ k. reached_parts n e (links_from k)) is ∙ reached_out n e l in
     record {
-      words = ap (λ ps. chain_words ps i) mine ∙ guarded_words (out-Link l).since (part_as n e (out-Link l).part) (links_parts n e (tail_links (out-Link l).then)) i h ∙ ap (λ ps. chain_words ps i) (sym whole);
-      turns = ap (λ ps. chain_turns ps i) mine ∙ guarded_turns (out-Link l).since (part_as n e (out-Link l).part) (links_parts n e (tail_links (out-Link l).then)) i h ∙ ap (λ ps. chain_turns ps i) (sym whole);
+      words = ap (λ ps. chain_words ps i) mine ∙ guarded_words (out-Link l).since p later i h ∙ ap (λ ps. chain_words ps i) (sym (tail_out n e l));
+      turns = ap (λ ps. chain_turns ps i) mine ∙ guarded_turns (out-Link l).since p later i h ∙ ap (λ ps. chain_turns ps i) (sym (tail_out n e l));
     }
+
+pub later_out : (n : ℕ) (e : End) (l : Link) → links_parts n e (drop 1 (links_from l)) ≡ tail_parts n e (out-Link l).then
+later_out n e l = ap (λ ls. links_parts n e (drop 1 ls)) (links_out l)
+
+-- the same by what the parts are known as
+pub reached_as : (n : ℕ) (e : End) (l a b : Link) (part : Part) → a ≡ l → b ≡ l → (out-Link a).part ≡ part → part_as n e part ∷ tail_parts n e (out-Link b).then ≡ reached_parts n e (links_from l)
+reached_as n e l a b part h k is =
+    ap (λ p. part_as n e p ∷ tail_parts n e (out-Link b).then) (sym is ∙ ap (λ z. (out-Link z).part) h)
+    ∙ ap (λ z. part_as n e (out-Link l).part ∷ tail_parts n e (out-Link z).then) k ∙ sym (reached_out n e l)

@@ -4,6 +4,7 @@ pub mod WordLaws
 pub mod Variables
 pub mod Turns
 pub mod Bounds
+pub mod Movement
 pub mod PatternForm
 pub mod SameTree
 pub mod Permutations

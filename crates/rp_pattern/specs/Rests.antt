@@ -1,5 +1,5 @@
 -- What is left of a pattern: parts one after another, each as its words and its turns.
-use Rattle.std.specs.Prelude.{◌≡◌, ℕ, suc, ◌+◌, Bool, true, ◌&&◌, List, [], ◌∷◌, ◌++◌, map, length, take, get_or, Option, Some, None, nat_le}
+use Rattle.std.specs.Prelude.{◌≡◌, ℕ, suc, ◌+◌, Bool, true, ◌&&◌, List, [], ◌∷◌, ◌++◌, map, length, take, drop, get_or, Option, Some, None, nat_le}
 use Rattle.std.specs.declared.rc.Rc.{Rc}
 use Rattle.std.specs.declared.alloc.Global.{Global}
 use Rattle.rp_pattern.specs.declared.form.Form.{Form}
@@ -12,8 +12,9 @@ use Rattle.rp_pattern.specs.declared.rests.Part.TheVariants.{Whole, Times, Order
 use Rattle.rp_pattern.specs.declared.rests.Link.{Link}
 use Rattle.rp_pattern.specs.declared.rests.Link.TheOpen.{Link-F}
 use Rattle.rp_pattern.specs.declared.rests.Link.TheFolds.{fold-Link}
+use Rattle.rp_pattern.specs.declared.rests.Link.TheViews.{out-Link}
 use Rattle.rp_pattern.specs.declared.rests.Rests.{Rests}
-use Rattle.rp_pattern.specs.declared.rests.Rests.TheVariants.{Done, Then}
+use Rattle.rp_pattern.specs.declared.rests.Rests.TheVariants.{Done, Then, Reached}
 use Rattle.rp_pattern.specs.declared.rests.Choice.{Choice}
 use Rattle.rp_pattern.specs.Mapping.{Mapping}
 use Rattle.rp_pattern.specs.PermutedParts.{permuted_parts}
@@ -72,14 +73,21 @@ links_parts n e ls = map (λ l. guarded l.0 (part_as n e l.1)) ls
 abbrev pub tail_parts : ℕ → End → Option (Rc Link Global) → List Costed
 tail_parts n e tail = links_parts n e (tail_links tail)
 
+-- later parts, the first of which is reached
+abbrev pub reached_parts : ℕ → End → List (Option ℕ × Part) → List Costed
+reached_parts n e [] = []
+reached_parts n e (l ∷ ls) = part_as n e l.1 ∷ links_parts n e ls
+
 abbrev pub rests_parts : ℕ → End → Rests → List Costed
 rests_parts n e Done = []
-rests_parts n e (Then part then) = part_as n e part ∷ tail_parts n e then
+rests_parts n e (Then node then) = node_part n e node ∷ tail_parts n e then
+rests_parts n e (Reached link) = reached_parts n e (links_from link.value)
 
 -- what comes after the first part
 abbrev pub later_parts : ℕ → End → Rests → List Costed
 later_parts n e Done = []
-later_parts n e (Then part then) = tail_parts n e then
+later_parts n e (Then node then) = tail_parts n e then
+later_parts n e (Reached link) = links_parts n e (drop 1 (links_from link.value))
 
 -- the words of parts one after another
 abbrev pub chain_words : List Costed → Mappings
@@ -123,6 +131,10 @@ IsNodeOf f excluded node = (node.form.value ≡ f) × (node.excluded ≡ exclude
 
 abbrev pub AreIterationsOf : Iterations → Option ℕ → Iterations → Type 0
 AreIterationsOf it further copy = IsNodeOf it.body.form.value it.body.excluded copy.body × (copy.further ≡ further) × (copy.reluctant ≡ it.reluctant)
+
+-- these iterations come first, so many of them required
+abbrev pub IsTimes : ℕ → Iterations → Link → Type 0
+IsTimes lower it link = (out-Link link).part ≡ Times lower it
 
 -- one fewer may follow, where there is a bound
 abbrev pub IsOneLess : Option ℕ → Option ℕ → Type 0

@@ -1,5 +1,5 @@
 -- What a choice comes to when it is taken up.
-use Rattle.std.specs.Prelude.{◌≡◌, ℕ, ◌+◌, ◌<◌, ◌≤◌, List, [], ◌∷◌, ◌++◌, map, drop, Option, Some, None}
+use Rattle.std.specs.Prelude.{◌≡◌, ℕ, Bool, ◌+◌, ◌<◌, ◌≤◌, List, [], ◌∷◌, ◌++◌, map, drop, Option, Some, None}
 use Rattle.rp_pattern.specs.declared.word.End.{End}
 use Rattle.rp_pattern.specs.declared.word.End.TheVariants.{Open as OpenEnd}
 use Rattle.rp_pattern.specs.declared.word.Label.{Label}
@@ -9,9 +9,10 @@ use Rattle.rp_pattern.specs.declared.turn.Turn.{Turn}
 use Rattle.rp_pattern.specs.declared.turn.Turn.TheVariants.{Full as FullTurn, Row as RowTurn, Open as OpenTurn, Split as SplitTurn}
 use Rattle.rp_pattern.specs.Mapping.{Mapping, Full, Open}
 use Rattle.rp_pattern.specs.Words.{preceded}
-use Rattle.rp_pattern.specs.Turns.{Part as Costed, chain_turns}
+use Rattle.rp_pattern.specs.Turns.{Part as Costed, chain_turns, iterations, past}
+use Rattle.rp_pattern.specs.declared.rests.Iterations.{Iterations}
 use Rattle.rp_pattern.specs.WordLaws.{IsLater}
-use Rattle.rp_pattern.specs.Rests.{rests_parts, chain_words}
+use Rattle.rp_pattern.specs.Rests.{rests_parts, chain_words, node_part, still}
 
 -- what may be left, as words and turns
 abbrev pub option_words : ℕ → End → Option Rests → ℕ → List Mapping
@@ -28,6 +29,10 @@ split_words n e s i = option_words n e s.preferred i ++ option_words n e s.other
 abbrev pub split_turns : ℕ → End → Choices → ℕ → ℕ
 split_turns n e s i = option_turns n e s.preferred i + option_turns n e s.other i
 
+-- another iteration, and then further ones if it has taken a row
+abbrev pub repeated : ℕ → Bool → Costed → List Costed → ℕ → List Costed
+repeated h reluctant p later i = p ∷ past i (iterations 0 h reluctant p) ∷ later
+
 -- it stands for these parts
 pub record Stands (n : ℕ) (e : End) (i : ℕ) (ps : List Costed) (r : Option Rests) : Type 0 where
   pub words : option_words n e r i ≡ chain_words ps i
@@ -37,6 +42,11 @@ pub record Stands (n : ℕ) (e : End) (i : ℕ) (ps : List Costed) (r : Option R
 pub record SplitsAt (n : ℕ) (e : End) (i : ℕ) (ps : List Costed) (s : Choices) : Type 0 where
   pub words : split_words n e s i ≡ chain_words ps i
   pub turns : split_turns n e s i < chain_turns ps i
+
+-- After an iteration at this row come further ones, if it has taken a row, and then what follows them.
+pub record ComesAgain (n : ℕ) (e : End) (i : ℕ) (it : Iterations) (further : Option ℕ) (later again : List Costed) : Type 0 where
+  pub words : chain_words (node_part n e it.body ∷ again) i ≡ chain_words (repeated (still n further) it.reluctant (node_part n e it.body) later i) i
+  pub turns : chain_turns (node_part n e it.body ∷ again) i ≡ chain_turns (repeated (still n further) it.reluctant (node_part n e it.body) later i) i
 
 abbrev pub AlwaysSplits : ℕ → (ℕ → End → List Costed) → Choices → Type 0
 AlwaysSplits i ps s = (n : ℕ) (e : End) → SplitsAt n e i (ps n e) s

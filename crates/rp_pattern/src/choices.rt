@@ -1,4 +1,4 @@
-ghost use Rattle.std.specs.Prelude.{◌≡◌, ℕ, ◌∷◌, ◌++◌, ◌+◌, ◌-◌, ◌^◌, ◌<◌, ◌≤◌, IfOk, OnOk, IsTrue, List, [], map, length, reverse};
+ghost use Rattle.std.specs.Prelude.{◌≡◌, ℕ, ◌∷◌, ◌++◌, ◌+◌, ◌-◌, ◌^◌, ◌<◌, ◌≤◌, IfOk, OnOk, IsTrue, List, [], map, length, reverse, MatchOption};
 ghost use Rattle.rp_pattern.specs.Rests.{rises, pushed, without_first};
 
 use crate::form::{Form, Pattern};
@@ -38,13 +38,14 @@ pub struct Choices {
 }
 
 impl Choices {
-    ghost use Rattle.std.specs.Prelude.{OnOk, IfOk, take, ◌∷◌, ◌++◌, map};
+    ghost use Rattle.std.specs.Prelude.{OnOk, IfOk, take, ◌∷◌, ◌++◌, map, reverse};
     ghost use Rattle.rp_pattern.specs.declared.word.End.{End};
     ghost use Rattle.rp_pattern.specs.Words.{words, preceded};
     ghost use Rattle.rp_pattern.specs.Turns.{turns};
     ghost use Rattle.rp_pattern.specs.PatternForm.{form_of};
     ghost use Rattle.rp_pattern.specs.Rests.{tail_links};
-    ghost use Rattle.rp_pattern.specs.Choices.{start_of, entered, whole, whole_left, remaining, left, below, below_left, after, after_left, HasTop, AtRow, IsFront, IsShorterFront, IsSameWhole, TakenAs, HasBegun, IsLaterTail};
+    ghost use Rattle.rp_pattern.specs.Splits.{Stands};
+    ghost use Rattle.rp_pattern.specs.Choices.{start_of, entered, first_later, whole, whole_left, remaining, left, below, below_left, after, after_left, HasTop, AtRow, IsFront, IsShorterFront, IsSameWhole, TakenAs, HasBegun, IsLaterTail};
 
     /// The words of the pattern from the start row on.
     pub fn new(alloc: Global, pattern: &Pattern, start: u64) -> Result<Choices, AllocError>
@@ -122,27 +123,22 @@ impl Choices {
         ensures whole { IsSameWhole self.old self.new }
         ensures taken { IfOk result (TakenAs self.old self.new n end) }
     {
-        let Some(choice) = self.stack.pop() else {
+        let Some(choice) = top(&self.stack) else {
             return Ok(Taken::Nothing);
         };
-        self.labels.truncate(choice.depth);
-        let row = self.start + choice.depth as u64;
+        let depth = choice.depth;
+        self.labels.truncate(depth);
+        let row = self.start + depth as u64;
         match choice.rests.take_up(self.alloc, row, n, end)? {
-            Turn::Full => {
-                self.stack.push(choice)?;
-                Ok(Taken::Full)
-            }
+            Turn::Full => Ok(Taken::Full),
             Turn::Row(label) => {
                 self.labels.push(label)?;
-                self.stack.push(choice)?;
                 Ok(Taken::Row)
             }
-            Turn::Open => {
-                self.stack.push(choice)?;
-                Ok(Taken::Open)
-            }
+            Turn::Open => Ok(Taken::Open),
             Turn::Split(split) => {
-                push_split(&mut self.stack, choice.depth, split)?;
+                drop_top(&mut self.stack);
+                push_split(&mut self.stack, depth, split)?;
                 Ok(Taken::Split)
             }
         }
@@ -156,12 +152,25 @@ impl Choices {
         ensures left { OnOk result ((n : ℕ) (e : End) → left self.new n e ≡ after_left self.old n e + below_left self.old n e) }
         ensures labels { OnOk result (entered self.new ≡ entered self.old) }
     {
-        let later = self.later()?;
         let depth = self.labels.len();
-        let rests = follow(&later, self.start + depth as u64)?;
+        let rests = self.follow_first(self.start + depth as u64)?;
         drop_top(&mut self.stack);
         push(&mut self.stack, depth, rests)?;
         Ok(())
+    }
+
+    /// What is left at a row when the first part of the preferred choice is mapped before it.
+    fn follow_first(&self, row: u64) -> Result<Option<Rests>, AllocError>
+        ensures { IfOk result (λ rests. (n : ℕ) (e : End) → Stands n e row (first_later n e (reverse self.now.stack.items)) rests) }
+    {
+        match top(&self.stack) {
+            None => Ok(Some(Rests::Done)),
+            Some(choice) => match &choice.rests {
+                Rests::Done => Ok(Some(Rests::Done)),
+                Rests::Then { node: _, then } => follow(then, row),
+                Rests::Reached(link) => follow(&link.then, row),
+            },
+        }
     }
 
     /// The preferred choice is given up. It takes no memory.
@@ -202,11 +211,12 @@ impl Choices {
     fn later(&self) -> Result<Tail, AllocError>
         ensures { IfOk result (IsLaterTail self.now) }
     {
-        match self.stack.last() {
+        match top(&self.stack) {
             None => Ok(None),
             Some(choice) => match &choice.rests {
                 Rests::Done => Ok(None),
-                Rests::Then { part: _, then } => share(then),
+                Rests::Then { node: _, then } => share(then),
+                Rests::Reached(link) => share(&link.then),
             },
         }
     }
@@ -222,6 +232,13 @@ impl Choices {
         self.stack.clear();
         self.labels.clear();
     }
+}
+
+/// The top choice.
+fn top(stack: &[Choice]) -> Option<&Choice>
+    ensures { MatchOption result (reverse stack.now ≡ []) (λ choice. reverse stack.now ≡ choice.now ∷ without_first (reverse stack.now)) }
+{
+    stack.last()
 }
 
 /// Takes the top choice away.

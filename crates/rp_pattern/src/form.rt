@@ -1,5 +1,6 @@
 ghost use Rattle.std.specs.Prelude.{◌≡◌, IsTrue, IfOk, map};
 ghost use Rattle.rp_pattern.specs.Bounds.{is_allowed, bounds_hold};
+ghost use Rattle.rp_pattern.specs.Movement.{always_moves};
 ghost use Rattle.rp_pattern.specs.Variables.{are_below};
 
 use std::alloc::{AllocError, Global};
@@ -119,6 +120,20 @@ impl Form {
             }
             Form::Exclusion(body) => body.are_below(k),
             Form::Quantified { body, .. } => body.are_below(k),
+        }
+    }
+
+    /// Whether it is known that each of its full words takes a row.
+    pub(crate) fn always_moves(&self) -> bool
+        ensures { result ≡ always_moves self.now }
+    {
+        match self {
+            Form::Variable(_) => true,
+            Form::Empty | Form::PartitionStart | Form::PartitionEnd | Form::Permute(_) => false,
+            Form::Concatenation(first, second) => first.always_moves() || second.always_moves(),
+            Form::Alternation(first, second) => first.always_moves() && second.always_moves(),
+            Form::Exclusion(body) => body.always_moves(),
+            Form::Quantified { body, lower, .. } => *lower > 0 && body.always_moves(),
         }
     }
 

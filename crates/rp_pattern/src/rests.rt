@@ -1,5 +1,6 @@
 ghost use Rattle.std.specs.Prelude.{◌≡◌, ℕ, ◌∷◌, ◌<◌, IfOk, IsTrue, length};
 ghost use Rattle.rp_pattern.specs.Bounds.{is_allowed};
+ghost use Rattle.rp_pattern.specs.Movement.{always_moves};
 ghost use Rattle.rp_pattern.specs.Permutations.{factorial};
 ghost use Rattle.rp_pattern.specs.PermutedParts.{permuted_parts};
 ghost use Rattle.rp_pattern.specs.declared.word.End.{End};
@@ -22,6 +23,9 @@ pub(crate) struct Iterations {
     pub body: Node,
     pub further: Option<u32>,
     pub reluctant: bool,
+    /// Whether it is known that each iteration takes a row.
+    pub moving: bool,
+    ghost known: { moving ≡ always_moves body.form.value },
 }
 
 /// The orders of a PERMUTE from this number on. The first order has the number 0.
@@ -58,7 +62,10 @@ pub(crate) type Tail = Option<Rc<Link>>;
 #[derive(Drop)]
 pub(crate) enum Rests {
     Done,
-    Then { part: Part, then: Tail },
+    /// A part as it stands in the pattern, before later ones.
+    Then { node: Node, then: Tail },
+    /// Later parts, the first of which is reached.
+    Reached(Rc<Link>),
 }
 
 /// A choice that isn't taken up: how many labels come before it, and what is left of the pattern.
@@ -102,27 +109,7 @@ impl Iterations {
             body: self.body.share()?,
             further,
             reluctant: self.reluctant,
+            moving: self.moving,
         })
-    }
-}
-
-impl Part {
-    ghost use Rattle.rp_pattern.specs.Rests.{part_as};
-
-    /// A further owner.
-    pub(crate) fn share(&self) -> Result<Part, AllocError>
-        ensures { IfOk result (λ copy. (n : ℕ) (e : End) → part_as n e copy ≡ part_as n e self.now) }
-    {
-        match self {
-            Part::Whole(node) => Ok(Part::Whole(node.share()?)),
-            Part::Times { lower, iterations } => Ok(Part::Times {
-                lower: *lower,
-                iterations: iterations.with_further(iterations.further)?,
-            }),
-            Part::Orders(orders) => Ok(Part::Orders(Orders {
-                permute: orders.permute.share()?,
-                from: orders.from,
-            })),
-        }
     }
 }

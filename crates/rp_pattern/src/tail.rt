@@ -1,11 +1,23 @@
 ghost use Rattle.std.specs.Prelude.{◌≡◌, ℕ, ◌∷◌, IfOk};
 ghost use Rattle.rp_pattern.specs.declared.word.End.{End};
-ghost use Rattle.rp_pattern.specs.Rests.{tail_links, tail_parts};
+ghost use Rattle.rp_pattern.specs.Rests.{links_from, tail_links, tail_parts};
 ghost use Rattle.rp_pattern.specs.Splits.{Stands};
 
 use crate::rests::{Link, Part, Rests, Tail};
 use std::alloc::{AllocError, Global};
 use std::rc::Rc;
+
+/// A part before later ones, as a link of its own.
+pub(crate) fn link_of(
+    alloc: Global,
+    since: Option<u64>,
+    part: Part,
+    then: Tail,
+) -> Result<Rc<Link>, AllocError>
+    ensures { IfOk result (λ link. links_from link.value ≡ (since, part) ∷ tail_links then) }
+{
+    Ok(Rc::new(alloc, Link { since, part, then })?)
+}
 
 /// A part before later ones.
 pub(crate) fn linked(
@@ -16,7 +28,7 @@ pub(crate) fn linked(
 ) -> Result<Tail, AllocError>
     ensures { IfOk result (λ tail. tail_links tail ≡ (since, part) ∷ tail_links then) }
 {
-    Ok(Some(Rc::new(alloc, Link { since, part, then })?))
+    Ok(Some(link_of(alloc, since, part, then)?))
 }
 
 /// A further owner.
@@ -41,8 +53,5 @@ pub(crate) fn follow(tail: &Tail, row: u64) -> Result<Option<Rests>, AllocError>
             return Ok(None);
         }
     }
-    Ok(Some(Rests::Then {
-        part: link.part.share()?,
-        then: share(&link.then)?,
-    }))
+    Ok(Some(Rests::Reached(link.clone()?)))
 }

@@ -1,7 +1,11 @@
 ghost use Rattle.std.specs.Prelude.{◌≡◌, ℕ, suc, ◌∷◌, ◌+◌, ◌-◌, ◌^◌, ◌<◌, ◌≤◌, ◌++◌, IfOk, IsTrue, List, map, length, drop};
 ghost use Rattle.std.specs.List.{AllByRecursion};
 ghost use Rattle.rp_pattern.specs.declared.word.End.{End};
-ghost use Rattle.rp_pattern.specs.Rests.{tail_parts, rests_parts, part_as, node_part, iterations_part, permuted_costed, in_order, still, IsOneLess, IsSamePart};
+ghost use Rattle.std.specs.Prelude.{Option, None};
+ghost use Rattle.rp_pattern.specs.Rests.{links_from, reached_parts, tail_parts, rests_parts, node_part, iterations_part, permuted_costed, in_order, still, IsOneLess, IsSamePart, IsTimes};
+ghost use Rattle.rp_pattern.specs.Movement.{always_moves};
+ghost use Rattle.rp_pattern.specs.declared.rests.Link.TheViews.{out-Link};
+ghost use Rattle.rp_pattern.specs.Turns.{Part as Costed};
 ghost use Rattle.rp_pattern.specs.Bounds.{is_allowed};
 ghost use Rattle.rp_pattern.specs.Variables.{all_true};
 ghost use Rattle.rp_pattern.specs.Permutations.{upto};
@@ -11,12 +15,12 @@ ghost use Rattle.std.specs.declared.rc.Rc.{Rc};
 ghost use Rattle.std.specs.declared.alloc.Global.{Global};
 ghost use Rattle.rp_pattern.specs.Turns.{orders_from};
 ghost use Rattle.rp_pattern.specs.Words.{further, orders};
-ghost use Rattle.rp_pattern.specs.Splits.{TakenUp, AlwaysSplits, Stands};
+ghost use Rattle.rp_pattern.specs.Splits.{TakenUp, AlwaysSplits, SplitsAt, Stands, ComesAgain};
 
 use crate::form::Form;
 use crate::orders::{factorial, permutation_at};
-use crate::rests::{Iterations, Node, Orders, Part, Rests, Tail};
-use crate::tail::{follow, linked, share};
+use crate::rests::{Iterations, Link, Node, Orders, Part, Rests, Tail};
+use crate::tail::{follow, link_of, linked, share};
 use crate::word::{End, Label};
 use std::alloc::{AllocError, Global};
 use std::rc::Rc;
@@ -76,34 +80,58 @@ impl Rests {
     {
         match self {
             Rests::Done => Ok(Turn::Full),
-            Rests::Then { part, then } => part.take_up(alloc, then, row, n, end),
+            Rests::Then { node, then } => node.take_up(alloc, &node.form, then, row, n, end),
+            Rests::Reached(link) => take_reached(alloc, link, row, n, end),
         }
     }
 }
 
-impl Part {
-    fn take_up(
-        &self,
-        alloc: Global,
-        then: &Tail,
-        row: u64,
-        n: u64,
-        end: End,
-    ) -> Result<Turn, AllocError>
-        ensures { IfOk result (TakenUp n end row (λ n e. part_as n e self.now ∷ tail_parts n e then.now)) }
-    {
-        match self {
-            Part::Whole(node) => node.take_up(alloc, &node.form, then, row, n, end),
-            Part::Times { lower, iterations } => {
-                let split = iterations.take_up(alloc, *lower, then, row)?;
-                Ok(Turn::Split(split))
-            }
-            Part::Orders(orders) => {
-                let split = orders.take_up(alloc, then, row)?;
-                Ok(Turn::Split(split))
-            }
+/// Later parts, the first of which is reached, taken up.
+fn take_reached(
+    alloc: Global,
+    link: &Rc<Link>,
+    row: u64,
+    n: u64,
+    end: End,
+) -> Result<Turn, AllocError>
+    ensures { IfOk result (TakenUp n end row (λ n e. reached_parts n e (links_from link.now.value))) }
+{
+    match &link.part {
+        Part::Whole(node) => node.take_up(alloc, &node.form, &link.then, row, n, end),
+        Part::Times { lower, iterations } => {
+            let split = take_times(alloc, link, *lower, iterations, row)?;
+            Ok(Turn::Split(split))
+        }
+        Part::Orders(orders) => {
+            let split = orders.take_up(alloc, &link.then, row)?;
+            Ok(Turn::Split(split))
         }
     }
+}
+
+/// Iterations that are reached, taken up. Where any number may follow and each takes a row, the same link comes again.
+fn take_times(
+    alloc: Global,
+    link: &Rc<Link>,
+    lower: u32,
+    iterations: &Iterations,
+    row: u64,
+) -> Result<Split, AllocError>
+    requires { IsTimes lower iterations.now link.now.value }
+    ensures { IfOk result (AlwaysSplits row (λ n e. reached_parts n e (links_from link.now.value))) }
+{
+    if !comes_again(link, lower, iterations) {
+        return iterations.take_up(alloc, lower, &link.then, row);
+    }
+    let stop = follow(&link.then, row)?;
+    iterations.another_or(Some(link.clone()?), stop)
+}
+
+/// Whether it is known that the same may come after each iteration.
+fn comes_again(link: &Link, lower: u32, iterations: &Iterations) -> bool
+    ensures { IsTrue result → ((out-Link link.now).since ≡ None) × (lower ≡ 0) × (iterations.now.further ≡ None) × IsTrue (always_moves iterations.now.body.form.value) }
+{
+    lower == 0 && iterations.moving && iterations.further.is_none() && link.since.is_none()
 }
 
 impl Node {
@@ -193,7 +221,7 @@ impl Node {
             share(then)?,
         )?;
         Ok(Split::one(Some(Rests::Then {
-            part: Part::Whole(Node::of(first, self.excluded)?),
+            node: Node::of(first, self.excluded)?,
             then: later,
         })))
     }
@@ -210,11 +238,11 @@ impl Node {
     {
         Ok(Split {
             preferred: Some(Rests::Then {
-                part: Part::Whole(Node::of(first, self.excluded)?),
+                node: Node::of(first, self.excluded)?,
                 then: share(then)?,
             }),
             other: Some(Rests::Then {
-                part: Part::Whole(Node::of(second, self.excluded)?),
+                node: Node::of(second, self.excluded)?,
                 then: share(then)?,
             }),
         })
@@ -259,7 +287,7 @@ impl Node {
         ensures { IfOk result (λ split. (row : ℕ) → AlwaysSplits row (λ n e. node_part n e self.now ∷ tail_parts n e then.now) split) }
     {
         Ok(Split::one(Some(Rests::Then {
-            part: Part::Whole(Node::of(body, true)?),
+            node: Node::of(body, true)?,
             then: share(then)?,
         })))
     }
@@ -279,6 +307,7 @@ impl Node {
             body: Node::of(body, self.excluded)?,
             further: further(lower, upper),
             reluctant,
+            moving: body.always_moves(),
         })
     }
 
@@ -328,7 +357,7 @@ impl Orders {
         let first = self.permute.in_order(alloc, &order, then)?;
         Ok(Split {
             preferred: follow(&first, row)?,
-            other: self.after(then)?,
+            other: self.after(alloc, then)?,
         })
     }
 
@@ -341,7 +370,7 @@ impl Orders {
     }
 
     /// The orders after the first one, if there are any.
-    fn after(&self, then: &Tail) -> Result<Option<Rests>, AllocError>
+    fn after(&self, alloc: Global, then: &Tail) -> Result<Option<Rests>, AllocError>
         ensures { IfOk result (λ rests. (n : ℕ) (e : End) (i : ℕ) → Stands n e i (orders_from (self.now.from + 1) (permuted_costed n e self.now.permute) ∷ tail_parts n e then.now) rests) }
     {
         let count = factorial(self.permute.parts().len());
@@ -349,13 +378,12 @@ impl Orders {
         if from >= count {
             return Ok(None);
         }
-        Ok(Some(Rests::Then {
-            part: Part::Orders(Orders {
-                permute: self.permute.share()?,
-                from,
-            }),
-            then: share(then)?,
-        }))
+        let part = Part::Orders(Orders {
+            permute: self.permute.share()?,
+            from,
+        });
+        let link = link_of(alloc, None, part, share(then)?)?;
+        Ok(Some(Rests::Reached(link)))
     }
 }
 
@@ -396,7 +424,7 @@ impl Iterations {
         let iterations = self.with_further(self.further)?;
         let later = linked(alloc, None, Part::Times { lower, iterations }, share(then)?)?;
         Ok(Split::one(Some(Rests::Then {
-            part: Part::Whole(self.body.share()?),
+            node: self.body.share()?,
             then: later,
         })))
     }
@@ -414,14 +442,36 @@ impl Iterations {
         requires further { IsOneLess self.now.further further }
         ensures { IfOk result (AlwaysSplits row (λ n e. iterations_part n e 0 self.now ∷ tail_parts n e then.now)) }
     {
+        let again = self.again(alloc, further, then, row)?;
+        self.another_or(again, stop)
+    }
+
+    /// What comes after another iteration: `further` ones may follow, if it has taken a row.
+    fn again(
+        &self,
+        alloc: Global,
+        further: Option<u32>,
+        then: &Tail,
+        row: u64,
+    ) -> Result<Tail, AllocError>
+        ensures { IfOk result (λ tail. (n : ℕ) (e : End) → ComesAgain n e row self.now further (tail_parts n e then.now) (tail_parts n e tail)) }
+    {
+        let since = if self.moving { None } else { Some(row) };
         let iterations = self.with_further(further)?;
         let part = Part::Times {
             lower: 0,
             iterations,
         };
+        linked(alloc, since, part, share(then)?)
+    }
+
+    /// Another iteration, with what comes after it, or to stop.
+    fn another_or(&self, again: Tail, stop: Option<Rests>) -> Result<Split, AllocError>
+        ensures { IfOk result (λ split. (row : ℕ) (n : ℕ) (e : End) (further : Option ℕ) (ts : List Costed) → IsOneLess self.now.further further → ComesAgain n e row self.now further ts (tail_parts n e again) → Stands n e row ts stop → SplitsAt n e row (iterations_part n e 0 self.now ∷ ts) split) }
+    {
         let another = Some(Rests::Then {
-            part: Part::Whole(self.body.share()?),
-            then: linked(alloc, Some(row), part, share(then)?)?,
+            node: self.body.share()?,
+            then: again,
         });
         if self.reluctant {
             return Ok(Split {

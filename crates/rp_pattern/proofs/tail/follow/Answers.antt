@@ -1,7 +1,7 @@
 use Rattle.std.proofs.Common.{sym, ap, ◌∙◌, subst, Some}
 use Rattle.rp_pattern.specs.declared.rests.Link.TheViews.{out-Link}
-use Rattle.rp_pattern.specs.declared.rests.Rests.TheVariants.{Then}
-use Rattle.rp_pattern.specs.Rests.{tail_parts, tail_links, part_as}
+use Rattle.rp_pattern.specs.declared.rests.Rests.TheVariants.{Reached}
+use Rattle.rp_pattern.specs.Rests.{tail_parts}
 use Rattle.rp_pattern.specs.Splits.{Stands}
 use Rattle.rp_pattern.proofs.Tails.{follow_stands, IsPassed}
 use Rattle.rp_pattern.proofs.tail.follow.Goals as goal
@@ -11,15 +11,10 @@ pub returns : goal.returns
 returns c = λ n e.
     let i = c.args.row in
     let l = c.in-Some.link.value in
-    let part = c.in_ok-share.field-0 in
-    let then = c.in_ok-share-2.field-0 in
     let passed : IsPassed (out-Link l).since i =
     elim c.match-deref.branch [
       | in-Some-since+else-row-since w ↦ subst (λ s. IsPassed s i) (sym (ap (λ k. (out-Link k).since) (sym c.deref.ensures) ∙ w.in-Some-since.is)) w.if-row-since.false
       | in_default-since w ↦ subst (λ s. IsPassed s i) (sym (ap (λ k. (out-Link k).since) (sym c.deref.ensures) ∙ w.in_default-since.is)) tt
     ] in
-    subst (λ t. Stands n e i (tail_parts n e t) (Some (Then part then))) (sym c.in-Some.is)
-    (follow_stands n e i l part then
-    (c.in_ok-share.ensures n e ∙ ap (λ k. part_as n e (out-Link k).part) c.deref-2.ensures)
-    (c.in_ok-share-2.ensures ∙ ap (λ k. tail_links (out-Link k).then) c.deref-3.ensures)
-    passed)
+    subst (λ t. Stands n e i (tail_parts n e t) (Some (Reached c.in_ok-clone.field-0))) (sym c.in-Some.is)
+    (follow_stands n e i l c.in_ok-clone.field-0 c.in_ok-clone.ensures.cases passed)

@@ -1,6 +1,6 @@
 use Rattle.std.proofs.Common.{◌≡◌, refl, sym, subst, reverse, length, IsTrue, ◌∙◌, ap, ◌+◌, arith}
-use Rattle.rp_pattern.specs.Choices.{entered}
-use Rattle.rp_pattern.specs.Rests.{rises, pushed, without_first, tail_parts}
+use Rattle.rp_pattern.specs.Choices.{entered, first_later}
+use Rattle.rp_pattern.specs.Rests.{rises, pushed, without_first}
 use Rattle.rp_pattern.specs.Splits.{Stands}
 use Rattle.rp_pattern.proofs.Stacks.{Stack, same_whole, row_begun, rises_below, rises_subst, admitted_remaining, admitted_left}
 use Rattle.rp_pattern.proofs.choices.Choices.admit.Goals as goal
@@ -14,9 +14,6 @@ invariant_of-self c =
     let lower = rises_subst m (reverse c.drop_top.new.stack.items) (without_first cs) c.drop_top.ensures (rises_below m cs old.rises) in
     let all = c.push.ensures.rises (subst (λ z. IsTrue (rises z (reverse c.drop_top.new.stack.items))) (sym long) lower) in
     record { rises = subst (λ z. IsTrue (rises z (reverse c.push.new.stack.items))) long all; ends = old.ends }
-
-pub returns-in_err-later-clause-whole : goal.returns-in_err-later-clause-whole
-returns-in_err-later-clause-whole c = same_whole _ _ refl refl
 
 pub returns-in_err-rests-clause-whole : goal.returns-in_err-rests-clause-whole
 returns-in_err-rests-clause-whole c = same_whole _ _ refl refl
@@ -35,7 +32,7 @@ returns-clause-remaining c = λ n e.
     let r = c.in_ok-rests.rests in
     let cs = reverse old.stack.items in
     let on : reverse c.push.new.stack.items ≡ pushed (length old.labels.items) r (without_first cs) = c.in_ok-push.ensures.pushed ∙ ap (pushed c.len-depth.result r) c.drop_top.ensures ∙ ap (λ z. pushed z r (without_first cs)) long in
-    let stands = subst (λ ps. Stands n e (old.start + length old.labels.items) ps r) (c.in_ok-later.ensures n e) (subst (λ z. Stands n e (old.start + z) (tail_parts n e c.in_ok-later.later) r) long (c.in_ok-rests.ensures n e)) in
+    let stands = subst (λ z. Stands n e (old.start + z) (first_later n e cs) r) long (c.in_ok-rests.ensures n e) in
     admitted_remaining old _ r n e k (record { begun = row_begun old c.requires; start = refl; labels = refl; choices = on }) stands
 
 pub returns-clause-left : goal.returns-clause-left
@@ -46,7 +43,7 @@ returns-clause-left c = λ n e.
     let r = c.in_ok-rests.rests in
     let cs = reverse old.stack.items in
     let on : reverse c.push.new.stack.items ≡ pushed (length old.labels.items) r (without_first cs) = c.in_ok-push.ensures.pushed ∙ ap (pushed c.len-depth.result r) c.drop_top.ensures ∙ ap (λ z. pushed z r (without_first cs)) long in
-    let stands = subst (λ ps. Stands n e (old.start + length old.labels.items) ps r) (c.in_ok-later.ensures n e) (subst (λ z. Stands n e (old.start + z) (tail_parts n e c.in_ok-later.later) r) long (c.in_ok-rests.ensures n e)) in
+    let stands = subst (λ z. Stands n e (old.start + z) (first_later n e cs) r) long (c.in_ok-rests.ensures n e) in
     admitted_left old _ r n e k (record { begun = row_begun old c.requires; start = refl; labels = refl; choices = on }) stands
 
 pub returns-clause-labels : goal.returns-clause-labels

@@ -1,6 +1,5 @@
 use Rattle.std.proofs.Common.{refl}
 use Rattle.rp_pattern.specs.Choices.{start_of}
-use Rattle.rp_pattern.proofs.Stacks.{Stack}
 use Rattle.rp_pattern.proofs.choices.Choices.start.Goals as goal
 
 pub returns : goal.returns

@@ -1,4 +1,4 @@
-use Rattle.std.proofs.Common.{sym, ap, ◌∙◌}
+use Rattle.std.proofs.Common.{ap, ◌∙◌}
 use Rattle.rp_pattern.specs.Rests.{form_part, node_part, tail_parts}
 use Rattle.rp_pattern.proofs.Expansions.{passed, empty_words, empty_turns}
 use Rattle.rp_pattern.proofs.Steps.{one_splits}

@@ -1,8 +1,6 @@
-use Rattle.std.proofs.Common.{◌≡◌, ◌∷◌, List, ℕ, ◌∙◌, sym, ap, subst}
-use Rattle.rp_pattern.specs.declared.word.End.{End}
-use Rattle.rp_pattern.specs.Turns.{Part, orders_from}
-use Rattle.rp_pattern.specs.Rests.{permuted_costed, node_part, form_part, tail_parts}
-use Rattle.rp_pattern.specs.PermutedParts.{permuted_parts}
+use Rattle.std.proofs.Common.{◌∷◌, subst}
+use Rattle.rp_pattern.specs.Turns.{orders_from}
+use Rattle.rp_pattern.specs.Rests.{permuted_costed, node_part, tail_parts}
 use Rattle.rp_pattern.specs.Splits.{AlwaysSplits, SplitsAt}
 use Rattle.rp_pattern.proofs.Places.{factorial_positive}
 use Rattle.rp_pattern.proofs.OrderRests.{permute_splits, permuted_same, IfOk-map}

@@ -1,4 +1,4 @@
-use Rattle.std.proofs.Common.{sym, ap, ◌∙◌, ◌∷◌}
+use Rattle.std.proofs.Common.{ap, ◌∙◌, ◌∷◌}
 use Rattle.rp_pattern.specs.Rests.{form_part, node_part, tail_parts}
 use Rattle.rp_pattern.proofs.Expansions.{passed, no_words, some_turns, start_words, start_none, start_turns}
 use Rattle.rp_pattern.proofs.Steps.{one_splits, none_splits}
