@@ -2,5 +2,5 @@
 use Rattle.rp_pattern.specs.declared.form.Form.{Form}
 use Rattle.rp_pattern.specs.declared.form.Pattern.{Pattern}
 
-abbrev pub form_of : Pattern → Form
+unfoldable pub form_of : Pattern → Form
 form_of p = p.form

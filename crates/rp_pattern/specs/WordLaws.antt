@@ -6,6 +6,7 @@ use Rattle.rp_pattern.specs.declared.form.Form.{Form}
 use Rattle.rp_pattern.specs.declared.word.Label.{Label}
 use Rattle.rp_pattern.specs.declared.word.End.{End}
 use Rattle.rp_pattern.specs.declared.word.End.TheVariants.{Closed as ClosedEnd}
+use Rattle.rp_pattern.specs.Turns.{turns, optional_turns}
 use Rattle.rp_pattern.specs.Words.{words, quantified, preferred, concatenation, moving}
 
 -- ---- more rows, or the close
@@ -41,6 +42,11 @@ NoBoundStays = (f : Form) (n : ℕ) (e : End) (reluctant : Bool) (i : ℕ) →
 abbrev pub GreatBoundsAgree : Type 0
 GreatBoundsAgree = (f : Form) (n : ℕ) (e : End) (reluctant : Bool) (h i : ℕ) → n + 2 ≤ h →
     quantified n 0 (Some h) reluctant (words n e f) i ≡ quantified n 0 None reluctant (words n e f) i
+
+-- Nor does it take another number of turns.
+abbrev pub GreatBoundsTakeAsMany : Type 0
+GreatBoundsTakeAsMany = (f : Form) (n : ℕ) (e : End) (h i : ℕ) → n + 2 ≤ h →
+    optional_turns (words n e f, turns n e f) h i ≡ optional_turns (words n e f, turns n e f) (n + 2) i
 
 -- ---- the rows of a word
 

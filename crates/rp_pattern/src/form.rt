@@ -47,6 +47,7 @@ pub struct Pattern {
     ghost allowed: { IsTrue (is_allowed form) },
 }
 
+#[tactic(auto, unfolding(crate::specs::PatternForm::form_of))]
 impl Pattern {
     ghost use Rattle.rp_pattern.specs.PatternForm.{form_of};
 

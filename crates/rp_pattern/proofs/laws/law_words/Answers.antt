@@ -1,5 +1,7 @@
-use Rattle.std.proofs.Common.{suc, arith, ◌-◌}
+use Rattle.std.proofs.Common.{suc, arith, ◌+◌, ◌-◌}
 use Rattle.rp_pattern.specs.Words.{words}
+use Rattle.rp_pattern.specs.Turns.{turns}
+use Rattle.rp_pattern.proofs.TurnLaws.{optional_turns_enough}
 use Rattle.rp_pattern.proofs.AllForms.{words_extend_later}
 use Rattle.rp_pattern.proofs.Within.{words_within, words_wait, words_full}
 use Rattle.rp_pattern.proofs.Bounds.{unbounded, optional_enough}
@@ -13,6 +15,9 @@ returns-clause-no_bound c = λ f n e reluctant i. unbounded n reluctant (words n
 
 pub returns-clause-great_bounds : goal.returns-clause-great_bounds
 returns-clause-great_bounds c = λ f n e reluctant h i enough. optional_enough n reluctant (words n e f) (words_within n e f) (h - 0) (suc (suc n)) i (omega arith) (omega arith)
+
+pub returns-clause-great_turns : goal.returns-clause-great_turns
+returns-clause-great_turns c = λ f n e h i enough. optional_turns_enough n (words n e f, turns n e f) (words_within n e f) h (n + 2) i (omega arith) (omega arith)
 
 pub returns-clause-within : goal.returns-clause-within
 returns-clause-within c = λ f n e i. words_within n e f i
