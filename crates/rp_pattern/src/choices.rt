@@ -73,6 +73,7 @@ impl Choices {
     }
 
     /// The labels of the rows before the preferred choice, and of the row that it maps.
+    #[inline]
     pub fn labels(&self) -> &[Label]
         ensures { result.now ≡ entered self.now }
     {
@@ -80,6 +81,7 @@ impl Choices {
     }
 
     /// The start row.
+    #[inline]
     pub fn start(&self) -> u64
         ensures { result ≡ start_of self.now }
     {
@@ -88,6 +90,7 @@ impl Choices {
 
     /// Takes up the preferred choice, over the rows 1 to n and that end. Where memory is refused, nothing is said of the
     /// choices that are left: `reset` them.
+    #[inline]
     pub fn take_up(&mut self, n: u64, end: End) -> Result<Taken, AllocError>
         requires { n < 2 ^ 64 - 1 }
         ensures whole { IsSameWhole self.old self.new }
@@ -117,6 +120,7 @@ impl Choices {
     }
 
     /// Takes up the choice on the stack's top.
+    #[inline(always)]
     fn take_up_top(&mut self, n: u64, end: End) -> Result<Taken, AllocError>
         requires rows { n < 2 ^ 64 - 1 }
         requires begun { HasBegun self.old }
@@ -145,6 +149,7 @@ impl Choices {
     }
 
     /// The row is mapped as the preferred choice says.
+    #[inline]
     pub fn admit(&mut self) -> Result<(), AllocError>
         requires { AtRow self.old }
         ensures whole { IsSameWhole self.old self.new }
@@ -160,6 +165,7 @@ impl Choices {
     }
 
     /// What is left at a row when the first part of the preferred choice is mapped before it.
+    #[inline(always)]
     fn follow_first(&self, row: u64) -> Result<Option<Rests>, AllocError>
         ensures { IfOk result (λ rests. (n : ℕ) (e : End) → Stands n e row (first_later n e (reverse self.now.stack.items)) rests) }
     {
@@ -174,6 +180,7 @@ impl Choices {
     }
 
     /// The preferred choice is given up. It takes no memory.
+    #[inline]
     pub fn give_up(&mut self)
         requires { HasTop self.old }
         ensures whole { IsSameWhole self.old self.new }
@@ -235,6 +242,7 @@ impl Choices {
 }
 
 /// The top choice.
+#[inline(always)]
 fn top(stack: &[Choice]) -> Option<&Choice>
     ensures { MatchOption result (reverse stack.now ≡ []) (λ choice. reverse stack.now ≡ choice.now ∷ without_first (reverse stack.now)) }
 {
@@ -242,6 +250,7 @@ fn top(stack: &[Choice]) -> Option<&Choice>
 }
 
 /// Takes the top choice away.
+#[inline(always)]
 fn drop_top(stack: &mut Vec<Choice>)
     ensures { reverse stack.new.items ≡ without_first (reverse stack.old.items) }
 {
@@ -249,6 +258,7 @@ fn drop_top(stack: &mut Vec<Choice>)
 }
 
 /// Puts a choice on a stack, if there is one.
+#[inline(always)]
 fn push(stack: &mut Vec<Choice>, depth: usize, rests: Option<Rests>) -> Result<(), AllocError>
     ensures pushed { OnOk result (reverse stack.new.items ≡ pushed depth rests (reverse stack.old.items)) }
     ensures rises { IsTrue (rises depth (reverse stack.old.items)) → IsTrue (rises depth (reverse stack.new.items)) }
@@ -260,6 +270,7 @@ fn push(stack: &mut Vec<Choice>, depth: usize, rests: Option<Rests>) -> Result<(
 }
 
 /// Puts choices on a stack, the preferred one on top.
+#[inline(always)]
 fn push_split(stack: &mut Vec<Choice>, depth: usize, split: Split) -> Result<(), AllocError>
     ensures pushed { OnOk result (reverse stack.new.items ≡ pushed depth split.preferred (pushed depth split.other (reverse stack.old.items))) }
     ensures rises { IsTrue (rises depth (reverse stack.old.items)) → IsTrue (rises depth (reverse stack.new.items)) }

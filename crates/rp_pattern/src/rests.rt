@@ -79,6 +79,7 @@ impl Node {
     ghost use Rattle.rp_pattern.specs.Rests.{IsNodeOf};
 
     /// A part, inside an exclusion or outside of one.
+    #[inline(always)]
     pub(crate) fn of(form: &Rc<Form>, excluded: bool) -> Result<Node, AllocError>
         requires { IsTrue (is_allowed form.now.value) }
         ensures { IfOk result (IsNodeOf form.now.value excluded) }
@@ -90,6 +91,7 @@ impl Node {
     }
 
     /// A further owner.
+    #[inline(always)]
     pub(crate) fn share(&self) -> Result<Node, AllocError>
         ensures { IfOk result (IsNodeOf self.now.form.value self.now.excluded) }
     {
@@ -102,6 +104,7 @@ impl Iterations {
     ghost use Rattle.rp_pattern.specs.Rests.{AreIterationsOf};
 
     /// The same iterations, of which another number may follow.
+    #[inline(always)]
     pub(crate) fn with_further(&self, further: Option<u32>) -> Result<Iterations, AllocError>
         ensures { IfOk result (AreIterationsOf self.now further) }
     {

@@ -8,6 +8,7 @@ use std::alloc::{AllocError, Global};
 use std::rc::Rc;
 
 /// A part before later ones, as a link of its own.
+#[inline(always)]
 pub(crate) fn link_of(
     alloc: Global,
     since: Option<u64>,
@@ -20,6 +21,7 @@ pub(crate) fn link_of(
 }
 
 /// A part before later ones.
+#[inline(always)]
 pub(crate) fn linked(
     alloc: Global,
     since: Option<u64>,
@@ -32,6 +34,7 @@ pub(crate) fn linked(
 }
 
 /// A further owner.
+#[inline(always)]
 pub(crate) fn share(tail: &Tail) -> Result<Tail, AllocError>
     ensures { IfOk result (λ copy. tail_links copy ≡ tail_links tail.now) }
 {
@@ -42,6 +45,7 @@ pub(crate) fn share(tail: &Tail) -> Result<Tail, AllocError>
 }
 
 /// What is left at a row when these parts come next, or nothing where an iteration that had to take a row has taken none.
+#[inline(always)]
 pub(crate) fn follow(tail: &Tail, row: u64) -> Result<Option<Rests>, AllocError>
     ensures { IfOk result (λ rests. (n : ℕ) (e : End) → Stands n e row (tail_parts n e tail.now) rests) }
 {

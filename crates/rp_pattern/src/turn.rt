@@ -47,6 +47,7 @@ pub(crate) enum Turn {
 
 impl Split {
     /// No choice.
+    #[inline(always)]
     fn none() -> Split
         ensures { result ≡ record { preferred = None; other = None } }
     {
@@ -57,6 +58,7 @@ impl Split {
     }
 
     /// One choice, if any.
+    #[inline(always)]
     fn one(rests: Option<Rests>) -> Split
         ensures { result ≡ record { preferred = rests; other = None } }
     {
@@ -69,6 +71,7 @@ impl Split {
 
 impl Rests {
     /// What is left at a row, taken up.
+    #[inline(always)]
     pub(crate) fn take_up(
         &self,
         alloc: Global,
@@ -87,6 +90,7 @@ impl Rests {
 }
 
 /// Later parts, the first of which is reached, taken up.
+#[inline(always)]
 fn take_reached(
     alloc: Global,
     link: &Rc<Link>,
@@ -110,6 +114,7 @@ fn take_reached(
 }
 
 /// Iterations that are reached, taken up. Where any number may follow and each takes a row, the same link comes again.
+#[inline(always)]
 fn take_times(
     alloc: Global,
     link: &Rc<Link>,
@@ -128,6 +133,7 @@ fn take_times(
 }
 
 /// Whether it is known that the same may come after each iteration.
+#[inline(always)]
 fn comes_again(link: &Link, lower: u32, iterations: &Iterations) -> bool
     ensures { IsTrue result → ((out-Link link.now).since ≡ None) × (lower ≡ 0) × (iterations.now.further ≡ None) × IsTrue (always_moves iterations.now.body.form.value) }
 {
@@ -135,6 +141,7 @@ fn comes_again(link: &Link, lower: u32, iterations: &Iterations) -> bool
 }
 
 impl Node {
+    #[inline(always)]
     fn take_up(
         &self,
         alloc: Global,
@@ -187,6 +194,7 @@ impl Node {
         }
     }
 
+    #[inline(always)]
     fn take_variable(&self, var: usize, row: u64, n: u64, end: End, then: &Tail) -> Turn
         requires { self.now.form.value ≡ Form.Variable var }
         ensures { TakenUp n end row (λ n e. node_part n e self.now ∷ tail_parts n e then.now) result }
@@ -204,6 +212,7 @@ impl Node {
     }
 
     /// The two parts, one after the other.
+    #[inline(always)]
     fn take_concatenation(
         &self,
         alloc: Global,
@@ -227,6 +236,7 @@ impl Node {
     }
 
     /// Either part.
+    #[inline(always)]
     fn take_alternation(
         &self,
         first: &Rc<Form>,
@@ -249,6 +259,7 @@ impl Node {
     }
 
     /// No row.
+    #[inline(always)]
     fn take_empty(&self, then: &Tail, row: u64) -> Result<Split, AllocError>
         requires { self.now.form.value ≡ Form.Empty }
         ensures { IfOk result (AlwaysSplits row (λ n e. node_part n e self.now ∷ tail_parts n e then.now)) }
@@ -257,6 +268,7 @@ impl Node {
     }
 
     /// No row, before row 1.
+    #[inline(always)]
     fn take_start(&self, then: &Tail, row: u64) -> Result<Split, AllocError>
         requires { self.now.form.value ≡ Form.PartitionStart }
         ensures { IfOk result (AlwaysSplits row (λ n e. node_part n e self.now ∷ tail_parts n e then.now)) }
@@ -268,6 +280,7 @@ impl Node {
     }
 
     /// No row, after the last one.
+    #[inline(always)]
     fn take_end(&self, then: &Tail, row: u64, n: u64, end: End) -> Result<Turn, AllocError>
         requires { self.now.form.value ≡ Form.PartitionEnd }
         ensures { IfOk result (TakenUp n end row (λ n e. node_part n e self.now ∷ tail_parts n e then.now)) }
@@ -282,6 +295,7 @@ impl Node {
     }
 
     /// The part, whose labels are excluded.
+    #[inline(always)]
     fn take_exclusion(&self, body: &Rc<Form>, then: &Tail) -> Result<Split, AllocError>
         requires { self.now.form.value ≡ Form.Exclusion body.now }
         ensures { IfOk result (λ split. (row : ℕ) → AlwaysSplits row (λ n e. node_part n e self.now ∷ tail_parts n e then.now) split) }
@@ -293,6 +307,7 @@ impl Node {
     }
 
     /// The iterations of a quantified part.
+    #[inline(always)]
     fn iterations(
         &self,
         body: &Rc<Form>,
@@ -388,6 +403,7 @@ impl Orders {
 }
 
 /// How many iterations may follow the required ones.
+#[inline(always)]
 fn further(lower: u32, upper: Option<u32>) -> Option<u32>
     ensures { (n : ℕ) → still n result ≡ further n lower upper }
 {
@@ -399,6 +415,7 @@ fn further(lower: u32, upper: Option<u32>) -> Option<u32>
 
 impl Iterations {
     /// A required iteration, or else another one and what comes after.
+    #[inline(always)]
     fn take_up(&self, alloc: Global, lower: u32, then: &Tail, row: u64) -> Result<Split, AllocError>
         ensures { IfOk result (AlwaysSplits row (λ n e. iterations_part n e lower self.now ∷ tail_parts n e then.now)) }
     {
@@ -418,6 +435,7 @@ impl Iterations {
     }
 
     /// An iteration, and then so many required ones.
+    #[inline(always)]
     fn take_required(&self, alloc: Global, lower: u32, then: &Tail) -> Result<Split, AllocError>
         ensures { IfOk result (λ split. (row : ℕ) → AlwaysSplits row (λ n e. iterations_part n e (lower + 1) self.now ∷ tail_parts n e then.now) split) }
     {
@@ -430,6 +448,7 @@ impl Iterations {
     }
 
     /// An iteration that takes a row, before `further` others, or to stop.
+    #[inline(always)]
     fn take_optional(
         &self,
         alloc: Global,
@@ -447,6 +466,7 @@ impl Iterations {
     }
 
     /// What comes after another iteration: `further` ones may follow, if it has taken a row.
+    #[inline(always)]
     fn again(
         &self,
         alloc: Global,
@@ -466,6 +486,7 @@ impl Iterations {
     }
 
     /// Another iteration, with what comes after it, or to stop.
+    #[inline(always)]
     fn another_or(&self, again: Tail, stop: Option<Rests>) -> Result<Split, AllocError>
         ensures { IfOk result (λ split. (row : ℕ) (n : ℕ) (e : End) (further : Option ℕ) (ts : List Costed) → IsOneLess self.now.further further → ComesAgain n e row self.now further ts (tail_parts n e again) → Stands n e row ts stop → SplitsAt n e row (iterations_part n e 0 self.now ∷ ts) split) }
     {
