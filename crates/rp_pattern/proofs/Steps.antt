@@ -1,5 +1,5 @@
 -- The choices that a function makes, as what a part leaves.
-use Rattle.std.proofs.Common.{◌≡◌, ℕ, suc, ◌+◌, ◌<◌, ◌≤◌, List, [], ◌∷◌, ◌++◌, map, Bool, true, false, IsTrue, drop, Option, Some, None, refl, sym, ap, ◌∙◌, arith, subst}
+use Rattle.std.proofs.Common.{◌≡◌, ℕ, suc, ◌+◌, ◌<◌, ◌≤◌, List, [], ◌∷◌, ◌++◌, map, Bool, true, false, IsTrue, OnOk, Result, Ok, Err, drop, Option, Some, None, refl, sym, ap, ◌∙◌, arith, subst}
 use Rattle.std.specs.declared.rc.Rc.{Rc}
 use Rattle.std.specs.declared.alloc.Global.{Global}
 use Rattle.rp_pattern.specs.declared.form.Form.{Form}
@@ -80,20 +80,24 @@ later_splits n e i ps s h = record { words = λ n' e' later. (h n' e' later).wor
 pub always_splits : (n : ℕ) (e : End) (i : ℕ) (ps : ℕ → End → List Costed) (s : Split) → AlwaysSplits i ps s → Splits n e i ps s
 always_splits n e i ps s h = later_splits n e i ps s (λ n' e' later. h n' e')
 
+pub OnOk-map : {T E : Type 0} (P Q : Type 0) → (P → Q) → (r : Result T E) → OnOk r P → OnOk r Q
+OnOk-map P Q f (Ok v) h = f h
+OnOk-map P Q f (Err e) h = h
+
 -- what parts came to, others that are as they came to
-pub taken_as : (n : ℕ) (e : End) (i : ℕ) (ps qs : ℕ → End → List Costed) → ((n' : ℕ) (e' : End) → ps n' e' ≡ qs n' e') → (t : Turn) → TakenUp n e i ps t → TakenUp n e i qs t
-taken_as n e i ps qs h FullTurn k = λ n' e'. ap (λ z. chain_words z i) (sym (h n' e')) ∙ k n' e'
-taken_as n e i ps qs h (RowTurn l) k = record {
+pub taken_as : (n : ℕ) (e : End) (i : ℕ) (ps qs : ℕ → End → List Costed) → ((n' : ℕ) (e' : End) → ps n' e' ≡ qs n' e') → (s : Split) (t : Turn) → TakenUp n e i ps s t → TakenUp n e i qs s t
+taken_as n e i ps qs h s FullTurn k = λ n' e'. ap (λ z. chain_words z i) (sym (h n' e')) ∙ k n' e'
+taken_as n e i ps qs h s (RowTurn l) k = record {
   known = k.known;
   words = λ n' e' more. subst (λ z. chain_words z i ≡ map (preceded (l ∷ [])) (chain_words (drop 1 z) (i + 1))) (h n' e') (k.words n' e' more);
   turns = λ n' e' more. subst (λ z. chain_turns z i ≡ 1 + chain_turns (drop 1 z) (i + 1)) (h n' e') (k.turns n' e' more);
 }
-taken_as n e i ps qs h OpenTurn k = record {
+taken_as n e i ps qs h s OpenTurn k = record {
   end = k.end;
   words = ap (λ z. chain_words z i) (sym (h n e)) ∙ k.words;
   turns = λ n' e'. subst (λ z. 0 < chain_turns z i) (h n' e') (k.turns n' e');
 }
-taken_as n e i ps qs h (SplitTurn s) k = record {
+taken_as n e i ps qs h s SplitTurn k = record {
   words = λ n' e' more. k.words n' e' more ∙ ap (λ z. chain_words z i) (h n' e');
   turns = λ n' e' more. subst (λ z. split_turns n' e' s i < chain_turns z i) (h n' e') (k.turns n' e' more);
 }

@@ -69,8 +69,8 @@ pub record Waits (n : ℕ) (e : End) (i : ℕ) (ps : ℕ → End → List Costed
   pub turns : (n' : ℕ) (e' : End) → 0 < chain_turns (ps n' e') i
 
 -- What parts came to at a row, by their words and turns over the rows that are known and over later ones.
-abbrev pub TakenUp : ℕ → End → ℕ → (ℕ → End → List Costed) → Turn → Type 0
-TakenUp n e i ps FullTurn = (n' : ℕ) (e' : End) → chain_words (ps n' e') i ≡ Full [] ∷ []
-TakenUp n e i ps (RowTurn l) = MapsRow n e i ps l
-TakenUp n e i ps OpenTurn = Waits n e i ps
-TakenUp n e i ps (SplitTurn s) = Splits n e i ps s
+abbrev pub TakenUp : ℕ → End → ℕ → (ℕ → End → List Costed) → Choices → Turn → Type 0
+TakenUp n e i ps s FullTurn = (n' : ℕ) (e' : End) → chain_words (ps n' e') i ≡ Full [] ∷ []
+TakenUp n e i ps s (RowTurn l) = MapsRow n e i ps l
+TakenUp n e i ps s OpenTurn = Waits n e i ps
+TakenUp n e i ps s SplitTurn = Splits n e i ps s

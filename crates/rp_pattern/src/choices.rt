@@ -133,14 +133,15 @@ impl Choices {
         let depth = choice.depth;
         self.labels.truncate(depth);
         let row = self.start + depth as u64;
-        match choice.rests.take_up(self.alloc, row, n, end)? {
+        let mut split = Split::none();
+        match choice.rests.take_up(self.alloc, row, n, end, &mut split)? {
             Turn::Full => Ok(Taken::Full),
             Turn::Row(label) => {
                 self.labels.push(label)?;
                 Ok(Taken::Row)
             }
             Turn::Open => Ok(Taken::Open),
-            Turn::Split(split) => {
+            Turn::Split => {
                 drop_top(&mut self.stack);
                 push_split(&mut self.stack, depth, split)?;
                 Ok(Taken::Split)

@@ -1,4 +1,4 @@
-ghost use Rattle.std.specs.Prelude.{◌≡◌, ℕ, suc, ◌∷◌, ◌+◌, ◌-◌, ◌^◌, ◌<◌, ◌≤◌, ◌++◌, IfOk, IsTrue, List, map, length, drop};
+ghost use Rattle.std.specs.Prelude.{◌≡◌, ℕ, suc, ◌∷◌, ◌+◌, ◌-◌, ◌^◌, ◌<◌, ◌≤◌, ◌++◌, IfOk, OnOk, IsTrue, List, map, length, drop};
 ghost use Rattle.std.specs.List.{AllByRecursion};
 ghost use Rattle.rp_pattern.specs.declared.word.End.{End};
 ghost use Rattle.std.specs.Prelude.{Option, None};
@@ -33,7 +33,7 @@ pub(crate) struct Split {
 }
 
 /// What a choice came to.
-#[derive(Drop)]
+#[derive(Clone, Copy)]
 pub(crate) enum Turn {
     /// Nothing is left: the labels are a full word.
     Full,
@@ -41,14 +41,14 @@ pub(crate) enum Turn {
     Row(Label),
     /// It runs into the row after the last known one.
     Open,
-    /// It stands for other choices.
-    Split(Split),
+    /// It stands for other choices, those of `split`.
+    Split,
 }
 
 impl Split {
     /// No choice.
     #[inline(always)]
-    fn none() -> Split
+    pub(crate) fn none() -> Split
         ensures { result ≡ record { preferred = None; other = None } }
     {
         Split {
@@ -78,13 +78,16 @@ impl Rests {
         row: u64,
         n: u64,
         end: End,
+        split: &mut Split,
     ) -> Result<Turn, AllocError>
-        ensures { IfOk result (TakenUp n end row (λ n e. rests_parts n e self.now)) }
+        ensures { IfOk result (TakenUp n end row (λ n e. rests_parts n e self.now) split.new) }
     {
         match self {
             Rests::Done => Ok(Turn::Full),
-            Rests::Then { node, then } => node.take_up(alloc, &node.form, then, row, n, end),
-            Rests::Reached(link) => take_reached(alloc, link, row, n, end),
+            Rests::Then { node, then } => {
+                node.take_up(alloc, &node.form, then, row, n, end, split)
+            }
+            Rests::Reached(link) => take_reached(alloc, link, row, n, end, split),
         }
     }
 }
@@ -97,18 +100,19 @@ fn take_reached(
     row: u64,
     n: u64,
     end: End,
+    split: &mut Split,
 ) -> Result<Turn, AllocError>
-    ensures { IfOk result (TakenUp n end row (λ n e. reached_parts n e (links_from link.now.value))) }
+    ensures { IfOk result (TakenUp n end row (λ n e. reached_parts n e (links_from link.now.value)) split.new) }
 {
     match &link.part {
-        Part::Whole(node) => node.take_up(alloc, &node.form, &link.then, row, n, end),
+        Part::Whole(node) => node.take_up(alloc, &node.form, &link.then, row, n, end, split),
         Part::Times { lower, iterations } => {
-            let split = take_times(alloc, link, *lower, iterations, row)?;
-            Ok(Turn::Split(split))
+            take_times(alloc, link, *lower, iterations, row, split)?;
+            Ok(Turn::Split)
         }
         Part::Orders(orders) => {
-            let split = orders.take_up(alloc, &link.then, row)?;
-            Ok(Turn::Split(split))
+            orders.take_up(alloc, &link.then, row, split)?;
+            Ok(Turn::Split)
         }
     }
 }
@@ -121,15 +125,16 @@ fn take_times(
     lower: u32,
     iterations: &Iterations,
     row: u64,
-) -> Result<Split, AllocError>
+    split: &mut Split,
+) -> Result<(), AllocError>
     requires { IsTimes lower iterations.now link.now.value }
-    ensures { IfOk result (AlwaysSplits row (λ n e. reached_parts n e (links_from link.now.value))) }
+    ensures { OnOk result (AlwaysSplits row (λ n e. reached_parts n e (links_from link.now.value)) split.new) }
 {
     if !comes_again(link, lower, iterations) {
-        return iterations.take_up(alloc, lower, &link.then, row);
+        return iterations.take_up(alloc, lower, &link.then, row, split);
     }
     let stop = follow(&link.then, row)?;
-    iterations.another_or(Some(link.clone()?), stop)
+    iterations.another_or(Some(link.clone()?), stop, split)
 }
 
 /// Whether it is known that the same may come after each iteration.
@@ -150,36 +155,37 @@ impl Node {
         row: u64,
         n: u64,
         end: End,
+        split: &mut Split,
     ) -> Result<Turn, AllocError>
         requires { form.now ≡ self.now.form.value }
-        ensures { IfOk result (TakenUp n end row (λ n e. node_part n e self.now ∷ tail_parts n e then.now)) }
+        ensures { IfOk result (TakenUp n end row (λ n e. node_part n e self.now ∷ tail_parts n e then.now) split.new) }
     {
         match form {
-            Form::Variable(var) => Ok(self.take_variable(*var, row, n, end, then)),
+            Form::Variable(var) => Ok(self.take_variable(*var, row, n, end, then, split)),
             Form::Empty => {
-                let split = self.take_empty(then, row)?;
-                Ok(Turn::Split(split))
+                self.take_empty(then, row, split)?;
+                Ok(Turn::Split)
             }
             Form::PartitionStart => {
-                let split = self.take_start(then, row)?;
-                Ok(Turn::Split(split))
+                self.take_start(then, row, split)?;
+                Ok(Turn::Split)
             },
-            Form::PartitionEnd => self.take_end(then, row, n, end),
+            Form::PartitionEnd => self.take_end(then, row, n, end, split),
             Form::Concatenation(first, second) => {
-                let split = self.take_concatenation(alloc, first, second, then)?;
-                Ok(Turn::Split(split))
+                self.take_concatenation(alloc, first, second, then, split)?;
+                Ok(Turn::Split)
             }
             Form::Alternation(first, second) => {
-                let split = self.take_alternation(first, second, then)?;
-                Ok(Turn::Split(split))
+                self.take_alternation(first, second, then, split)?;
+                Ok(Turn::Split)
             }
             Form::Permute(_) => {
-                let split = self.take_permute(alloc, then, row)?;
-                Ok(Turn::Split(split))
+                self.take_permute(alloc, then, row, split)?;
+                Ok(Turn::Split)
             }
             Form::Exclusion(body) => {
-                let split = self.take_exclusion(body, then)?;
-                Ok(Turn::Split(split))
+                self.take_exclusion(body, then, split)?;
+                Ok(Turn::Split)
             }
             Form::Quantified {
                 body,
@@ -188,16 +194,24 @@ impl Node {
                 reluctant,
             } => {
                 let iterations = self.iterations(body, *lower, *upper, *reluctant)?;
-                let split = iterations.take_up(alloc, *lower, then, row)?;
-                Ok(Turn::Split(split))
+                iterations.take_up(alloc, *lower, then, row, split)?;
+                Ok(Turn::Split)
             }
         }
     }
 
     #[inline(always)]
-    fn take_variable(&self, var: usize, row: u64, n: u64, end: End, then: &Tail) -> Turn
+    fn take_variable(
+        &self,
+        var: usize,
+        row: u64,
+        n: u64,
+        end: End,
+        then: &Tail,
+        split: &mut Split,
+    ) -> Turn
         requires { self.now.form.value ≡ Form.Variable var }
-        ensures { TakenUp n end row (λ n e. node_part n e self.now ∷ tail_parts n e then.now) result }
+        ensures { TakenUp n end row (λ n e. node_part n e self.now ∷ tail_parts n e then.now) split.new result }
     {
         if row <= n {
             return Turn::Row(Label {
@@ -207,7 +221,10 @@ impl Node {
         }
         match end {
             End::Open => Turn::Open,
-            End::Closed => Turn::Split(Split::none()),
+            End::Closed => {
+                *split = Split::none();
+                Turn::Split
+            }
         }
     }
 
@@ -219,9 +236,10 @@ impl Node {
         first: &Rc<Form>,
         second: &Rc<Form>,
         then: &Tail,
-    ) -> Result<Split, AllocError>
+        split: &mut Split,
+    ) -> Result<(), AllocError>
         requires { self.now.form.value ≡ Form.Concatenation first.now second.now }
-        ensures { IfOk result (λ split. (row : ℕ) → AlwaysSplits row (λ n e. node_part n e self.now ∷ tail_parts n e then.now) split) }
+        ensures { OnOk result ((row : ℕ) → AlwaysSplits row (λ n e. node_part n e self.now ∷ tail_parts n e then.now) split.new) }
     {
         let later = linked(
             alloc,
@@ -229,10 +247,11 @@ impl Node {
             Part::Whole(Node::of(second, self.excluded)?),
             share(then)?,
         )?;
-        Ok(Split::one(Some(Rests::Then {
+        *split = Split::one(Some(Rests::Then {
             node: Node::of(first, self.excluded)?,
             then: later,
-        })))
+        }));
+        Ok(())
     }
 
     /// Either part.
@@ -242,11 +261,12 @@ impl Node {
         first: &Rc<Form>,
         second: &Rc<Form>,
         then: &Tail,
-    ) -> Result<Split, AllocError>
+        split: &mut Split,
+    ) -> Result<(), AllocError>
         requires { self.now.form.value ≡ Form.Alternation first.now second.now }
-        ensures { IfOk result (λ split. (row : ℕ) → AlwaysSplits row (λ n e. node_part n e self.now ∷ tail_parts n e then.now) split) }
+        ensures { OnOk result ((row : ℕ) → AlwaysSplits row (λ n e. node_part n e self.now ∷ tail_parts n e then.now) split.new) }
     {
-        Ok(Split {
+        *split = Split {
             preferred: Some(Rests::Then {
                 node: Node::of(first, self.excluded)?,
                 then: share(then)?,
@@ -255,55 +275,76 @@ impl Node {
                 node: Node::of(second, self.excluded)?,
                 then: share(then)?,
             }),
-        })
+        };
+        Ok(())
     }
 
     /// No row.
     #[inline(always)]
-    fn take_empty(&self, then: &Tail, row: u64) -> Result<Split, AllocError>
+    fn take_empty(&self, then: &Tail, row: u64, split: &mut Split) -> Result<(), AllocError>
         requires { self.now.form.value ≡ Form.Empty }
-        ensures { IfOk result (AlwaysSplits row (λ n e. node_part n e self.now ∷ tail_parts n e then.now)) }
+        ensures { OnOk result (AlwaysSplits row (λ n e. node_part n e self.now ∷ tail_parts n e then.now) split.new) }
     {
-        Ok(Split::one(follow(then, row)?))
+        *split = Split::one(follow(then, row)?);
+        Ok(())
     }
 
     /// No row, before row 1.
     #[inline(always)]
-    fn take_start(&self, then: &Tail, row: u64) -> Result<Split, AllocError>
+    fn take_start(&self, then: &Tail, row: u64, split: &mut Split) -> Result<(), AllocError>
         requires { self.now.form.value ≡ Form.PartitionStart }
-        ensures { IfOk result (AlwaysSplits row (λ n e. node_part n e self.now ∷ tail_parts n e then.now)) }
+        ensures { OnOk result (AlwaysSplits row (λ n e. node_part n e self.now ∷ tail_parts n e then.now) split.new) }
     {
         if row != 1 {
-            return Ok(Split::none());
+            *split = Split::none();
+            return Ok(());
         }
-        Ok(Split::one(follow(then, row)?))
+        *split = Split::one(follow(then, row)?);
+        Ok(())
     }
 
     /// No row, after the last one.
     #[inline(always)]
-    fn take_end(&self, then: &Tail, row: u64, n: u64, end: End) -> Result<Turn, AllocError>
+    fn take_end(
+        &self,
+        then: &Tail,
+        row: u64,
+        n: u64,
+        end: End,
+        split: &mut Split,
+    ) -> Result<Turn, AllocError>
         requires { self.now.form.value ≡ Form.PartitionEnd }
-        ensures { IfOk result (TakenUp n end row (λ n e. node_part n e self.now ∷ tail_parts n e then.now)) }
+        ensures { IfOk result (TakenUp n end row (λ n e. node_part n e self.now ∷ tail_parts n e then.now) split.new) }
     {
         if row <= n {
-            return Ok(Turn::Split(Split::none()));
+            *split = Split::none();
+            return Ok(Turn::Split);
         }
         match end {
             End::Open => Ok(Turn::Open),
-            End::Closed => Ok(Turn::Split(Split::one(follow(then, row)?))),
+            End::Closed => {
+                *split = Split::one(follow(then, row)?);
+                Ok(Turn::Split)
+            }
         }
     }
 
     /// The part, whose labels are excluded.
     #[inline(always)]
-    fn take_exclusion(&self, body: &Rc<Form>, then: &Tail) -> Result<Split, AllocError>
+    fn take_exclusion(
+        &self,
+        body: &Rc<Form>,
+        then: &Tail,
+        split: &mut Split,
+    ) -> Result<(), AllocError>
         requires { self.now.form.value ≡ Form.Exclusion body.now }
-        ensures { IfOk result (λ split. (row : ℕ) → AlwaysSplits row (λ n e. node_part n e self.now ∷ tail_parts n e then.now) split) }
+        ensures { OnOk result ((row : ℕ) → AlwaysSplits row (λ n e. node_part n e self.now ∷ tail_parts n e then.now) split.new) }
     {
-        Ok(Split::one(Some(Rests::Then {
+        *split = Split::one(Some(Rests::Then {
             node: Node::of(body, true)?,
             then: share(then)?,
-        })))
+        }));
+        Ok(())
     }
 
     /// The iterations of a quantified part.
@@ -327,15 +368,21 @@ impl Node {
     }
 
     /// The orders of the parts.
-    fn take_permute(&self, alloc: Global, then: &Tail, row: u64) -> Result<Split, AllocError>
+    fn take_permute(
+        &self,
+        alloc: Global,
+        then: &Tail,
+        row: u64,
+        split: &mut Split,
+    ) -> Result<(), AllocError>
         requires { (parts : Vec (Rc Form Global) Global) × (self.now.form.value ≡ Form.Permute parts) }
-        ensures { IfOk result (AlwaysSplits row (λ n e. node_part n e self.now ∷ tail_parts n e then.now)) }
+        ensures { OnOk result (AlwaysSplits row (λ n e. node_part n e self.now ∷ tail_parts n e then.now) split.new) }
     {
         let orders = Orders {
             permute: self.share()?,
             from: 0,
         };
-        orders.take_up(alloc, then, row)
+        orders.take_up(alloc, then, row, split)
     }
 
     /// The parts of a PERMUTE.
@@ -365,15 +412,22 @@ impl Node {
 
 impl Orders {
     /// An order of the parts, and below it the orders after that one.
-    fn take_up(&self, alloc: Global, then: &Tail, row: u64) -> Result<Split, AllocError>
-        ensures { IfOk result (AlwaysSplits row (λ n e. orders_from self.now.from (permuted_costed n e self.now.permute) ∷ tail_parts n e then.now)) }
+    fn take_up(
+        &self,
+        alloc: Global,
+        then: &Tail,
+        row: u64,
+        split: &mut Split,
+    ) -> Result<(), AllocError>
+        ensures { OnOk result (AlwaysSplits row (λ n e. orders_from self.now.from (permuted_costed n e self.now.permute) ∷ tail_parts n e then.now) split.new) }
     {
         let order = self.order(alloc)?;
         let first = self.permute.in_order(alloc, &order, then)?;
-        Ok(Split {
+        *split = Split {
             preferred: follow(&first, row)?,
             other: self.after(alloc, then)?,
-        })
+        };
+        Ok(())
     }
 
     /// The places of the parts in the first of the orders.
@@ -416,35 +470,50 @@ fn further(lower: u32, upper: Option<u32>) -> Option<u32>
 impl Iterations {
     /// A required iteration, or else another one and what comes after.
     #[inline(always)]
-    fn take_up(&self, alloc: Global, lower: u32, then: &Tail, row: u64) -> Result<Split, AllocError>
-        ensures { IfOk result (AlwaysSplits row (λ n e. iterations_part n e lower self.now ∷ tail_parts n e then.now)) }
+    fn take_up(
+        &self,
+        alloc: Global,
+        lower: u32,
+        then: &Tail,
+        row: u64,
+        split: &mut Split,
+    ) -> Result<(), AllocError>
+        ensures { OnOk result (AlwaysSplits row (λ n e. iterations_part n e lower self.now ∷ tail_parts n e then.now) split.new) }
     {
         if lower > 0 {
-            return self.take_required(alloc, lower - 1, then);
+            return self.take_required(alloc, lower - 1, then, split);
         }
         let stop = follow(then, row)?;
         match self.further {
-            None => self.take_optional(alloc, None, then, row, stop),
+            None => self.take_optional(alloc, None, then, row, stop, split),
             Some(further) => {
                 if further == 0 {
-                    return Ok(Split::one(stop));
+                    *split = Split::one(stop);
+                    return Ok(());
                 }
-                self.take_optional(alloc, Some(further - 1), then, row, stop)
+                self.take_optional(alloc, Some(further - 1), then, row, stop, split)
             }
         }
     }
 
     /// An iteration, and then so many required ones.
     #[inline(always)]
-    fn take_required(&self, alloc: Global, lower: u32, then: &Tail) -> Result<Split, AllocError>
-        ensures { IfOk result (λ split. (row : ℕ) → AlwaysSplits row (λ n e. iterations_part n e (lower + 1) self.now ∷ tail_parts n e then.now) split) }
+    fn take_required(
+        &self,
+        alloc: Global,
+        lower: u32,
+        then: &Tail,
+        split: &mut Split,
+    ) -> Result<(), AllocError>
+        ensures { OnOk result ((row : ℕ) → AlwaysSplits row (λ n e. iterations_part n e (lower + 1) self.now ∷ tail_parts n e then.now) split.new) }
     {
         let iterations = self.with_further(self.further)?;
         let later = linked(alloc, None, Part::Times { lower, iterations }, share(then)?)?;
-        Ok(Split::one(Some(Rests::Then {
+        *split = Split::one(Some(Rests::Then {
             node: self.body.share()?,
             then: later,
-        })))
+        }));
+        Ok(())
     }
 
     /// An iteration that takes a row, before `further` others, or to stop.
@@ -456,13 +525,14 @@ impl Iterations {
         then: &Tail,
         row: u64,
         stop: Option<Rests>,
-    ) -> Result<Split, AllocError>
+        split: &mut Split,
+    ) -> Result<(), AllocError>
         requires stop { (n : ℕ) (e : End) → Stands n e row (tail_parts n e then.now) stop }
         requires further { IsOneLess self.now.further further }
-        ensures { IfOk result (AlwaysSplits row (λ n e. iterations_part n e 0 self.now ∷ tail_parts n e then.now)) }
+        ensures { OnOk result (AlwaysSplits row (λ n e. iterations_part n e 0 self.now ∷ tail_parts n e then.now) split.new) }
     {
         let again = self.again(alloc, further, then, row)?;
-        self.another_or(again, stop)
+        self.another_or(again, stop, split)
     }
 
     /// What comes after another iteration: `further` ones may follow, if it has taken a row.
@@ -487,22 +557,29 @@ impl Iterations {
 
     /// Another iteration, with what comes after it, or to stop.
     #[inline(always)]
-    fn another_or(&self, again: Tail, stop: Option<Rests>) -> Result<Split, AllocError>
-        ensures { IfOk result (λ split. (row : ℕ) (n : ℕ) (e : End) (further : Option ℕ) (ts : List Costed) → IsOneLess self.now.further further → ComesAgain n e row self.now further ts (tail_parts n e again) → Stands n e row ts stop → SplitsAt n e row (iterations_part n e 0 self.now ∷ ts) split) }
+    fn another_or(
+        &self,
+        again: Tail,
+        stop: Option<Rests>,
+        split: &mut Split,
+    ) -> Result<(), AllocError>
+        ensures { OnOk result ((row : ℕ) (n : ℕ) (e : End) (further : Option ℕ) (ts : List Costed) → IsOneLess self.now.further further → ComesAgain n e row self.now further ts (tail_parts n e again) → Stands n e row ts stop → SplitsAt n e row (iterations_part n e 0 self.now ∷ ts) split.new) }
     {
         let another = Some(Rests::Then {
             node: self.body.share()?,
             then: again,
         });
         if self.reluctant {
-            return Ok(Split {
+            *split = Split {
                 preferred: stop,
                 other: another,
-            });
+            };
+            return Ok(());
         }
-        Ok(Split {
+        *split = Split {
             preferred: another,
             other: stop,
-        })
+        };
+        Ok(())
     }
 }

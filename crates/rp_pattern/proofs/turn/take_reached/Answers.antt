@@ -18,16 +18,17 @@ returns-in-Whole c =
     let ps : ℕ → End → List Part = λ n e. node_part n e node ∷ tail_parts n e (out-Link c.deref-in-Whole-2.result.now).then in
     let qs : ℕ → End → List Part = λ n e. reached_parts n e (links_from l) in
     let same : (n : ℕ) (e : End) → ps n e ≡ qs n e = λ n e. reached_as n e l c.deref.result.now c.deref-in-Whole-2.result.now (Whole node) c.deref.ensures c.deref-in-Whole-2.ensures c.in-Whole.is in
-    IfOk-map (TakenUp a.n a.end a.row ps) (TakenUp a.n a.end a.row qs) (taken_as a.n a.end a.row ps qs same) c.take_up.result c.take_up.ensures
+    let split = c.take_up.new.split in
+    IfOk-map (TakenUp a.n a.end a.row ps split) (TakenUp a.n a.end a.row qs split) (taken_as a.n a.end a.row ps qs same split) c.take_up.result c.take_up.ensures
 
-pub returns-in_ok-split-in-Orders : goal.returns-in_ok-split-in-Orders
-returns-in_ok-split-in-Orders c =
+pub returns-in_ok-take_up-in-Orders : goal.returns-in_ok-take_up-in-Orders
+returns-in_ok-take_up-in-Orders c =
     let a = c.args in
     let l = a.link.now.value in
     let orders = c.in-Orders.orders in
     let qs : ℕ → End → List Part = λ n e. reached_parts n e (links_from l) in
-    let split = c.in_ok-split-in-Orders.split in
+    let split = c.take_up-in-Orders.new.split in
     always_splits a.n a.end a.row qs split (λ n e.
     splits_as n e a.row _ (qs n e) split
     (reached_as n e l c.deref.result.now c.deref-in-Orders.result.now (Orders orders) c.deref.ensures c.deref-in-Orders.ensures c.in-Orders.is)
-    (c.in_ok-split-in-Orders.ensures n e))
+    (c.in_ok-take_up-in-Orders.ensures n e))

@@ -4,8 +4,7 @@ use Rattle.rp_pattern.specs.declared.rests.Link.TheViews.{out-Link}
 use Rattle.rp_pattern.specs.Turns.{iterations}
 use Rattle.rp_pattern.specs.Rests.{IsOneLess, guarded, iterations_part, links_from, links_parts, node_part, part_as, reached_parts, still, tail_parts}
 use Rattle.rp_pattern.specs.Splits.{AlwaysSplits, Stands}
-use Rattle.rp_pattern.proofs.OrderRests.{IfOk-map}
-use Rattle.rp_pattern.proofs.Steps.{splits_as, comes_moving}
+use Rattle.rp_pattern.proofs.Steps.{OnOk-map, splits_as, comes_moving}
 use Rattle.rp_pattern.proofs.Tails.{reached_as, tail_out}
 use Rattle.rp_pattern.proofs.turn.take_times.Goals as goal
 
@@ -14,8 +13,9 @@ returns-then-not-comes_again c =
     let row = c.args.row in
     let l = c.args.link.now.value in
     let d = c.deref-then-not-comes_again in
-    IfOk-map (AlwaysSplits row (λ n e. iterations_part n e c.args.lower c.args.iterations.now ∷ tail_parts n e (out-Link d.result.now).then)) (AlwaysSplits row (λ n e. reached_parts n e (links_from l)))
-    (λ split h n e. splits_as n e row _ (reached_parts n e (links_from l)) split (reached_as n e l l d.result.now (Times c.args.lower c.args.iterations.now) refl d.ensures c.requires) (h n e))
+    let split = c.take_up.new.split in
+    OnOk-map (AlwaysSplits row (λ n e. iterations_part n e c.args.lower c.args.iterations.now ∷ tail_parts n e (out-Link d.result.now).then) split) (AlwaysSplits row (λ n e. reached_parts n e (links_from l)) split)
+    (λ h n e. splits_as n e row _ (reached_parts n e (links_from l)) split (reached_as n e l l d.result.now (Times c.args.lower c.args.iterations.now) refl d.ensures c.requires) (h n e))
     c.take_up.result c.take_up.ensures
 
 pub returns : goal.returns
@@ -27,8 +27,9 @@ returns c =
     let known = c.comes_again.ensures c.if-not-comes_again.false in
     let since = ap (λ k. (out-Link k).since) (sym c.deref.ensures) ∙ known.0 in
     let none = known.2 in
-    IfOk-map _ (AlwaysSplits row (λ n e. reached_parts n e (links_from l)))
-    (λ split h n e.
+    let split = c.another_or.new.split in
+    OnOk-map _ (AlwaysSplits row (λ n e. reached_parts n e (links_from l)) split)
+    (λ h n e.
     let p = node_part n e it.body in
     let ts = tail_parts n e (out-Link l).then in
     let more = iterations 0 (still n None) it.reluctant p in

@@ -54,7 +54,8 @@ returns-in-Full-clause-taken c =
     let on = top_is t _ _ c.deref.ensures.value c.in-Some.ensures in
     let k : Stack old old.start old.labels.items (t ∷ cs) = record { begun = c.requires.begun; start = refl; labels = refl; choices = on } in
     let r : IsTrue (rises (length old.labels.items) (t ∷ cs)) = subst (λ z. IsTrue (rises (length old.labels.items) z)) on old.rises in
-    let turn = λ (z : Turn). TakenUp a.n a.end (old.start + t.depth) (λ n e. rests_parts n e t.rests) z in
+    let split = c.take_up.new.split in
+    let turn = λ (z : Turn). TakenUp a.n a.end (old.start + t.depth) (λ n e. rests_parts n e t.rests) split z in
     is_full old _ old.start old.labels.items t cs a.n a.end k r (record { begun = c.requires.begun; start = refl; labels = c.truncate.ensures.items; choices = on }) (subst turn c.in-Full.is c.in_ok-take_up.ensures)
 
 pub returns-in_ok-push-in-Row-clause-whole : goal.returns-in_ok-push-in-Row-clause-whole
@@ -69,7 +70,8 @@ returns-in_ok-push-in-Row-clause-taken c =
     let on = top_is t _ _ c.deref.ensures.value c.in-Some.ensures in
     let k : Stack old old.start old.labels.items (t ∷ cs) = record { begun = c.requires.begun; start = refl; labels = refl; choices = on } in
     let r : IsTrue (rises (length old.labels.items) (t ∷ cs)) = subst (λ z. IsTrue (rises (length old.labels.items) z)) on old.rises in
-    let turn = λ (z : Turn). TakenUp a.n a.end (old.start + t.depth) (λ n e. rests_parts n e t.rests) z in
+    let split = c.take_up.new.split in
+    let turn = λ (z : Turn). TakenUp a.n a.end (old.start + t.depth) (λ n e. rests_parts n e t.rests) split z in
     maps_row old _ old.start old.labels.items t cs a.n a.end k r c.in-Row.label (record { begun = c.requires.begun; start = refl; labels = c.in_ok-push-in-Row.ensures.items ∙ ap (λ z. z ++ c.in-Row.label ∷ []) c.truncate.ensures.items; choices = on }) (subst turn c.in-Row.is c.in_ok-take_up.ensures)
 
 pub returns-in-Open-clause-whole : goal.returns-in-Open-clause-whole
@@ -84,7 +86,8 @@ returns-in-Open-clause-taken c =
     let on = top_is t _ _ c.deref.ensures.value c.in-Some.ensures in
     let k : Stack old old.start old.labels.items (t ∷ cs) = record { begun = c.requires.begun; start = refl; labels = refl; choices = on } in
     let r : IsTrue (rises (length old.labels.items) (t ∷ cs)) = subst (λ z. IsTrue (rises (length old.labels.items) z)) on old.rises in
-    let turn = λ (z : Turn). TakenUp a.n a.end (old.start + t.depth) (λ n e. rests_parts n e t.rests) z in
+    let split = c.take_up.new.split in
+    let turn = λ (z : Turn). TakenUp a.n a.end (old.start + t.depth) (λ n e. rests_parts n e t.rests) split z in
     is_open old _ old.start old.labels.items t cs a.n a.end k r (record { begun = c.requires.begun; start = refl; labels = c.truncate.ensures.items; choices = on }) (subst turn c.in-Open.is c.in_ok-take_up.ensures)
 
 pub returns-in_ok-push_split-in-Split-clause-whole : goal.returns-in_ok-push_split-in-Split-clause-whole
@@ -99,5 +102,6 @@ returns-in_ok-push_split-in-Split-clause-taken c =
     let on = top_is t _ _ c.deref.ensures.value c.in-Some.ensures in
     let k : Stack old old.start old.labels.items (t ∷ cs) = record { begun = c.requires.begun; start = refl; labels = refl; choices = on } in
     let r : IsTrue (rises (length old.labels.items) (t ∷ cs)) = subst (λ z. IsTrue (rises (length old.labels.items) z)) on old.rises in
-    let turn = λ (z : Turn). TakenUp a.n a.end (old.start + t.depth) (λ n e. rests_parts n e t.rests) z in
-    is_split old _ old.start old.labels.items t cs a.n a.end k r c.in-Split.split (record { begun = c.requires.begun; start = refl; labels = c.truncate.ensures.items; choices = c.in_ok-push_split-in-Split.ensures.pushed ∙ ap (λ z. pushed t.depth c.in-Split.split.preferred (pushed t.depth c.in-Split.split.other z)) c.drop_top.ensures }) (subst turn c.in-Split.is c.in_ok-take_up.ensures)
+    let split = c.take_up.new.split in
+    let turn = λ (z : Turn). TakenUp a.n a.end (old.start + t.depth) (λ n e. rests_parts n e t.rests) split z in
+    is_split old _ old.start old.labels.items t cs a.n a.end k r split (record { begun = c.requires.begun; start = refl; labels = c.truncate.ensures.items; choices = c.in_ok-push_split-in-Split.ensures.pushed ∙ ap (λ z. pushed t.depth split.preferred (pushed t.depth split.other z)) c.drop_top.ensures }) (subst turn c.in-Split.is c.in_ok-take_up.ensures)

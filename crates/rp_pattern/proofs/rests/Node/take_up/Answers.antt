@@ -6,11 +6,11 @@ use Rattle.rp_pattern.proofs.rests.Node.take_up.Goals as goal
 pub take_permute-requires : goal.take_permute-requires
 take_permute-requires c = (c.in-Permute.field-0, sym c.requires ∙ c.in-Permute.is)
 
-pub returns-in_ok-split-in-Quantified : goal.returns-in_ok-split-in-Quantified
-returns-in_ok-split-in-Quantified c =
+pub returns-in_ok-take_up-in-Quantified : goal.returns-in_ok-take_up-in-Quantified
+returns-in_ok-take_up-in-Quantified c =
     let a = c.args in
-    let s = c.in_ok-split-in-Quantified.split in
+    let s = c.take_up.new.split in
     let it = c.in_ok-iterations-in-Quantified.iterations in
     always_splits a.n a.end a.row (λ n e. node_part n e a.self.now ∷ tail_parts n e a.then.now) s (λ n e.
     let same = c.in_ok-iterations-in-Quantified.ensures n e a.row in
-    same_splits n e a.row (iterations_part n e c.in-Quantified.lower it) (node_part n e a.self.now) (tail_parts n e a.then.now) s same.0 same.1 (c.in_ok-split-in-Quantified.ensures n e))
+    same_splits n e a.row (iterations_part n e c.in-Quantified.lower it) (node_part n e a.self.now) (tail_parts n e a.then.now) s same.0 same.1 (c.in_ok-take_up-in-Quantified.ensures n e))
