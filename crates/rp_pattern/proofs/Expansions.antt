@@ -13,7 +13,7 @@ use Rattle.rp_pattern.specs.declared.word.End.TheVariants.{Open as OpenEnd, Clos
 use Rattle.rp_pattern.specs.declared.word.Label.{Label}
 use Rattle.rp_pattern.specs.Mapping.{Mapping, Full, Open}
 use Rattle.rp_pattern.specs.Words.{Mappings, may_go_on, may_end, nothing_mapped, preceded, followed, concatenation, alternation, excluded_label, excluded_mapping, exclusion, within_exclusion, moving, moved_past, optional, further, words}
-use Rattle.rp_pattern.specs.Turns.{Part, turns, one_turn, concatenation_turns, chain_turns, within, iterations}
+use Rattle.rp_pattern.specs.Turns.{WordsAndTurns, turns, one_turn, concatenation_turns, chain_turns, within, iterations}
 use Rattle.rp_pattern.specs.Rests.{chain_words, form_part}
 use Rattle.rp_pattern.specs.Splits.{repeated}
 use Rattle.rp_pattern.proofs.Lists.{map-map}
@@ -26,22 +26,22 @@ use Rattle.rp_pattern.proofs.TurnEquations.{whole_part, turns_variable, turns_em
 use Rattle.rp_pattern.proofs.TurnsTaken.{same_first, within_concatenation_taken, within_alternation_taken, within_exclusion_taken, required_taken, optional_taken, unbounded_taken, within_iterations_words, within_iterations_turns}
 
 -- The words of parts are those of others, which take a turn less.
-pub record Leaves (i : ℕ) (ps qs : List Part) : Type 0 where
+pub record Leaves (i : ℕ) (ps qs : List WordsAndTurns) : Type 0 where
   pub words : chain_words qs i ≡ chain_words ps i
   pub turns : chain_turns qs i < chain_turns ps i
 
 -- The words of parts are those of two choices, which take a turn less.
-pub record LeavesTwo (i : ℕ) (ps qs rs : List Part) : Type 0 where
+pub record LeavesTwo (i : ℕ) (ps qs rs : List WordsAndTurns) : Type 0 where
   pub words : chain_words qs i ++ chain_words rs i ≡ chain_words ps i
   pub turns : chain_turns qs i + chain_turns rs i < chain_turns ps i
 
 -- ---- a first part with known words
 
-pub same_first_words : (p q : Part) (ps : List Part) (i : ℕ) → p.0 i ≡ q.0 i → chain_words (p ∷ ps) i ≡ chain_words (q ∷ ps) i
+pub same_first_words : (p q : WordsAndTurns) (ps : List WordsAndTurns) (i : ℕ) → p.0 i ≡ q.0 i → chain_words (p ∷ ps) i ≡ chain_words (q ∷ ps) i
 same_first_words p q ps i h = ap (flat_map (followed (chain_words ps) i)) h
 
 -- a part that takes no row is passed
-pub passed : (p : Part) (ps : List Part) (i : ℕ) → p.0 i ≡ Full [] ∷ [] → p.1 i ≡ 1 → Leaves i (p ∷ ps) ps
+pub passed : (p : WordsAndTurns) (ps : List WordsAndTurns) (i : ℕ) → p.0 i ≡ Full [] ∷ [] → p.1 i ≡ 1 → Leaves i (p ∷ ps) ps
 passed p ps i w t =
     let a = same_first p (nothing_mapped, one_turn) ps i w t in
     let at : i + 0 ≡ i = omega arith in
@@ -52,19 +52,19 @@ passed p ps i w t =
     }
 
 -- a part without words has none, and takes a turn
-pub no_words : (p : Part) (ps : List Part) (i : ℕ) → p.0 i ≡ [] → [] ≡ chain_words (p ∷ ps) i
+pub no_words : (p : WordsAndTurns) (ps : List WordsAndTurns) (i : ℕ) → p.0 i ≡ [] → [] ≡ chain_words (p ∷ ps) i
 no_words p ps i w = sym (ap (flat_map (followed (chain_words ps) i)) w)
 
-pub some_turns : (p : Part) (ps : List Part) (i : ℕ) → p.1 i ≡ 1 → 0 < chain_turns (p ∷ ps) i
+pub some_turns : (p : WordsAndTurns) (ps : List WordsAndTurns) (i : ℕ) → p.1 i ≡ 1 → 0 < chain_turns (p ∷ ps) i
 some_turns p ps i t = omega (arith, t)
 
-pub open_words : (p : Part) (ps : List Part) (i : ℕ) → p.0 i ≡ Open [] ∷ [] → chain_words (p ∷ ps) i ≡ Open [] ∷ []
+pub open_words : (p : WordsAndTurns) (ps : List WordsAndTurns) (i : ℕ) → p.0 i ≡ Open [] ∷ [] → chain_words (p ∷ ps) i ≡ Open [] ∷ []
 open_words p ps i w = ap (flat_map (followed (chain_words ps) i)) w
 
-pub row_words : (l : Label) (p : Part) (ps : List Part) (i : ℕ) → p.0 i ≡ Full (l ∷ []) ∷ [] → chain_words (p ∷ ps) i ≡ map (preceded (l ∷ [])) (chain_words ps (i + 1))
+pub row_words : (l : Label) (p : WordsAndTurns) (ps : List WordsAndTurns) (i : ℕ) → p.0 i ≡ Full (l ∷ []) ∷ [] → chain_words (p ∷ ps) i ≡ map (preceded (l ∷ [])) (chain_words ps (i + 1))
 row_words l p ps i w = ap (flat_map (followed (chain_words ps) i)) w ∙ append_nil (map (preceded (l ∷ [])) (chain_words ps (i + 1)))
 
-pub row_turns : (l : Label) (p : Part) (ps : List Part) (i : ℕ) → p.0 i ≡ Full (l ∷ []) ∷ [] → p.1 i ≡ 1 → chain_turns (p ∷ ps) i ≡ 1 + chain_turns ps (i + 1)
+pub row_turns : (l : Label) (p : WordsAndTurns) (ps : List WordsAndTurns) (i : ℕ) → p.0 i ≡ Full (l ∷ []) ∷ [] → p.1 i ≡ 1 → chain_turns (p ∷ ps) i ≡ 1 + chain_turns ps (i + 1)
 row_turns l p ps i w t = same_first p (λ j. Full (l ∷ []) ∷ [], one_turn) ps i w t ∙ omega arith
 
 -- ---- the forms that map at most one row
@@ -182,43 +182,43 @@ within_excluded : (x : Bool) (p : Mappings) (i : ℕ) → within_exclusion x (ex
 within_excluded false p i = refl
 within_excluded true p i = excluded_twice (p i)
 
-take_concatenation : (x : Bool) (p q : Part) (ps : List Part) (i : ℕ) → Leaves i (within x (concatenation p.0 q.0, concatenation_turns p q.1) ∷ ps) (within x p ∷ within x q ∷ ps)
+take_concatenation : (x : Bool) (p q : WordsAndTurns) (ps : List WordsAndTurns) (i : ℕ) → Leaves i (within x (concatenation p.0 q.0, concatenation_turns p q.1) ∷ ps) (within x p ∷ within x q ∷ ps)
 take_concatenation x p q ps i = record {
   words = sym (ap (flat_map (followed (chain_words ps) i)) (within_concatenation x p.0 q.0 i) ∙ concatenation_assoc (within_exclusion x p.0) (within_exclusion x q.0) (chain_words ps) i);
   turns = omega (arith, within_concatenation_taken x p q ps i);
 }
 
-take_alternation : (x : Bool) (p q : Part) (ps : List Part) (i : ℕ) → LeavesTwo i (within x (alternation p.0 q.0, λ j. 1 + p.1 j + q.1 j) ∷ ps) (within x p ∷ ps) (within x q ∷ ps)
+take_alternation : (x : Bool) (p q : WordsAndTurns) (ps : List WordsAndTurns) (i : ℕ) → LeavesTwo i (within x (alternation p.0 q.0, λ j. 1 + p.1 j + q.1 j) ∷ ps) (within x p ∷ ps) (within x q ∷ ps)
 take_alternation x p q ps i = record {
   words = sym (ap (flat_map (followed (chain_words ps) i)) (within_alternation x p.0 q.0 i) ∙ concatenation_alternation (within_exclusion x p.0) (within_exclusion x q.0) (chain_words ps) i);
   turns = omega (arith, within_alternation_taken x p q ps i);
 }
 
-take_exclusion : (x : Bool) (p : Part) (ps : List Part) (i : ℕ) → Leaves i (within x (exclusion p.0, λ j. 1 + p.1 j) ∷ ps) (within true p ∷ ps)
+take_exclusion : (x : Bool) (p : WordsAndTurns) (ps : List WordsAndTurns) (i : ℕ) → Leaves i (within x (exclusion p.0, λ j. 1 + p.1 j) ∷ ps) (within true p ∷ ps)
 take_exclusion x p ps i = record {
   words = sym (ap (flat_map (followed (chain_words ps) i)) (within_excluded x p.0 i));
   turns = omega (arith, within_exclusion_taken x p ps i);
 }
 
-module _ (n : ℕ) (e : End) (x : Bool) (ps : List Part) (i : ℕ) where
+module _ (n : ℕ) (e : End) (x : Bool) (ps : List WordsAndTurns) (i : ℕ) where
   pub concatenation_leaves : (p q : Rc Form Global) → Leaves i (form_part n e (V.Concatenation p q) x ∷ ps) (form_part n e p.value x ∷ form_part n e q.value x ∷ ps)
   concatenation_leaves p q =
-      let qs : List Part = form_part n e p.value x ∷ form_part n e q.value x ∷ ps in
+      let qs : List WordsAndTurns = form_part n e p.value x ∷ form_part n e q.value x ∷ ps in
       subst (λ w. Leaves i (within x (w, turns n e (V.Concatenation p q)) ∷ ps) qs) (sym (words_concatenation n e p q))
       (subst (λ t. Leaves i (within x (concatenation (words n e p.value) (words n e q.value), t) ∷ ps) qs) (sym (turns_concatenation n e p q))
       (take_concatenation x (whole_part n e p.value) (whole_part n e q.value) ps i))
 
   pub alternation_leaves : (p q : Rc Form Global) → LeavesTwo i (form_part n e (V.Alternation p q) x ∷ ps) (form_part n e p.value x ∷ ps) (form_part n e q.value x ∷ ps)
   alternation_leaves p q =
-      let qs : List Part = form_part n e p.value x ∷ ps in
-      let rs : List Part = form_part n e q.value x ∷ ps in
+      let qs : List WordsAndTurns = form_part n e p.value x ∷ ps in
+      let rs : List WordsAndTurns = form_part n e q.value x ∷ ps in
       subst (λ w. LeavesTwo i (within x (w, turns n e (V.Alternation p q)) ∷ ps) qs rs) (sym (words_alternation n e p q))
       (subst (λ t. LeavesTwo i (within x (alternation (words n e p.value) (words n e q.value), t) ∷ ps) qs rs) (sym (turns_alternation n e p q))
       (take_alternation x (whole_part n e p.value) (whole_part n e q.value) ps i))
 
   pub exclusion_leaves : (p : Rc Form Global) → Leaves i (form_part n e (V.Exclusion p) x ∷ ps) (form_part n e p.value true ∷ ps)
   exclusion_leaves p =
-      let qs : List Part = form_part n e p.value true ∷ ps in
+      let qs : List WordsAndTurns = form_part n e p.value true ∷ ps in
       subst (λ w. Leaves i (within x (w, turns n e (V.Exclusion p)) ∷ ps) qs) (sym (words_exclusion n e p))
       (subst (λ t. Leaves i (within x (exclusion (words n e p.value), t) ∷ ps) qs) (sym (turns_exclusion n e p))
       (take_exclusion x (whole_part n e p.value) ps i))
@@ -236,16 +236,16 @@ pub quantified_turns : (n : ℕ) (e : End) (x : Bool) (p : Rc Form Global) (lowe
 quantified_turns n e x p lower upper reluctant i =
     within_iterations_turns x lower (further n lower upper) reluctant (whole_part n e p.value) i ∙ ap (λ t. t i) (sym (turns_quantified n e p lower upper reluctant))
 
-pub required_leaves : (l h : ℕ) (reluctant : Bool) (p : Part) (ps : List Part) (i : ℕ) → Leaves i (iterations (suc l) h reluctant p ∷ ps) (p ∷ iterations l h reluctant p ∷ ps)
+pub required_leaves : (l h : ℕ) (reluctant : Bool) (p : WordsAndTurns) (ps : List WordsAndTurns) (i : ℕ) → Leaves i (iterations (suc l) h reluctant p ∷ ps) (p ∷ iterations l h reluctant p ∷ ps)
 required_leaves l h reluctant p ps i = record {
   words = sym (concatenation_assoc p.0 (iterations l h reluctant p).0 (chain_words ps) i);
   turns = omega (arith, required_taken l h reluctant p ps i);
 }
 
-pub none_left_leaves : (reluctant : Bool) (p : Part) (ps : List Part) (i : ℕ) → Leaves i (iterations 0 0 reluctant p ∷ ps) ps
+pub none_left_leaves : (reluctant : Bool) (p : WordsAndTurns) (ps : List WordsAndTurns) (i : ℕ) → Leaves i (iterations 0 0 reluctant p ∷ ps) ps
 none_left_leaves reluctant p ps i = passed (iterations 0 0 reluctant p) ps i refl refl
 
-module _ (p : Part) (o : Mappings) (ps : List Part) (i : ℕ) where
+module _ (p : WordsAndTurns) (o : Mappings) (ps : List WordsAndTurns) (i : ℕ) where
   -- another iteration that takes a row, or what comes after
   another : flat_map (followed (chain_words ps) i) (concatenation (moving p.0) o i) ≡ concatenation p.0 (concatenation (concatenation (moved_past i) o) (chain_words ps)) i
   another =
@@ -267,25 +267,25 @@ module _ (p : Part) (o : Mappings) (ps : List Part) (i : ℕ) where
       ∙ ap (λ z. flat_map (followed (chain_words ps) i) (Full [] ∷ []) ++ z) another
       ∙ ap (λ z. z ++ concatenation p.0 (concatenation (concatenation (moved_past i) o) (chain_words ps)) i) stop
 
-pub greedy_leaves : (h : ℕ) (p : Part) (ps : List Part) (i : ℕ) → LeavesTwo i (iterations 0 (suc h) false p ∷ ps) (repeated h false p ps i) ps
+pub greedy_leaves : (h : ℕ) (p : WordsAndTurns) (ps : List WordsAndTurns) (i : ℕ) → LeavesTwo i (iterations 0 (suc h) false p ∷ ps) (repeated h false p ps i) ps
 greedy_leaves h p ps i = record {
   words = sym (greedy p (optional false p.0 h) ps i);
   turns = omega (arith, optional_taken h false p ps i);
 }
 
-pub lazy_leaves : (h : ℕ) (p : Part) (ps : List Part) (i : ℕ) → LeavesTwo i (iterations 0 (suc h) true p ∷ ps) ps (repeated h true p ps i)
+pub lazy_leaves : (h : ℕ) (p : WordsAndTurns) (ps : List WordsAndTurns) (i : ℕ) → LeavesTwo i (iterations 0 (suc h) true p ∷ ps) ps (repeated h true p ps i)
 lazy_leaves h p ps i = record {
   words = sym (lazy p (optional true p.0 h) ps i);
   turns = omega (arith, optional_taken h true p ps i);
 }
 
-pub greedy_unbounded : (n : ℕ) (p : Part) (ps : List Part) (i : ℕ) → AreWithin n p.0 → LeavesTwo i (iterations 0 (suc (suc n)) false p ∷ ps) (repeated (suc (suc n)) false p ps i) ps
+pub greedy_unbounded : (n : ℕ) (p : WordsAndTurns) (ps : List WordsAndTurns) (i : ℕ) → AreWithin n p.0 → LeavesTwo i (iterations 0 (suc (suc n)) false p ∷ ps) (repeated (suc (suc n)) false p ps i) ps
 greedy_unbounded n p ps i w = record {
   words = sym (ap (flat_map (followed (chain_words ps) i)) (unbounded n false p.0 w i) ∙ greedy p (optional false p.0 (suc (suc n))) ps i);
   turns = omega (arith, unbounded_taken n false p ps i w);
 }
 
-pub lazy_unbounded : (n : ℕ) (p : Part) (ps : List Part) (i : ℕ) → AreWithin n p.0 → LeavesTwo i (iterations 0 (suc (suc n)) true p ∷ ps) ps (repeated (suc (suc n)) true p ps i)
+pub lazy_unbounded : (n : ℕ) (p : WordsAndTurns) (ps : List WordsAndTurns) (i : ℕ) → AreWithin n p.0 → LeavesTwo i (iterations 0 (suc (suc n)) true p ∷ ps) ps (repeated (suc (suc n)) true p ps i)
 lazy_unbounded n p ps i w = record {
   words = sym (ap (flat_map (followed (chain_words ps) i)) (unbounded n true p.0 w i) ∙ lazy p (optional true p.0 (suc (suc n))) ps i);
   turns = omega (arith, unbounded_taken n true p ps i w);

@@ -13,7 +13,7 @@ use Rattle.rp_pattern.specs.declared.word.End.{End}
 use Rattle.rp_pattern.specs.declared.word.End.TheVariants.{Open as OpenEnd, Closed as ClosedEnd}
 use Rattle.rp_pattern.specs.declared.word.Label.{Label}
 use Rattle.rp_pattern.specs.Words.{Mappings, words, words_step, one_row, followed, preceded, concatenation, exclusion, excluded_mapping, moves, moved_past, optional, required, further, may_go_on}
-use Rattle.rp_pattern.specs.Turns.{Part, turns_after, chain_turns, past}
+use Rattle.rp_pattern.specs.Turns.{WordsAndTurns, turns_after, chain_turns, past}
 use Rattle.rp_pattern.specs.Movement.{always_moves, movement_step}
 use Rattle.rp_pattern.specs.Rests.{chain_words, form_part}
 use Rattle.rp_pattern.proofs.Lists.{All-append, All-map, All-flat_map}
@@ -127,7 +127,7 @@ all_moving (Full [] ∷ ws) a = let h = a.0 in absurd cc
 all_moving (Full (l ∷ ls) ∷ ws) a = ap (λ z. Full (l ∷ ls) ∷ z) (all_moving ws a.1)
 all_moving (Open ls ∷ ws) a = ap (λ z. Open ls ∷ z) (all_moving ws a.1)
 
-module _ (p o : Part) (ps : List Part) (i : ℕ) (all : AllMove p.0) where
+module _ (p o : WordsAndTurns) (ps : List WordsAndTurns) (i : ℕ) (all : AllMove p.0) where
   pub again_words : chain_words (p ∷ o ∷ ps) i ≡ chain_words (p ∷ past i o ∷ ps) i
   again_words =
       let rest : Mappings = concatenation o.0 (chain_words ps) in

@@ -19,9 +19,9 @@ use Rattle.rp_pattern.specs.Variables.{all_true}
 use Rattle.rp_pattern.specs.Permutations.{upto, factorial}
 use Rattle.rp_pattern.specs.PermutedParts.{layer_parts, permuted_parts}
 use Rattle.rp_pattern.specs.Words.{nothing_mapped, followed, concatenation, sequence, orders, picks, led, arrangements, permuted, words}
-use Rattle.rp_pattern.specs.Turns.{Part, one_turn, turns, words_of, orders_from, within, permuted_turns}
-use Rattle.rp_pattern.specs.Rests.{form_part, chain_words, in_order, permuted_costed, IsNodeOf, tail_links, tail_parts, links_parts}
-use Rattle.rp_pattern.specs.Splits.{Stands, SplitsAt}
+use Rattle.rp_pattern.specs.Turns.{WordsAndTurns, one_turn, turns, words_of, orders_from, within, permuted_turns}
+use Rattle.rp_pattern.specs.Rests.{form_part, chain_words, in_order, permuted_form_parts, IsNodeOf, tail_links, tail_parts, links_parts}
+use Rattle.rp_pattern.specs.Splits.{StandsFor, SplitsAt}
 use Rattle.rp_pattern.proofs.Lists.{All-map, All-flat_map, map-map}
 use Rattle.rp_pattern.proofs.FormEquations.{words_permute}
 use Rattle.rp_pattern.proofs.TurnEquations.{whole_part, turns_permute}
@@ -90,10 +90,10 @@ part_at n e x fs ps k r h b is =
 
 -- ---- the orders from a number on
 
-chain_append : (order ts : List Part) (i : ℕ) → chain_words (order ++ ts) i ≡ concatenation (sequence (map words_of order)) (chain_words ts) i
+chain_append : (order ts : List WordsAndTurns) (i : ℕ) → chain_words (order ++ ts) i ≡ concatenation (sequence (map words_of order)) (chain_words ts) i
 chain_append order ts i = ap (λ z. sequence z i) (map-append words_of order ts) ∙ sequence-append (map words_of order) (map words_of ts) i
 
-pub order_leaves : (from : ℕ) (ps : List Part) (k : ℕ) (items : List ℕ) (ts : List Part) (i : ℕ) → k ≡ length ps → drop from (orders (upto k)) ≡ items ∷ drop (from + 1) (orders (upto k)) →
+pub order_leaves : (from : ℕ) (ps : List WordsAndTurns) (k : ℕ) (items : List ℕ) (ts : List WordsAndTurns) (i : ℕ) → k ≡ length ps → drop from (orders (upto k)) ≡ items ∷ drop (from + 1) (orders (upto k)) →
     LeavesTwo i (orders_from from ps ∷ ts) (in_order ps items ++ ts) (orders_from (from + 1) ps ∷ ts)
 order_leaves from ps k items ts i long h =
     let at = orders_at (nothing_mapped, one_turn) ps from items (subst (λ k. drop from (orders (upto k)) ≡ items ∷ drop (from + 1) (orders (upto k))) long h) in
@@ -103,16 +103,16 @@ order_leaves from ps k items ts i long h =
     }
 
 -- past the last order nothing stands
-pub no_order : (n : ℕ) (e : End) (i from : ℕ) (ps ts : List Part) → factorial (length ps) ≤ from → Stands n e i (orders_from from ps ∷ ts) None
+pub no_order : (n : ℕ) (e : End) (i from : ℕ) (ps ts : List WordsAndTurns) → factorial (length ps) ≤ from → StandsFor n e i (orders_from from ps ∷ ts) None
 no_order n e i from ps ts h =
     let past : length (orders ps) ≤ from = omega (arith, length-orders ps) in
     record { words = sym (no_order_words from ps (chain_words ts) i past); turns = sym (no_order_taken from ps ts i past) }
 
 -- what splits the orders of the parts splits the PERMUTE
-pub permute_splits : (n : ℕ) (e : End) (i : ℕ) (x : Bool) (f : Form) (ps : Vec (Rc Form Global) Global) (ts : List Part) (s : Split) → f ≡ V.Permute ps →
+pub permute_splits : (n : ℕ) (e : End) (i : ℕ) (x : Bool) (f : Form) (ps : Vec (Rc Form Global) Global) (ts : List WordsAndTurns) (s : Split) → f ≡ V.Permute ps →
     SplitsAt n e i (orders_from 0 (map (λ f. form_part n e f x) (permuted_parts f)) ∷ ts) s → SplitsAt n e i (form_part n e f x ∷ ts) s
 permute_splits n e i x f ps ts s is h =
-    let qs : List Part = map (λ p. whole_part n e p.value) ps.items in
+    let qs : List WordsAndTurns = map (λ p. whole_part n e p.value) ps.items in
     let same : map (λ f. form_part n e f x) (permuted_parts f) ≡ map (within x) qs =
     ap (λ f. map (λ f. form_part n e f x) (permuted_parts f)) is ∙ ap (map (λ f. form_part n e f x)) (permuted_permute ps)
     ∙ map-map (λ f. form_part n e f x) (λ p. p.value) ps.items ∙ sym (map-map (within x) (λ p. whole_part n e p.value) ps.items) in
@@ -130,19 +130,19 @@ pub IfOk-map : {T E : Type 0} (P Q : T → Type 0) → ((v : T) → P v → Q v)
 IfOk-map P Q f (Ok v) h = f v h
 IfOk-map P Q f (Err e) h = h
 
-pub permuted_same : (n : ℕ) (e : End) (copy node : Node) → IsNodeOf node.form.value node.excluded copy → permuted_costed n e copy ≡ permuted_costed n e node
+pub permuted_same : (n : ℕ) (e : End) (copy node : Node) → IsNodeOf node.form.value node.excluded copy → permuted_form_parts n e copy ≡ permuted_form_parts n e node
 permuted_same n e copy node h =
     ap (λ f. map (λ g. form_part n e g copy.excluded) (permuted_parts f)) h.0 ∙ ap (λ x. map (λ g. form_part n e g x) (permuted_parts node.form.value)) h.1
 
 -- the parts in an order, one before the others
 pub next_linked : (n : ℕ) (e : End) (self node : Node) (ps : List (Rc Form Global)) (r : Rc Form Global) (k : ℕ) (ks all : List ℕ) (tail rest then : Option (Rc Link Global)) →
     map (λ p. p.value) ps ≡ permuted_parts self.form.value → AllByRecursion (λ k. k < length (permuted_parts self.form.value)) all → all ≡ k ∷ ks → r ≡ get_or ps k r → IsNodeOf r.value self.excluded node →
-    tail_parts n e rest ≡ in_order (permuted_costed n e self) ks ++ tail_parts n e then → tail_links tail ≡ (None, Whole node) ∷ tail_links rest → tail_parts n e tail ≡ in_order (permuted_costed n e self) all ++ tail_parts n e then
+    tail_parts n e rest ≡ in_order (permuted_form_parts n e self) ks ++ tail_parts n e then → tail_links tail ≡ (None, Whole node) ∷ tail_links rest → tail_parts n e tail ≡ in_order (permuted_form_parts n e self) all ++ tail_parts n e then
 next_linked n e self node ps r k ks all tail rest then same within is read made later linked =
     let P : List ℕ → Type 0 = AllByRecursion (λ k. k < length (permuted_parts self.form.value)) in
     let below = subst P is within in
     let room : k < length ps = omega (arith, below.0, ap length same, length-map ps (λ p. p.value)) in
     ap (links_parts n e) linked
     ∙ ap (λ p. p ∷ tail_parts n e rest) (node_as n e node r.value self.excluded made ∙ sym (part_at n e self.excluded (permuted_parts self.form.value) ps k r same room read))
-    ∙ ap (λ z. get_or (permuted_costed n e self) k (nothing_mapped, one_turn) ∷ z) later
-    ∙ ap (λ z. in_order (permuted_costed n e self) z ++ tail_parts n e then) (sym is)
+    ∙ ap (λ z. get_or (permuted_form_parts n e self) k (nothing_mapped, one_turn) ∷ z) later
+    ∙ ap (λ z. in_order (permuted_form_parts n e self) z ++ tail_parts n e then) (sym is)

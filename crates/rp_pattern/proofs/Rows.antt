@@ -3,7 +3,7 @@ use Rattle.std.proofs.Common.{◌≡◌, ℕ, refl, List, [], ◌∷◌, length,
 use Rattle.rp_pattern.specs.Mapping.{Mapping, Full, Open}
 use Rattle.rp_pattern.specs.declared.word.Label.{Label}
 use Rattle.rp_pattern.specs.declared.word.End.TheVariants.{Open as OpenEnd, Closed as ClosedEnd}
-use Rattle.rp_pattern.specs.Turns.{Part, concatenation_turns, optional_turns, required_turns, one_turn, permuted_turns}
+use Rattle.rp_pattern.specs.Turns.{WordsAndTurns, concatenation_turns, optional_turns, required_turns, one_turn, permuted_turns}
 use Rattle.rp_pattern.specs.Words.{Mappings, one_row, concatenation, alternation, at_start, at_end, exclusion, permuted, quantified, orders}
 use Rattle.rp_pattern.specs.Permutations.{upto}
 
@@ -126,7 +126,7 @@ orders_of_none = refl
 
 -- ---- turns, over three rows of a closed partition
 
-abbrev one : Part
+abbrev one : WordsAndTurns
 one = (a3, one_turn)
 
 -- `(A B)`: one for the concatenation and one for each part

@@ -13,14 +13,14 @@ use Rattle.rp_pattern.specs.declared.word.Label.{Label}
 use Rattle.rp_pattern.specs.declared.rests.Rests.{Rests}
 use Rattle.rp_pattern.specs.declared.rests.Rests.TheVariants.{Done, Then, Reached}
 use Rattle.rp_pattern.specs.declared.rests.Choice.{Choice}
-use Rattle.rp_pattern.specs.declared.turn.Split.{Split as Choices'}
+use Rattle.rp_pattern.specs.declared.turn.Split.{Split}
 use Rattle.rp_pattern.specs.declared.choices.Choices.{Choices}
 use Rattle.rp_pattern.specs.Mapping.{Mapping, Full, Open}
 use Rattle.rp_pattern.specs.Words.{preceded, words}
 use Rattle.rp_pattern.specs.Turns.{turns, turns_after, chain_turns, within}
 use Rattle.rp_pattern.specs.WordLaws.{IsLater}
 use Rattle.rp_pattern.specs.Rests.{links_from, reached_parts, tail_links, links_parts, tail_parts, rests_parts, later_parts, chain_words, chain_left, choice_words, stack_words, stack_left, rises, pushed, without_first}
-use Rattle.rp_pattern.specs.Splits.{Stands, option_words, option_turns, Splits, MapsRow as MapsOne, Waits}
+use Rattle.rp_pattern.specs.Splits.{StandsFor, option_words, option_turns, Splits, TakesRow, Waits}
 use Rattle.rp_pattern.specs.Choices.{start_of, entered, whole, whole_left, remaining, left, below, below_left, after, after_left, first_later, OfFirst, HasTop, AtRow, IsFront, IsShorterFront, IsSameWhole, IsSplit, MapsRow, IsFullWord, IsOpenWord, IsNothing}
 use Rattle.rp_pattern.proofs.Lists.{map-map}
 use Rattle.rp_pattern.proofs.Algebra.{append_nil, concatenation_nothing_last, map_same, preceded_twice, map_preceded_nothing}
@@ -215,7 +215,7 @@ module _ (old new : Choices) (s : ℕ) (ls : List Label) (t : Choice) (cs : List
         less_below = λ n' e' later. omega (arith, left_is new s (take t.depth ls) (t ∷ cs) m n' e', below_left_is new s (take t.depth ls) (t ∷ cs) m n' e', w.turns n' e');
       }
 
-  pub is_split : (x : Choices') → Stack new s (take t.depth ls) (pushed t.depth x.preferred (pushed t.depth x.other cs)) → Splits n e (s + t.depth) (λ n e. rests_parts n e t.rests) x → IsSplit old new n e
+  pub is_split : (x : Split) → Stack new s (take t.depth ls) (pushed t.depth x.preferred (pushed t.depth x.other cs)) → Splits n e (s + t.depth) (λ n e. rests_parts n e t.rests) x → IsSplit old new n e
   is_split x m w =
       let d = t.depth in
       let i : ℕ = s + t.depth in
@@ -236,7 +236,7 @@ module _ (old new : Choices) (s : ℕ) (ls : List Label) (t : Choice) (cs : List
             omega (arith, left_is new s l (pushed t.depth x.preferred ds) m n' e', left_is old s ls (t ∷ cs) k n' e', pushed_left n' e' s d x.preferred ds, pushed_left n' e' s d x.other cs, w.turns n' e' later, long, both);
       }
 
-  pub maps_row : (l : Label) → Stack new s (take t.depth ls ++ l ∷ []) (t ∷ cs) → MapsOne n e (s + t.depth) (λ n e. rests_parts n e t.rests) l → MapsRow old new n e
+  pub maps_row : (l : Label) → Stack new s (take t.depth ls ++ l ∷ []) (t ∷ cs) → TakesRow n e (s + t.depth) (λ n e. rests_parts n e t.rests) l → MapsRow old new n e
   maps_row l m w =
       let d = t.depth in
       let i : ℕ = s + t.depth in
@@ -315,7 +315,7 @@ unfolding AtRow
 row_begun c h = h.0
 
 -- the whole is put on the stack as one choice, or as none
-module _ (old new : Choices) (r : Option Rests) (n : ℕ) (e : End) (not : old.begun ≡ false) (m : Stack new old.start [] (pushed 0 r [])) (h : Stands n e old.start (tail_parts n e old.origin) r) where
+module _ (old new : Choices) (r : Option Rests) (n : ℕ) (e : End) (not : old.begun ≡ false) (m : Stack new old.start [] (pushed 0 r [])) (h : StandsFor n e old.start (tail_parts n e old.origin) r) where
   at_start : old.start + 0 ≡ old.start
   at_start = omega arith
 
@@ -363,7 +363,7 @@ cut_off old new t cs k h r =
 -- the row is admitted: what comes after it takes the choice's place
 module _ (old new : Choices) (r : Option Rests) (n : ℕ) (e : End) (k : Stack old old.start old.labels.items (reverse old.stack.items))
     (m : Stack new old.start old.labels.items (pushed (length old.labels.items) r (without_first (reverse old.stack.items))))
-    (h : Stands n e (old.start + length old.labels.items) (first_later n e (reverse old.stack.items)) r) where
+    (h : StandsFor n e (old.start + length old.labels.items) (first_later n e (reverse old.stack.items)) r) where
   pub admitted_remaining : remaining new n e ≡ map (preceded (entered old)) (after old n e) ++ below old n e
   admitted_remaining =
       remaining_is new old.start old.labels.items (pushed (length old.labels.items) r (without_first (reverse old.stack.items))) m n e

@@ -15,11 +15,11 @@ use Rattle.rp_pattern.specs.declared.turn.Turn.{Turn}
 use Rattle.rp_pattern.specs.declared.turn.Turn.TheVariants.{Full as FullTurn, Row as RowTurn, Open as OpenTurn, Split as SplitTurn}
 use Rattle.rp_pattern.specs.Movement.{always_moves}
 use Rattle.rp_pattern.proofs.Moves.{form_moves, again_words, again_turns}
-use Rattle.rp_pattern.specs.Turns.{Part as Costed, chain_turns, iterations, past}
+use Rattle.rp_pattern.specs.Turns.{WordsAndTurns, chain_turns, iterations, past}
 use Rattle.rp_pattern.specs.WordLaws.{IsLater}
 use Rattle.rp_pattern.specs.Words.{preceded}
 use Rattle.rp_pattern.specs.Rests.{part_as, form_part, node_part, iterations_part, still, tail_links, tail_parts, links_parts, guarded, rests_parts, chain_words, IsNodeOf, AreIterationsOf, IsOneLess}
-use Rattle.rp_pattern.specs.Splits.{Stands, SplitsAt, AlwaysSplits, Splits, ComesAgain, repeated, TakenUp, option_words, split_turns}
+use Rattle.rp_pattern.specs.Splits.{StandsFor, SplitsAt, AlwaysSplits, Splits, ComesAgain, repeated, TakenUp, option_words, split_turns}
 use Rattle.rp_pattern.proofs.Algebra.{append_nil}
 use Rattle.rp_pattern.proofs.TurnsTaken.{same_first}
 use Rattle.rp_pattern.proofs.Expansions.{Leaves, LeavesTwo, same_first_words, greedy_leaves, lazy_leaves, greedy_unbounded, lazy_unbounded, none_left_leaves, form_within}
@@ -40,24 +40,24 @@ pub linked_parts : (n : ℕ) (e : End) (later shared then : Option (Rc Link Glob
     tail_links later ≡ (since, part) ∷ tail_links shared → tail_links shared ≡ tail_links then → tail_parts n e later ≡ guarded since (part_as n e part) ∷ tail_parts n e then
 linked_parts n e later shared then since part a b = ap (links_parts n e) a ∙ ap (λ ls. guarded since (part_as n e part) ∷ links_parts n e ls) b
 
-pub then_parts : (n : ℕ) (e : End) (node : Node) (copy then : Option (Rc Link Global)) (p : Costed) → node_part n e node ≡ p → tail_links copy ≡ tail_links then → rests_parts n e (Then node copy) ≡ p ∷ tail_parts n e then
+pub then_parts : (n : ℕ) (e : End) (node : Node) (copy then : Option (Rc Link Global)) (p : WordsAndTurns) → node_part n e node ≡ p → tail_links copy ≡ tail_links then → rests_parts n e (Then node copy) ≡ p ∷ tail_parts n e then
 then_parts n e node copy then p a b = ap (λ z. z ∷ links_parts n e (tail_links copy)) a ∙ ap (λ ls. p ∷ links_parts n e ls) b
 
 -- ---- what stands for parts
 
-pub stands_as : (n : ℕ) (e : End) (i : ℕ) (r : Rests) (qs : List Costed) → rests_parts n e r ≡ qs → Stands n e i qs (Some r)
+pub stands_as : (n : ℕ) (e : End) (i : ℕ) (r : Rests) (qs : List WordsAndTurns) → rests_parts n e r ≡ qs → StandsFor n e i qs (Some r)
 stands_as n e i r qs h = record { words = ap (λ ps. chain_words ps i) h; turns = ap (λ ps. chain_turns ps i) h }
 
-pub none_splits : (n : ℕ) (e : End) (i : ℕ) (ps : List Costed) (s : Split) → s ≡ record { preferred = None; other = None } → [] ≡ chain_words ps i → 0 < chain_turns ps i → SplitsAt n e i ps s
+pub none_splits : (n : ℕ) (e : End) (i : ℕ) (ps : List WordsAndTurns) (s : Split) → s ≡ record { preferred = None; other = None } → [] ≡ chain_words ps i → 0 < chain_turns ps i → SplitsAt n e i ps s
 none_splits n e i ps s is w t = subst (SplitsAt n e i ps) (sym is) (record { words = w; turns = t })
 
-pub one_splits : (n : ℕ) (e : End) (i : ℕ) (ps qs : List Costed) (r : Option Rests) (s : Split) → s ≡ record { preferred = r; other = None } → Stands n e i qs r → Leaves i ps qs → SplitsAt n e i ps s
+pub one_splits : (n : ℕ) (e : End) (i : ℕ) (ps qs : List WordsAndTurns) (r : Option Rests) (s : Split) → s ≡ record { preferred = r; other = None } → StandsFor n e i qs r → Leaves i ps qs → SplitsAt n e i ps s
 one_splits n e i ps qs r s is h k = subst (SplitsAt n e i ps) (sym is) (record {
   words = append_nil (option_words n e r i) ∙ h.words ∙ k.words;
   turns = omega (arith, h.turns, k.turns);
 })
 
-pub two_splits : (n : ℕ) (e : End) (i : ℕ) (ps qs rs : List Costed) (r r' : Option Rests) → Stands n e i qs r → Stands n e i rs r' → LeavesTwo i ps qs rs →
+pub two_splits : (n : ℕ) (e : End) (i : ℕ) (ps qs rs : List WordsAndTurns) (r r' : Option Rests) → StandsFor n e i qs r → StandsFor n e i rs r' → LeavesTwo i ps qs rs →
     SplitsAt n e i ps (record { preferred = r; other = r' })
 two_splits n e i ps qs rs r r' a b k = record {
   words = ap (λ z. z ++ option_words n e r' i) a.words ∙ ap (λ z. chain_words qs i ++ z) b.words ∙ k.words;
@@ -65,7 +65,7 @@ two_splits n e i ps qs rs r r' a b k = record {
 }
 
 -- what splits parts splits others with the same first words and turns
-pub same_splits : (n : ℕ) (e : End) (i : ℕ) (p q : Costed) (ps : List Costed) (s : Split) → p.0 i ≡ q.0 i → p.1 i ≡ q.1 i → SplitsAt n e i (p ∷ ps) s → SplitsAt n e i (q ∷ ps) s
+pub same_splits : (n : ℕ) (e : End) (i : ℕ) (p q : WordsAndTurns) (ps : List WordsAndTurns) (s : Split) → p.0 i ≡ q.0 i → p.1 i ≡ q.1 i → SplitsAt n e i (p ∷ ps) s → SplitsAt n e i (q ∷ ps) s
 same_splits n e i p q ps s w t h = record {
   words = h.words ∙ same_first_words p q ps i w;
   turns = omega (arith, h.turns, same_first p q ps i w t);
@@ -74,10 +74,10 @@ same_splits n e i p q ps s w t h = record {
 pub later_self : (n : ℕ) (e : End) → IsLater n e n e
 later_self n e = (omega arith, λ closed. (refl, closed))
 
-pub later_splits : (n : ℕ) (e : End) (i : ℕ) (ps : ℕ → End → List Costed) (s : Split) → ((n' : ℕ) (e' : End) → IsLater n e n' e' → SplitsAt n' e' i (ps n' e') s) → Splits n e i ps s
+pub later_splits : (n : ℕ) (e : End) (i : ℕ) (ps : ℕ → End → List WordsAndTurns) (s : Split) → ((n' : ℕ) (e' : End) → IsLater n e n' e' → SplitsAt n' e' i (ps n' e') s) → Splits n e i ps s
 later_splits n e i ps s h = record { words = λ n' e' later. (h n' e' later).words; turns = λ n' e' later. (h n' e' later).turns }
 
-pub always_splits : (n : ℕ) (e : End) (i : ℕ) (ps : ℕ → End → List Costed) (s : Split) → AlwaysSplits i ps s → Splits n e i ps s
+pub always_splits : (n : ℕ) (e : End) (i : ℕ) (ps : ℕ → End → List WordsAndTurns) (s : Split) → AlwaysSplits i ps s → Splits n e i ps s
 always_splits n e i ps s h = later_splits n e i ps s (λ n' e' later. h n' e')
 
 pub OnOk-map : {T E : Type 0} (P Q : Type 0) → (P → Q) → (r : Result T E) → OnOk r P → OnOk r Q
@@ -85,7 +85,7 @@ OnOk-map P Q f (Ok v) h = f h
 OnOk-map P Q f (Err e) h = h
 
 -- what parts came to, others that are as they came to
-pub taken_as : (n : ℕ) (e : End) (i : ℕ) (ps qs : ℕ → End → List Costed) → ((n' : ℕ) (e' : End) → ps n' e' ≡ qs n' e') → (s : Split) (t : Turn) → TakenUp n e i ps s t → TakenUp n e i qs s t
+pub taken_as : (n : ℕ) (e : End) (i : ℕ) (ps qs : ℕ → End → List WordsAndTurns) → ((n' : ℕ) (e' : End) → ps n' e' ≡ qs n' e') → (s : Split) (t : Turn) → TakenUp n e i ps s t → TakenUp n e i qs s t
 taken_as n e i ps qs h s FullTurn k = λ n' e'. ap (λ z. chain_words z i) (sym (h n' e')) ∙ k n' e'
 taken_as n e i ps qs h s (RowTurn l) k = record {
   known = k.known;
@@ -102,16 +102,16 @@ taken_as n e i ps qs h s SplitTurn k = record {
   turns = λ n' e' more. subst (λ z. split_turns n' e' s i < chain_turns z i) (h n' e') (k.turns n' e' more);
 }
 
-pub splits_as : (n : ℕ) (e : End) (i : ℕ) (ps qs : List Costed) (s : Split) → ps ≡ qs → SplitsAt n e i ps s → SplitsAt n e i qs s
+pub splits_as : (n : ℕ) (e : End) (i : ℕ) (ps qs : List WordsAndTurns) (s : Split) → ps ≡ qs → SplitsAt n e i ps s → SplitsAt n e i qs s
 splits_as n e i ps qs s h k = subst (λ z. SplitsAt n e i z s) h k
 
 -- ---- another iteration
 
-module _ (n : ℕ) (e : End) (row : ℕ) (it : Iterations) (less : Option ℕ) (ts again : List Costed) where
-  abbrev p : Costed
+module _ (n : ℕ) (e : End) (row : ℕ) (it : Iterations) (less : Option ℕ) (ts again : List WordsAndTurns) where
+  abbrev p : WordsAndTurns
   p = node_part n e it.body
 
-  abbrev more : Costed
+  abbrev more : WordsAndTurns
   more = iterations 0 (still n less) it.reluctant p
 
   -- after an iteration that takes a row for sure
@@ -126,8 +126,8 @@ module _ (n : ℕ) (e : End) (row : ℕ) (it : Iterations) (less : Option ℕ) (
   pub comes_past : again ≡ past row more ∷ ts → ComesAgain n e row it less ts again
   comes_past is = record { words = ap (λ z. chain_words (p ∷ z) row) is; turns = ap (λ z. chain_turns (p ∷ z) row) is }
 
-  module _ (another : Rests) (stop : Option Rests) (fewer : IsOneLess it.further less) (comes : ComesAgain n e row it less ts again) (is_another : rests_parts n e another ≡ p ∷ again) (stops : Stands n e row ts stop) where
-    stands : Stands n e row (repeated (still n less) it.reluctant p ts row) (Some another)
+  module _ (another : Rests) (stop : Option Rests) (fewer : IsOneLess it.further less) (comes : ComesAgain n e row it less ts again) (is_another : rests_parts n e another ≡ p ∷ again) (stops : StandsFor n e row ts stop) where
+    stands : StandsFor n e row (repeated (still n less) it.reluctant p ts row) (Some another)
     stands = record {
       words = ap (λ z. chain_words z row) is_another ∙ comes.words;
       turns = ap (λ z. chain_turns z row) is_another ∙ comes.turns;
@@ -156,7 +156,7 @@ module _ (n : ℕ) (e : End) (row : ℕ) (it : Iterations) (less : Option ℕ) (
         (subst (λ r. LeavesTwo row (iterations 0 (still n it.further) r p ∷ ts) ts (repeated (still n less) r p ts row)) (sym is) (leaves_lazy it.further less fewer))
 
 -- no iteration is left
-pub none_left : (n : ℕ) (e : End) (i : ℕ) (lower : ℕ) (it : Iterations) (k : ℕ) (ts : List Costed) → lower ≤ 0 → it.further ≡ Some k → k ≡ 0 → Leaves i (iterations_part n e lower it ∷ ts) ts
+pub none_left : (n : ℕ) (e : End) (i : ℕ) (lower : ℕ) (it : Iterations) (k : ℕ) (ts : List WordsAndTurns) → lower ≤ 0 → it.further ≡ Some k → k ≡ 0 → Leaves i (iterations_part n e lower it ∷ ts) ts
 none_left n e i lower it k ts a b c =
     let is : lower ≡ 0 = omega arith in
     let bound : still n it.further ≡ 0 = ap (still n) b ∙ c in

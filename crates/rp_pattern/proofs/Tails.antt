@@ -10,9 +10,9 @@ use Rattle.rp_pattern.specs.declared.rests.Link.TheFolds.{map-Link, fold_out-Lin
 use Rattle.rp_pattern.specs.declared.rests.Rests.TheVariants.{Reached}
 use Rattle.rp_pattern.specs.declared.word.End.{End}
 use Rattle.rp_pattern.specs.Words.{followed}
-use Rattle.rp_pattern.specs.Turns.{Part as Costed, chain_turns}
+use Rattle.rp_pattern.specs.Turns.{WordsAndTurns, chain_turns}
 use Rattle.rp_pattern.specs.Rests.{part_as, link_step, links_from, reached_parts, tail_links, tail_parts, links_parts, guarded, chain_words}
-use Rattle.rp_pattern.specs.Splits.{Stands}
+use Rattle.rp_pattern.specs.Splits.{StandsFor}
 use Rattle.rp_pattern.proofs.TurnsTaken.{past_reached, past_there}
 
 pub links_out : (l : Link) → links_from l ≡ ((out-Link l).since, (out-Link l).part) ∷ tail_links (out-Link l).then
@@ -28,11 +28,11 @@ abbrev pub IsPassed : Option ℕ → ℕ → Type 0
 IsPassed None i = Unit {0}
 IsPassed (Some since) i = since < i
 
-guarded_words : (since : Option ℕ) (p : Costed) (ps : List Costed) (i : ℕ) → IsPassed since i → chain_words (p ∷ ps) i ≡ chain_words (guarded since p ∷ ps) i
+guarded_words : (since : Option ℕ) (p : WordsAndTurns) (ps : List WordsAndTurns) (i : ℕ) → IsPassed since i → chain_words (p ∷ ps) i ≡ chain_words (guarded since p ∷ ps) i
 guarded_words None p ps i h = refl
 guarded_words (Some since) p ps i h = ap (flat_map (followed (chain_words ps) i)) (sym (past_there since p i h).0)
 
-guarded_turns : (since : Option ℕ) (p : Costed) (ps : List Costed) (i : ℕ) → IsPassed since i → chain_turns (p ∷ ps) i ≡ chain_turns (guarded since p ∷ ps) i
+guarded_turns : (since : Option ℕ) (p : WordsAndTurns) (ps : List WordsAndTurns) (i : ℕ) → IsPassed since i → chain_turns (p ∷ ps) i ≡ chain_turns (guarded since p ∷ ps) i
 guarded_turns None p ps i h = refl
 guarded_turns (Some since) p ps i h = sym (past_reached since p ps i h)
 
@@ -43,7 +43,7 @@ reached_out n e l = ap (reached_parts n e) (links_out l)
 pub tail_out : (n : ℕ) (e : End) (l : Link) → links_parts n e (links_from l) ≡ guarded (out-Link l).since (part_as n e (out-Link l).part) ∷ tail_parts n e (out-Link l).then
 tail_out n e l = ap (links_parts n e) (links_out l)
 
-pub follow_stands : (n : ℕ) (e : End) (i : ℕ) (l : Link) (copy : Rc Link Global) → copy.value ≡ l → IsPassed (out-Link l).since i → Stands n e i (links_parts n e (links_from l)) (Some (Reached copy))
+pub follow_stands : (n : ℕ) (e : End) (i : ℕ) (l : Link) (copy : Rc Link Global) → copy.value ≡ l → IsPassed (out-Link l).since i → StandsFor n e i (links_parts n e (links_from l)) (Some (Reached copy))
 follow_stands n e i l copy is h =
     let p = part_as n e (out-Link l).part in
     let later = tail_parts n e (out-Link l).then in

@@ -12,7 +12,7 @@ use Rattle.rp_pattern.specs.declared.choices.Taken.{Taken}
 use Rattle.rp_pattern.specs.declared.choices.Taken.TheVariants.{Row, Split, Full as FullTaken, Open as OpenTaken, Nothing}
 use Rattle.rp_pattern.specs.Mapping.{Mapping, Full, Open}
 use Rattle.rp_pattern.specs.Words.{preceded}
-use Rattle.rp_pattern.specs.Turns.{Part as Costed}
+use Rattle.rp_pattern.specs.Turns.{WordsAndTurns}
 use Rattle.rp_pattern.specs.WordLaws.{IsLater}
 use Rattle.rp_pattern.specs.Rests.{tail_parts, later_parts, chain_words, chain_left, stack_words, stack_left, without_first}
 
@@ -51,7 +51,7 @@ unfoldable pub below_left : Choices → ℕ → End → ℕ
 below_left c n e = stack_left n e c.start (without_first (reverse c.stack.items))
 
 -- what comes after the first part of the preferred choice
-abbrev pub first_later : ℕ → End → List Choice → List Costed
+abbrev pub first_later : ℕ → End → List Choice → List WordsAndTurns
 first_later n e [] = []
 first_later n e (c ∷ cs) = later_parts n e c.rests
 

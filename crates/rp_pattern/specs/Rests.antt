@@ -19,13 +19,13 @@ use Rattle.rp_pattern.specs.declared.rests.Choice.{Choice}
 use Rattle.rp_pattern.specs.Mapping.{Mapping}
 use Rattle.rp_pattern.specs.PermutedParts.{permuted_parts}
 use Rattle.rp_pattern.specs.Words.{Mappings, words, nothing_mapped, sequence, preceded}
-use Rattle.rp_pattern.specs.Turns.{Part as Costed, turns, one_turn, chain_turns, past, within, iterations, orders_from, words_of}
+use Rattle.rp_pattern.specs.Turns.{WordsAndTurns, turns, one_turn, chain_turns, past, within, iterations, orders_from, words_of}
 
 -- a part of a pattern
-abbrev pub form_part : ℕ → End → Form → Bool → Costed
+abbrev pub form_part : ℕ → End → Form → Bool → WordsAndTurns
 form_part n e f excluded = within excluded (words n e f, turns n e f)
 
-abbrev pub node_part : ℕ → End → Node → Costed
+abbrev pub node_part : ℕ → End → Node → WordsAndTurns
 node_part n e node = form_part n e node.form.value node.excluded
 
 -- how many iterations may still follow. With no upper bound the rows are a bound
@@ -33,20 +33,20 @@ abbrev pub still : ℕ → Option ℕ → ℕ
 still n (Some k) = k
 still n None = suc (suc n)
 
-abbrev pub iterations_part : ℕ → End → ℕ → Iterations → Costed
+abbrev pub iterations_part : ℕ → End → ℕ → Iterations → WordsAndTurns
 iterations_part n e lower it = iterations lower (still n it.further) it.reluctant (node_part n e it.body)
 
-abbrev pub permuted_costed : ℕ → End → Node → List Costed
-permuted_costed n e node = map (λ f. form_part n e f node.excluded) (permuted_parts node.form.value)
+abbrev pub permuted_form_parts : ℕ → End → Node → List WordsAndTurns
+permuted_form_parts n e node = map (λ f. form_part n e f node.excluded) (permuted_parts node.form.value)
 
 -- parts at these places
-abbrev pub in_order : List Costed → List ℕ → List Costed
+abbrev pub in_order : List WordsAndTurns → List ℕ → List WordsAndTurns
 in_order ps places = map (λ k. get_or ps k (nothing_mapped, one_turn)) places
 
-abbrev pub part_as : ℕ → End → Part → Costed
+abbrev pub part_as : ℕ → End → Part → WordsAndTurns
 part_as n e (Whole node) = node_part n e node
 part_as n e (Times lower it) = iterations_part n e lower it
-part_as n e (Orders o) = orders_from o.from (permuted_costed n e o.permute)
+part_as n e (Orders o) = orders_from o.from (permuted_form_parts n e o.permute)
 
 -- the later parts in order, each with the row that it is reached past, if any
 abbrev pub links_behind : Option (Rc (List (Option ℕ × Part)) Global) → List (Option ℕ × Part)
@@ -63,34 +63,34 @@ abbrev pub tail_links : Option (Rc Link Global) → List (Option ℕ × Part)
 tail_links None = []
 tail_links (Some p) = links_from p.value
 
-abbrev pub guarded : Option ℕ → Costed → Costed
+abbrev pub guarded : Option ℕ → WordsAndTurns → WordsAndTurns
 guarded None p = p
 guarded (Some since) p = past since p
 
-abbrev pub links_parts : ℕ → End → List (Option ℕ × Part) → List Costed
+abbrev pub links_parts : ℕ → End → List (Option ℕ × Part) → List WordsAndTurns
 links_parts n e ls = map (λ l. guarded l.0 (part_as n e l.1)) ls
 
-abbrev pub tail_parts : ℕ → End → Option (Rc Link Global) → List Costed
+abbrev pub tail_parts : ℕ → End → Option (Rc Link Global) → List WordsAndTurns
 tail_parts n e tail = links_parts n e (tail_links tail)
 
 -- later parts, the first of which is reached
-abbrev pub reached_parts : ℕ → End → List (Option ℕ × Part) → List Costed
+abbrev pub reached_parts : ℕ → End → List (Option ℕ × Part) → List WordsAndTurns
 reached_parts n e [] = []
 reached_parts n e (l ∷ ls) = part_as n e l.1 ∷ links_parts n e ls
 
-abbrev pub rests_parts : ℕ → End → Rests → List Costed
+abbrev pub rests_parts : ℕ → End → Rests → List WordsAndTurns
 rests_parts n e Done = []
 rests_parts n e (Then node then) = node_part n e node ∷ tail_parts n e then
 rests_parts n e (Reached link) = reached_parts n e (links_from link.value)
 
 -- what comes after the first part
-abbrev pub later_parts : ℕ → End → Rests → List Costed
+abbrev pub later_parts : ℕ → End → Rests → List WordsAndTurns
 later_parts n e Done = []
 later_parts n e (Then node then) = tail_parts n e then
 later_parts n e (Reached link) = links_parts n e (drop 1 (links_from link.value))
 
 -- the words of parts one after another
-abbrev pub chain_words : List Costed → Mappings
+abbrev pub chain_words : List WordsAndTurns → Mappings
 chain_words ps = sequence (map words_of ps)
 
 -- the words of a choice: those of its rests from its row on, with the labels before it
@@ -98,7 +98,7 @@ abbrev pub choice_words : ℕ → End → ℕ → List Label → Choice → List
 choice_words n e start labels c = map (preceded (take c.depth labels)) (chain_words (rests_parts n e c.rests) (start + c.depth))
 
 -- the turns of a choice, and one more for each word
-abbrev pub chain_left : List Costed → ℕ → ℕ
+abbrev pub chain_left : List WordsAndTurns → ℕ → ℕ
 chain_left ps i = chain_turns ps i + length (chain_words ps i)
 
 -- the words of choices in order
@@ -142,5 +142,5 @@ IsOneLess None less = less ≡ None
 IsOneLess (Some k) less = (h : ℕ) × (k ≡ suc h) × (less ≡ Some h)
 
 -- the same words and turns from each row
-abbrev pub IsSamePart : Costed → Costed → Type 0
+abbrev pub IsSamePart : WordsAndTurns → WordsAndTurns → Type 0
 IsSamePart p q = (i : ℕ) → (p.0 i ≡ q.0 i) × (p.1 i ≡ q.1 i)

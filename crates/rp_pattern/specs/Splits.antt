@@ -4,12 +4,12 @@ use Rattle.rp_pattern.specs.declared.word.End.{End}
 use Rattle.rp_pattern.specs.declared.word.End.TheVariants.{Open as OpenEnd}
 use Rattle.rp_pattern.specs.declared.word.Label.{Label}
 use Rattle.rp_pattern.specs.declared.rests.Rests.{Rests}
-use Rattle.rp_pattern.specs.declared.turn.Split.{Split as Choices}
+use Rattle.rp_pattern.specs.declared.turn.Split.{Split}
 use Rattle.rp_pattern.specs.declared.turn.Turn.{Turn}
 use Rattle.rp_pattern.specs.declared.turn.Turn.TheVariants.{Full as FullTurn, Row as RowTurn, Open as OpenTurn, Split as SplitTurn}
 use Rattle.rp_pattern.specs.Mapping.{Mapping, Full, Open}
 use Rattle.rp_pattern.specs.Words.{preceded}
-use Rattle.rp_pattern.specs.Turns.{Part as Costed, chain_turns, iterations, past}
+use Rattle.rp_pattern.specs.Turns.{WordsAndTurns, chain_turns, iterations, past}
 use Rattle.rp_pattern.specs.declared.rests.Iterations.{Iterations}
 use Rattle.rp_pattern.specs.WordLaws.{IsLater}
 use Rattle.rp_pattern.specs.Rests.{rests_parts, chain_words, node_part, still}
@@ -23,54 +23,54 @@ abbrev pub option_turns : ℕ → End → Option Rests → ℕ → ℕ
 option_turns n e None i = 0
 option_turns n e (Some r) i = chain_turns (rests_parts n e r) i
 
-abbrev pub split_words : ℕ → End → Choices → ℕ → List Mapping
+abbrev pub split_words : ℕ → End → Split → ℕ → List Mapping
 split_words n e s i = option_words n e s.preferred i ++ option_words n e s.other i
 
-abbrev pub split_turns : ℕ → End → Choices → ℕ → ℕ
+abbrev pub split_turns : ℕ → End → Split → ℕ → ℕ
 split_turns n e s i = option_turns n e s.preferred i + option_turns n e s.other i
 
 -- another iteration, and then further ones if it has taken a row
-abbrev pub repeated : ℕ → Bool → Costed → List Costed → ℕ → List Costed
+abbrev pub repeated : ℕ → Bool → WordsAndTurns → List WordsAndTurns → ℕ → List WordsAndTurns
 repeated h reluctant p later i = p ∷ past i (iterations 0 h reluctant p) ∷ later
 
 -- it stands for these parts
-pub record Stands (n : ℕ) (e : End) (i : ℕ) (ps : List Costed) (r : Option Rests) : Type 0 where
+pub record StandsFor (n : ℕ) (e : End) (i : ℕ) (ps : List WordsAndTurns) (r : Option Rests) : Type 0 where
   pub words : option_words n e r i ≡ chain_words ps i
   pub turns : option_turns n e r i ≡ chain_turns ps i
 
 -- The choices have the words of these parts, and take fewer turns.
-pub record SplitsAt (n : ℕ) (e : End) (i : ℕ) (ps : List Costed) (s : Choices) : Type 0 where
+pub record SplitsAt (n : ℕ) (e : End) (i : ℕ) (ps : List WordsAndTurns) (s : Split) : Type 0 where
   pub words : split_words n e s i ≡ chain_words ps i
   pub turns : split_turns n e s i < chain_turns ps i
 
 -- After an iteration at this row come further ones, if it has taken a row, and then what follows them.
-pub record ComesAgain (n : ℕ) (e : End) (i : ℕ) (it : Iterations) (further : Option ℕ) (later again : List Costed) : Type 0 where
+pub record ComesAgain (n : ℕ) (e : End) (i : ℕ) (it : Iterations) (further : Option ℕ) (later again : List WordsAndTurns) : Type 0 where
   pub words : chain_words (node_part n e it.body ∷ again) i ≡ chain_words (repeated (still n further) it.reluctant (node_part n e it.body) later i) i
   pub turns : chain_turns (node_part n e it.body ∷ again) i ≡ chain_turns (repeated (still n further) it.reluctant (node_part n e it.body) later i) i
 
-abbrev pub AlwaysSplits : ℕ → (ℕ → End → List Costed) → Choices → Type 0
+abbrev pub AlwaysSplits : ℕ → (ℕ → End → List WordsAndTurns) → Split → Type 0
 AlwaysSplits i ps s = (n : ℕ) (e : End) → SplitsAt n e i (ps n e) s
 
 -- The same, at the rows that are known and at later ones.
-pub record Splits (n : ℕ) (e : End) (i : ℕ) (ps : ℕ → End → List Costed) (s : Choices) : Type 0 where
+pub record Splits (n : ℕ) (e : End) (i : ℕ) (ps : ℕ → End → List WordsAndTurns) (s : Split) : Type 0 where
   pub words : (n' : ℕ) (e' : End) → IsLater n e n' e' → split_words n' e' s i ≡ chain_words (ps n' e') i
   pub turns : (n' : ℕ) (e' : End) → IsLater n e n' e' → split_turns n' e' s i < chain_turns (ps n' e') i
 
 -- A known row is mapped, and the later parts follow.
-pub record MapsRow (n : ℕ) (e : End) (i : ℕ) (ps : ℕ → End → List Costed) (l : Label) : Type 0 where
+pub record TakesRow (n : ℕ) (e : End) (i : ℕ) (ps : ℕ → End → List WordsAndTurns) (l : Label) : Type 0 where
   pub known : i ≤ n
   pub words : (n' : ℕ) (e' : End) → n ≤ n' → chain_words (ps n' e') i ≡ map (preceded (l ∷ [])) (chain_words (drop 1 (ps n' e')) (i + 1))
   pub turns : (n' : ℕ) (e' : End) → n ≤ n' → chain_turns (ps n' e') i ≡ 1 + chain_turns (drop 1 (ps n' e')) (i + 1)
 
 -- It runs into the row after the last known one.
-pub record Waits (n : ℕ) (e : End) (i : ℕ) (ps : ℕ → End → List Costed) : Type 0 where
+pub record Waits (n : ℕ) (e : End) (i : ℕ) (ps : ℕ → End → List WordsAndTurns) : Type 0 where
   pub end : e ≡ OpenEnd
   pub words : chain_words (ps n e) i ≡ Open [] ∷ []
   pub turns : (n' : ℕ) (e' : End) → 0 < chain_turns (ps n' e') i
 
 -- What parts came to at a row, by their words and turns over the rows that are known and over later ones.
-abbrev pub TakenUp : ℕ → End → ℕ → (ℕ → End → List Costed) → Choices → Turn → Type 0
+abbrev pub TakenUp : ℕ → End → ℕ → (ℕ → End → List WordsAndTurns) → Split → Turn → Type 0
 TakenUp n e i ps s FullTurn = (n' : ℕ) (e' : End) → chain_words (ps n' e') i ≡ Full [] ∷ []
-TakenUp n e i ps s (RowTurn l) = MapsRow n e i ps l
+TakenUp n e i ps s (RowTurn l) = TakesRow n e i ps l
 TakenUp n e i ps s OpenTurn = Waits n e i ps
 TakenUp n e i ps s SplitTurn = Splits n e i ps s

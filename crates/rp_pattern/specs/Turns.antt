@@ -10,46 +10,46 @@ use Rattle.rp_pattern.specs.declared.word.End.{End}
 use Rattle.rp_pattern.specs.Words.{Mappings, words, concatenation, moving, moved_past, optional, required, further, orders, sequence, within_exclusion}
 
 -- from each row, a number of turns
-abbrev pub Costs : Type 0
-Costs = ℕ → ℕ
+abbrev pub TurnCounts : Type 0
+TurnCounts = ℕ → ℕ
 
 -- a part, as its words and its turns
-abbrev pub Part : Type 0
-Part = Mappings × Costs
+abbrev pub WordsAndTurns : Type 0
+WordsAndTurns = Mappings × TurnCounts
 
 -- what comes after a full word is tried from where it ends, and nothing after an open one
-abbrev pub turns_after : Costs → ℕ → Mapping → ℕ
+abbrev pub turns_after : TurnCounts → ℕ → Mapping → ℕ
 turns_after later i (Full ls) = later (i + length ls)
 turns_after later i (Open ls) = 0
 
-abbrev pub one_turn : Costs
+abbrev pub one_turn : TurnCounts
 one_turn i = 1
 
-abbrev pub concatenation_turns : Part → Costs → Costs
+abbrev pub concatenation_turns : WordsAndTurns → TurnCounts → TurnCounts
 concatenation_turns p later i = 1 + p.1 i + sum_by (turns_after later i) (p.0 i)
 
-abbrev pub optional_turns : Part → ℕ → Costs
+abbrev pub optional_turns : WordsAndTurns → ℕ → TurnCounts
 optional_turns p zero i = 1
 optional_turns p (suc h) i = 2 + p.1 i + sum_by (turns_after (optional_turns p h) i) (moving p.0 i)
 
-abbrev pub required_turns : ℕ → Part → Costs → Costs
+abbrev pub required_turns : ℕ → WordsAndTurns → TurnCounts → TurnCounts
 required_turns zero p rest = rest
 required_turns (suc l) p rest = concatenation_turns p (required_turns l p rest)
 
-abbrev pub sequence_turns : List Part → Costs
+abbrev pub sequence_turns : List WordsAndTurns → TurnCounts
 sequence_turns [] = one_turn
 sequence_turns (p ∷ []) = p.1
 sequence_turns (p ∷ q ∷ ps) = concatenation_turns p (sequence_turns (q ∷ ps))
 
-abbrev pub permuted_turns : List Part → Costs
+abbrev pub permuted_turns : List WordsAndTurns → TurnCounts
 permuted_turns ps i = 1 + sum_by (λ order. sequence_turns order i) (orders ps)
 
 -- a part of a pattern with its words
-abbrev pub part : ℕ → End → Form × Costs → Part
+abbrev pub part : ℕ → End → Form × TurnCounts → WordsAndTurns
 part n e p = (words n e p.0, p.1)
 
 -- one layer of a pattern, with the turns of each part beside it
-abbrev pub turns_step : ℕ → End → Form-F (Form × Costs) → Costs
+abbrev pub turns_step : ℕ → End → Form-F (Form × TurnCounts) → TurnCounts
 turns_step n e (Variable v) = one_turn
 turns_step n e Empty = one_turn
 turns_step n e (Concatenation p q) = concatenation_turns (part n e p.value) q.value.1
@@ -60,35 +60,35 @@ turns_step n e (Permute ps) = permuted_turns (map (λ p. part n e p.value) ps.it
 turns_step n e (Exclusion p) = λ i. 1 + p.value.1 i
 turns_step n e (Quantified p lower upper reluctant) = required_turns lower (part n e p.value) (optional_turns (part n e p.value) (further n lower upper))
 
-abbrev pub turns : ℕ → End → Form → Costs
-turns n e = para-Form Costs (turns_step n e)
+abbrev pub turns : ℕ → End → Form → TurnCounts
+turns n e = para-Form TurnCounts (turns_step n e)
 
 -- the turns of a choice whose rests are these parts: those of each, without the ones for joining them
-abbrev pub chain_turns : List Part → Costs
+abbrev pub chain_turns : List WordsAndTurns → TurnCounts
 chain_turns [] i = 0
 chain_turns (p ∷ ps) i = p.1 i + sum_by (turns_after (chain_turns ps) i) (p.0 i)
 
 -- the test that an iteration took a row takes no turn of its own
-abbrev pub moved_part : ℕ → Part
+abbrev pub moved_part : ℕ → WordsAndTurns
 moved_part since = (moved_past since, λ i. 0)
 
 -- a part inside an exclusion, or outside of one
-abbrev pub within : Bool → Part → Part
+abbrev pub within : Bool → WordsAndTurns → WordsAndTurns
 within x p = (within_exclusion x p.0, p.1)
 
 -- l required iterations of a part, and then at most h others
-abbrev pub iterations : ℕ → ℕ → Bool → Part → Part
+abbrev pub iterations : ℕ → ℕ → Bool → WordsAndTurns → WordsAndTurns
 iterations l h reluctant p = (required l p.0 (optional reluctant p.0 h), required_turns l p (optional_turns p h))
 
 -- a part that is reached only past this row
-abbrev pub past : ℕ → Part → Part
+abbrev pub past : ℕ → WordsAndTurns → WordsAndTurns
 past since p = (concatenation (moved_past since) p.0, λ i. if nat_lt since i then p.1 i else 0)
 
-abbrev pub words_of : Part → Mappings
+abbrev pub words_of : WordsAndTurns → Mappings
 words_of p = p.0
 
 -- the orders of parts from this place on. Each order takes a turn, and none for joining its parts
-abbrev pub orders_from : ℕ → List Part → Part
+abbrev pub orders_from : ℕ → List WordsAndTurns → WordsAndTurns
 orders_from from ps = (
   λ i. flat_map (λ order. sequence (map words_of order) i) (drop from (orders ps)),
   λ i. sum_by (λ order. 1 + chain_turns order i) (drop from (orders ps)),

@@ -44,7 +44,7 @@ impl Choices {
     ghost use Rattle.rp_pattern.specs.Turns.{turns};
     ghost use Rattle.rp_pattern.specs.PatternForm.{form_of};
     ghost use Rattle.rp_pattern.specs.Rests.{tail_links};
-    ghost use Rattle.rp_pattern.specs.Splits.{Stands};
+    ghost use Rattle.rp_pattern.specs.Splits.{StandsFor};
     ghost use Rattle.rp_pattern.specs.Choices.{start_of, entered, first_later, whole, whole_left, remaining, left, below, below_left, after, after_left, HasTop, AtRow, IsFront, IsShorterFront, IsSameWhole, TakenAs, HasBegun, IsLaterTail};
 
     /// The words of the pattern from the start row on.
@@ -168,7 +168,7 @@ impl Choices {
     /// What is left at a row when the first part of the preferred choice is mapped before it.
     #[inline(always)]
     fn follow_first(&self, row: u64) -> Result<Option<Rests>, AllocError>
-        ensures { IfOk result (λ rests. (n : ℕ) (e : End) → Stands n e row (first_later n e (reverse self.now.stack.items)) rests) }
+        ensures { IfOk result (λ rests. (n : ℕ) (e : End) → StandsFor n e row (first_later n e (reverse self.now.stack.items)) rests) }
     {
         match top(&self.stack) {
             None => Ok(Some(Rests::Done)),

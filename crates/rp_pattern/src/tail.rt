@@ -1,7 +1,7 @@
 ghost use Rattle.std.specs.Prelude.{◌≡◌, ℕ, ◌∷◌, IfOk};
 ghost use Rattle.rp_pattern.specs.declared.word.End.{End};
 ghost use Rattle.rp_pattern.specs.Rests.{links_from, tail_links, tail_parts};
-ghost use Rattle.rp_pattern.specs.Splits.{Stands};
+ghost use Rattle.rp_pattern.specs.Splits.{StandsFor};
 
 use crate::rests::{Link, Part, Rests, Tail};
 use std::alloc::{AllocError, Global};
@@ -47,7 +47,7 @@ pub(crate) fn share(tail: &Tail) -> Result<Tail, AllocError>
 /// What is left at a row when these parts come next, or nothing where an iteration that had to take a row has taken none.
 #[inline(always)]
 pub(crate) fn follow(tail: &Tail, row: u64) -> Result<Option<Rests>, AllocError>
-    ensures { IfOk result (λ rests. (n : ℕ) (e : End) → Stands n e row (tail_parts n e tail.now) rests) }
+    ensures { IfOk result (λ rests. (n : ℕ) (e : End) → StandsFor n e row (tail_parts n e tail.now) rests) }
 {
     let Some(link) = tail else {
         return Ok(Some(Rests::Done));

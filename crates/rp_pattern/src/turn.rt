@@ -2,10 +2,10 @@ ghost use Rattle.std.specs.Prelude.{◌≡◌, ℕ, suc, ◌∷◌, ◌+◌, ◌
 ghost use Rattle.std.specs.List.{AllByRecursion};
 ghost use Rattle.rp_pattern.specs.declared.word.End.{End};
 ghost use Rattle.std.specs.Prelude.{Option, None};
-ghost use Rattle.rp_pattern.specs.Rests.{links_from, reached_parts, tail_parts, rests_parts, node_part, iterations_part, permuted_costed, in_order, still, IsOneLess, IsSamePart, IsTimes};
+ghost use Rattle.rp_pattern.specs.Rests.{links_from, reached_parts, tail_parts, rests_parts, node_part, iterations_part, permuted_form_parts, in_order, still, IsOneLess, IsSamePart, IsTimes};
 ghost use Rattle.rp_pattern.specs.Movement.{always_moves};
 ghost use Rattle.rp_pattern.specs.declared.rests.Link.TheViews.{out-Link};
-ghost use Rattle.rp_pattern.specs.Turns.{Part as Costed};
+ghost use Rattle.rp_pattern.specs.Turns.{WordsAndTurns};
 ghost use Rattle.rp_pattern.specs.Bounds.{is_allowed};
 ghost use Rattle.rp_pattern.specs.Variables.{all_true};
 ghost use Rattle.rp_pattern.specs.Permutations.{upto};
@@ -15,7 +15,7 @@ ghost use Rattle.std.specs.declared.rc.Rc.{Rc};
 ghost use Rattle.std.specs.declared.alloc.Global.{Global};
 ghost use Rattle.rp_pattern.specs.Turns.{orders_from};
 ghost use Rattle.rp_pattern.specs.Words.{further, orders};
-ghost use Rattle.rp_pattern.specs.Splits.{TakenUp, AlwaysSplits, SplitsAt, Stands, ComesAgain};
+ghost use Rattle.rp_pattern.specs.Splits.{TakenUp, AlwaysSplits, SplitsAt, StandsFor, ComesAgain};
 
 use crate::form::Form;
 use crate::orders::{factorial, permutation_at};
@@ -400,7 +400,7 @@ impl Node {
     /// The parts in an order, before later ones.
     fn in_order(&self, alloc: Global, order: &[usize], then: &Tail) -> Result<Tail, AllocError>
         requires { AllByRecursion (λ k. k < length (permuted_parts self.now.form.value)) order.now }
-        ensures { IfOk result (λ tail. (n : ℕ) (e : End) → tail_parts n e tail ≡ in_order (permuted_costed n e self.now) order.now ++ tail_parts n e then.now) }
+        ensures { IfOk result (λ tail. (n : ℕ) (e : End) → tail_parts n e tail ≡ in_order (permuted_form_parts n e self.now) order.now ++ tail_parts n e then.now) }
     {
         let Some((place, places)) = order.split_first() else {
             return share(then);
@@ -419,7 +419,7 @@ impl Orders {
         row: u64,
         split: &mut Split,
     ) -> Result<(), AllocError>
-        ensures { OnOk result (AlwaysSplits row (λ n e. orders_from self.now.from (permuted_costed n e self.now.permute) ∷ tail_parts n e then.now) split.new) }
+        ensures { OnOk result (AlwaysSplits row (λ n e. orders_from self.now.from (permuted_form_parts n e self.now.permute) ∷ tail_parts n e then.now) split.new) }
     {
         let order = self.order(alloc)?;
         let first = self.permute.in_order(alloc, &order, then)?;
@@ -440,7 +440,7 @@ impl Orders {
 
     /// The orders after the first one, if there are any.
     fn after(&self, alloc: Global, then: &Tail) -> Result<Option<Rests>, AllocError>
-        ensures { IfOk result (λ rests. (n : ℕ) (e : End) (i : ℕ) → Stands n e i (orders_from (self.now.from + 1) (permuted_costed n e self.now.permute) ∷ tail_parts n e then.now) rests) }
+        ensures { IfOk result (λ rests. (n : ℕ) (e : End) (i : ℕ) → StandsFor n e i (orders_from (self.now.from + 1) (permuted_form_parts n e self.now.permute) ∷ tail_parts n e then.now) rests) }
     {
         let count = factorial(self.permute.parts().len());
         let from = self.from + 1;
@@ -527,7 +527,7 @@ impl Iterations {
         stop: Option<Rests>,
         split: &mut Split,
     ) -> Result<(), AllocError>
-        requires stop { (n : ℕ) (e : End) → Stands n e row (tail_parts n e then.now) stop }
+        requires stop { (n : ℕ) (e : End) → StandsFor n e row (tail_parts n e then.now) stop }
         requires further { IsOneLess self.now.further further }
         ensures { OnOk result (AlwaysSplits row (λ n e. iterations_part n e 0 self.now ∷ tail_parts n e then.now) split.new) }
     {
@@ -563,7 +563,7 @@ impl Iterations {
         stop: Option<Rests>,
         split: &mut Split,
     ) -> Result<(), AllocError>
-        ensures { OnOk result ((row : ℕ) (n : ℕ) (e : End) (further : Option ℕ) (ts : List Costed) → IsOneLess self.now.further further → ComesAgain n e row self.now further ts (tail_parts n e again) → Stands n e row ts stop → SplitsAt n e row (iterations_part n e 0 self.now ∷ ts) split.new) }
+        ensures { OnOk result ((row : ℕ) (n : ℕ) (e : End) (further : Option ℕ) (ts : List WordsAndTurns) → IsOneLess self.now.further further → ComesAgain n e row self.now further ts (tail_parts n e again) → StandsFor n e row ts stop → SplitsAt n e row (iterations_part n e 0 self.now ∷ ts) split.new) }
     {
         let another = Some(Rests::Then {
             node: self.body.share()?,

@@ -3,7 +3,7 @@ use Rattle.rp_pattern.specs.declared.rests.Part.TheVariants.{Times}
 use Rattle.rp_pattern.specs.declared.rests.Link.TheViews.{out-Link}
 use Rattle.rp_pattern.specs.Turns.{iterations}
 use Rattle.rp_pattern.specs.Rests.{IsOneLess, guarded, iterations_part, links_from, links_parts, node_part, part_as, reached_parts, still, tail_parts}
-use Rattle.rp_pattern.specs.Splits.{AlwaysSplits, Stands}
+use Rattle.rp_pattern.specs.Splits.{AlwaysSplits, StandsFor}
 use Rattle.rp_pattern.proofs.Steps.{OnOk-map, splits_as, comes_moving}
 use Rattle.rp_pattern.proofs.Tails.{reached_as, tail_out}
 use Rattle.rp_pattern.proofs.turn.take_times.Goals as goal
@@ -37,7 +37,7 @@ returns c =
     ap (part_as n e) c.requires ∙ ap (λ k. iterations k (still n it.further) it.reluctant p) known.1 ∙ ap (λ k. iterations 0 (still n k) it.reluctant p) none in
     let again : tail_parts n e (Some copy) ≡ more ∷ ts =
     ap (λ k. links_parts n e (links_from k)) c.in_ok-clone.ensures.cases ∙ tail_out n e l ∙ ap (λ s. guarded s (part_as n e (out-Link l).part) ∷ ts) since ∙ ap (λ z. z ∷ ts) first in
-    let stop : Stands n e row ts c.in_ok-stop.stop = subst (λ k. Stands n e row (tail_parts n e (out-Link k).then) c.in_ok-stop.stop) c.deref-2.ensures (c.in_ok-stop.ensures n e) in
+    let stop : StandsFor n e row ts c.in_ok-stop.stop = subst (λ k. StandsFor n e row (tail_parts n e (out-Link k).then) c.in_ok-stop.stop) c.deref-2.ensures (c.in_ok-stop.ensures n e) in
     let mine : iterations_part n e 0 it ∷ ts ≡ reached_parts n e (links_from l) =
     ap (λ k. iterations_part n e k it ∷ ts) (sym known.1) ∙ reached_as n e l l l (Times c.args.lower it) refl refl c.requires in
     splits_as n e row _ (reached_parts n e (links_from l)) split mine

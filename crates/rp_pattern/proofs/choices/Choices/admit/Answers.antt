@@ -1,7 +1,7 @@
 use Rattle.std.proofs.Common.{◌≡◌, refl, sym, subst, reverse, length, IsTrue, ◌∙◌, ap, ◌+◌, arith}
 use Rattle.rp_pattern.specs.Choices.{entered, first_later}
 use Rattle.rp_pattern.specs.Rests.{rises, pushed, without_first}
-use Rattle.rp_pattern.specs.Splits.{Stands}
+use Rattle.rp_pattern.specs.Splits.{StandsFor}
 use Rattle.rp_pattern.proofs.Stacks.{Stack, same_whole, row_begun, rises_below, rises_subst, admitted_remaining, admitted_left}
 use Rattle.rp_pattern.proofs.choices.Choices.admit.Goals as goal
 
@@ -32,7 +32,7 @@ returns-clause-remaining c = λ n e.
     let r = c.in_ok-rests.rests in
     let cs = reverse old.stack.items in
     let on : reverse c.push.new.stack.items ≡ pushed (length old.labels.items) r (without_first cs) = c.in_ok-push.ensures.pushed ∙ ap (pushed c.len-depth.result r) c.drop_top.ensures ∙ ap (λ z. pushed z r (without_first cs)) long in
-    let stands = subst (λ z. Stands n e (old.start + z) (first_later n e cs) r) long (c.in_ok-rests.ensures n e) in
+    let stands = subst (λ z. StandsFor n e (old.start + z) (first_later n e cs) r) long (c.in_ok-rests.ensures n e) in
     admitted_remaining old _ r n e k (record { begun = row_begun old c.requires; start = refl; labels = refl; choices = on }) stands
 
 pub returns-clause-left : goal.returns-clause-left
@@ -43,7 +43,7 @@ returns-clause-left c = λ n e.
     let r = c.in_ok-rests.rests in
     let cs = reverse old.stack.items in
     let on : reverse c.push.new.stack.items ≡ pushed (length old.labels.items) r (without_first cs) = c.in_ok-push.ensures.pushed ∙ ap (pushed c.len-depth.result r) c.drop_top.ensures ∙ ap (λ z. pushed z r (without_first cs)) long in
-    let stands = subst (λ z. Stands n e (old.start + z) (first_later n e cs) r) long (c.in_ok-rests.ensures n e) in
+    let stands = subst (λ z. StandsFor n e (old.start + z) (first_later n e cs) r) long (c.in_ok-rests.ensures n e) in
     admitted_left old _ r n e k (record { begun = row_begun old c.requires; start = refl; labels = refl; choices = on }) stands
 
 pub returns-clause-labels : goal.returns-clause-labels

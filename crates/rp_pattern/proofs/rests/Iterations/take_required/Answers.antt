@@ -1,7 +1,7 @@
 use Rattle.std.proofs.Common.{◌≡◌, ◌∷◌, ◌+◌, suc, List, None, Some, ap, ◌∙◌, subst, arith}
 use Rattle.rp_pattern.specs.declared.rests.Part.TheVariants.{Times}
 use Rattle.rp_pattern.specs.declared.rests.Rests.TheVariants.{Then}
-use Rattle.rp_pattern.specs.Turns.{Part, iterations}
+use Rattle.rp_pattern.specs.Turns.{WordsAndTurns, iterations}
 use Rattle.rp_pattern.specs.Rests.{node_part, still, tail_parts}
 use Rattle.rp_pattern.proofs.Expansions.{Leaves, required_leaves}
 use Rattle.rp_pattern.proofs.Steps.{node_as, iterations_as, linked_parts, stands_as, one_splits}
@@ -16,7 +16,7 @@ returns c = λ row n e.
     let a = c.in_ok-share-2.field-0 in
     let copy = c.in_ok-iterations.iterations in
     let later = c.in_ok-later.later in
-    let qs : List Part = p ∷ iterations l (still n it.further) it.reluctant p ∷ ts in
+    let qs : List WordsAndTurns = p ∷ iterations l (still n it.further) it.reluctant p ∷ ts in
     let second = linked_parts n e later c.in_ok-share.field-0 c.args.then.now None (Times l copy) c.in_ok-later.ensures c.in_ok-share.ensures ∙ ap (λ z. z ∷ ts) (iterations_as n e l it copy it.further c.in_ok-iterations.ensures) in
     let first = node_as n e a it.body.form.value it.body.excluded c.in_ok-share-2.ensures in
     let more : suc l ≡ l + 1 = omega arith in

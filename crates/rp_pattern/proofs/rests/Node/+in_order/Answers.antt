@@ -5,7 +5,7 @@ use Rattle.rp_pattern.specs.Bounds.{is_allowed}
 use Rattle.rp_pattern.specs.PermutedParts.{permuted_parts}
 use Rattle.rp_pattern.specs.declared.word.End.{End}
 use Rattle.rp_pattern.specs.declared.rests.Part.TheVariants.{Whole}
-use Rattle.rp_pattern.specs.Rests.{permuted_costed, in_order, tail_parts, tail_links}
+use Rattle.rp_pattern.specs.Rests.{permuted_form_parts, in_order, tail_parts, tail_links}
 use Rattle.rp_pattern.proofs.OrderRests.{allowed_at, next_linked, IfOk-map}
 use Rattle.rp_pattern.proofs.rests.Node.+in_order.Goals as goal
 
@@ -27,7 +27,7 @@ pub returns : goal.returns
 returns t c =
     let node = c.in_ok-of.field-0 in
     let rest = c.in_ok-in_order.field-0 in
-    IfOk-map (λ tail. tail_links tail ≡ (None, Whole node) ∷ tail_links rest) (λ tail. (n : ℕ) (e : End) → tail_parts n e tail ≡ in_order (permuted_costed n e c.args.self.now) c.args.order.now ++ tail_parts n e c.args.then.now)
+    IfOk-map (λ tail. tail_links tail ≡ (None, Whole node) ∷ tail_links rest) (λ tail. (n : ℕ) (e : End) → tail_parts n e tail ≡ in_order (permuted_form_parts n e c.args.self.now) c.args.order.now ++ tail_parts n e c.args.then.now)
     (λ tail h n e.
     next_linked n e c.args.self.now node c.parts.result.now c.index-parts-place.result c.in-Some.place.now c.in-Some.places.now c.args.order.now tail rest c.args.then.now
     c.parts.ensures.parts c.requires c.in-Some.ensures.cases.0 c.index-parts-place.is c.in_ok-of.ensures (c.in_ok-in_order.ensures n e) h)

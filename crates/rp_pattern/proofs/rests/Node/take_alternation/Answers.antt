@@ -1,6 +1,6 @@
 use Rattle.std.proofs.Common.{◌∷◌, List, Some, sym, subst}
 use Rattle.rp_pattern.specs.declared.rests.Rests.TheVariants.{Then}
-use Rattle.rp_pattern.specs.Turns.{Part}
+use Rattle.rp_pattern.specs.Turns.{WordsAndTurns}
 use Rattle.rp_pattern.specs.Rests.{form_part, tail_parts}
 use Rattle.rp_pattern.proofs.Expansions.{LeavesTwo, alternation_leaves}
 use Rattle.rp_pattern.proofs.Steps.{node_as, then_parts, stands_as, two_splits}
@@ -17,8 +17,8 @@ returns c = λ row n e.
     let b = c.in_ok-of-2.field-0 in
     let s = c.in_ok-share.field-0 in
     let s' = c.in_ok-share-2.field-0 in
-    let qs : List Part = form_part n e p.value x ∷ ts in
-    let rs : List Part = form_part n e q.value x ∷ ts in
+    let qs : List WordsAndTurns = form_part n e p.value x ∷ ts in
+    let rs : List WordsAndTurns = form_part n e q.value x ∷ ts in
     two_splits n e row _ qs rs (Some (Then a s)) (Some (Then b s'))
     (stands_as n e row (Then a s) qs (then_parts n e a s then (form_part n e p.value x) (node_as n e a p.value x c.in_ok-of.ensures) c.in_ok-share.ensures))
     (stands_as n e row (Then b s') rs (then_parts n e b s' then (form_part n e q.value x) (node_as n e b q.value x c.in_ok-of-2.ensures) c.in_ok-share-2.ensures))

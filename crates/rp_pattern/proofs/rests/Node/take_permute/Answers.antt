@@ -1,6 +1,6 @@
 use Rattle.std.proofs.Common.{◌∷◌, subst}
 use Rattle.rp_pattern.specs.Turns.{orders_from}
-use Rattle.rp_pattern.specs.Rests.{permuted_costed, node_part, tail_parts}
+use Rattle.rp_pattern.specs.Rests.{permuted_form_parts, node_part, tail_parts}
 use Rattle.rp_pattern.specs.Splits.{AlwaysSplits, SplitsAt}
 use Rattle.rp_pattern.proofs.Places.{factorial_positive}
 use Rattle.rp_pattern.proofs.OrderRests.{permute_splits, permuted_same}
@@ -16,7 +16,7 @@ returns c =
     let node = a.self.now in
     let copy = c.in_ok-share.field-0 in
     let s = c.take_up.new.split in
-    OnOk-map (AlwaysSplits a.row (λ n e. orders_from 0 (permuted_costed n e copy) ∷ tail_parts n e a.then.now) s) (AlwaysSplits a.row (λ n e. node_part n e node ∷ tail_parts n e a.then.now) s)
+    OnOk-map (AlwaysSplits a.row (λ n e. orders_from 0 (permuted_form_parts n e copy) ∷ tail_parts n e a.then.now) s) (AlwaysSplits a.row (λ n e. node_part n e node ∷ tail_parts n e a.then.now) s)
     (λ h n e.
     permute_splits n e a.row node.excluded node.form.value c.requires.0 (tail_parts n e a.then.now) s c.requires.1
     (subst (λ ps. SplitsAt n e a.row (orders_from 0 ps ∷ tail_parts n e a.then.now) s) (permuted_same n e copy node c.in_ok-share.ensures) (h n e)))
