@@ -1,3 +1,4 @@
+//! The words of a pattern listed lazily, by a stack of choices.
 ghost use Rattle.std.specs.Prelude.{◌≡◌, ℕ, ◌∷◌, ◌++◌, ◌+◌, ◌-◌, ◌^◌, ◌<◌, ◌≤◌, IfOk, OnOk, IsTrue, List, [], map, length, reverse, MatchOption};
 ghost use Rattle.rp_pattern.specs.Rests.{rises, pushed, without_first};
 
@@ -143,7 +144,8 @@ impl Choices {
             Turn::Open => Ok(Taken::Open),
             Turn::Split => {
                 drop_top(&mut self.stack);
-                push_split(&mut self.stack, depth, split)?;
+                push(&mut self.stack, depth, split.other)?;
+                push(&mut self.stack, depth, split.preferred)?;
                 Ok(Taken::Split)
             }
         }
@@ -268,14 +270,4 @@ fn push(stack: &mut Vec<Choice>, depth: usize, rests: Option<Rests>) -> Result<(
         stack.push(Choice { depth, rests })?;
     }
     Ok(())
-}
-
-/// Puts choices on a stack, the preferred one on top.
-#[inline(always)]
-fn push_split(stack: &mut Vec<Choice>, depth: usize, split: Split) -> Result<(), AllocError>
-    ensures pushed { OnOk result (reverse stack.new.items ≡ pushed depth split.preferred (pushed depth split.other (reverse stack.old.items))) }
-    ensures rises { IsTrue (rises depth (reverse stack.old.items)) → IsTrue (rises depth (reverse stack.new.items)) }
-{
-    push(stack, depth, split.other)?;
-    push(stack, depth, split.preferred)
 }

@@ -1,3 +1,4 @@
+//! Row patterns as trees.
 ghost use Rattle.std.specs.Prelude.{◌≡◌, IsTrue, IfOk, map};
 ghost use Rattle.rp_pattern.specs.Bounds.{is_allowed, bounds_hold};
 ghost use Rattle.rp_pattern.specs.Movement.{always_moves};

@@ -1,9 +1,10 @@
+//! Laws of the words, for callers.
 ghost use Rattle.rp_pattern.specs.LabelLaws.{LabelsBelow};
 ghost use Rattle.rp_pattern.specs.WordLaws.{WordsExtend, NoBoundStays, GreatBoundsAgree, GreatBoundsTakeAsMany, WordsEnd, WordsWait, WordsClose};
 
 /// The laws of the word list. More rows, or the close, leave a full word, and replace an open one in its own place by
-/// words that begin with its labels. Without an upper bound the rows are bound enough, for words and for turns. Words end within the known rows,
-/// an open one at the last of them, and over a closed end each is full.
+/// words that begin with its labels. Without an upper bound the rows are bound enough, for words and for turns. Words
+/// end within the known rows, an open one at the last of them, and over a closed end each is full.
 pub fn law_words()
     ensures extend { WordsExtend }
     ensures no_bound { NoBoundStays }

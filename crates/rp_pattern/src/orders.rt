@@ -1,3 +1,4 @@
+//! Permutations, and the one at a place of their order.
 ghost use Rattle.std.specs.Prelude.{◌≡◌, ◌≤◌, ◌<◌, ◌+◌, ◌∷◌, IfOk, drop, map};
 ghost use Rattle.rp_pattern.specs.Permutations.{upto, factorial, AreAllPermutations};
 ghost use Rattle.rp_pattern.specs.Words.{orders};

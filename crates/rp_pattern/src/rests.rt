@@ -1,3 +1,4 @@
+//! What is left of a pattern, as parts that choices share.
 ghost use Rattle.std.specs.Prelude.{◌≡◌, ℕ, ◌∷◌, ◌<◌, IfOk, IsTrue, length};
 ghost use Rattle.rp_pattern.specs.Bounds.{is_allowed};
 ghost use Rattle.rp_pattern.specs.Movement.{always_moves};

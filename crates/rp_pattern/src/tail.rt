@@ -1,3 +1,4 @@
+//! Later parts, linked.
 ghost use Rattle.std.specs.Prelude.{◌≡◌, ℕ, ◌∷◌, IfOk};
 ghost use Rattle.rp_pattern.specs.declared.word.End.{End};
 ghost use Rattle.rp_pattern.specs.Rests.{links_from, tail_links, tail_parts};

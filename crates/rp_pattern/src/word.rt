@@ -1,3 +1,4 @@
+//! Labels, words, and what is known of rows.
 use std::marker::Model;
 
 /// The variable that a row is mapped to, and whether `{- .. -}` leaves the row out of what is shown.
