@@ -1,3 +1,4 @@
+//! Texts with their tokens, their faults and what those tokens mean.
 ghost use Rattle.std.specs.Prelude.{◌≡◌, ◌⊎◌, All, IfOk};
 ghost use Rattle.rp_lexer.specs.Lexes.{IsToken};
 
@@ -303,15 +304,21 @@ fn literal(alloc: Global, text: &str, token: Token) -> Result<String, AllocError
 #[test]
 fn refused_meanings(rt: HostRuntime) -> Result<(), Fail> {
     let alloc = rt.alloc();
-    let text = "aB_1 \"a\"\"é\" 'it''s' 042";
+    let text = "aB_1 \"a\"\"é and far more\" 'it''s longer than that' 042";
     let tokens = lexed(alloc, text)?;
     assert_eq!(rt; tokens.len(), 4);
     assert!(rt; tokens[0].kind == TokenKind::Name);
     assert_eq!(rt; named(alloc, text, tokens[0])?.as_str(), "AB_1");
     assert!(rt; tokens[1].kind == TokenKind::Quoted);
-    assert_eq!(rt; named(alloc, text, tokens[1])?.as_str(), "a\"é");
+    assert_eq!(rt;
+        named(alloc, text, tokens[1])?.as_str(),
+        "a\"é and far more"
+    );
     assert!(rt; tokens[2].kind == TokenKind::Text);
-    assert_eq!(rt; literal(alloc, text, tokens[2])?.as_str(), "it's");
+    assert_eq!(rt;
+        literal(alloc, text, tokens[2])?.as_str(),
+        "it's longer than that"
+    );
     assert!(rt; tokens[3].kind == TokenKind::Number);
     assert_eq!(rt; number_of(text, tokens[3]), 42);
     Ok(())
