@@ -70,15 +70,13 @@ fn comparisons(rt: HostRuntime) -> Result<(), Fail> {
 #[test]
 fn keys_in_order(rt: HostRuntime) -> Result<(), Fail> {
     let alloc = rt.alloc();
-    let small = text(alloc, "B")?;
-    let great = text(alloc, "a")?;
     let values = vec![in alloc;
         Value::Null,
         Value::Int(LEAST),
         Value::Int(2),
         text(alloc, "")?,
-        small,
-        great,
+        text(alloc, "B")?,
+        text(alloc, "a")?,
         text(alloc, "é")?,
     ]?;
     for (place, value) in values.iter().enumerate() {
