@@ -1,4 +1,5 @@
--- What the scanners of one token find at the front of what is left of a text.
+-- What the scanners of one token find at the front of what is left of a text. No public contract cites it: it stands here
+-- since a contract may name only what is in specs/.
 use Rattle.std.specs.Prelude.{◌≡◌, ◌≢◌, ℕ, ◌<◌, ◌≤◌, Bool, true, false, if◌then◌else◌, Option, Some, None, List, [], ◌∷◌, length, map, take, slice_index}
 use Rattle.std.specs.Borrow.{Bor}
 use Rattle.std.specs.Str.{bytes_eq, str_eq_ignore_ascii_case}

@@ -11,7 +11,7 @@ pub enum TokenKind {
     Quoted,
     /// `'` .. `'`, with `''` for a quote inside.
     Text,
-    /// One or more decimal digits.
+    /// One or more decimal digits, of a value of at most 9223372036854775807.
     Number,
     /// A sign of one or two characters.
     Mark(Mark),
@@ -64,53 +64,98 @@ pub enum Mark {
     GreaterThan,
 }
 
-/// A reserved word.
+/// A reserved word, each with its spelling in upper case.
 #[derive(Clone, Copy, Debug, PartialEq, Eq)]
 pub enum Keyword {
+    /// `AFTER`
     After,
+    /// `ALL`
     All,
+    /// `AND`
     And,
+    /// `AS`
     As,
+    /// `ASC`
     Asc,
+    /// `BY`
     By,
+    /// `CLASSIFIER`
     Classifier,
+    /// `COUNT`
     Count,
+    /// `DEFINE`
     Define,
+    /// `DESC`
     Desc,
+    /// `EMPTY`
     Empty,
+    /// `FINAL`
     Final,
+    /// `FIRST`
     First,
+    /// `IS`
     Is,
+    /// `LAST`
     Last,
+    /// `MATCH`
     Match,
+    /// `MATCHES`
     Matches,
+    /// `MATCH_NUMBER`
     MatchNumber,
+    /// `MATCH_RECOGNIZE`
     MatchRecognize,
+    /// `MAX`
     Max,
+    /// `MEASURES`
     Measures,
+    /// `MIN`
     Min,
+    /// `NEXT`
     Next,
+    /// `NOT`
     Not,
+    /// `NULL`
     Null,
+    /// `OMIT`
     Omit,
+    /// `ONE`
     One,
+    /// `OR`
     Or,
+    /// `ORDER`
     Order,
+    /// `PARTITION`
     Partition,
+    /// `PAST`
     Past,
+    /// `PATTERN`
     Pattern,
+    /// `PER`
     Per,
+    /// `PERMUTE`
     Permute,
+    /// `PREV`
     Prev,
+    /// `ROW`
     Row,
+    /// `ROWS`
     Rows,
+    /// `RUNNING`
     Running,
+    /// `SHOW`
     Show,
+    /// `SKIP`
     Skip,
+    /// `SUBSET`
     Subset,
+    /// `SUM`
     Sum,
+    /// `TO`
     To,
+    /// `UNMATCHED`
     Unmatched,
+    /// `WITH`
     With,
 }
 

@@ -1,8 +1,9 @@
-ghost use Rattle.std.specs.Prelude.{All, IfOk};
+//! Texts with their tokens, their faults and what those tokens mean.
+ghost use Rattle.std.specs.Prelude.{◌≡◌, ◌⊎◌, All, IfOk};
 ghost use Rattle.rp_lexer.specs.Lexes.{IsToken};
 
 use crate::{Keyword, LexFault, Mark, Token, TokenKind, lex, name_of, number_of, text_of};
-use std::alloc::Global;
+use std::alloc::{AllocError, Global};
 use std::process::Abort;
 use std::test::Fail;
 
@@ -238,18 +239,86 @@ fn beyond_ascii(rt: HostRuntime) {
     check_fault(&rt, alloc, "aé", LexFault::BadChar(1));
 }
 
+// A call that is refused memory, made again, answers as with ample memory.
+
 #[test]
-fn meanings(rt: HostRuntime) -> Result<(), Fail> {
+fn refused_tokens(rt: HostRuntime) {
     let alloc = rt.alloc();
-    let text = "aB_1 \"a\"\"é\" 'it''s' 042";
+    let text = "pattern --'\n a \"b\"\"c\" 'it''s' 42 <= {- B";
+    check_tokens(
+        &rt,
+        alloc,
+        text,
+        &[
+            (TokenKind::Keyword(Keyword::Pattern), 0, 7),
+            (TokenKind::Name, 13, 14),
+            (TokenKind::Quoted, 15, 21),
+            (TokenKind::Text, 22, 29),
+            (TokenKind::Number, 30, 32),
+            (TokenKind::Mark(Mark::LessThanOrEquals), 33, 35),
+            (TokenKind::Mark(Mark::LeftBraceMinus), 36, 38),
+            (TokenKind::Name, 39, 40),
+        ],
+    );
+}
+
+#[test]
+fn refused_faults(rt: HostRuntime) {
+    let alloc = rt.alloc();
+    check_fault(
+        &rt,
+        alloc,
+        "a --\"\n \"b\"\"c\" 'd''e' 12 <> λ",
+        LexFault::BadChar(27),
+    );
+    check_fault(
+        &rt,
+        alloc,
+        "a --\"\n \"b\"\"c\" 'd''e' 12 <> 'f''",
+        LexFault::OpenText(27),
+    );
+}
+
+/// What `name_of` answers where memory is left: a call that is refused is made again.
+fn named(alloc: Global, text: &str, token: Token) -> Result<String, AllocError>
+    requires stands { IsToken text.now token }
+    requires name { (token.kind ≡ TokenKind.Name) ⊎ (token.kind ≡ TokenKind.Quoted) }
+{
+    match name_of(alloc, text, token) {
+        Err(_) => name_of(alloc, text, token),
+        found => found,
+    }
+}
+
+/// What `text_of` answers where memory is left: a call that is refused is made again.
+fn literal(alloc: Global, text: &str, token: Token) -> Result<String, AllocError>
+    requires stands { IsToken text.now token }
+    requires literal { token.kind ≡ TokenKind.Text }
+{
+    match text_of(alloc, text, token) {
+        Err(_) => text_of(alloc, text, token),
+        found => found,
+    }
+}
+
+#[test]
+fn refused_meanings(rt: HostRuntime) -> Result<(), Fail> {
+    let alloc = rt.alloc();
+    let text = "aB_1 \"a\"\"é and far more\" 'it''s longer than that' 042";
     let tokens = lexed(alloc, text)?;
     assert_eq!(rt; tokens.len(), 4);
     assert!(rt; tokens[0].kind == TokenKind::Name);
-    assert_eq!(rt; name_of(alloc, text, tokens[0])?.as_str(), "AB_1");
+    assert_eq!(rt; named(alloc, text, tokens[0])?.as_str(), "AB_1");
     assert!(rt; tokens[1].kind == TokenKind::Quoted);
-    assert_eq!(rt; name_of(alloc, text, tokens[1])?.as_str(), "a\"é");
+    assert_eq!(rt;
+        named(alloc, text, tokens[1])?.as_str(),
+        "a\"é and far more"
+    );
     assert!(rt; tokens[2].kind == TokenKind::Text);
-    assert_eq!(rt; text_of(alloc, text, tokens[2])?.as_str(), "it's");
+    assert_eq!(rt;
+        literal(alloc, text, tokens[2])?.as_str(),
+        "it's longer than that"
+    );
     assert!(rt; tokens[3].kind == TokenKind::Number);
     assert_eq!(rt; number_of(text, tokens[3]), 42);
     Ok(())

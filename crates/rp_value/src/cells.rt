@@ -1,14 +1,18 @@
 //! A list of values that clauses see as the list.
-ghost use Rattle.std.specs.Prelude.{◌≡◌, ◌↔◌, IsTrue, IfOk};
+ghost use Rattle.std.specs.Prelude.{◌≡◌, ◌↔◌, IsTrue, IfOk, refl};
 ghost use Rattle.std.specs.Hash as fed;
 ghost use Rattle.std.specs.Hash.{items_Alike};
-ghost use Rattle.std.specs.Cmp.Lexicographic.{pointwise, lists_per, lists_equiv};
+ghost use Rattle.std.specs.Cmp.{partial_order_from_agreeing_total};
+ghost use Rattle.std.specs.Cmp.Lexicographic.{pointwise, slice_cmp, lists_per, lists_equiv, lists_total, lists_ties};
+ghost use Rattle.std.specs.Ordering.{as_partial_cmp};
 ghost use Rattle.rp_value.specs.contracts.value.ValuePartialEq.TheImpl.Laws.{laws-law as value_per};
 ghost use Rattle.rp_value.specs.contracts.value.ValueEq.TheImpl.Laws.{laws-law as value_equiv};
+ghost use Rattle.rp_value.specs.contracts.value.ValueOrd.TheImpl.Laws.{total-law as value_total, matches_eq-law as value_ties};
 ghost use Rattle.rp_value.specs.contracts.value.ValueHash.TheImpl.Laws.{respects_eq-law as value_fed};
 
 use crate::Value;
 use std::alloc::{AllocError, Global};
+use std::cmp::Ordering;
 use std::hash::{Hash, Hasher};
 use std::marker::Model;
 
@@ -40,6 +44,32 @@ impl PartialEq for Cells {
 
 impl Eq for Cells {
     ghost laws = { lists_equiv value_equiv };
+}
+
+/// The order of the first values that differ; a list is above the lists that it begins with.
+impl Ord for Cells {
+    ghost cmp = { slice_cmp ⟦<Value as Ord>⟧.cmp };
+
+    ghost total = { lists_total value_total };
+
+    ghost matches_partial_cmp = { λ x y. refl };
+
+    ghost matches_eq = { lists_ties ⟦<Value as Ord>⟧.cmp value_ties };
+
+    fn cmp(&self, other: &Cells) -> Ordering {
+        self.values.cmp(&other.values)
+    }
+}
+
+impl PartialOrd for Cells {
+    ghost partial_cmp = { as_partial_cmp (slice_cmp ⟦<Value as Ord>⟧.cmp) };
+
+    ghost laws = { partial_order_from_agreeing_total (slice_cmp ⟦<Value as Ord>⟧.cmp) (lists_total value_total)
+        (λ x y. refl) (lists_ties ⟦<Value as Ord>⟧.cmp value_ties) };
+
+    fn partial_cmp(&self, other: &Cells) -> Option<Ordering> {
+        Some(self.cmp(other))
+    }
 }
 
 impl Hash for Cells {

@@ -15,7 +15,7 @@ pub use sum::{RunningSum, total};
 pub use table::{Column, MAX_NAME_LEN, Table, TableFault};
 pub use text::Text;
 pub use truth::{Judged, Tri, law_told_stays};
-pub use value::{Kind, Value};
+pub use value::{Kind, Value, law_key_order};
 
 #[cfg(test)]
 mod tests;

@@ -87,7 +87,7 @@ impl Row {
     }
 }
 
-/// Why values are no row of a table.
+/// Why values are no row of a table, the first reason in the order of the variants.
 #[derive(Clone, Copy, Debug, PartialEq, Eq, Error)]
 pub enum RowFault {
     /// Their number is not the number of columns.
@@ -96,6 +96,7 @@ pub enum RowFault {
     /// The value in this column, from 1, is neither null nor of the column's kind.
     #[error("kind {0}")]
     Kind(usize),
+    /// No memory was left for the row. It says nothing of the values.
     #[error("out of memory")]
     OutOfMemory,
 }

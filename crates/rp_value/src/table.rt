@@ -1,4 +1,4 @@
-//! Tables.
+//! Tables: the names and kinds of columns, and which lists of values are rows of them.
 ghost use Rattle.std.specs.Prelude.{◌≡◌, ◌↔◌, IsTrue, IfOk, IfErr, IfSome, None, not, position, zip, length, ◌<◌, ◌==◌, string_bytes};
 ghost use Rattle.std.specs.List.{list_any};
 ghost use Rattle.std.specs.Cmp.Lexicographic.{pointwise, lists_per, lists_equiv};
@@ -20,7 +20,10 @@ pub const MAX_NAME_LEN: usize = 128;
 /// A column of a table.
 #[derive(Debug, PartialEq, Eq, Drop)]
 pub struct Column {
+    /// The name as it was given, in its own case. In a table it has 1 to 128 bytes, and no
+    /// other column has it.
     pub name: Text,
+    /// What the column's cells may be beside null.
     pub kind: Kind,
 }
 
@@ -106,7 +109,8 @@ impl Table {
         same_columns(self.columns(), other.columns())
     }
 
-    /// An equal table: a further owner of the same columns.
+    /// An equal table: a further owner of the same columns. Nothing is copied; the error says
+    /// that the count of owners is full.
     pub fn share(&self) -> Result<Table, AllocError>
         ensures { IfOk result (λ table. table ≡ self.now) }
     {
@@ -118,13 +122,16 @@ impl Table {
 /// Why a list of columns is no table, the first reason in the order of the variants.
 #[derive(Clone, Copy, Debug, PartialEq, Eq, Error)]
 pub enum TableFault {
+    /// The list is empty.
     #[error("NoColumns")]
     NoColumns,
     /// A name is empty or above 128 bytes.
     #[error("BadName")]
     BadName,
+    /// Two columns have the same name, byte by byte.
     #[error("DoubleName")]
     DoubleName,
+    /// No memory was left for the table. It says nothing of the list.
     #[error("out of memory")]
     OutOfMemory,
 }

@@ -27,11 +27,19 @@ fn sales(alloc: Global) -> Result<Table, TableFault> {
     Table::new(alloc, headings(alloc)?)
 }
 
-/// What a table of one column of this name is refused with.
-fn refusal(alloc: Global, name: &str) -> Result<Option<TableFault>, AllocError> {
+/// One column of this name.
+fn heading(alloc: Global, name: &str) -> Result<Vec<(String, Kind)>, AllocError> {
     let named = column(alloc, name, Kind::Int)?;
-    let columns = vec![in alloc; named]?;
-    Ok(Table::new(alloc, columns).err())
+    Ok(vec![in alloc; named]?)
+}
+
+/// What a table of one column of this name is refused with, want of memory aside.
+fn refusal(alloc: Global, name: &str) -> Result<Option<TableFault>, TableFault> {
+    let fault = Table::new(alloc, heading(alloc, name)?).err();
+    if fault == Some(TableFault::OutOfMemory) {
+        return Err(TableFault::OutOfMemory);
+    }
+    Ok(fault)
 }
 
 /// The order of two texts.
@@ -56,6 +64,33 @@ fn comparisons(rt: HostRuntime) -> Result<(), Fail> {
     for (left, right, expected) in texts {
         assert_eq!(rt; order(alloc, left, right)?, Some(expected));
     }
+    Ok(())
+}
+
+#[test]
+fn keys_in_order(rt: HostRuntime) -> Result<(), Fail> {
+    let alloc = rt.alloc();
+    let values = vec![in alloc;
+        Value::Null,
+        Value::Int(LEAST),
+        Value::Int(2),
+        text(alloc, "")?,
+        text(alloc, "B")?,
+        text(alloc, "a")?,
+        text(alloc, "é")?,
+    ]?;
+    for (place, value) in values.iter().enumerate() {
+        for (other_place, other) in values.iter().enumerate() {
+            assert_eq!(rt; value.cmp(other), place.cmp(&other_place));
+            assert_eq!(rt; value < other, place < other_place);
+        }
+    }
+    let front = Cells::new(vec![in alloc; Value::Int(1)]?);
+    let long = Cells::new(vec![in alloc; Value::Int(1), Value::Null]?);
+    let high = Cells::new(vec![in alloc; Value::Int(2)]?);
+    assert_eq!(rt; front.cmp(&long), Ordering::Less);
+    assert_eq!(rt; high.cmp(&long), Ordering::Greater);
+    assert!(rt; front < high);
     Ok(())
 }
 

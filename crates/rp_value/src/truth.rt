@@ -7,8 +7,11 @@ ghost use Rattle.rp_value.specs.TruthLaws.{ToldStays};
 /// (ISO/IEC 9075-2:2016, boolean value expression).
 #[derive(Clone, Copy, Debug, PartialEq, Eq, Hash)]
 pub enum Tri {
+    /// The condition holds.
     True,
+    /// The condition doesn't hold.
     False,
+    /// Neither: something that the condition compares is null.
     Unknown,
 }
 
@@ -50,7 +53,9 @@ impl Tri {
 /// The truth value of a condition, or `Open` where it depends on rows that have not come.
 #[derive(Clone, Copy, Debug, PartialEq, Eq, Hash)]
 pub enum Judged {
+    /// The rows that have come settle it: none that come later change it.
     Told(Tri),
+    /// It depends on rows that have not come.
     Open,
 }
 

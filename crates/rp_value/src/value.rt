@@ -2,7 +2,7 @@
 ghost use Rattle.std.specs.Prelude.{◌≡◌, ◌+ℤ◌, ◌-ℤ◌, ◌*ℤ◌, IfOk};
 ghost use Rattle.std.specs.Option.{option_map_or};
 ghost use Rattle.rp_value.specs.Arithmetic.{on_numbers};
-ghost use Rattle.rp_value.specs.Compared.{comparison};
+ghost use Rattle.rp_value.specs.Compared.{comparison, key_order};
 ghost use Rattle.rp_value.specs.Rows.{admits};
 
 use crate::Text;
@@ -12,7 +12,9 @@ use std::cmp::Ordering;
 /// The kind of a column.
 #[derive(Clone, Copy, Debug, PartialEq, Eq, Hash)]
 pub enum Kind {
+    /// Whole numbers of 64 bits with sign.
     Int,
+    /// Texts of any length.
     Text,
 }
 
@@ -30,12 +32,16 @@ impl Kind {
 
 /// A cell of a row, or the result of an expression.
 ///
-/// `==` is equality of values, for which null equals null, as in a partition's key.
-/// What a condition asks is `compare`.
-#[derive(Debug, PartialEq, Eq, Hash, Drop)]
+/// `==`, the order and the hash are those of a key of a map: null equals null and is below
+/// all numbers, and numbers are below texts. They are not SQL's comparison: what a condition
+/// asks is `compare`.
+#[derive(Debug, PartialEq, Eq, PartialOrd, Ord, Hash, Drop)]
 pub enum Value {
+    /// No value. A column of any kind may hold it.
     Null,
+    /// A whole number.
     Int(i64),
+    /// A text, which may be empty: that is another value than null.
     Text(Text),
 }
 
@@ -96,6 +102,12 @@ impl Value {
         }
     }
 }
+
+/// The law that in the order of keys null is first, then whole numbers by their size, then
+/// texts by their bytes.
+pub fn law_key_order()
+    ensures { (a b : Value) → ⟦<Value as Ord>⟧.cmp a b ≡ key_order a b }
+{}
 
 /// A whole number, or null where there is none.
 pub(crate) fn null_if_none(number: Option<i64>) -> Value
