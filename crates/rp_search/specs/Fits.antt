@@ -77,7 +77,7 @@ AreAdmitted (Some probe) c n e test = Explores c probe n e test
 unfoldable pub ChoicesStand : Search → ℕ → End → Test → Type 0
 ChoicesStand s n e test = Stands s.choices n e test
 
--- so do its labels
+-- the labels of a search are tested true, all but a last one whose test was open
 unfoldable pub LabelsStand : Search → ℕ → End → Test → Type 0
 LabelsStand s n e test = AreAdmitted s.probe s.choices n e test
 

@@ -1,3 +1,4 @@
+//! What a search tells its tests and asks them: which labels stay, which one is new, and what its row comes to.
 ghost use Rattle.std.specs.Prelude.{◌≡◌, ℕ, ◌+◌, ◌≤◌, List, length, IfOk, OnOk};
 ghost use Rattle.rp_pattern.specs.Choices.{start_of, entered, IsSameWhole};
 ghost use Rattle.rp_search.specs.Fits.{Stands, StandsAtRow};

@@ -1,3 +1,4 @@
+//! Tests of whole searches. What is expected is worked out by hand.
 mod grid;
 mod refused;
 mod script;
@@ -90,7 +91,8 @@ fn open_test_is_asked_again(rt: HostRuntime) -> Result<(), Fail> {
     Ok(())
 }
 
-/// One row more at a time, and then the close. Each row is entered once for A and once for B.
+/// One row more at a time, and then the close. Each row is entered once for A and once for B, unless a stage that met a
+/// refusal begins again.
 #[test]
 fn goes_on_row_by_row(rt: HostRuntime) -> Result<(), Fail> {
     let alloc = rt.alloc();
@@ -106,7 +108,15 @@ fn goes_on_row_by_row(rt: HostRuntime) -> Result<(), Fail> {
         let pattern = both(alloc, any(alloc, a())?, b())?;
         let played = play(alloc, pattern, grid, &stages, budget, MANY)?;
         assert_eq!(rt; played.outcomes.as_str(), "waits waits waits waits none ");
-        assert_eq!(rt; played.calls.as_str(), "A |AA |AAA |AAAA |AAAB AAB AB B |");
+        let calls = [
+            "A |AA |AAA |AAAA |AAAB AAB AB B |",
+            "!A |AA |AAA |AAAA |AAAB AAB AB B |",
+            "A |!A AA |AAA |AAAA |AAAB AAB AB B |",
+            "A |AA |!A AA AAA |AAAA |AAAB AAB AB B |",
+            "A |AA |AAA |!A AA AAA AAAA |AAAB AAB AB B |",
+            "A |AA |AAA |AAAA |!A AA AAA AAAA AAAB AAB AB B |",
+        ];
+        assert!(rt; calls.contains(&played.calls.as_str()));
     }
     Ok(())
 }
@@ -148,9 +158,9 @@ fn rows_are_entered_one_by_one(rt: HostRuntime) -> Result<(), Fail> {
         Grid::new(alloc, 0),
         &[(40, End::Closed)],
         10,
-        1,
+        2,
     )?;
     assert_eq!(rt; played.outcomes.as_str(), "A ");
-    assert_eq!(rt; played.entries, 1);
+    assert!(rt; ["A |", "!A |"].contains(&played.calls.as_str()));
     Ok(())
 }

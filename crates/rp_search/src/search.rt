@@ -1,3 +1,5 @@
+//! A search takes up one choice a turn. Between its runs it keeps the choices that are not given up, and one list of labels
+//! that is cut back to the choice at hand.
 ghost use Rattle.std.specs.Prelude.{◌≡◌, ◌≢◌, ℕ, ◌+◌, ◌-◌, ◌^◌, ◌<◌, ◌≤◌, List, [], ◌∷◌, ◌++◌, length, take, None, IfOk, OnOk, OnErr};
 ghost use Rattle.rp_pattern.specs.declared.word.End.{End};
 ghost use Rattle.rp_pattern.specs.declared.word.End.TheVariants.{Closed};
@@ -94,6 +96,7 @@ impl Search {
         ensures taken { OnOk result (left_of self.new (T.rows tests.old) (T.ending tests.old) (T.outcome tests.old (start_of_search self.old)) + steps.new ≤ left_of self.old (T.rows tests.old) (T.ending tests.old) (T.outcome tests.old (start_of_search self.old)) + steps.old + 1) }
         ensures turns { steps.new ≤ steps.old + budget }
         ensures spent { result ≡ Ok Outcome.Paused → steps.new ≡ steps.old + budget }
+        ensures ticked { 0 < budget → OnOk result (steps.old < steps.new) }
         ensures counted { T.entries tests.new + steps.old ≤ T.entries tests.old + steps.new }
         ensures enters { T.entries tests.new ≤ T.entries tests.old + budget }
 
@@ -157,6 +160,7 @@ impl Search {
         ensures steps { steps.new ≤ steps.old + budget }
         ensures taken { OnOk result (left_of self.new (T.rows tests.old) (T.ending tests.old) (T.outcome tests.old (start_of_search self.old)) + steps.new ≤ left_of self.old (T.rows tests.old) (T.ending tests.old) (T.outcome tests.old (start_of_search self.old)) + steps.old + 1) }
         ensures spent { result ≡ Ok Outcome.Paused → steps.new ≡ steps.old + budget }
+        ensures ticked { 0 < budget → OnOk result (steps.old < steps.new) }
         ensures counted { T.entries tests.new + steps.old ≤ T.entries tests.old + steps.new }
         ensures entered { OnOk result (T.entered tests.new (start_of_search self.new) (labels_of_search self.new)) }
         ensures fits { OnOk result (Fits self.new (T.rows tests.old) (T.ending tests.old) (T.outcome tests.old (start_of_search self.old))) }

@@ -1,3 +1,4 @@
+//! The tests' own rows, with a written answer for each.
 ghost use Rattle.std.specs.Prelude.{◌≡◌, ℕ, ◌+◌, ◌-◌, ◌^◌, ◌<◌, ◌≤◌, [], IfOk, IsTrue, slice_get};
 ghost use Rattle.rp_search.specs.Grid.{grid_outcome, may_go_on, row_answer, written};
 ghost use Rattle.rp_search.specs.GridDecides.{grid_decides};

@@ -1,3 +1,4 @@
+//! Searches over stages, for the tests.
 ghost use Rattle.std.specs.Prelude.{◌≡◌, ℕ, ◌<◌, ◌≤◌, [], IfOk, OnOk};
 ghost use Rattle.rp_search.specs.Grid.{grid_outcome};
 ghost use Rattle.rp_search.specs.Fits.{Fits, start_of_search, labels_of_search};

@@ -1,3 +1,4 @@
+//! What would follow a row whose test is open: it decides whether there is anything to wait for.
 ghost use Rattle.std.specs.Prelude.{◌≡◌, ℕ, ◌+◌, ◌≤◌, None, IfOk, OnOk};
 ghost use Rattle.rp_pattern.specs.declared.word.Seen.TheVariants.{Open as OpenTest};
 
