@@ -13,7 +13,7 @@ use Rattle.rp_pattern.specs.declared.choices.Choices.{Choices}
 use Rattle.rp_pattern.specs.WordLaws.{IsLater}
 use Rattle.rp_pattern.specs.Choices.{AtRow, start_of, entered, whole, whole_left, remaining, left, below, below_left, after, after_left, IsFront, IsShorterFront, IsSameWhole, IsSplit, MapsRow as TakesRow, IsFullWord, IsOpenWord, IsNothing}
 use Rattle.rp_search.specs.Found.{Test, tested, Stays, TestsStay, found, Match, NoMatch, Waits}
-use Rattle.rp_search.specs.Fits.{rows_from, RefusedBefore, Stands, MapsRow, Explores}
+use Rattle.rp_search.specs.Fits.{rows_from, RefusedBefore, Stands, StandsAtRow, Explores}
 use Rattle.rp_search.specs.Turned.{Goes}
 use Rattle.rp_search.proofs.FoundLaws.{itself_stays, tested_stays}
 use Rattle.rp_search.proofs.Tested.{tested_take, refused_row, before_more, before_stays, found_before, full_matches, open_waits, begun_waits, last_decides, cut_admitted}
@@ -73,7 +73,7 @@ stands_row old new n e test s keeps t =
     (λ n' e' h. subst (λ ws. RefusedBefore (rows_from (start_of old) n) test (whole old n' e') ws) (t.was n' e' h ∙ sym (t.now n' e' h)) (s.words n' e' h))
     (λ n' e' h. omega (arith, t.same_left n' e' h, s.turns n' e' h))
 
-pub maps_row : (old new : Choices) (n : ℕ) (e : End) (test : Test) → tested test (entered old) ≡ True → TakesRow old new n e → MapsRow new n e test
+pub maps_row : (old new : Choices) (n : ℕ) (e : End) (test : Test) → tested test (entered old) ≡ True → TakesRow old new n e → StandsAtRow new n e test
 maps_row old new n e test h t =
     record {
       at_row = t.at_row;
@@ -87,11 +87,11 @@ maps_row old new n e test h t =
     }
 
 -- the last label's test decides
-pub row_decides : (c : Choices) (n : ℕ) (e : End) (test : Test) → MapsRow c n e test → tested test (entered c) ≡ test (entered c)
+pub row_decides : (c : Choices) (n : ℕ) (e : End) (test : Test) → StandsAtRow c n e test → tested test (entered c) ≡ test (entered c)
 row_decides c n e test r = last_decides r.before r.last (entered c) test r.labels r.admitted
 
 -- a row that is admitted
-pub goes_admitted : (old new : Choices) (n : ℕ) (e : End) (test : Test) → Stands old n e test → MapsRow old n e test → test (entered old) ≡ True → IsSameWhole old new →
+pub goes_admitted : (old new : Choices) (n : ℕ) (e : End) (test : Test) → Stands old n e test → StandsAtRow old n e test → test (entered old) ≡ True → IsSameWhole old new →
     entered new ≡ entered old → ((n' : ℕ) (e' : End) → remaining new n' e' ≡ map (preceded (entered old)) (after old n' e') ++ below old n' e') → ((n' : ℕ) (e' : End) → left new n' e' ≡ after_left old n' e' + below_left old n' e') → Goes old new n e test
 goes_admitted old new n e test s r seen keeps labels words turns =
     record {
@@ -111,7 +111,7 @@ pub record GivesUp (old new : Choices) : Type 0 where
   pub turns : (n : ℕ) (e : End) → left new n e ≡ below_left old n e
 
 -- a row whose choice is given up, where its words are refused or there are none
-goes_without : (old new : Choices) (n : ℕ) (e : End) (test : Test) → Stands old n e test → MapsRow old n e test → IsSameWhole old new → GivesUp old new →
+goes_without : (old new : Choices) (n : ℕ) (e : End) (test : Test) → Stands old n e test → StandsAtRow old n e test → IsSameWhole old new → GivesUp old new →
     ((n' : ℕ) (e' : End) → IsLater n e n' e' → RefusedBefore (rows_from (start_of old) n) test (whole old n' e') (below old n' e')) → Goes old new n e test
 goes_without old new n e test s r keeps g words =
     let off : IsShorterFront (entered new) (entered old) = g.cut_off r.at_row in
@@ -124,18 +124,18 @@ goes_without old new n e test s r keeps g words =
       turns = omega (arith, g.turns n e, r.turns n e (now_later n e));
     }
 
-row_words : (old : Choices) (n : ℕ) (e : End) (test : Test) → Stands old n e test → MapsRow old n e test → (n' : ℕ) (e' : End) → IsLater n e n' e' →
+row_words : (old : Choices) (n : ℕ) (e : End) (test : Test) → Stands old n e test → StandsAtRow old n e test → (n' : ℕ) (e' : End) → IsLater n e n' e' →
     RefusedBefore (rows_from (start_of old) n) test (whole old n' e') (map (preceded (entered old)) (after old n' e') ++ below old n' e')
 row_words old n e test s r n' e' h = subst (λ ws. RefusedBefore (rows_from (start_of old) n) test (whole old n' e') ws) (r.words n' e' h) (s.words n' e' h)
 
-pub goes_refused : (old new : Choices) (n : ℕ) (e : End) (test : Test) → Stands old n e test → MapsRow old n e test → test (entered old) ≡ NotTrue → IsSameWhole old new → GivesUp old new → Goes old new n e test
+pub goes_refused : (old new : Choices) (n : ℕ) (e : End) (test : Test) → Stands old n e test → StandsAtRow old n e test → test (entered old) ≡ NotTrue → IsSameWhole old new → GivesUp old new → Goes old new n e test
 goes_refused old new n e test s r seen keeps g =
     goes_without old new n e test s r keeps g
     (λ n' e' h. before_more (rows_from (start_of old) n) test (whole old n' e') (map (preceded (entered old)) (after old n' e')) (below old n' e')
     (row_words old n e test s r n' e' h)
     (refused_row (entered old) (after old n' e') (rows_from (start_of old) n) test s.known (row_decides old n e test r ∙ seen)))
 
-pub goes_wordless : (old new : Choices) (n : ℕ) (e : End) (test : Test) → Stands old n e test → MapsRow old n e test → ((n' : ℕ) (e' : End) → IsLater n e n' e' → after old n' e' ≡ []) → IsSameWhole old new → GivesUp old new → Goes old new n e test
+pub goes_wordless : (old new : Choices) (n : ℕ) (e : End) (test : Test) → Stands old n e test → StandsAtRow old n e test → ((n' : ℕ) (e' : End) → IsLater n e n' e' → after old n' e' ≡ []) → IsSameWhole old new → GivesUp old new → Goes old new n e test
 goes_wordless old new n e test s r none keeps g =
     goes_without old new n e test s r keeps g
     (λ n' e' h. subst (λ ws. RefusedBefore (rows_from (start_of old) n) test (whole old n' e') (map (preceded (entered old)) ws ++ below old n' e')) (none n' e' h) (row_words old n e test s r n' e' h))
@@ -157,7 +157,7 @@ finds_none old new n e test s t =
     found_remaining old n e test s ∙ ap (found test) (t.was n e (now_later n e))
 
 -- where a row's test is open, and something would follow it
-pub finds_begun : (c : Choices) (n : ℕ) (e : End) (test : Test) (w : Mapping) (ws : List Mapping) → Stands c n e test → MapsRow c n e test → test (entered c) ≡ OpenTest → after c n e ≡ w ∷ ws → found test (whole c n e) ≡ Waits
+pub finds_begun : (c : Choices) (n : ℕ) (e : End) (test : Test) (w : Mapping) (ws : List Mapping) → Stands c n e test → StandsAtRow c n e test → test (entered c) ≡ OpenTest → after c n e ≡ w ∷ ws → found test (whole c n e) ≡ Waits
 finds_begun c n e test w ws s r seen follows =
     found_remaining c n e test s
     ∙ ap (found test) (r.words n e (now_later n e) ∙ ap (λ xs. map (preceded (entered c)) xs ++ below c n e) follows)
@@ -193,7 +193,7 @@ module _ (n n' : ℕ) (e e' : End) (test test' : Test) (later : IsLater n e n' e
   pub true_later : (ls : List Label) (r : ℕ) → TestsStay r test test' → length ls ≤ r → tested test ls ≡ True → tested test' ls ≡ True
   true_later ls r stay le h = subst (λ z. Stays z (tested test' ls)) h (tested_stays ls test test' (λ ms k. stay ms (omega (arith, k, le))))
 
-  pub maps_later : (c : Choices) → TestsStay (rows_from (start_of c) n) test test' → length (entered c) ≤ rows_from (start_of c) n → MapsRow c n e test → MapsRow c n' e' test'
+  pub maps_later : (c : Choices) → TestsStay (rows_from (start_of c) n) test test' → length (entered c) ≤ rows_from (start_of c) n → StandsAtRow c n e test → StandsAtRow c n' e' test'
   maps_later c stay known r =
       record {
         at_row = r.at_row;

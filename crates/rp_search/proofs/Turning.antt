@@ -11,7 +11,7 @@ use Rattle.rp_search.specs.declared.search.Search.{Search}
 use Rattle.rp_pattern.specs.WordLaws.{IsLater}
 use Rattle.rp_pattern.specs.Choices.{start_of, entered, whole, remaining, left, below, below_left, after, after_left, IsSameWhole, IsFullWord, IsOpenWord, IsNothing}
 use Rattle.rp_search.specs.Found.{Test, tested, found, Waits}
-use Rattle.rp_search.specs.Fits.{Stands, MapsRow, Explores, AreAdmitted, Fits, unless_open, left_in}
+use Rattle.rp_search.specs.Fits.{Stands, StandsAtRow, Explores, AreAdmitted, Fits, ChoicesStand, LabelsStand, unless_open, left_in}
 use Rattle.rp_search.specs.Turned.{AsksTheSame, Goes, Searches}
 use Rattle.rp_search.proofs.Fitting.{GivesUp, now_later, finds_begun, goes_wordless}
 
@@ -25,6 +25,7 @@ open_end ClosedEnd h = absurd (h refl)
 
 -- where no row is explored, the labels are tested true, and the turns left are those of the choices
 pub searches_plainly : (c : Choices) (p : Option Choices) (n : ℕ) (e : End) (test : Test) → p ≡ None → Stands c n e test → tested test (entered c) ≡ True → Searches (record { choices = c; probe = p }) n e test
+unfolding ChoicesStand LabelsStand
 searches_plainly c p n e test none s h =
     subst (λ q. Searches (record { choices = c; probe = q }) n e test) (sym none) (record { fits = record { stands = s; labels = h }; is_open = tt })
 

@@ -52,7 +52,7 @@ pub record Stands (c : Choices) (n : ℕ) (e : End) (test : Test) : Type 0 where
   pub turns : (n' : ℕ) (e' : End) → IsLater n e n' e' → left c n' e' ≤ whole_left c n' e'
 
 -- The preferred choice maps a row, whose label is the last. The labels before it are tested true.
-pub record MapsRow (c : Choices) (n : ℕ) (e : End) (test : Test) : Type 0 where
+pub record StandsAtRow (c : Choices) (n : ℕ) (e : End) (test : Test) : Type 0 where
   pub at_row : AtRow c
   pub has_top : HasTop c
   pub before : List Label
@@ -64,7 +64,7 @@ pub record MapsRow (c : Choices) (n : ℕ) (e : End) (test : Test) : Type 0 wher
 
 -- Further choices stand for what would follow that row.
 pub record Explores (c probe : Choices) (n : ℕ) (e : End) (test : Test) : Type 0 where
-  pub row : MapsRow c n e test
+  pub row : StandsAtRow c n e test
   pub words : (n' : ℕ) (e' : End) → IsLater n e n' e' → remaining probe n' e' ≡ after c n' e'
   pub turns : (n' : ℕ) (e' : End) → IsLater n e n' e' → left probe n' e' ≤ after_left c n' e'
 
@@ -73,10 +73,18 @@ abbrev pub AreAdmitted : Option Choices → Choices → ℕ → End → Test →
 AreAdmitted None c n e test = tested test (entered c) ≡ True
 AreAdmitted (Some probe) c n e test = Explores c probe n e test
 
+-- the choices of a search stand where the tests say
+unfoldable pub ChoicesStand : Search → ℕ → End → Test → Type 0
+ChoicesStand s n e test = Stands s.choices n e test
+
+-- the labels of a search are tested true, all but a last one whose test was open
+unfoldable pub LabelsStand : Search → ℕ → End → Test → Type 0
+LabelsStand s n e test = AreAdmitted s.probe s.choices n e test
+
 -- A search fits the tests over the rows 1 to n and that end.
 pub record Fits (s : Search) (n : ℕ) (e : End) (test : Test) : Type 0 where
-  pub stands : Stands s.choices n e test
-  pub labels : AreAdmitted s.probe s.choices n e test
+  pub stands : ChoicesStand s n e test
+  pub labels : LabelsStand s n e test
 
 -- while a test is open, what would follow is left in place of what the choice stands for
 abbrev pub unless_open : Seen → ℕ → ℕ → ℕ

@@ -3,3 +3,4 @@ pub mod Fits
 pub mod Turned
 pub mod Counts
 pub mod Grid
+pub mod GridDecides

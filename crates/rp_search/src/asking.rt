@@ -1,6 +1,7 @@
+//! What a search tells its tests and asks them: which labels stay, which one is new, and what its row comes to.
 ghost use Rattle.std.specs.Prelude.{◌≡◌, ℕ, ◌+◌, ◌≤◌, List, length, IfOk, OnOk};
 ghost use Rattle.rp_pattern.specs.Choices.{start_of, entered, IsSameWhole};
-ghost use Rattle.rp_search.specs.Fits.{Stands, MapsRow};
+ghost use Rattle.rp_search.specs.Fits.{Stands, StandsAtRow};
 ghost use Rattle.rp_search.specs.Turned.{AsksTheSame, AddsLabel, AreCutBack, Settled};
 
 use crate::conditions::Tests;
@@ -35,7 +36,7 @@ pub fn enter_row<T: Tests>(choices: &Choices, tests: &mut T) -> Result<(), Alloc
 pub fn settle<T: Tests>(choices: &mut Choices, tests: &mut T) -> Result<Seen, AllocError>
     requires known { start_of choices.old ≤ T.rows tests.old }
     requires stands { Stands choices.old (T.rows tests.old) (T.ending tests.old) (T.outcome tests.old (start_of choices.old)) }
-    requires row { MapsRow choices.old (T.rows tests.old) (T.ending tests.old) (T.outcome tests.old (start_of choices.old)) }
+    requires row { StandsAtRow choices.old (T.rows tests.old) (T.ending tests.old) (T.outcome tests.old (start_of choices.old)) }
     requires entered { T.entered tests.old (start_of choices.old) (entered choices.old) }
     ensures same { IsSameWhole choices.old choices.new }
     ensures asks { AsksTheSame (T.rows tests.old) (T.rows tests.new) (T.ending tests.old) (T.ending tests.new) (T.outcome tests.old) (T.outcome tests.new) }

@@ -1,11 +1,13 @@
+//! Tests of whole searches. What is expected is worked out by hand.
 mod grid;
+mod refused;
 mod script;
 mod table;
+mod turns;
 
-use crate::search::Outcome;
 use grid::Grid;
-use rp_pattern::{End, Form};
-use script::{a, b, both, either, one_run, outcomes, star};
+use rp_pattern::{End, Form, Seen};
+use script::{MANY, a, any, b, both, either, play};
 use std::test::Fail;
 
 /// A shorter match first, where nothing preferred waits.
@@ -13,8 +15,15 @@ use std::test::Fail;
 fn first_word_matches(rt: HostRuntime) -> Result<(), Fail> {
     let alloc = rt.alloc();
     let pattern = either(alloc, a(), both(alloc, a(), b())?)?;
-    let text = outcomes(alloc, pattern, Grid::new(alloc, 0), &[(1, End::Open)], 100)?;
-    assert_eq!(rt; text.as_str(), "A ");
+    let played = play(
+        alloc,
+        pattern,
+        Grid::new(alloc, 0),
+        &[(1, End::Open)],
+        100,
+        MANY,
+    )?;
+    assert_eq!(rt; played.outcomes.as_str(), "A ");
     Ok(())
 }
 
@@ -24,8 +33,8 @@ fn preferred_word_waits(rt: HostRuntime) -> Result<(), Fail> {
     let alloc = rt.alloc();
     let pattern = either(alloc, both(alloc, a(), b())?, a())?;
     let stages = [(1, End::Open), (1, End::Open), (1, End::Closed)];
-    let text = outcomes(alloc, pattern, Grid::new(alloc, 0), &stages, 100)?;
-    assert_eq!(rt; text.as_str(), "waits waits A ");
+    let played = play(alloc, pattern, Grid::new(alloc, 0), &stages, 100, MANY)?;
+    assert_eq!(rt; played.outcomes.as_str(), "waits waits A ");
     Ok(())
 }
 
@@ -34,14 +43,9 @@ fn preferred_word_waits(rt: HostRuntime) -> Result<(), Fail> {
 fn end_waits_for_a_row(rt: HostRuntime) -> Result<(), Fail> {
     let alloc = rt.alloc();
     let pattern = either(alloc, both(alloc, a(), Form::PartitionEnd)?, a())?;
-    let text = outcomes(
-        alloc,
-        pattern,
-        Grid::new(alloc, 0),
-        &[(1, End::Open), (2, End::Open)],
-        100,
-    )?;
-    assert_eq!(rt; text.as_str(), "waits A ");
+    let stages = [(1, End::Open), (2, End::Open)];
+    let played = play(alloc, pattern, Grid::new(alloc, 0), &stages, 100, MANY)?;
+    assert_eq!(rt; played.outcomes.as_str(), "waits A ");
     Ok(())
 }
 
@@ -50,9 +54,15 @@ fn end_waits_for_a_row(rt: HostRuntime) -> Result<(), Fail> {
 fn open_test_without_a_word(rt: HostRuntime) -> Result<(), Fail> {
     let alloc = rt.alloc();
     let pattern = either(alloc, both(alloc, a(), Form::PartitionStart)?, b())?;
-    let grid = Grid::new(alloc, 5);
-    let text = outcomes(alloc, pattern, grid, &[(2, End::Open)], 100)?;
-    assert_eq!(rt; text.as_str(), "B ");
+    let played = play(
+        alloc,
+        pattern,
+        Grid::new(alloc, 5),
+        &[(2, End::Open)],
+        100,
+        MANY,
+    )?;
+    assert_eq!(rt; played.outcomes.as_str(), "B ");
     Ok(())
 }
 
@@ -60,59 +70,66 @@ fn open_test_without_a_word(rt: HostRuntime) -> Result<(), Fail> {
 #[test]
 fn open_test_is_asked_again(rt: HostRuntime) -> Result<(), Fail> {
     let alloc = rt.alloc();
+    let third = [Seen::True, Seen::True, Seen::True, Seen::NotTrue];
+    let stages = [
+        (1, End::Open),
+        (2, End::Open),
+        (3, End::Open),
+        (4, End::Open),
+        (5, End::Open),
+        (5, End::Closed),
+    ];
     for budget in [1, 3, 100] {
-        let mut grid = Grid::new(alloc, 2);
-        grid.refuse_first(3)?;
-        let stages = [
-            (1, End::Open),
-            (2, End::Open),
-            (3, End::Open),
-            (4, End::Open),
-            (5, End::Open),
-            (5, End::Closed),
-        ];
-        let pattern = both(alloc, star(alloc, a())?, b())?;
-        let text = outcomes(alloc, pattern, grid, &stages, budget)?;
-        assert_eq!(rt; text.as_str(), "waits waits waits waits AAB AAB ");
+        let grid = Grid::answering(alloc, 2, &third, &[])?;
+        let pattern = both(alloc, any(alloc, a())?, b())?;
+        let played = play(alloc, pattern, grid, &stages, budget, MANY)?;
+        assert_eq!(rt;
+            played.outcomes.as_str(),
+            "waits waits waits waits AAB AAB "
+        );
     }
     Ok(())
 }
 
-/// One row more at a time, and then the close.
+/// One row more at a time, and then the close. Each row is entered once for A and once for B, unless a stage that met a
+/// refusal begins again.
 #[test]
 fn goes_on_row_by_row(rt: HostRuntime) -> Result<(), Fail> {
     let alloc = rt.alloc();
+    let stages = [
+        (1, End::Open),
+        (2, End::Open),
+        (3, End::Open),
+        (4, End::Open),
+        (4, End::Closed),
+    ];
     for budget in [1, 2, 1_000] {
-        let mut grid = Grid::new(alloc, 0);
-        for row in 1..5 {
-            grid.refuse_second(row)?;
-        }
-        let stages = [
-            (1, End::Open),
-            (2, End::Open),
-            (3, End::Open),
-            (4, End::Open),
-            (4, End::Closed),
+        let grid = Grid::answering(alloc, 0, &[], &[Seen::NotTrue; 5])?;
+        let pattern = both(alloc, any(alloc, a())?, b())?;
+        let played = play(alloc, pattern, grid, &stages, budget, MANY)?;
+        assert_eq!(rt; played.outcomes.as_str(), "waits waits waits waits none ");
+        let calls = [
+            "A |AA |AAA |AAAA |AAAB AAB AB B |",
+            "!A |AA |AAA |AAAA |AAAB AAB AB B |",
+            "A |!A AA |AAA |AAAA |AAAB AAB AB B |",
+            "A |AA |!A AA AAA |AAAA |AAAB AAB AB B |",
+            "A |AA |AAA |!A AA AAA AAAA |AAAB AAB AB B |",
+            "A |AA |AAA |AAAA |!A AA AAA AAAA AAAB AAB AB B |",
         ];
-        let pattern = both(alloc, star(alloc, a())?, b())?;
-        let text = outcomes(alloc, pattern, grid, &stages, budget)?;
-        assert_eq!(rt; text.as_str(), "waits waits waits waits none ");
+        assert!(rt; calls.contains(&played.calls.as_str()));
     }
     Ok(())
 }
 
-/// Each budget comes to the same answer, and each row is entered before the next word is listed.
+/// Each budget comes to the same answer.
 #[test]
 fn budgets_agree(rt: HostRuntime) -> Result<(), Fail> {
     let alloc = rt.alloc();
     for budget in [1, 1_000, 100_000] {
-        let mut grid = Grid::new(alloc, 0);
-        for row in 1..11 {
-            grid.refuse_second(row)?;
-        }
-        let pattern = both(alloc, star(alloc, either(alloc, a(), a())?)?, b())?;
-        let text = outcomes(alloc, pattern, grid, &[(10, End::Closed)], budget)?;
-        assert_eq!(rt; text.as_str(), "none ");
+        let grid = Grid::answering(alloc, 0, &[], &[Seen::NotTrue; 11])?;
+        let pattern = both(alloc, any(alloc, either(alloc, a(), a())?)?, b())?;
+        let played = play(alloc, pattern, grid, &[(10, End::Closed)], budget, MANY)?;
+        assert_eq!(rt; played.outcomes.as_str(), "none ");
     }
     Ok(())
 }
@@ -121,14 +138,11 @@ fn budgets_agree(rt: HostRuntime) -> Result<(), Fail> {
 #[test]
 fn forty_rows_pause(rt: HostRuntime) -> Result<(), Fail> {
     let alloc = rt.alloc();
-    let mut grid = Grid::new(alloc, 0);
-    for row in 1..41 {
-        grid.refuse_second(row)?;
-    }
-    let pattern = both(alloc, star(alloc, either(alloc, a(), a())?)?, b())?;
-    let (outcome, entries) = one_run(alloc, pattern, grid, 40, 1_000)?;
-    assert_eq!(rt; outcome, Outcome::Paused);
-    assert!(rt; entries <= 1_000);
+    let grid = Grid::answering(alloc, 0, &[], &[Seen::NotTrue; 41])?;
+    let pattern = both(alloc, any(alloc, either(alloc, a(), a())?)?, b())?;
+    let played = play(alloc, pattern, grid, &[(40, End::Closed)], 1_000, 1)?;
+    assert_eq!(rt; played.outcomes.as_str(), "paused ");
+    assert!(rt; played.entries <= 1_000);
     Ok(())
 }
 
@@ -136,14 +150,17 @@ fn forty_rows_pause(rt: HostRuntime) -> Result<(), Fail> {
 #[test]
 fn rows_are_entered_one_by_one(rt: HostRuntime) -> Result<(), Fail> {
     let alloc = rt.alloc();
-    let grid = Grid::new(alloc, 0);
-    let pattern = either(
+    let later = both(alloc, any(alloc, either(alloc, a(), a())?)?, b())?;
+    let pattern = either(alloc, a(), later)?;
+    let played = play(
         alloc,
-        a(),
-        both(alloc, star(alloc, either(alloc, a(), a())?)?, b())?,
+        pattern,
+        Grid::new(alloc, 0),
+        &[(40, End::Closed)],
+        10,
+        2,
     )?;
-    let (outcome, entries) = one_run(alloc, pattern, grid, 40, 10)?;
-    assert_eq!(rt; outcome, Outcome::Match);
-    assert_eq!(rt; entries, 1);
+    assert_eq!(rt; played.outcomes.as_str(), "A ");
+    assert!(rt; ["A |", "!A |"].contains(&played.calls.as_str()));
     Ok(())
 }

@@ -1,3 +1,4 @@
+//! What a search asks of the rows of a partition.
 ghost use Rattle.std.specs.Prelude.{◌≡◌, ◌≢◌, ℕ, ◌+◌, ◌-◌, ◌^◌, ◌<◌, ◌≤◌, List, [], ◌∷◌, ◌++◌, length, take, OnOk, OnErr};
 ghost use Rattle.rp_pattern.specs.declared.word.Label.{Label};
 ghost use Rattle.rp_pattern.specs.declared.word.End.{End};

@@ -1,3 +1,4 @@
+//! Laws over the definitions alone. A call does nothing, and its caller may then use them.
 ghost use Rattle.rp_search.specs.Found.{FoundStays, FoundResumes, ClosedDecides, RefusedPassed, RefusedAll};
 ghost use Rattle.rp_search.specs.Fits.{FitsStays, LeftIsBounded};
 

@@ -1,3 +1,5 @@
+//! A search takes up one choice a turn. Between its runs it keeps the choices that are not given up, and one list of labels
+//! that is cut back to the choice at hand.
 ghost use Rattle.std.specs.Prelude.{◌≡◌, ◌≢◌, ℕ, ◌+◌, ◌-◌, ◌^◌, ◌<◌, ◌≤◌, List, [], ◌∷◌, ◌++◌, length, take, None, IfOk, OnOk, OnErr};
 ghost use Rattle.rp_pattern.specs.declared.word.End.{End};
 ghost use Rattle.rp_pattern.specs.declared.word.End.TheVariants.{Closed};
@@ -40,10 +42,10 @@ pub struct Search {
     probe: Option<Choices>,
 }
 
-#[tactic(auto, unfolding(crate::specs::Fits::start_of_search, crate::specs::Fits::labels_of_search, crate::specs::Fits::pattern_words, crate::specs::Fits::most_turns, crate::specs::Fits::left_of))]
+#[tactic(auto, unfolding(crate::specs::Fits::start_of_search, crate::specs::Fits::labels_of_search, crate::specs::Fits::pattern_words, crate::specs::Fits::most_turns, crate::specs::Fits::left_of, crate::specs::Fits::ChoicesStand, crate::specs::Fits::LabelsStand))]
 impl Search {
     ghost use Rattle.rp_search.specs.Found.{Test, found, Match, NoMatch, Waits};
-    ghost use Rattle.rp_search.specs.Fits.{Fits, IsSameSearch, start_of_search, labels_of_search, pattern_words, most_turns, left_of, Stands, MapsRow};
+    ghost use Rattle.rp_search.specs.Fits.{Fits, IsSameSearch, start_of_search, labels_of_search, pattern_words, most_turns, left_of, Stands, StandsAtRow};
     ghost use Rattle.rp_search.specs.Turned.{AsksTheSame, AddsLabel, Searches, Turned};
 
     /// A search from the row `start`, which is at least 1.
@@ -88,11 +90,13 @@ impl Search {
         ensures waits { result ≡ Ok Outcome.Waits → found (T.outcome tests.old (start_of_search self.old)) (pattern_words self.old (T.rows tests.old) (T.ending tests.old)) ≡ Waits }
         ensures closed { T.ending tests.old ≡ Closed → result ≢ Ok Outcome.Waits }
 
-        // The number left falls by a turn at least with each turn, and never rises.
+        // The number left falls by one at least with each turn but the one that ends the search, and never rises.
         ensures paused { result ≡ Ok Outcome.Paused → left_of self.new (T.rows tests.old) (T.ending tests.old) (T.outcome tests.old (start_of_search self.old)) + budget ≤ left_of self.old (T.rows tests.old) (T.ending tests.old) (T.outcome tests.old (start_of_search self.old)) }
         ensures left { OnOk result (left_of self.new (T.rows tests.old) (T.ending tests.old) (T.outcome tests.old (start_of_search self.old)) ≤ left_of self.old (T.rows tests.old) (T.ending tests.old) (T.outcome tests.old (start_of_search self.old))) }
+        ensures taken { OnOk result (left_of self.new (T.rows tests.old) (T.ending tests.old) (T.outcome tests.old (start_of_search self.old)) + steps.new ≤ left_of self.old (T.rows tests.old) (T.ending tests.old) (T.outcome tests.old (start_of_search self.old)) + steps.old + 1) }
         ensures turns { steps.new ≤ steps.old + budget }
         ensures spent { result ≡ Ok Outcome.Paused → steps.new ≡ steps.old + budget }
+        ensures ticked { 0 < budget → OnOk result (steps.old < steps.new) }
         ensures counted { T.entries tests.new + steps.old ≤ T.entries tests.old + steps.new }
         ensures enters { T.entries tests.new ≤ T.entries tests.old + budget }
 
@@ -154,7 +158,9 @@ impl Search {
         ensures asks { AsksTheSame (T.rows tests.old) (T.rows tests.new) (T.ending tests.old) (T.ending tests.new) (T.outcome tests.old) (T.outcome tests.new) }
         ensures entries { T.entries tests.new ≤ T.entries tests.old + budget }
         ensures steps { steps.new ≤ steps.old + budget }
+        ensures taken { OnOk result (left_of self.new (T.rows tests.old) (T.ending tests.old) (T.outcome tests.old (start_of_search self.old)) + steps.new ≤ left_of self.old (T.rows tests.old) (T.ending tests.old) (T.outcome tests.old (start_of_search self.old)) + steps.old + 1) }
         ensures spent { result ≡ Ok Outcome.Paused → steps.new ≡ steps.old + budget }
+        ensures ticked { 0 < budget → OnOk result (steps.old < steps.new) }
         ensures counted { T.entries tests.new + steps.old ≤ T.entries tests.old + steps.new }
         ensures entered { OnOk result (T.entered tests.new (start_of_search self.new) (labels_of_search self.new)) }
         ensures fits { OnOk result (Fits self.new (T.rows tests.old) (T.ending tests.old) (T.outcome tests.old (start_of_search self.old))) }
@@ -259,7 +265,7 @@ impl Search {
         requires known { start_of_search self.old ≤ T.rows tests.old }
         requires none { self.old.probe ≡ None }
         requires stands { Stands self.old.choices (T.rows tests.old) (T.ending tests.old) (T.outcome tests.old (start_of_search self.old)) }
-        requires row { MapsRow self.old.choices (T.rows tests.old) (T.ending tests.old) (T.outcome tests.old (start_of_search self.old)) }
+        requires row { StandsAtRow self.old.choices (T.rows tests.old) (T.ending tests.old) (T.outcome tests.old (start_of_search self.old)) }
         requires new { AddsLabel (T.entered tests.old (start_of_search self.old)) (labels_of_search self.old) }
 
         ensures same { IsSameSearch self.old self.new }

@@ -1,3 +1,4 @@
+//! The count of turns. It is there for the proofs alone: no program can read it.
 ghost use Rattle.std.specs.Prelude.{◌≡◌, ℕ, ◌+◌, ◌<◌};
 
 use std::marker::Model;

@@ -1,60 +1,76 @@
-ghost use Rattle.std.specs.Prelude.{◌≡◌, ℕ, ◌+◌, ◌-◌, ◌^◌, ◌<◌, ◌≤◌, ◌==◌, [], IsTrue};
-ghost use Rattle.std.specs.List.{list_any};
-ghost use Rattle.rp_search.specs.Grid.{grid_outcome, grid_decides, row_answer, unless_listed};
+//! The tests' own rows, with a written answer for each.
+ghost use Rattle.std.specs.Prelude.{◌≡◌, ℕ, ◌+◌, ◌-◌, ◌^◌, ◌<◌, ◌≤◌, [], IfOk, IsTrue, slice_get};
+ghost use Rattle.rp_search.specs.Grid.{grid_outcome, may_go_on, row_answer, written};
+ghost use Rattle.rp_search.specs.GridDecides.{grid_decides};
 ghost use Rattle.rp_search.specs.Fits.{TestsExtend};
 
 use crate::conditions::Tests;
 use rp_pattern::{End, Label, Seen};
 use std::alloc::{AllocError, Global};
 
-/// Rows of which some are refused for A or for B. A's test is open where it reaches past the known rows.
+/// Rows with an answer for A and one for B. An answer that is open becomes true with the close. A's test is also open
+/// where it reaches past the known rows.
 #[derive(Drop)]
 pub struct Grid {
-    refused_first: Vec<u64>,
-    refused_second: Vec<u64>,
+    first: Vec<Seen>,
+    second: Vec<Seen>,
     reach: u64,
     known: u64,
     end: End,
     entered: Vec<Label>,
+    /// The labels at each call of `enter`, as letters and a space.
+    pub calls: String,
     pub entries: u64,
     ghost few: { known < 2 ^ 64 - 1 },
 }
 
 impl Grid {
-    /// A grid of no known row.
+    /// A grid of no known row. Each row is admitted for both.
     pub fn new(alloc: Global, reach: u64) -> Grid
         ensures none { result.entered.items ≡ [] }
     {
         Grid {
-            refused_first: Vec::new(alloc),
-            refused_second: Vec::new(alloc),
+            first: Vec::new(alloc),
+            second: Vec::new(alloc),
             reach,
             known: 0,
             end: End::Open,
             entered: Vec::new(alloc),
+            calls: String::new(alloc),
             entries: 0,
         }
     }
 
-    pub fn refuse_first(&mut self, row: u64) -> Result<(), AllocError>
-        ensures none { self.new.entered ≡ self.old.entered }
+    /// What is answered for the rows from 0 on.
+    pub fn answering(
+        alloc: Global,
+        reach: u64,
+        first: &[Seen],
+        second: &[Seen],
+    ) -> Result<Grid, AllocError>
+        ensures none { IfOk result (λ grid. grid.entered.items ≡ []) }
     {
-        self.refused_first.push(row)?;
-        Ok(())
+        let mut grid = Grid::new(alloc, reach);
+        grid.first.extend_from_slice(first)?;
+        grid.second.extend_from_slice(second)?;
+        Ok(grid)
     }
 
-    pub fn refuse_second(&mut self, row: u64) -> Result<(), AllocError>
-        ensures none { self.new.entered ≡ self.old.entered }
+    /// No row is known again, and none is entered.
+    pub fn begin(&mut self)
+        ensures none { self.new.entered.items ≡ [] }
     {
-        self.refused_second.push(row)?;
-        Ok(())
+        self.known = 0;
+        self.end = End::Open;
+        self.entered.clear();
+        self.calls.clear();
     }
 
     /// More rows, or the close. It answers whether these go on from what was known.
     pub fn advance(&mut self, known: u64, end: End) -> bool
         ensures none { self.new.entered ≡ self.old.entered }
         ensures some { IsTrue result → 1 ≤ self.new.known }
-        ensures extends { IsTrue result → TestsExtend 1 self.old.known self.old.end (grid_outcome self.old.refused_first.items self.old.refused_second.items self.old.reach self.old.known self.old.end 1) self.new.known self.new.end (grid_outcome self.new.refused_first.items self.new.refused_second.items self.new.reach self.new.known self.new.end 1) }
+        ensures extends { IsTrue result → TestsExtend 1 self.old.known self.old.end (grid_outcome self.old.first.items self.old.second.items self.old.reach self.old.known self.old.end 1) self.new.known self.new.end (grid_outcome self.new.first.items self.new.second.items self.new.reach self.new.known self.new.end 1) }
     {
         if self.end == End::Closed || known < self.known || known == 0 || known == u64::MAX {
             return false;
@@ -64,22 +80,30 @@ impl Grid {
         true
     }
 
-    fn answer(&self, row: u64, var: usize) -> Seen
-        requires { row ≤ self.now.known }
-        ensures { result ≡ row_answer self.now.refused_first.items self.now.refused_second.items self.now.reach self.now.known self.now.end row var }
+    /// The calls of `enter` are forgotten.
+    pub fn forget(&mut self)
+        ensures first { self.new.first ≡ self.old.first }
+        ensures second { self.new.second ≡ self.old.second }
+        ensures reach { self.new.reach ≡ self.old.reach }
+        ensures known { self.new.known ≡ self.old.known }
+        ensures end { self.new.end ≡ self.old.end }
+        ensures entered { self.new.entered ≡ self.old.entered }
     {
+        self.calls.clear();
+    }
+
+    /// What is answered for a row and a variable.
+    pub fn answer(&self, row: u64, var: usize) -> Seen
+        ensures { result ≡ row_answer self.now.first.items self.now.second.items self.now.reach self.now.known self.now.end row var }
+    {
+        let is_open = self.end == End::Open;
         if var != 0 {
-            return seen_at(&self.refused_second, row);
+            return written(&self.second, row, is_open);
         }
-        match self.end {
-            End::Closed => seen_at(&self.refused_first, row),
-            End::Open => {
-                if self.known - row < self.reach {
-                    return Seen::Open;
-                }
-                seen_at(&self.refused_first, row)
-            }
+        if is_open && self.known.saturating_sub(row) < self.reach {
+            return Seen::Open;
         }
+        written(&self.first, row, is_open)
     }
 }
 
@@ -88,7 +112,7 @@ impl Tests for Grid {
 
     ghost ending = { λ t. t.end };
 
-    ghost outcome = { λ t start labels. grid_outcome t.refused_first.items t.refused_second.items t.reach t.known t.end start labels };
+    ghost outcome = { λ t start labels. grid_outcome t.first.items t.second.items t.reach t.known t.end start labels };
 
     ghost entered = { λ t start labels. t.entered.items ≡ labels };
 
@@ -96,7 +120,7 @@ impl Tests for Grid {
 
     ghost few = { λ t. t.few };
 
-    ghost decided = { λ t start labels. grid_decides t.refused_first.items t.refused_second.items t.reach t.known t.end start labels };
+    ghost decided = { λ t start labels. grid_decides t.first.items t.second.items t.reach t.known t.end start labels };
 
     fn known(&self) -> u64 {
         self.known
@@ -115,6 +139,7 @@ impl Tests for Grid {
 
     fn enter(&mut self, _start: u64, labels: &[Label]) -> Result<(), AllocError> {
         self.entries = self.entries.saturating_add(1);
+        write_letters(labels, &mut self.calls)?;
         if let Some(label) = labels.last() {
             self.entered.push(*label)?;
         }
@@ -126,11 +151,27 @@ impl Tests for Grid {
     }
 }
 
-fn seen_at(refused: &[u64], row: u64) -> Seen
-    ensures { result ≡ unless_listed (list_any (λ y. y == row) refused.now) }
+/// The answer that is written down for a row.
+fn written(answers: &[Seen], row: u64, is_open: bool) -> Seen
+    ensures { result ≡ written is_open (slice_get answers.now row) }
 {
-    if refused.contains(&row) {
-        return Seen::NotTrue;
+    match answers.get(row as usize) {
+        None => Seen::True,
+        Some(Seen::True) => Seen::True,
+        Some(Seen::NotTrue) => Seen::NotTrue,
+        Some(Seen::Open) => { if is_open { Seen::Open } else { Seen::True } }
     }
-    Seen::True
+}
+
+/// A letter for each label, small where it is excluded, and a space.
+pub fn write_letters(labels: &[Label], text: &mut String) -> Result<(), AllocError> {
+    for label in labels {
+        text.push(match (label.var, label.excluded) {
+            (0, false) => 'A',
+            (0, true) => 'a',
+            (_, false) => 'B',
+            (_, true) => 'b',
+        })?;
+    }
+    text.push(' ')
 }

@@ -1,9 +1,9 @@
-ghost use Rattle.std.specs.Prelude.{◌≡◌, ℕ, ◌<◌, ◌≤◌, [], IfOk, OnOk, IsTrue};
-ghost use Rattle.rp_pattern.specs.Bounds.{is_allowed};
-ghost use Rattle.rp_search.specs.Fits.{Fits, IsSameSearch, start_of_search, labels_of_search};
+//! Searches over stages, for the tests.
+ghost use Rattle.std.specs.Prelude.{◌≡◌, ℕ, ◌<◌, ◌≤◌, [], IfOk, OnOk};
+ghost use Rattle.rp_search.specs.Grid.{grid_outcome};
+ghost use Rattle.rp_search.specs.Fits.{Fits, start_of_search, labels_of_search};
 
-use super::grid::Grid;
-use crate::conditions::Tests;
+use super::grid::{Grid, write_letters};
 use crate::laws::law_search;
 use crate::search::{Outcome, Search};
 use crate::steps::Steps;
@@ -13,31 +13,22 @@ use std::marker::Brand;
 use std::rc::Rc;
 use std::sync::ledger::{Blank, Ledger};
 
-pub fn a() -> Form
-    ensures { IsTrue (is_allowed result) }
-{
+/// More runs than any test needs.
+pub const MANY: u64 = 100_000;
+
+pub fn a() -> Form {
     Form::Variable(0)
 }
 
-pub fn b() -> Form
-    ensures { IsTrue (is_allowed result) }
-{
+pub fn b() -> Form {
     Form::Variable(1)
 }
 
-pub fn both(alloc: Global, first: Form, second: Form) -> Result<Form, AllocError>
-    requires first { IsTrue (is_allowed first) }
-    requires second { IsTrue (is_allowed second) }
-    ensures { IfOk result (λ form. IsTrue (is_allowed form)) }
-{
+pub fn both(alloc: Global, first: Form, second: Form) -> Result<Form, AllocError> {
     Ok(Form::Concatenation(Rc::new(alloc, first)?, Rc::new(alloc, second)?))
 }
 
-pub fn either(alloc: Global, first: Form, second: Form) -> Result<Form, AllocError>
-    requires first { IsTrue (is_allowed first) }
-    requires second { IsTrue (is_allowed second) }
-    ensures { IfOk result (λ form. IsTrue (is_allowed form)) }
-{
+pub fn either(alloc: Global, first: Form, second: Form) -> Result<Form, AllocError> {
     Ok(Form::Alternation(Rc::new(alloc, first)?, Rc::new(alloc, second)?))
 }
 
@@ -56,28 +47,12 @@ pub fn many(
     })
 }
 
-pub fn star(alloc: Global, body: Form) -> Result<Form, AllocError>
-    requires { IsTrue (is_allowed body) }
-    ensures { IfOk result (λ form. IsTrue (is_allowed form)) }
-{
-    Ok(Form::Quantified {
-        body: Rc::new(alloc, body)?,
-        lower: 0,
-        upper: None,
-        reluctant: false,
-    })
+pub fn any(alloc: Global, body: Form) -> Result<Form, AllocError> {
+    many(alloc, body, 0, None, false)
 }
 
 pub fn excluded(alloc: Global, body: Form) -> Result<Form, AllocError> {
     Ok(Form::Exclusion(Rc::new(alloc, body)?))
-}
-
-pub fn joined(alloc: Global, first: Form, second: Form) -> Result<Form, AllocError> {
-    Ok(Form::Concatenation(Rc::new(alloc, first)?, Rc::new(alloc, second)?))
-}
-
-pub fn chosen(alloc: Global, first: Form, second: Form) -> Result<Form, AllocError> {
-    Ok(Form::Alternation(Rc::new(alloc, first)?, Rc::new(alloc, second)?))
 }
 
 pub fn permuted(alloc: Global, parts: Vec<Form>) -> Result<Form, AllocError> {
@@ -88,20 +63,31 @@ pub fn permuted(alloc: Global, parts: Vec<Form>) -> Result<Form, AllocError> {
     Ok(Form::Permute(shared))
 }
 
-/// What a search from row 1 comes to at each stage, a known last row and an end: the letters of a match in a word, or
-/// `waits` or `none`.
-pub fn outcomes(
+/// What a search from row 1 did.
+#[derive(Drop)]
+pub struct Played {
+    /// Of each stage the letters of a match, or `none`, `waits` or `paused`.
+    pub outcomes: String,
+    /// Of each stage the labels at each call of `enter`, after a `!` where a refused run was made again, and a `|`.
+    pub calls: String,
+    /// How many runs were made, at each stage from the last refusal on.
+    pub runs: u64,
+    /// How many calls of `enter`.
+    pub entries: u64,
+}
+
+/// A search from row 1 over stages, each a known last row and an end, at most so many runs a stage.
+pub fn play(
     alloc: Global,
     form: Form,
     grid: Grid,
     stages: &[(u64, End)],
     budget: u32,
-) -> Result<String, AllocError>
-    requires allowed { IsTrue (is_allowed form) }
+    most: u64,
+) -> Result<Played, AllocError>
     requires none { grid.entered.items ≡ [] }
-    requires some { 0 < budget }
 {
-    counted::<Brand>(Blank::new(1), alloc, form, grid, stages, budget)
+    counted::<Brand>(Blank::new(1), alloc, form, grid, stages, budget, most)
 }
 
 fn counted<L: Ledger>(
@@ -111,129 +97,139 @@ fn counted<L: Ledger>(
     mut grid: Grid,
     stages: &[(u64, End)],
     budget: u32,
-) -> Result<String, AllocError>
+    most: u64,
+) -> Result<Played, AllocError>
     requires name { blank.name ≡ L.name }
     requires parts { blank.parts ≡ L.parts }
     requires shared { 0 < blank.parts }
-    requires allowed { IsTrue (is_allowed form) }
     requires none { grid.entered.items ≡ [] }
-    requires some { 0 < budget }
 {
-    let mut text = String::new(alloc);
+    let mut played = Played {
+        outcomes: String::new(alloc),
+        calls: String::new(alloc),
+        runs: 0,
+        entries: 0,
+    };
+    if !form.is_allowed() {
+        return Ok(played);
+    }
     let mut steps = Steps::<L>::new(blank);
-    let mut search = Search::new(alloc, &Pattern::new(form), 1)?;
+    let mut search = created(alloc, &Pattern::new(form))?;
     'stages: for (known, end) in stages {
         if !grid.advance(*known, *end) {
-            return Ok(text);
+            return Ok(played);
         }
         law_search();
-        let outcome = decide(&mut search, &mut grid, budget, &mut steps)?;
-        tell(outcome, search.labels(), &mut text)?;
+        let decided = decide(&mut search, &mut grid, budget, most, &mut steps)?;
+        tell(&decided, search.labels(), &grid, &mut played)?;
+        grid.forget();
     }
-    Ok(text)
+    Ok(played)
 }
 
-fn tell(outcome: Outcome, labels: &[Label], text: &mut String) -> Result<(), AllocError> {
-    match outcome {
-        Outcome::Match => {
-            letters(labels, text)?;
-            text.push(' ')
+/// A search from row 1. A refused call is made again.
+pub fn created(alloc: Global, pattern: &Pattern) -> Result<Search, AllocError>
+    ensures start { IfOk result (λ s. start_of_search s ≡ 1) }
+    ensures labels { IfOk result (λ s. labels_of_search s ≡ []) }
+    ensures fits { IfOk result (λ s. (n : ℕ) (e : _) (test : _) → Fits s n e test) }
+{
+    match Search::new(alloc, pattern, 1) {
+        Ok(search) => Ok(search),
+        Err(_) => Search::new(alloc, pattern, 1),
+    }
+}
+
+/// What the runs of a stage came to.
+#[derive(Clone, Copy)]
+pub struct Decided {
+    pub outcome: Outcome,
+    /// How many runs were made, from the last refusal on.
+    pub runs: u64,
+    pub began_again: bool,
+}
+
+/// Runs until the search isn't paused, at most so many times. A refused run is made again, once.
+pub fn decide<L: Ledger>(
+    search: &mut Search,
+    grid: &mut Grid,
+    budget: u32,
+    most: u64,
+    steps: &mut Steps<L>,
+) -> Result<Decided, AllocError>
+    requires start { start_of_search search.old ≡ 1 }
+    requires known { 1 ≤ grid.old.known }
+    requires fits { Fits search.old grid.old.known grid.old.end (grid_outcome grid.old.first.items grid.old.second.items grid.old.reach grid.old.known grid.old.end 1) }
+    requires entered { grid.old.entered.items ≡ labels_of_search search.old }
+    ensures start { OnOk result (start_of_search search.new ≡ 1) }
+    ensures fits { OnOk result (Fits search.new grid.new.known grid.new.end (grid_outcome grid.new.first.items grid.new.second.items grid.new.reach grid.new.known grid.new.end 1)) }
+    ensures entered { OnOk result (grid.new.entered.items ≡ labels_of_search search.new) }
+{
+    let mut decided = Decided {
+        outcome: Outcome::Paused,
+        runs: 0,
+        began_again: false,
+    };
+    'runs: for _run in 0..most {
+        run_once(search, grid, budget, steps, &mut decided)?;
+        if decided.outcome != Outcome::Paused {
+            return Ok(decided);
         }
-        Outcome::NoMatch => text.push_str("none "),
-        Outcome::Waits => text.push_str("waits "),
-        Outcome::Paused => text.push_str("paused "),
+    }
+    Ok(decided)
+}
+
+fn run_once<L: Ledger>(
+    search: &mut Search,
+    grid: &mut Grid,
+    budget: u32,
+    steps: &mut Steps<L>,
+    decided: &mut Decided,
+) -> Result<(), AllocError>
+    requires start { start_of_search search.old ≡ 1 }
+    requires known { 1 ≤ grid.old.known }
+    requires fits { Fits search.old grid.old.known grid.old.end (grid_outcome grid.old.first.items grid.old.second.items grid.old.reach grid.old.known grid.old.end 1) }
+    requires entered { grid.old.entered.items ≡ labels_of_search search.old }
+    ensures start { OnOk result (start_of_search search.new ≡ 1) }
+    ensures known { OnOk result (1 ≤ grid.new.known) }
+    ensures fits { OnOk result (Fits search.new grid.new.known grid.new.end (grid_outcome grid.new.first.items grid.new.second.items grid.new.reach grid.new.known grid.new.end 1)) }
+    ensures entered { OnOk result (grid.new.entered.items ≡ labels_of_search search.new) }
+{
+    match search.run(grid, budget, steps) {
+        Ok(outcome) => {
+            decided.outcome = outcome;
+            decided.runs = decided.runs.saturating_add(1);
+            Ok(())
+        }
+        Err(refused) => {
+            if decided.began_again {
+                return Err(refused);
+            }
+            decided.began_again = true;
+            decided.runs = 0;
+            grid.forget();
+            Ok(())
+        }
     }
 }
 
-fn letters(labels: &[Label], text: &mut String) -> Result<(), AllocError> {
-    for label in labels {
-        text.push(if label.var == 0 { 'A' } else { 'B' })?;
+fn tell(
+    decided: &Decided,
+    labels: &[Label],
+    grid: &Grid,
+    played: &mut Played,
+) -> Result<(), AllocError> {
+    match decided.outcome {
+        Outcome::Match => write_letters(labels, &mut played.outcomes)?,
+        Outcome::NoMatch => played.outcomes.push_str("none ")?,
+        Outcome::Waits => played.outcomes.push_str("waits ")?,
+        Outcome::Paused => played.outcomes.push_str("paused ")?,
     }
+    if decided.began_again {
+        played.calls.push('!')?;
+    }
+    played.calls.push_str(&grid.calls)?;
+    played.calls.push('|')?;
+    played.runs = played.runs.saturating_add(decided.runs);
+    played.entries = grid.entries;
     Ok(())
-}
-
-/// What one run from row 1 comes to over closed rows, and how many rows it entered.
-pub fn one_run(
-    alloc: Global,
-    form: Form,
-    grid: Grid,
-    known: u64,
-    budget: u32,
-) -> Result<(Outcome, u64), AllocError>
-    requires allowed { IsTrue (is_allowed form) }
-    requires none { grid.entered.items ≡ [] }
-{
-    one_counted_run::<Brand>(Blank::new(1), alloc, form, grid, known, budget)
-}
-
-fn one_counted_run<L: Ledger>(
-    blank: Blank,
-    alloc: Global,
-    form: Form,
-    mut grid: Grid,
-    known: u64,
-    budget: u32,
-) -> Result<(Outcome, u64), AllocError>
-    requires name { blank.name ≡ L.name }
-    requires parts { blank.parts ≡ L.parts }
-    requires shared { 0 < blank.parts }
-    requires allowed { IsTrue (is_allowed form) }
-    requires none { grid.entered.items ≡ [] }
-{
-    let mut steps = Steps::<L>::new(blank);
-    let mut search = Search::new(alloc, &Pattern::new(form), 1)?;
-    if !grid.advance(known, End::Closed) {
-        return Ok((Outcome::Paused, 0));
-    }
-    let outcome = search.run(&mut grid, budget, &mut steps)?;
-    Ok((outcome, grid.entries))
-}
-
-/// Runs until the search isn't paused. A run that meets a refusal is made again.
-pub fn decide<T: Tests, L: Ledger>(
-    search: &mut Search,
-    tests: &mut T,
-    budget: u32,
-    steps: &mut Steps<L>,
-) -> Result<Outcome, AllocError>
-    requires some { 0 < budget }
-    requires known { start_of_search search.old ≤ T.rows tests.old }
-    requires fits { Fits search.old (T.rows tests.old) (T.ending tests.old) (T.outcome tests.old (start_of_search search.old)) }
-    requires entered { T.entered tests.old (start_of_search search.old) (labels_of_search search.old) }
-    ensures start { start_of_search search.new ≡ start_of_search search.old }
-    ensures rows { T.rows tests.new ≡ T.rows tests.old }
-    ensures ending { T.ending tests.new ≡ T.ending tests.old }
-    ensures outcome { T.outcome tests.new ≡ T.outcome tests.old }
-    ensures fits { Fits search.new (T.rows tests.old) (T.ending tests.old) (T.outcome tests.old (start_of_search search.old)) }
-    ensures entered { T.entered tests.new (start_of_search search.new) (labels_of_search search.new) }
-{
-    match run_on(search, tests, budget, steps) {
-        Ok(outcome) => Ok(outcome),
-        Err(_) => run_on(search, tests, budget, steps),
-    }
-}
-
-fn run_on<T: Tests, L: Ledger>(
-    search: &mut Search,
-    tests: &mut T,
-    budget: u32,
-    steps: &mut Steps<L>,
-) -> Result<Outcome, AllocError>
-    requires some { 0 < budget }
-    requires known { start_of_search search.old ≤ T.rows tests.old }
-    requires fits { Fits search.old (T.rows tests.old) (T.ending tests.old) (T.outcome tests.old (start_of_search search.old)) }
-    requires entered { T.entered tests.old (start_of_search search.old) (labels_of_search search.old) }
-    ensures start { start_of_search search.new ≡ start_of_search search.old }
-    ensures rows { T.rows tests.new ≡ T.rows tests.old }
-    ensures ending { T.ending tests.new ≡ T.ending tests.old }
-    ensures outcome { T.outcome tests.new ≡ T.outcome tests.old }
-    ensures fits { Fits search.new (T.rows tests.old) (T.ending tests.old) (T.outcome tests.old (start_of_search search.old)) }
-    ensures entered { T.entered tests.new (start_of_search search.new) (labels_of_search search.new) }
-{
-    'runs: loop {
-        let outcome = search.run(tests, budget, steps)?;
-        if outcome != Outcome::Paused {
-            return Ok(outcome);
-        }
-    }
 }

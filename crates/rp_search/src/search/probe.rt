@@ -1,3 +1,4 @@
+//! What would follow a row whose test is open: it decides whether there is anything to wait for.
 ghost use Rattle.std.specs.Prelude.{◌≡◌, ℕ, ◌+◌, ◌≤◌, None, IfOk, OnOk};
 ghost use Rattle.rp_pattern.specs.declared.word.Seen.TheVariants.{Open as OpenTest};
 
@@ -7,7 +8,7 @@ use crate::conditions::Tests;
 use rp_pattern::{Choices, Taken};
 use std::alloc::AllocError;
 
-#[tactic(auto, unfolding(crate::specs::Fits::start_of_search, crate::specs::Fits::labels_of_search, crate::specs::Fits::pattern_words, crate::specs::Fits::most_turns, crate::specs::Fits::left_of))]
+#[tactic(auto, unfolding(crate::specs::Fits::start_of_search, crate::specs::Fits::labels_of_search, crate::specs::Fits::pattern_words, crate::specs::Fits::most_turns, crate::specs::Fits::left_of, crate::specs::Fits::ChoicesStand, crate::specs::Fits::LabelsStand))]
 impl Search {
     ghost use Rattle.rp_search.specs.Fits.{IsSameSearch, start_of_search, labels_of_search, pattern_words, left_of, Stands, Explores};
     ghost use Rattle.rp_search.specs.Turned.{AsksTheSame, Searches, Turned};

@@ -5,7 +5,7 @@ use Rattle.rp_pattern.specs.declared.word.Seen.TheVariants.{True, NotTrue, Open 
 use Rattle.rp_pattern.specs.declared.choices.Choices.{Choices}
 use Rattle.rp_pattern.specs.Choices.{start_of, entered, left, whole_left, below_left, after_left}
 use Rattle.rp_search.specs.Found.{Test}
-use Rattle.rp_search.specs.Fits.{rows_from, Stands, AreAdmitted, Explores, TestsExtend, unless_open, left_in, start_of_search, most_turns, left_of}
+use Rattle.rp_search.specs.Fits.{rows_from, Stands, AreAdmitted, Explores, TestsExtend, unless_open, left_in, start_of_search, most_turns, left_of, ChoicesStand, LabelsStand}
 use Rattle.rp_search.proofs.Fitting.{now_later, stands_later, true_later, explores_later}
 use Rattle.rp_search.proofs.laws.law_search.Goals as goal
 
@@ -14,7 +14,7 @@ admitted_later None c n e test n' e' test' x s a = true_later n n' e e' test tes
 admitted_later (Some probe) c n e test n' e' test' x s a = explores_later n n' e e' test test' x.later c probe x.stay s.known a
 
 pub returns-clause-stays : goal.returns-clause-stays
-unfolding start_of_search
+unfolding start_of_search ChoicesStand LabelsStand
 returns-clause-stays c = λ s n e test n' e' test' x f.
     record { stands = stands_later n n' e e' test test' x.later s.choices x.stay f.stands; labels = admitted_later s.probe s.choices n e test n' e' test' x f.stands f.labels }
 
@@ -30,5 +30,5 @@ bounded (Some probe) c n e test s a =
     (omega (arith, s.turns n e (now_later n e), a.row.turns n e (now_later n e), a.turns n e (now_later n e)))
 
 pub returns-clause-bounded : goal.returns-clause-bounded
-unfolding left_of most_turns
+unfolding left_of most_turns ChoicesStand LabelsStand
 returns-clause-bounded c = λ s n e test f. bounded s.probe s.choices n e test f.stands f.labels

@@ -7,4 +7,4 @@ abbrev pub invariant-stages : goal.invariant-stages
 invariant-stages g l =
     (start_of_search l.search ≡ 1)
     × (l.grid.entered.items ≡ labels_of_search l.search)
-    × Fits l.search l.grid.known l.grid.end (grid_outcome l.grid.refused_first.items l.grid.refused_second.items l.grid.reach l.grid.known l.grid.end 1)
+    × Fits l.search l.grid.known l.grid.end (grid_outcome l.grid.first.items l.grid.second.items l.grid.reach l.grid.known l.grid.end 1)

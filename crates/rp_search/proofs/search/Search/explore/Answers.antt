@@ -3,13 +3,13 @@ use Rattle.rp_pattern.specs.declared.word.End.{End}
 use Rattle.rp_pattern.specs.declared.choices.Taken.TheVariants.{Full as FullTaken, Open as OpenTaken, Nothing as NothingTaken}
 use Rattle.rp_pattern.specs.Choices.{start_of, entered, TakenAs, IsFullWord, IsOpenWord, IsNothing}
 use Rattle.rp_search.specs.Turned.{Goes}
-use Rattle.rp_search.specs.Fits.{start_of_search, labels_of_search, pattern_words, left_of}
+use Rattle.rp_search.specs.Fits.{start_of_search, labels_of_search, pattern_words, left_of, ChoicesStand, LabelsStand}
 use Rattle.rp_search.proofs.Fitting.{now_later}
 use Rattle.rp_search.proofs.Turning.{at_known, open_end, searches_plainly, searches_asked, fewer_exploring, explored_full, explored_open, explored_nothing}
 use Rattle.rp_search.proofs.search.Search.explore.Goals as goal
 
 pub returns-in-Full-clause-turned : goal.returns-in-Full-clause-turned
-unfolding start_of_search labels_of_search pattern_words left_of
+unfolding start_of_search labels_of_search pattern_words left_of ChoicesStand LabelsStand
 returns-in-Full-clause-turned g c =
     let read : TakenAs c.args.probe c.take_up.new.self c.known.result c.end.result FullTaken = rw c.in-Full.is at c.in_ok-take_up.ensures.taken in
     let taken : IsFullWord c.args.probe c.take_up.new.self (g.T.Tests.rows c.args.tests.now) (g.T.Tests.ending c.args.tests.now) = at_known (λ n e. IsFullWord c.args.probe c.take_up.new.self n e) _ _ _ _ c.known.ensures c.end.ensures read in (
@@ -19,7 +19,7 @@ returns-in-Full-clause-turned g c =
     )
 
 pub returns-in-Open-clause-turned : goal.returns-in-Open-clause-turned
-unfolding start_of_search labels_of_search pattern_words left_of
+unfolding start_of_search labels_of_search pattern_words left_of ChoicesStand LabelsStand
 returns-in-Open-clause-turned g c =
     let read : TakenAs c.args.probe c.take_up.new.self c.known.result c.end.result OpenTaken = rw c.in-Open.is at c.in_ok-take_up.ensures.taken in
     let taken : IsOpenWord c.args.probe c.take_up.new.self (g.T.Tests.rows c.args.tests.now) (g.T.Tests.ending c.args.tests.now) = at_known (λ n e. IsOpenWord c.args.probe c.take_up.new.self n e) _ _ _ _ c.known.ensures c.end.ensures read in (
@@ -29,7 +29,7 @@ returns-in-Open-clause-turned g c =
     )
 
 pub take_up-requires-in-Nothing-clause-searches : goal.take_up-requires-in-Nothing-clause-searches
-unfolding start_of_search
+unfolding start_of_search ChoicesStand LabelsStand
 take_up-requires-in-Nothing-clause-searches g c =
     let read : TakenAs c.args.probe c.take_up.new.self c.known.result c.end.result NothingTaken = rw c.in-Nothing.is at c.in_ok-take_up.ensures.taken in
     let taken : IsNothing c.args.probe c.take_up.new.self (g.T.Tests.rows c.args.tests.now) (g.T.Tests.ending c.args.tests.now) = at_known (λ n e. IsNothing c.args.probe c.take_up.new.self n e) _ _ _ _ c.known.ensures c.end.ensures read in

@@ -1,0 +1,116 @@
+//! How many turns a search takes. Each choice that is taken up is one: where parts are joined or chosen from, a row, a
+//! place that takes none, a whole word, and that nothing is left.
+
+use super::grid::Grid;
+use super::script::{MANY, a, any, b, both, either, excluded, many, permuted, play};
+use rp_pattern::{End, Form, Seen};
+use std::alloc::{AllocError, Global};
+use std::test::Fail;
+
+/// The row 1, where the answers begin with a row 0, is refused.
+const FIRST_REFUSED: [Seen; 2] = [Seen::True, Seen::NotTrue];
+
+/// The row 1 stays open.
+const FIRST_OPEN: [Seen; 2] = [Seen::True, Seen::Open];
+
+/// The runs of budget 1, so the turns, until a search over so many rows is at its end.
+fn turns(
+    alloc: Global,
+    form: Form,
+    first: &[Seen],
+    second: &[Seen],
+    known: u64,
+    end: End,
+) -> Result<u64, AllocError> {
+    let grid = Grid::answering(alloc, 0, first, second)?;
+    let played = play(alloc, form, grid, &[(known, end)], 1, MANY)?;
+    Ok(played.runs)
+}
+
+#[test]
+fn turns_of_rows_and_choices(rt: HostRuntime) -> Result<(), Fail> {
+    let alloc = rt.alloc();
+    // The row, the word.
+    assert_eq!(rt; turns(alloc, a(), &[], &[], 1, End::Closed)?, 2);
+    // The row, nothing left.
+    assert_eq!(rt; turns(alloc, a(), &FIRST_REFUSED, &[], 1, End::Closed)?, 2);
+    // Joined, A, B, the word.
+    assert_eq!(rt;
+        turns(alloc, both(alloc, a(), b())?, &[], &[], 2, End::Closed)?,
+        4
+    );
+    // Chosen from, A, B, the word.
+    let choice = either(alloc, a(), b())?;
+    assert_eq!(rt;
+        turns(alloc, choice, &FIRST_REFUSED, &[], 1, End::Closed)?,
+        4
+    );
+    Ok(())
+}
+
+/// Where r rows are left, `(A | A)* B` takes t(r) turns: another iteration or B, the choice of two A, each A and after it
+/// t(r - 1), and B. So t(0) = 5 and t(r) = 5 + 2 t(r - 1), which gives 15, 35, 75. Joining the parts and finding that
+/// nothing is left are two more.
+#[test]
+fn turns_of_refused_iterations(rt: HostRuntime) -> Result<(), Fail> {
+    let alloc = rt.alloc();
+    for (rows, count) in [(1, 17), (2, 37), (3, 77)] {
+        let form = both(alloc, any(alloc, either(alloc, a(), a())?)?, b())?;
+        assert_eq!(rt;
+            turns(alloc, form, &[], &[Seen::NotTrue; 4], rows, End::Closed)?,
+            count
+        );
+    }
+    Ok(())
+}
+
+#[test]
+fn turns_of_quantifiers(rt: HostRuntime) -> Result<(), Fail> {
+    let alloc = rt.alloc();
+    // Three times another iteration or none, two rows, an A past the last row, the word.
+    assert_eq!(rt;
+        turns(alloc, any(alloc, a())?, &[], &[], 2, End::Closed)?,
+        7
+    );
+    // A required iteration and its row, twice, another or none, the word.
+    let some = many(alloc, a(), 2, Some(3), true)?;
+    assert_eq!(rt; turns(alloc, some, &[], &[], 3, End::Closed)?, 6);
+    Ok(())
+}
+
+#[test]
+fn turns_of_other_forms(rt: HostRuntime) -> Result<(), Fail> {
+    let alloc = rt.alloc();
+    // An order, A, B, the word.
+    let orders = permuted(alloc, vec![in alloc; a(), b()]?)?;
+    assert_eq!(rt; turns(alloc, orders, &[], &[], 2, End::Closed)?, 4);
+    // An order, A refused, the next order, B, A, the word.
+    let orders = permuted(alloc, vec![in alloc; a(), b()]?)?;
+    assert_eq!(rt;
+        turns(alloc, orders, &FIRST_REFUSED, &[], 2, End::Closed)?,
+        6
+    );
+    // Joined, the exclusion, A, B, the word.
+    let form = both(alloc, excluded(alloc, a())?, b())?;
+    assert_eq!(rt; turns(alloc, form, &[], &[], 2, End::Closed)?, 5);
+    // Joined, the start, joined, A, the end, the word.
+    let whole = both(
+        alloc,
+        Form::PartitionStart,
+        both(alloc, a(), Form::PartitionEnd)?,
+    )?;
+    assert_eq!(rt; turns(alloc, whole, &[], &[], 1, End::Closed)?, 6);
+    Ok(())
+}
+
+#[test]
+fn turns_behind_an_open_test(rt: HostRuntime) -> Result<(), Fail> {
+    let alloc = rt.alloc();
+    // Joined, A, whose test is open, B past the known row.
+    let form = both(alloc, a(), b())?;
+    assert_eq!(rt; turns(alloc, form, &FIRST_OPEN, &[], 1, End::Open)?, 3);
+    // Chosen from, joined, A, the start, which isn't there, B in place of finding nothing behind A, the word.
+    let form = either(alloc, both(alloc, a(), Form::PartitionStart)?, b())?;
+    assert_eq!(rt; turns(alloc, form, &FIRST_OPEN, &[], 1, End::Open)?, 6);
+    Ok(())
+}
