@@ -13,6 +13,7 @@ use std::rc::Rc;
 pub enum TracePatternFault {
     /// The byte at this offset can't follow, or the text ends there too early.
     Expected(usize),
+    /// Memory was refused.
     OutOfMemory,
 }
 
@@ -37,6 +38,7 @@ pub fn trace_pattern(alloc: Global, text: &str) -> Result<Pattern, TracePatternF
 enum Stop {
     /// With so many symbols left, the next one can't follow.
     At(usize),
+    /// Memory was refused.
     OutOfMemory,
 }
 
