@@ -1,5 +1,5 @@
 //! Devices whose bytes, calls and failures clauses see, over any of std's.
-ghost use Rattle.std.specs.Prelude.{◌≡◌, ℕ, ◌<◌, ◌≤◌, Bool, true, false, List, length, Option, IfOk, OnOk, OnErr};
+ghost use Rattle.std.specs.Prelude.{◌≡◌, ℕ, ◌<◌, ◌≤◌, Bool, true, false, List, length, vec_len, Option, IfOk, OnOk, OnErr};
 ghost use Rattle.std.specs.Io.KnownBytes.{Appends, ReadConsumes, WriteAppends};
 ghost use Rattle.rp_search.specs.Counts.{raised};
 ghost use Rattle.rowmatch.specs.Devices.{AppendsFront, MakesCalls, Moves};
@@ -160,6 +160,7 @@ pub fn write_block<W: Outlet>(writer: &mut W, text: &mut Vec<u8>) -> Result<(), 
     ensures err { OnErr result (AppendsFront (W.contents writer.old) (W.contents writer.new) text.old.items) }
     ensures fails { OnErr result (W.failures writer.new ≡ raised (W.failures writer.old)) }
     ensures goes { OnOk result (W.failures writer.new ≡ W.failures writer.old) }
+    ensures few { OnOk result (vec_len text.new < 65536) }
     ensures calls { OnOk result (MakesCalls 0 (length text.old.items) (W.calls writer.old) (W.calls writer.new)) }
     ensures tries { OnErr result (MakesCalls 1 (length text.old.items) (W.calls writer.old) (W.calls writer.new)) }
 {
