@@ -1,5 +1,5 @@
 -- Each choice that a parse makes is the only one.
-use Rattle.std.proofs.Common.{◌≡◌, ℕ, ◌+◌, ◌≤◌, List, [], ◌∷◌, ◌++◌, Bool, true, false, refl, ap, ◌∙◌, sym, subst, append_assoc, append-nil, arith, eqb, leb, ◌||◌, ◌&&◌}
+use Rattle.std.proofs.Common.{◌≡◌, ℕ, ◌+◌, ◌≤◌, List, [], ◌∷◌, ◌++◌, Bool, true, false, refl, ap, ◌∙◌, sym, append_assoc, append-nil, arith, eqb, leb, ◌||◌}
 use Rattle.std.proofs.lemmas.Bool.Decides.{nat_tests}
 use Rattle.rowmatch.specs.Grammar.{Tree, Letter, Nothing, Both, Either, Star, Level, Alternatives, Sequences, Factors, Primaries, Derives, one_sequence, either, one_factor, both, one_primary, starred, letter, nothing, group}
 use Rattle.rowmatch.specs.Reading.{Lacks, Ends, ReadsNone, ReadsOnly, begins_primary}

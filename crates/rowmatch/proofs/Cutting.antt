@@ -1,10 +1,10 @@
 -- Lines, cut from what is read piece by piece.
-use Rattle.std.proofs.Common.{◌≡◌, ◌≢◌, ℕ, zero, suc, ◌+◌, ◌<◌, List, [], ◌∷◌, ◌++◌, length, take, drop, Option, Some, None, All, refl, ap, ◌∙◌, sym, subst, append_assoc, append-nil, arith, cond, eqb, not, Bool, true, false, MatchBool, Result, Ok, Err, OnErr}
+use Rattle.std.proofs.Common.{◌≡◌, ◌≢◌, ℕ, zero, suc, List, [], ◌∷◌, ◌++◌, length, take, Option, Some, None, refl, ap, ◌∙◌, sym, subst, append_assoc, append-nil, arith, eqb, Bool, true, false, MatchBool, Result, Ok, Err, OnErr}
 use Rattle.std.specs.List.{AllByRecursion}
 use Rattle.std.specs.Io.KnownBytes.{Consumes, IsAtEnd, prepend_known}
 use Rattle.std.proofs.lemmas.List.Elements.{recursion_from_All, All-append}
 use Rattle.std.proofs.lemmas.Bool.Decides.{nat_tests}
-use Rattle.rowmatch.specs.Lines.{lines_of, onto_first, IsLfFree, TakesLine}
+use Rattle.rowmatch.specs.Lines.{lines_of, IsLfFree, TakesLast, TakesLine}
 
 lines-front_by : (part later : List ℕ) → AllByRecursion (λ b. b ≢ 10) part → lines_of (part ++ 10 ∷ later) ≡ part ∷ lines_of later
 lines-front_by [] later free = refl
@@ -49,12 +49,13 @@ ReadFront-start kept (Some xs) = ([], (λ k d lt. absurd (omega arith)), refl, s
 
 pub cut-whole : (kept : ℕ) (old : Option (List ℕ)) (pending later part line line' : List ℕ) (remaining : Option (List ℕ))
     → ReadFront kept old (prepend_known pending remaining) line → IsLfFree part → pending ≡ part ++ 10 ∷ later → line' ≡ take kept (line ++ part)
-    → TakesLine kept old (prepend_known later remaining) (Some line')
+    → TakesLine kept old (prepend_known later remaining) line'
 cut-whole kept None pending later part line line' remaining read free cut is = tt
 cut-whole kept (Some xs) pending later part line line' None read free cut is = absurd read
 cut-whole kept (Some xs) pending later part line line' (Some rest) read free cut is = (
   read.0 ++ part,
-  ap lines_of (read.2 ∙ ap (λ t. read.0 ++ (t ++ rest)) cut ∙ regrouped read.0 part later rest) ∙ lines-front (read.0 ++ part) (later ++ rest) (All-append (λ b. b ≢ 10) read.0 part read.1 free),
+  All-append (λ b. b ≢ 10) read.0 part read.1 free,
+  read.2 ∙ ap (λ t. read.0 ++ (t ++ rest)) cut ∙ regrouped read.0 part later rest,
   is ∙ ap (λ t. take kept (t ++ part)) read.3 ∙ take-again kept read.0 part,
 )
 
@@ -79,39 +80,15 @@ fill-more kept (Some xs) pending later line (Some bs) None read none takes = abs
 fill-more kept (Some xs) pending later line (Some bs) (Some cs) read none takes =
     (read.0, read.1, read.2 ∙ ap (λ t. read.0 ++ (t ++ bs)) none ∙ ap (λ t. read.0 ++ t) takes, read.3)
 
-nothing-left : (pending rest : List ℕ) → pending ≡ [] → rest ≡ [] → lines_of (pending ++ rest) ≡ []
-nothing-left pending rest none at_end = rw (none, at_end) refl
-
-seen-alone : (seen pending rest : List ℕ) → pending ≡ [] → rest ≡ [] → seen ++ (pending ++ rest) ≡ seen
-seen-alone seen pending rest none at_end = rw (none, at_end) (append-nil seen)
-
-all-read : (xs seen pending rest : List ℕ) → xs ≡ seen ++ (pending ++ rest) → pending ≡ [] → rest ≡ [] → lines_of xs ≡ lines_of seen
-all-read xs seen pending rest is none at_end = ap lines_of (is ∙ seen-alone seen pending rest none at_end)
-
-kept-some : (kept : ℕ) (seen line : List ℕ) → line ≡ take kept seen → length line ≢ 0 → length seen ≢ 0
-kept-some kept [] line is some = λ e. some (ap length is ∙ ap length (take-nothing kept))
-kept-some kept (b ∷ seen) line is some = λ e. absurd (omega arith)
-
-kept-none : (kept : ℕ) (seen line : List ℕ) → 0 < kept → line ≡ take kept seen → length line ≡ 0 → seen ≡ []
-kept-none kept [] line some is empty = refl
-kept-none zero (b ∷ seen) line some is empty = absurd (omega arith)
-kept-none (suc kept) (b ∷ seen) line some is empty = let two : 0 ≡ suc (length (take kept seen)) = sym empty ∙ ap length is in absurd (omega arith)
-
-pub end-some : (kept : ℕ) (old : Option (List ℕ)) (pending line : List ℕ) (remaining : Option (List ℕ))
-    → ReadFront kept old (prepend_known pending remaining) line → pending ≡ [] → IsAtEnd remaining → length line ≢ 0
-    → TakesLine kept old (prepend_known pending remaining) (Some line)
-end-some kept None pending line remaining read none at_end some = tt
-end-some kept (Some xs) pending line None read none at_end some = absurd read
-end-some kept (Some xs) pending line (Some rest) read none at_end some =
-    (read.0, all-read xs read.0 pending rest read.2 none at_end ∙ lines-last read.0 read.1 (kept-some kept read.0 line read.3 some) ∙ ap (λ t. read.0 ∷ t) (sym (nothing-left pending rest none at_end)), read.3)
-
-pub end-none : (kept : ℕ) (old : Option (List ℕ)) (pending line : List ℕ) (remaining : Option (List ℕ)) → 0 < kept
-    → ReadFront kept old (prepend_known pending remaining) line → pending ≡ [] → IsAtEnd remaining → length line ≡ 0
-    → TakesLine kept old (prepend_known pending remaining) None
-end-none kept None pending line remaining some read none at_end empty = tt
-end-none kept (Some xs) pending line None some read none at_end empty = absurd read
-end-none kept (Some xs) pending line (Some rest) some read none at_end empty =
-    (all-read xs read.0 pending rest read.2 none at_end ∙ ap lines_of (kept-none kept read.0 line some read.3 empty), nothing-left pending rest none at_end)
+-- at the end all that was read since the last LF is the last part
+pub end-part : (kept : ℕ) (old : Option (List ℕ)) (pending line : List ℕ) (remaining : Option (List ℕ))
+    → ReadFront kept old (prepend_known pending remaining) line → pending ≡ [] → IsAtEnd remaining → TakesLast kept old (prepend_known pending remaining) line
+end-part kept None pending line remaining read none at_end = tt
+end-part kept (Some xs) pending line None read none at_end = absurd read
+end-part kept (Some xs) pending line (Some rest) read none at_end =
+    let empty : pending ++ rest ≡ [] = rw (none, at_end) refl in
+    let all : xs ≡ read.0 = read.2 ∙ ap (λ t. read.0 ++ t) empty ∙ append-nil read.0 in
+    (subst IsLfFree (sym all) read.1, empty, read.3 ∙ ap (λ t. take kept t) (sym all))
 
 pub when_true : (P Q : Type 0) (b : Bool) → b ≡ true → MatchBool b P Q → P
 when_true P Q true is h = h
@@ -124,14 +101,3 @@ when_false P Q false is h = h
 pub on_err_from : {T E P : Type 0} (r : Result T E) → P → OnErr r P
 on_err_from (Ok x) p = tt
 on_err_from (Err e) p = p
-
--- at the end there is a line where some bytes were read since the last LF
-pub end-line : (kept : ℕ) (old : Option (List ℕ)) (pending line : List ℕ) (remaining : Option (List ℕ)) (n : ℕ) (empty : Bool) → 0 < kept
-    → ReadFront kept old (prepend_known pending remaining) line → pending ≡ [] → IsAtEnd remaining → n ≡ length line → empty ≡ eqb n 0
-    → TakesLine kept old (prepend_known pending remaining) (cond (not empty) (Some line) None)
-end-line kept old pending line remaining n true some read none at_end is test =
-    let zero : n ≡ 0 = grind (arith, nat_tests) in
-    end-none kept old pending line remaining some read none at_end (sym is ∙ zero)
-end-line kept old pending line remaining n false some read none at_end is test =
-    let more : n ≢ 0 = grind (arith, nat_tests) in
-    end-some kept old pending line remaining read none at_end (λ e. more (is ∙ e))

@@ -1,5 +1,5 @@
 -- What a parse has read.
-use Rattle.std.proofs.Common.{◌≡◌, ℕ, ◌+◌, ◌≤◌, List, [], ◌∷◌, ◌++◌, refl, ap, ◌∙◌, sym, append_assoc}
+use Rattle.std.proofs.Common.{◌≡◌, ℕ, ◌+◌, ◌≤◌, List, [], ◌∷◌, ◌++◌, ap, ◌∙◌, sym, append_assoc}
 use Rattle.rowmatch.specs.Grammar.{Tree, Letter, Nothing, Both, Either, Star, Alternatives, Sequences, Factors, Primaries, one_sequence, either, one_factor, both, one_primary, starred, letter, nothing, group}
 use Rattle.rowmatch.specs.Reading.{Reads}
 

@@ -2,6 +2,7 @@ pub mod Derivations
 pub mod Choices
 pub mod Trees
 pub mod Written
+pub mod Giving
 pub mod Cutting
 pub mod Answered
 pub mod Replied

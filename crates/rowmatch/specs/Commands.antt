@@ -1,6 +1,7 @@
 -- What each job's command takes, and what it makes of the words.
-use Rattle.std.specs.Prelude.{◌≡◌, ℕ, Bool, true, List, [], ◌∷◌, Option, Some, codes, is_some}
+use Rattle.std.specs.Prelude.{◌≡◌, Bool, true, List, Some, codes, is_some}
 use Rattle.clap.specs.Words.{App, Row, Rule, Text, first_of, first_value, found_of, matches_of, new_app, new_rule, takes, with_rule}
+use Rattle.clap.specs.Words.{Kinds, fault_of, is_simple_and_free}
 use Rattle.clap.specs.declared.parser.matches.ArgMatches.{ArgMatches}
 use Rattle.clap.specs.declared.builder.ArgAction.TheVariants.{Set}
 
@@ -18,6 +19,14 @@ rows_by app words = matches_of app words
 -- clap takes the words for a command
 unfoldable pub are_taken : App → List Text → Bool
 are_taken app words = takes app words
+
+-- the kinds of fault that clap may tell of the words for a command, and none where it takes them
+unfoldable pub faults_by : App → List Text → Kinds
+faults_by app words = fault_of app words
+
+-- clap's rules for what a command takes, and which fault it tells, hold for this one
+unfoldable pub is_ruled : App → Bool
+is_ruled app = is_simple_and_free app
 
 -- the argument has a value
 abbrev pub HasValue : Text → ArgMatches → Type 0

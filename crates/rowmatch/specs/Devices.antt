@@ -1,11 +1,21 @@
 -- What calls of a device do to its counts and its bytes.
-use Rattle.std.specs.Prelude.{◌≡◌, ℕ, zero, suc, List, ◌++◌, Option, Some, None}
+use Rattle.std.specs.Prelude.{◌≡◌, ℕ, zero, suc, ◌+◌, ◌≤◌, List, ◌++◌, length, Option, Some, None}
 use Rattle.rp_search.specs.Counts.{raised}
 
 -- the count after so many calls more
 abbrev pub after_calls : ℕ → ℕ → ℕ
 after_calls zero count = count
 after_calls (suc more) count = after_calls more (raised count)
+
+-- from `least` to `most` calls were made
+abbrev pub MakesCalls : ℕ → ℕ → ℕ → ℕ → Type 0
+MakesCalls least most old new = (made : ℕ) × (least ≤ made) × (made ≤ most) × (new ≡ after_calls made old)
+
+-- Of so many calls that were allowed before, and so many after, each that was made gave a known byte.
+abbrev pub GivesEach : ℕ → ℕ → Option (List ℕ) → Option (List ℕ) → Type 0
+GivesEach before after None new = Unit {0}
+GivesEach before after (Some xs) None = ⊥
+GivesEach before after (Some xs) (Some ys) = before + length ys ≤ after + length xs
 
 -- known bytes grow by a front of these
 abbrev pub AppendsFront : Option (List ℕ) → Option (List ℕ) → List ℕ → Type 0

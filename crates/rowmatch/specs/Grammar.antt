@@ -1,5 +1,5 @@
 -- The grammar of the patterns of `trace`, over a text without its spaces.
-use Rattle.std.specs.Prelude.{◌≡◌, ℕ, zero, suc, ◌+◌, ◌≤◌, List, [], ◌∷◌, ◌++◌, Option, Some, None, Bool, true, false, IsTrue, ◌&&◌, ◌||◌, nat_eq, nat_le, ◌==◌, not}
+use Rattle.std.specs.Prelude.{◌≡◌, ℕ, zero, ◌+◌, ◌≤◌, List, [], ◌∷◌, ◌++◌, Option, None, Bool, true, false, IsTrue, ◌==◌, not}
 use Rattle.std.specs.List.{filter}
 use Rattle.rp_pattern.specs.declared.form.Form.{Form}
 use Rattle.rp_pattern.specs.declared.form.Form.TheOpen.{Form-F, Variable, Empty, Concatenation, Alternation, PartitionStart, PartitionEnd, Permute, Exclusion, Quantified}

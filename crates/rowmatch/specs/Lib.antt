@@ -5,6 +5,8 @@ pub mod Lines
 pub mod Pending
 pub mod Replies
 pub mod LetterTest
+pub mod LetterLaws
+pub mod LetterRows
 pub mod Faults
 pub mod Commands
 pub mod Jobs

@@ -1,5 +1,5 @@
 -- What a front of some symbols derives, where what follows can't go on with it.
-use Rattle.std.specs.Prelude.{◌≡◌, ℕ, ◌+◌, ◌≤◌, List, [], ◌∷◌, ◌++◌, Bool, true, false, ◌&&◌, ◌||◌, nat_eq, nat_le}
+use Rattle.std.specs.Prelude.{◌≡◌, ℕ, List, [], ◌∷◌, ◌++◌, Bool, false, ◌&&◌, ◌||◌, nat_eq, nat_le}
 use Rattle.rowmatch.specs.Grammar.{Tree, Level, Alternatives, Sequences, Factors, Primaries, Derives}
 
 -- the symbols don't begin with this one

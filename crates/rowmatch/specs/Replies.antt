@@ -35,6 +35,11 @@ reply_text form line = if is_looked_at line then search_text form line else code
 abbrev pub reply_to : Form → List ℕ → List ℕ
 reply_to form line = reply_text form line ++ 10 ∷ []
 
+-- the part behind the last LF is a line unless it is empty
+abbrev pub last_reply : Form → List ℕ → List ℕ
+last_reply form [] = []
+last_reply form (byte ∷ part) = reply_to form (byte ∷ part)
+
 -- a reply for each line
 abbrev pub replies_to : Form → List (List ℕ) → List ℕ
 replies_to form lines = flat_map (reply_to form) lines

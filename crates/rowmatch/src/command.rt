@@ -1,11 +1,11 @@
 //! The command line.
-ghost use Rattle.std.specs.Prelude.{◌≡◌, true, Some, IfOk, IfErr, IfSome, codes, map, string_bytes, slice_get};
-ghost use Rattle.clap.specs.Words.{IsParsedFrom, app_of, is_simple, found_of, rows_of, first_of, kind_of, takes};
+ghost use Rattle.std.specs.Prelude.{◌≡◌, true, Some, [], IfOk, OnOk, codes, map, string_bytes, slice_get};
+ghost use Rattle.clap.specs.Words.{IsAmong, IsParsedFrom, app_of, is_simple, found_of, rows_of, first_of, kind_of};
 ghost use Rattle.clap.specs.declared.error.kind.ErrorKind.TheVariants.{OutOfMemory};
 ghost use Rattle.clap.specs.declared.error.Error.{Error};
 ghost use Rattle.clap.specs.declared.parser.matches.ArgMatches.{ArgMatches};
-ghost use Rattle.rowmatch.specs.Commands.{HasValue, rows_by, are_taken, trace_app};
-ghost use Rattle.rowmatch.specs.Jobs.{IsRead, NamesJob, name_of};
+ghost use Rattle.rowmatch.specs.Commands.{HasValue, are_taken, faults_by, is_ruled, rows_by, trace_app};
+ghost use Rattle.rowmatch.specs.Jobs.{IsFaultless, IsRead, NamesJob, name_of};
 
 use clap::error::ErrorKind;
 use clap::{Arg, ArgAction, ArgMatches, Command, Error};
@@ -23,13 +23,18 @@ pub enum Job {
 pub enum JobFault {
     /// What the command line lacks, or the help that was asked for, as clap tells it.
     Line(Error),
+    /// Memory was refused.
     OutOfMemory,
 }
 
-/// The job of the words after the program's name. The first one names it.
+/// The job of the words after the program's name. The first one names it, and clap reads those after it: of the words
+/// `trace` and `A*` the job is to trace the pattern `A*`. Help that is asked for is a fault too.
 pub fn read_command(alloc: Global, words: &[String]) -> Result<Job, JobFault>
-    ensures named { IfOk result (λ job. IfSome (slice_get words.now 0) (λ word. string_bytes word ≡ name_of job)) }
+    ensures named { IfOk result (λ job. slice_get (map string_bytes words.now) 0 ≡ Some (name_of job)) }
     ensures value { IfOk result (IsRead (map string_bytes words.now)) }
+    ensures taken { IfOk result (IsFaultless (map string_bytes words.now)) }
+    ensures cause { (error : Error) → result ≡ Err (JobFault.Line error) → slice_get (map string_bytes words.now) 0 ≡ Some (codes "trace") →
+        IsAmong (kind_of error) (faults_by trace_app (map string_bytes words.now)) }
     ensures line { (error : Error) → result ≡ Err (JobFault.Line error) → NamesJob (map string_bytes words.now) → ⊥ }
 {
     match words.first() {
@@ -42,6 +47,8 @@ pub fn read_command(alloc: Global, words: &[String]) -> Result<Job, JobFault>
 fn read_trace(alloc: Global, words: &[String]) -> Result<Job, JobFault>
     ensures named { IfOk result (λ job. name_of job ≡ codes "trace") }
     ensures value { IfOk result (IsRead (map string_bytes words.now)) }
+    ensures taken { IfOk result (IsFaultless (map string_bytes words.now)) }
+    ensures cause { (error : Error) → result ≡ Err (JobFault.Line error) → IsAmong (kind_of error) (faults_by trace_app (map string_bytes words.now)) }
     ensures line { (error : Error) → result ≡ Err (JobFault.Line error) → are_taken trace_app (map string_bytes words.now) ≡ true → ⊥ }
 {
     let command = trace_command(alloc)?;
@@ -65,6 +72,9 @@ fn trace_command<'a>(alloc: Global) -> Result<Command<'a>, AllocError>
 fn matched<'a>(command: Command<'a>, words: &'a [String]) -> Result<ArgMatches<'a>, JobFault>
     requires { is_simple (app_of command) ≡ true }
     ensures rows { IfOk result (λ matches. rows_of (found_of matches) ≡ rows_by (app_of command.entry) (map string_bytes words.entry.now)) }
+    ensures faultless { is_ruled (app_of command.entry) ≡ true → OnOk result (faults_by (app_of command.entry) (map string_bytes words.entry.now) ≡ []) }
+    ensures cause { is_ruled (app_of command.entry) ≡ true → (error : Error) → result ≡ Err (JobFault.Line error) →
+        IsAmong (kind_of error) (faults_by (app_of command.entry) (map string_bytes words.entry.now)) }
     ensures parsed { IfOk result (λ matches. IsParsedFrom command.entry matches) }
     ensures line { (error : Error) → result ≡ Err (JobFault.Line error) → are_taken (app_of command.entry) (map string_bytes words.entry.now) ≡ true → ⊥ }
 {
@@ -106,7 +116,8 @@ fn line_of_no_job(alloc: Global, words: &[String]) -> Result<Error, AllocError> 
 }
 
 fn line_fault(error: Error) -> JobFault
-    ensures { (other : Error) → result ≡ JobFault.Line other → kind_of error ≡ OutOfMemory → ⊥ }
+    ensures same { (other : Error) → result ≡ JobFault.Line other → other ≡ error }
+    ensures memory { (other : Error) → result ≡ JobFault.Line other → kind_of error ≡ OutOfMemory → ⊥ }
 {
     if error.kind() == ErrorKind::OutOfMemory {
         JobFault::OutOfMemory

@@ -13,6 +13,7 @@ use std::rc::Rc;
 pub enum TracePatternFault {
     /// The byte at this offset can't follow, or the text ends there too early.
     Expected(usize),
+    /// Memory was refused.
     OutOfMemory,
 }
 
@@ -21,6 +22,7 @@ pub fn trace_pattern(alloc: Global, text: &str) -> Result<Pattern, TracePatternF
     ensures lettered { IfOk result (λ pattern. IsLettered (form_of pattern)) }
     ensures derived { IfOk result (λ pattern. Derives Alternatives (symbols_of text.now) (tree_of (form_of pattern))) }
     ensures only { IfOk result (λ pattern. (tree : Tree) → Derives Alternatives (symbols_of text.now) tree → tree_of (form_of pattern) ≡ tree) }
+    ensures within { (offset : ℕ) → result ≡ Err (TracePatternFault.Expected offset) → offset ≤ length text.now }
     ensures refused { (offset : ℕ) → result ≡ Err (TracePatternFault.Expected offset) → (tree : Tree) → Derives Alternatives (symbols_of text.now) tree → ⊥ }
 {
     let symbols = without_spaces(alloc, text.as_bytes())?;
@@ -37,6 +39,7 @@ pub fn trace_pattern(alloc: Global, text: &str) -> Result<Pattern, TracePatternF
 enum Stop {
     /// With so many symbols left, the next one can't follow.
     At(usize),
+    /// Memory was refused.
     OutOfMemory,
 }
 
@@ -49,13 +52,15 @@ fn without_spaces(alloc: Global, text: &[u8]) -> Result<Vec<u8>, AllocError>
         .collect(alloc)
 }
 
-/// The fault at the symbol that has so many from it on.
-fn expected(text: &[u8], left: usize) -> TracePatternFault {
+/// The fault at the symbol that has so many from it on, or at the end of the text where that is none.
+fn expected(text: &[u8], left: usize) -> TracePatternFault
+    ensures { (offset : ℕ) × (result ≡ TracePatternFault.Expected offset) × (offset ≤ length text.now) }
+{
     let mut place = text.len();
     let mut seen = 0;
-    for (offset, byte) in text.iter().enumerate().rev() {
-        if *byte != b' ' && seen < left {
-            place = offset;
+    while place > 0 && seen < left {
+        place -= 1;
+        if text[place] != b' ' {
             seen += 1;
         }
     }

@@ -19,9 +19,13 @@ pub struct Letters<'a> {
 const ANY: usize = 25;
 
 impl<'a> Letters<'a> {
+    ghost use Rattle.std.specs.Prelude.{◌≡◌, ◌≤◌, length};
+    ghost use Rattle.rowmatch.specs.LetterRows.{line_of};
+
+    /// The rows of a line, none of which was entered yet.
     pub fn new(line: &'a [u8]) -> Self
         requires { length line.now ≤ 4096 }
-        ensures { result.line.now ≡ line.entry.now }
+        ensures { line_of result ≡ line.entry.now }
     {
         Letters { line, entries: 0 }
     }
@@ -30,13 +34,15 @@ impl<'a> Letters<'a> {
 impl Tests for Letters<'_> {
     ghost use Rattle.std.specs.Prelude.{◌≡◌, ℕ, ◌<◌, ◌≤◌, length};
     ghost use Rattle.rp_pattern.specs.declared.word.End.TheVariants.{Closed};
-    ghost use Rattle.rowmatch.specs.LetterTest.{letter_test, letter_test-decided, short_fits};
+    ghost use Rattle.rowmatch.specs.LetterRows.{line_of};
+    ghost use Rattle.rowmatch.specs.LetterTest.{letter_test};
+    ghost use Rattle.rowmatch.specs.LetterLaws.{letter_test-decided, short_fits};
 
-    ghost rows = { λ letters. length letters.line.now };
+    ghost rows = { λ letters. length (line_of letters) };
 
     ghost ending = { λ _. Closed };
 
-    ghost outcome = { λ letters start labels. letter_test letters.line.now start labels };
+    ghost outcome = { λ letters start labels. letter_test (line_of letters) start labels };
 
     // A letter is tested alone, so no labels are kept.
     ghost entered = { λ _ _ _. Unit {0} };
@@ -68,9 +74,9 @@ impl Tests for Letters<'_> {
 
     fn cut(&mut self, _depth: usize) {}
 
-    ghost few = { λ letters. short_fits (length letters.line.now) letters.short };
+    ghost few = { λ letters. short_fits (length (line_of letters)) letters.short };
 
-    ghost decided = { λ letters start labels _. letter_test-decided letters.line.now start labels };
+    ghost decided = { λ letters start labels _. letter_test-decided (line_of letters) start labels };
 }
 
 /// Whether a row with this letter is admitted for the variable.

@@ -12,6 +12,7 @@ pub enum LineFault {
     Read,
     /// No further read is allowed, and one is due.
     Turns,
+    /// Memory was refused.
     OutOfMemory,
 }
 
@@ -30,14 +31,15 @@ pub struct Lines {
     /// How many bytes of a line are kept.
     pub kept: usize,
     ghost within: { taken ≤ vec_len chunk },
+    ghost bounded: { vec_len chunk ≤ 65536 },
 }
 
 impl Lines {
-    ghost use Rattle.std.specs.Prelude.{List, ◌≡◌, ℕ, ◌+◌, ◌-◌, ◌*◌, ◌<◌, ◌≤◌, [], ◌∷◌, ◌++◌, length, take, drop, vec_len, IfOk, IfSome, OnOk, OnErr, Some, None, min, ◌^◌, MatchBool, MatchResult, if◌then◌else◌, true, false};
+    ghost use Rattle.std.specs.Prelude.{List, ◌≡◌, ℕ, ◌+◌, ◌-◌, ◌*◌, ◌<◌, ◌≤◌, [], ◌∷◌, ◌++◌, length, take, drop, vec_len, IfOk, IfSome, OnOk, OnErr, Some, None, min, ◌^◌, MatchBool, MatchResult, ◌⊎◌, true, false};
     ghost use Rattle.std.specs.Io.KnownBytes.{Consumes, IsAtEnd};
     ghost use Rattle.rp_search.specs.Counts.{raised};
-    ghost use Rattle.rowmatch.specs.Devices.{after_calls};
-    ghost use Rattle.rowmatch.specs.Lines.{IsLfFree, TakesLine};
+    ghost use Rattle.rowmatch.specs.Devices.{GivesEach, after_calls};
+    ghost use Rattle.rowmatch.specs.Lines.{IsLfFree, TakesLast, TakesLine};
     ghost use Rattle.rowmatch.specs.Pending.{pending_of, coming, left_in};
 
     /// Nothing is read yet, and at most `turns` calls of `read` will be made.
@@ -54,17 +56,25 @@ impl Lines {
         }
     }
 
-    /// Puts the front of the next line into `line`, without its LF, and says whether there is one.
+    /// Puts the front of the next line into `line`, without its LF, and says whether it had one. Without one it is what
+    /// stood behind the last LF, perhaps nothing, and the input has ended.
     pub fn next<R: Intake>(&mut self, reader: &mut R, line: &mut Vec<u8>) -> Result<bool, LineFault>
-        requires { 0 < self.old.kept }
-        ensures line { IfOk result (λ found. TakesLine self.old.kept
-            (coming self.old (R.remaining reader.old)) (coming self.new (R.remaining reader.new)) (if found then Some line.new.items else None)) }
+        ensures line { result ≡ Ok true → TakesLine self.old.kept
+            (coming self.old (R.remaining reader.old)) (coming self.new (R.remaining reader.new)) line.new.items }
+        ensures last { result ≡ Ok false → TakesLast self.old.kept
+            (coming self.old (R.remaining reader.old)) (coming self.new (R.remaining reader.new)) line.new.items }
         ensures end { result ≡ Ok false → IsAtEnd (R.remaining reader.new) }
+        ensures told { result ≡ Ok false → R.ended reader.new ≡ true }
+        ensures more { result ≡ Ok true → R.ended reader.new ≡ R.ended reader.old }
+        ensures stays { OnErr result (R.ended reader.new ≡ R.ended reader.old) }
+        ensures few { vec_len line.new ≤ self.old.kept }
         ensures kept { self.new.kept ≡ self.old.kept }
         ensures read { result ≡ Err LineFault.Read → R.failures reader.new ≡ raised (R.failures reader.old) }
         ensures goes { OnOk result (R.failures reader.new ≡ R.failures reader.old) }
         ensures calls { after_calls self.new.turns (R.calls reader.new) ≡ after_calls self.old.turns (R.calls reader.old) }
         ensures turns { result ≡ Err LineFault.Turns → self.new.turns ≡ 0 }
+        ensures gives { (result ≡ Ok true) ⊎ (result ≡ Err LineFault.Turns) →
+            GivesEach self.old.turns self.new.turns (R.remaining reader.old) (R.remaining reader.new) }
         ensures falls { result ≡ Ok true → left_in self.new < left_in self.old }
     {
         line.clear();
@@ -73,7 +83,7 @@ impl Lines {
                 return Ok(true);
             }
             if !self.fill(reader)? {
-                return Ok(!line.is_empty());
+                return Ok(false);
             }
         }
     }
@@ -84,7 +94,7 @@ impl Lines {
         ensures cut { IfOk result (λ is_whole. MatchBool is_whole
             ((part : List ℕ) × IsLfFree part × (pending_of self.old ≡ part ++ 10 ∷ pending_of self.new) × (line.new.items ≡ take self.old.kept (line.old.items ++ part)))
             (IsLfFree (pending_of self.old) × (pending_of self.new ≡ []) × (line.new.items ≡ take self.old.kept (line.old.items ++ pending_of self.old)))) }
-        ensures fits { IfOk result (λ is_whole. vec_len line.new ≤ self.old.kept) }
+        ensures fits { vec_len line.new ≤ self.old.kept }
         ensures falls { IfOk result (λ is_whole. MatchBool is_whole (self.old.taken < self.new.taken) (self.old.taken ≤ self.new.taken)) }
         ensures chunk { self.new.chunk ≡ self.old.chunk }
         ensures turns { self.new.turns ≡ self.old.turns }
@@ -103,13 +113,18 @@ impl Lines {
         requires { pending_of self.old ≡ [] }
         ensures ok { IfOk result (λ is_some. Consumes (R.remaining reader.old) (R.remaining reader.new) (pending_of self.new)) }
         ensures end { IfOk result (λ is_some. MatchBool is_some (Unit {0}) ((pending_of self.new ≡ []) × IsAtEnd (R.remaining reader.new))) }
+        ensures told { result ≡ Ok false → R.ended reader.new ≡ true }
+        ensures more { result ≡ Ok true → R.ended reader.new ≡ R.ended reader.old }
+        ensures stays { OnErr result (R.ended reader.new ≡ R.ended reader.old) }
         ensures read { result ≡ Err LineFault.Read → R.failures reader.new ≡ raised (R.failures reader.old) }
         ensures goes { OnOk result (R.failures reader.new ≡ R.failures reader.old) }
         ensures calls { after_calls self.new.turns (R.calls reader.new) ≡ after_calls self.old.turns (R.calls reader.old) }
         ensures turns { result ≡ Err LineFault.Turns → self.new.turns ≡ 0 }
+        ensures due { result ≡ Err LineFault.Turns → self.old.turns ≡ 0 }
+        ensures unread { result ≡ Err LineFault.Turns → R.remaining reader.new ≡ R.remaining reader.old }
+        ensures gives { result ≡ Ok true → GivesEach self.old.turns self.new.turns (R.remaining reader.old) (R.remaining reader.new) }
         ensures fewer { OnOk result (self.new.turns < self.old.turns) }
         ensures kept { self.new.kept ≡ self.old.kept }
-        ensures few { OnOk result (vec_len self.new.chunk ≤ 65536) }
     {
         if self.turns == 0 {
             return Err(LineFault::Turns);
@@ -158,7 +173,8 @@ fn line_length(bytes: &[u8]) -> usize
 /// Adds the bytes to the line, but none past `kept`.
 fn push_up_to(line: &mut Vec<u8>, bytes: &[u8], kept: usize) -> Result<(), AllocError>
     requires { vec_len line.old ≤ kept }
-    ensures { OnOk result (line.new.items ≡ take kept (line.old.items ++ bytes.now)) }
+    ensures front { OnOk result (line.new.items ≡ take kept (line.old.items ++ bytes.now)) }
+    ensures fits { vec_len line.new ≤ kept }
 {
     let room = kept - line.len();
     line.extend_from_slice(&bytes[..room.min(bytes.len())])?;

@@ -12,9 +12,11 @@ pub struct Source<'a> {
     failing: u64,
     calls: u64,
     failures: u64,
+    ended: bool,
 }
 
 impl<'a> Source<'a> {
+    /// Nothing of the bytes was read yet.
     pub fn new(bytes: &'a [u8], piece: usize, failing: u64) -> Self {
         Source {
             bytes,
@@ -22,9 +24,11 @@ impl<'a> Source<'a> {
             failing,
             calls: 0,
             failures: 0,
+            ended: false,
         }
     }
 
+    /// How many calls were made.
     pub fn calls(&self) -> u64 {
         self.calls
     }
@@ -37,6 +41,8 @@ impl Intake for Source<'_> {
 
     ghost failures = { λ source. source.failures };
 
+    ghost ended = { λ source. source.ended };
+
     fn read(&mut self, buffer: &mut [u8]) -> Result<usize, ReadFailed> {
         self.calls = self.calls.saturating_add(1);
         if self.calls == self.failing {
@@ -47,6 +53,9 @@ impl Intake for Source<'_> {
         let (first, rest) = self.bytes.split_at(count);
         buffer[..count].copy_from_slice(first);
         self.bytes = rest;
+        if count == 0 && !buffer.is_empty() {
+            self.ended = true;
+        }
         Ok(count)
     }
 }
@@ -73,6 +82,7 @@ impl Sink {
         })
     }
 
+    /// What was taken so far.
     pub fn bytes(&self) -> &[u8] {
         self.bytes.as_slice()
     }
@@ -80,6 +90,8 @@ impl Sink {
 
 impl Outlet for Sink {
     ghost contents = { λ sink. Some sink.bytes.items };
+
+    ghost calls = { λ sink. sink.calls };
 
     ghost failures = { λ sink. sink.failures };
 

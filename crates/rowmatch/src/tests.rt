@@ -1,3 +1,4 @@
+//! What no contract says: texts, offsets, counts of real streams, and that calls succeed.
 ghost use Rattle.std.specs.Prelude.{◌≡◌, true};
 ghost use Rattle.rp_pattern.specs.PatternForm.{form_of};
 ghost use Rattle.rp_pattern.specs.Variables.{are_below};
@@ -134,6 +135,79 @@ fn longest_line(rt: HostRuntime) -> Result<(), Fail> {
     Ok(())
 }
 
+/// A run that reads and writes in large pieces, and may read so often.
+fn run_wide(alloc: Global, pattern: &Pattern, lines: &[u8], turns: u64) -> Result<Ran, AllocError>
+    requires { are_below 26 (form_of pattern.now) ≡ true }
+{
+    let mut source = Source::new(lines, 100_000, NEVER);
+    let mut sink = Sink::new(alloc, 100_000, 7_000, NEVER)?;
+    let result = run_trace(alloc, &mut source, &mut sink, pattern, turns);
+    let calls = source.calls();
+    Ok(Ran {
+        result,
+        calls,
+        sink,
+    })
+}
+
+/// A line of any length is read in chunks of 65,536 bytes: 300,000 letters and the rest take five reads, and one more
+/// tells the end.
+#[test]
+fn long_line(rt: HostRuntime) -> Result<(), Fail> {
+    let pattern = pattern_of(rt.alloc(), "A* | C")?;
+    let mut lines = Vec::new(rt.alloc());
+    lines.resize(300_000, b'a')?;
+    lines.extend_from_slice(b"\nc\n")?;
+    let ran = run_wide(rt.alloc(), &pattern, lines.as_slice(), 6)?;
+    if ran.result == Err(TraceFault::OutOfMemory) {
+        return Err(Fail::from(AllocError));
+    }
+    assert_eq!(rt; ran.result, Ok(()));
+    assert_eq!(rt; ran.calls, 6);
+    assert_eq!(rt; ran.sink.bytes(), b"refused\nempty\n".as_slice());
+    Ok(())
+}
+
+/// Lines of 4,096 and 4,097 letters, with their LF.
+#[test]
+fn longest_lines(rt: HostRuntime) -> Result<(), Fail> {
+    let pattern = pattern_of(rt.alloc(), "( ) A | C")?;
+    let mut lines = Vec::new(rt.alloc());
+    for length in [4096, 4097] {
+        let all = lines.len() + length;
+        lines.resize(all, b'a')?;
+        lines.push(b'\n')?;
+    }
+    lines.extend_from_slice(b"c")?;
+    let ran = run_wide(rt.alloc(), &pattern, lines.as_slice(), 2)?;
+    if ran.result == Err(TraceFault::OutOfMemory) {
+        return Err(Fail::from(AllocError));
+    }
+    assert_eq!(rt; ran.result, Ok(()));
+    assert_eq!(rt; ran.sink.bytes(), b"A\nrefused\nC\n".as_slice());
+    Ok(())
+}
+
+/// 9,000 replies of 8 bytes are more than a block.
+#[test]
+fn blocks(rt: HostRuntime) -> Result<(), Fail> {
+    let pattern = pattern_of(rt.alloc(), "C")?;
+    let mut lines = Vec::with_capacity(rt.alloc(), 18_000)?;
+    for _line in 0..9_000 {
+        lines.extend_from_slice(b"1\n")?;
+    }
+    let mut ran = run_wide(rt.alloc(), &pattern, lines.as_slice(), 2)?;
+    if ran.result == Err(TraceFault::OutOfMemory) {
+        ran = run_wide(rt.alloc(), &pattern, lines.as_slice(), 2)?;
+    }
+    assert_eq!(rt; ran.result, Ok(()));
+    assert_eq!(rt; ran.sink.bytes().len(), 72_000);
+    for (index, byte) in ran.sink.bytes().iter().enumerate() {
+        assert_eq!(rt; *byte, b"refused\n"[index % 8]);
+    }
+    Ok(())
+}
+
 #[test]
 fn failed_reads(rt: HostRuntime) -> Result<(), Fail> {
     let pattern = pattern_of(rt.alloc(), PATTERN)?;
@@ -187,6 +261,54 @@ fn turns(rt: HostRuntime) -> Result<(), Fail> {
     Ok(())
 }
 
+/// Of a last part without LF nothing is read once the end was told.
+#[test]
+fn turns_of_last_part(rt: HostRuntime) -> Result<(), Fail> {
+    let pattern = pattern_of(rt.alloc(), PATTERN)?;
+    for (lines, turns, wanted) in [
+        ("", 0, Err(TraceFault::Turns)),
+        ("", 1, Ok(())),
+        ("abac", 2, Err(TraceFault::Turns)),
+        ("abac", 3, Ok(())),
+    ] {
+        let limits = Limits {
+            read: NEVER,
+            write: NEVER,
+            turns,
+        };
+        let ran = run_lines(rt.alloc(), &pattern, lines.as_bytes(), limits)?;
+        assert_eq!(rt; ran.result, wanted, "{lines} in {turns}");
+        assert_eq!(rt; ran.calls, turns);
+    }
+    Ok(())
+}
+
+#[test]
+fn refused_pattern(rt: HostRuntime) -> Result<(), Fail> {
+    match trace_pattern(rt.alloc(), "((A)*|B)C") {
+        Err(TracePatternFault::OutOfMemory) => {
+            let _again = trace_pattern(rt.alloc(), "((A)*|B)C")?;
+        }
+        Err(fault) => return Err(Fail::from(fault)),
+        Ok(_) => {}
+    }
+    Ok(())
+}
+
+/// A run that is refused memory has written a front of the replies.
+#[test]
+fn refused_run(rt: HostRuntime) -> Result<(), Fail> {
+    let pattern = pattern_of(rt.alloc(), PATTERN)?;
+    let mut ran = run_once(rt.alloc(), &pattern, LINES.as_bytes(), ALL)?;
+    if ran.result == Err(TraceFault::OutOfMemory) {
+        assert!(rt; REPLIES.as_bytes().starts_with(ran.sink.bytes()));
+        ran = run_once(rt.alloc(), &pattern, LINES.as_bytes(), ALL)?;
+    }
+    assert_eq!(rt; ran.result, Ok(()));
+    assert_eq!(rt; ran.sink.bytes(), REPLIES.as_bytes());
+    Ok(())
+}
+
 #[test]
 fn streams(rt: HostRuntime) -> Result<(), Fail> {
     let pattern = pattern_of(rt.alloc(), PATTERN)?;
@@ -194,6 +316,9 @@ fn streams(rt: HostRuntime) -> Result<(), Fail> {
     let mut reader = Port::new(LINES.as_bytes());
     let mut writer = Port::new(&mut bytes);
     run_trace(rt.alloc(), &mut reader, &mut writer, &pattern, 2)?;
+    assert_eq!(rt; (reader.calls, reader.failures), (2, 0));
+    assert!(rt; reader.ended);
+    assert_eq!(rt; (writer.calls, writer.failures), (1, 0));
     assert_eq!(rt; bytes.as_slice(), REPLIES.as_bytes());
     Ok(())
 }
@@ -214,6 +339,18 @@ fn expected_places(rt: HostRuntime) -> Result<(), Fail> {
         ("(A|)", 3),
         ("(A", 2),
         (" A B )", 5),
+        ("A B)", 3),
+        ("A||B", 2),
+        ("A | | B", 4),
+        ("*A", 0),
+        ("|A", 0),
+        ("(*)", 1),
+        ("( | A)", 2),
+        ("()*)", 3),
+        ("((A)", 4),
+        ("A (B ", 5),
+        ("Ab", 1),
+        ("A é", 2),
     ] {
         match pattern_of(rt.alloc(), text) {
             Err(TracePatternFault::Expected(offset)) => assert_eq!(rt; offset, place, "{text}"),
@@ -254,6 +391,35 @@ fn line_status(alloc: Global, texts: &[&str]) -> Result<Option<u8>, AllocError> 
         Err(JobFault::OutOfMemory) => Err(AllocError),
         Err(JobFault::Line(error)) => Ok(ProgramFault::Line(error).status()),
     }
+}
+
+/// What a command line that names no job is told, and whether to standard error.
+fn line_told(alloc: Global, texts: &[&str]) -> Result<(String, bool), AllocError> {
+    let words = words_of(alloc, texts)?;
+    match read_command(alloc, words.as_slice()) {
+        Ok(_) => Ok((String::new(alloc), true)),
+        Err(JobFault::OutOfMemory) => Err(AllocError),
+        Err(JobFault::Line(error)) => {
+            let is_error = error.use_stderr();
+            let text = format!(in alloc; "{error}")?;
+            Ok((text, is_error))
+        }
+    }
+}
+
+/// Help names the job and its argument, on standard output. A mistake is told on standard error.
+#[test]
+fn line_texts(rt: HostRuntime) -> Result<(), Fail> {
+    let (text, is_error) = line_told(rt.alloc(), &["--help"])?;
+    assert!(rt; text.as_str().contains("trace"));
+    assert!(rt; !is_error);
+    let (text, is_error) = line_told(rt.alloc(), &["trace", "--help"])?;
+    assert!(rt; text.as_str().contains("trace <PATTERN>"));
+    assert!(rt; !is_error);
+    let (text, is_error) = line_told(rt.alloc(), &["trace"])?;
+    assert!(rt; text.as_str().contains("<PATTERN>"));
+    assert!(rt; is_error);
+    Ok(())
 }
 
 #[test]

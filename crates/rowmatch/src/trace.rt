@@ -6,7 +6,7 @@ ghost use Rattle.rp_pattern.specs.Variables.{are_below};
 ghost use Rattle.rp_search.specs.Counts.{raised};
 ghost use Rattle.rowmatch.specs.Devices.{AppendsFront, after_calls};
 ghost use Rattle.rowmatch.specs.Lines.{lines_of};
-ghost use Rattle.rowmatch.specs.Replies.{is_letter, is_looked_at, match_text, reply_text, reply_to, replies_to, search_text};
+ghost use Rattle.rowmatch.specs.Replies.{is_letter, is_looked_at, last_reply, match_text, reply_text, reply_to, replies_to, search_text};
 
 use crate::letters::Letters;
 use crate::lines::{LineFault, Lines};
@@ -25,8 +25,9 @@ pub enum TraceFault {
     Read,
     /// A call of the writer failed.
     Write,
-    /// All calls of the reader that are allowed were made, and another is due.
+    /// All calls of the reader that are allowed were made, each gave a byte, and another is due.
     Turns,
+    /// Memory was refused.
     OutOfMemory,
 }
 
@@ -52,11 +53,14 @@ pub fn run_trace<R: Intake, W: Outlet>(
     ensures front { OnErr result (IfSome (R.remaining reader.old) (λ input.
         AppendsFront (W.contents writer.old) (W.contents writer.new) (replies_to (form_of pattern.now) (lines_of input)))) }
     ensures end { OnOk result (IsAtEnd (R.remaining reader.new)) }
+    ensures told { OnOk result (R.ended reader.new ≡ true) }
     ensures reads_go { OnOk result (R.failures reader.new ≡ R.failures reader.old) }
     ensures writes_go { OnOk result (W.failures writer.new ≡ W.failures writer.old) }
     ensures read { result ≡ Err TraceFault.Read → R.failures reader.new ≡ raised (R.failures reader.old) }
     ensures write { result ≡ Err TraceFault.Write → W.failures writer.new ≡ raised (W.failures writer.old) }
     ensures turns { result ≡ Err TraceFault.Turns → R.calls reader.new ≡ after_calls turns (R.calls reader.old) }
+    ensures due { result ≡ Err TraceFault.Turns → R.ended reader.new ≡ R.ended reader.old }
+    ensures gave { result ≡ Err TraceFault.Turns → IfSome (R.remaining reader.old) (λ input. turns ≤ length input) }
     ensures within { (left : ℕ) × (after_calls left (R.calls reader.new) ≡ after_calls turns (R.calls reader.old)) }
 {
     let mut lines = Lines::new(alloc, turns, MAX_LINE + 1);
@@ -66,8 +70,25 @@ pub fn run_trace<R: Intake, W: Outlet>(
         push_reply(alloc, &mut text, pattern, line.as_slice())?;
         write_block(writer, &mut text)?;
     }
+    push_last(alloc, &mut text, pattern, line.as_slice())?;
     write_all(writer, text.as_slice())?;
     Ok(())
+}
+
+/// Adds what is written for the part behind the last LF, which is a line unless it is empty.
+fn push_last(
+    alloc: Global,
+    text: &mut Vec<u8>,
+    pattern: &Pattern,
+    part: &[u8],
+) -> Result<(), AllocError>
+    requires { are_below 26 (form_of pattern.now) ≡ true }
+    ensures { OnOk result (text.new.items ≡ text.old.items ++ last_reply (form_of pattern.now) part.now) }
+{
+    if part.is_empty() {
+        return Ok(());
+    }
+    push_reply(alloc, text, pattern, part)
 }
 
 /// Adds what is written for a line.

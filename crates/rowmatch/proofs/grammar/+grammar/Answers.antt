@@ -1,4 +1,4 @@
-use Rattle.std.proofs.Common.{rules, ◌≡◌, ℕ, ◌+◌, List, [], ◌∷◌, ◌++◌}
+use Rattle.std.proofs.Common.{rules}
 use Rattle.rowmatch.specs.Grammar.{tree_of}
 use Rattle.rowmatch.proofs.Derivations.{reads_either, reads_starred, reads_letter, reads_nothing, reads_group, reads_both}
 use Rattle.rowmatch.proofs.Trees.{tree_variable, tree_empty}

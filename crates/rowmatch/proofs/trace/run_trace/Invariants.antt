@@ -1,6 +1,6 @@
 use Rattle.std.proofs.Common.{◌≡◌}
 use Rattle.rp_pattern.specs.PatternForm.{form_of}
-use Rattle.rowmatch.specs.Devices.{after_calls}
+use Rattle.rowmatch.specs.Devices.{GivesEach, after_calls}
 use Rattle.rowmatch.specs.Pending.{coming, left_in}
 use Rattle.rowmatch.proofs.Replied.{Replied}
 use Rattle.rowmatch.proofs.trace.run_trace.Given as goal
@@ -11,6 +11,8 @@ invariant-loop-text g l = record {
   kept : l.lines.kept ≡ 4097;
   read : g.R.Intake.failures l.reader ≡ g.R.Intake.failures l.fn.reader;
   write : g.W.Outlet.failures l.writer ≡ g.W.Outlet.failures l.fn.writer;
+  ended : g.R.Intake.ended l.reader ≡ g.R.Intake.ended l.fn.reader;
+  gives : GivesEach l.turns l.lines.turns (g.R.Intake.remaining l.fn.reader) (g.R.Intake.remaining l.reader);
   calls : after_calls l.lines.turns (g.R.Intake.calls l.reader) ≡ after_calls l.turns (g.R.Intake.calls l.fn.reader);
 }
 

@@ -1,5 +1,5 @@
 use Rattle.std.proofs.Common.{◌≡◌, ◌≤◌, vec_len}
-use Rattle.rowmatch.specs.Devices.{after_calls}
+use Rattle.rowmatch.specs.Devices.{GivesEach, after_calls}
 use Rattle.rowmatch.specs.Pending.{coming, left_in}
 use Rattle.rowmatch.proofs.Cutting.{ReadFront}
 use Rattle.rowmatch.proofs.lines.Lines.next.Given as goal
@@ -11,6 +11,8 @@ invariant-loop-self g l = record {
   kept : l.self.kept ≡ l.fn.self.kept;
   goes : g.R.Intake.failures l.reader ≡ g.R.Intake.failures l.fn.reader;
   calls : after_calls l.self.turns (g.R.Intake.calls l.reader) ≡ after_calls l.fn.self.turns (g.R.Intake.calls l.fn.reader);
+  ended : g.R.Intake.ended l.reader ≡ g.R.Intake.ended l.fn.reader;
+  gives : GivesEach l.fn.self.turns l.self.turns (g.R.Intake.remaining l.fn.reader) (g.R.Intake.remaining l.reader);
   left : left_in l.self ≤ left_in l.fn.self;
 }
 
