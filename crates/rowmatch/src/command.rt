@@ -43,6 +43,21 @@ pub fn read_command(alloc: Global, words: &[String]) -> Result<Job, JobFault>
     }
 }
 
+/// The fault of a command line with an argument that isn't UTF-8.
+pub fn not_utf8(alloc: Global) -> JobFault
+    ensures { (error : Error) → result ≡ JobFault.Line error → kind_of error ≡ OutOfMemory → ⊥ }
+{
+    match line_of_no_text(alloc) {
+        Ok(error) => line_fault(error),
+        Err(_) => JobFault::OutOfMemory,
+    }
+}
+
+fn line_of_no_text(alloc: Global) -> Result<Error, AllocError> {
+    let mut command = Command::new(alloc, "rowmatch");
+    command.error(ErrorKind::ValueValidation, "an argument isn't UTF-8")
+}
+
 #[tactic(auto, using(crate::proofs::Rows::trace_simple))]
 fn read_trace(alloc: Global, words: &[String]) -> Result<Job, JobFault>
     ensures named { IfOk result (λ job. name_of job ≡ codes "trace") }
@@ -63,9 +78,12 @@ fn trace_command<'a>(alloc: Global) -> Result<Command<'a>, AllocError>
     ensures required { IfOk result (λ command. (matches : ArgMatches) → IsParsedFrom command matches → HasValue (codes "PATTERN") matches) }
 {
     let pattern = Arg::new(alloc, "PATTERN")
+        .help("Variables A to Z, `( )`, `|` and `*`, as \"(A B | A)* C\"")
         .required(true)
         .action(ArgAction::Set);
-    Command::new(alloc, "trace").arg(pattern)
+    Command::new(alloc, "trace")
+        .about("Prints the variables of each line's match, a row for each letter")
+        .arg(pattern)
 }
 
 /// What clap makes of the words, for a simple command.

@@ -10,7 +10,7 @@ mod matching;
 mod port;
 mod trace;
 
-use crate::command::{Job, read_command};
+use crate::command::{Job, not_utf8, read_command};
 use crate::fault::ProgramFault;
 use crate::grammar::trace_pattern;
 use crate::port::Port;
@@ -26,19 +26,25 @@ fn main(rt: HostRuntime) -> io::Result<ExitCode> {
     let Err(fault) = run(&rt) else {
         return Ok(ExitCode::SUCCESS);
     };
-    match &fault {
-        ProgramFault::Line(error) => error.print(&rt)?,
-        _ => eprintln!(rt; "rowmatch: {fault}")?,
+    let told = match &fault {
+        ProgramFault::Line(error) => error.print(&rt),
+        _ => eprintln!(rt; "rowmatch: {fault}"),
+    };
+    if told.is_err() {
+        let fault = ProgramFault::Write;
+        eprintln!(rt; "rowmatch: {fault}")?;
+        return Ok(ExitCode::from(fault.status().unwrap_or(0)));
     }
     Ok(ExitCode::from(fault.status().unwrap_or(0)))
 }
 
 fn run(rt: &HostRuntime) -> Result<(), ProgramFault> {
     let mut words = Vec::new(rt.alloc());
-    for word in env::args(rt)
-        .map_err(|_| ProgramFault::OutOfMemory)?
-        .skip(1)
-    {
+    let all = match env::args(rt) {
+        Ok(all) => all,
+        Err(error) => return Err(unread(rt, &error)),
+    };
+    for word in all.skip(1) {
         words.push(word)?;
     }
     match read_command(rt.alloc(), words.as_slice())? {
@@ -49,6 +55,15 @@ fn run(rt: &HostRuntime) -> Result<(), ProgramFault> {
             run_trace(rt.alloc(), &mut reader, &mut writer, &pattern, TURNS)?;
             Ok(())
         }
+    }
+}
+
+/// Why the arguments can't be read: one isn't UTF-8, or memory was refused.
+fn unread(rt: &HostRuntime, error: &io::Error) -> ProgramFault {
+    if error.kind() == io::ErrorKind::InvalidData {
+        ProgramFault::from(not_utf8(rt.alloc()))
+    } else {
+        ProgramFault::OutOfMemory
     }
 }
 

@@ -14,6 +14,7 @@ use std::rc::Rc;
 #[derive(Drop)]
 pub(crate) struct Node {
     pub form: Rc<Form>,
+    /// Whether its labels are excluded.
     pub excluded: bool,
     ghost allowed: { IsTrue (is_allowed form.value) },
 }
@@ -22,7 +23,9 @@ pub(crate) struct Node {
 #[derive(Drop)]
 pub(crate) struct Iterations {
     pub body: Node,
+    /// How many may follow the required ones. None: any number.
     pub further: Option<u32>,
+    /// Whether to stop is preferred.
     pub reluctant: bool,
     /// Whether it is known that each iteration takes a row.
     pub moving: bool,
@@ -62,6 +65,7 @@ pub(crate) type Tail = Option<Rc<Link>>;
 /// What is left of a pattern.
 #[derive(Drop)]
 pub(crate) enum Rests {
+    /// Nothing is left.
     Done,
     /// A part as it stands in the pattern, before later ones.
     Then { node: Node, then: Tail },

@@ -1,3 +1,4 @@
+//! Tests of patterns and permutations.
 ghost use Rattle.std.specs.Prelude.{◌≤◌};
 
 use crate::{Form, Pattern, permutations};

@@ -29,7 +29,9 @@ use std::rc::Rc;
 /// The choices that a choice stands for.
 #[derive(Drop)]
 pub(crate) struct Split {
+    /// The one to take up first.
     pub preferred: Option<Rests>,
+    /// The one after it.
     pub other: Option<Rests>,
 }
 

@@ -44,6 +44,7 @@ pub enum Mark {
 pub struct Word {
     /// One for each row, in row order.
     pub labels: Vec<Label>,
+    /// Whether it is a whole mapping.
     pub mark: Mark,
 }
 

@@ -1,5 +1,5 @@
 //! A search takes up one choice a turn. Between its runs it keeps the choices that are not given up, and one list of labels
-//! that is cut back to the choice at hand.
+//! that is cut back to the choice at hand. While a row's test is open, it keeps a second such list: of what would follow.
 ghost use Rattle.std.specs.Prelude.{◌≡◌, ◌≢◌, ℕ, ◌+◌, ◌-◌, ◌^◌, ◌<◌, ◌≤◌, List, [], ◌∷◌, ◌++◌, length, take, None, IfOk, OnOk, OnErr};
 ghost use Rattle.rp_pattern.specs.declared.word.End.{End};
 ghost use Rattle.rp_pattern.specs.declared.word.End.TheVariants.{Closed};

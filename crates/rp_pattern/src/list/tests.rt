@@ -1,3 +1,4 @@
+//! Tests of word lists.
 use super::*;
 use crate::form::Form;
 use crate::word::Label;

@@ -323,3 +323,25 @@ fn no_row_is_known(rt: HostRuntime) -> Result<(), Fail> {
     );
     Ok(())
 }
+
+#[test]
+fn no_row_is_known_of_nested_parts(rt: HostRuntime) -> Result<(), Fail> {
+    let alloc = rt.alloc();
+    assert_eq!(rt;
+        firsts(alloc, nested_forms(alloc)?, End::Open)?.as_str(),
+        "???.?..???"
+    );
+    assert_eq!(rt;
+        firsts(alloc, nested_forms(alloc)?, End::Closed)?.as_str(),
+        ".........-"
+    );
+    assert_eq!(rt;
+        firsts(alloc, other_forms(alloc)?, End::Open)?.as_str(),
+        "??????????"
+    );
+    assert_eq!(rt;
+        firsts(alloc, other_forms(alloc)?, End::Closed)?.as_str(),
+        "-----.--.-"
+    );
+    Ok(())
+}

@@ -7,7 +7,7 @@ pub returns-clause-required : goal.returns-clause-required
 returns-clause-required c =
     let id : c.action-pattern.result.id.now ≡ codes "PATTERN" = search rules in
     let first : (t : List ℕ) → c.action-pattern.result.id.now ≡ t → slice_index t 0 ≡ 80 = λ t e. rw (← e, id) refl in
-    IfOk-weaker c.arg.result _ _ (λ command added matches parsed. rw (← id) (one_required_value c.new-2.result command c.action-pattern.result matches added
+    IfOk-weaker c.arg.result _ _ (λ command added matches parsed. rw (← id) (one_required_value c.about.result command c.action-pattern.result matches added
     (search rules) (search rules) (search rules) (search rules) (search rules) (search rules) (search rules) (search rules) (search rules) (search rules)
     (λ e. let bad : 0 ≡ 80 = first [] e in absurd (omega arith))
     (λ auto. elim auto [
