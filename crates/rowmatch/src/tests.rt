@@ -208,6 +208,24 @@ fn blocks(rt: HostRuntime) -> Result<(), Fail> {
     Ok(())
 }
 
+/// The replies to the first chunk are more than a block: they are written before the next chunk is read.
+#[test]
+fn first_block(rt: HostRuntime) -> Result<(), Fail> {
+    let pattern = pattern_of(rt.alloc(), "C")?;
+    let mut lines = Vec::with_capacity(rt.alloc(), 100_000)?;
+    for _line in 0..50_000 {
+        lines.extend_from_slice(b"1\n")?;
+    }
+    let mut source = Source::new(lines.as_slice(), 100_000, NEVER);
+    let mut sink = Sink::new(rt.alloc(), 100_000, 100_000, 1)?;
+    let result = run_trace(rt.alloc(), &mut source, &mut sink, &pattern, 10);
+    if result != Err(TraceFault::OutOfMemory) {
+        assert_eq!(rt; result, Err(TraceFault::Write));
+        assert_eq!(rt; source.calls(), 1);
+    }
+    Ok(())
+}
+
 #[test]
 fn failed_reads(rt: HostRuntime) -> Result<(), Fail> {
     let pattern = pattern_of(rt.alloc(), PATTERN)?;
