@@ -1,7 +1,7 @@
 //! The command line.
 ghost use Rattle.std.specs.Prelude.{◌≡◌, true, Some, [], IfOk, OnOk, codes, map, string_bytes, slice_get};
 ghost use Rattle.clap.specs.Words.{IsAmong, IsParsedFrom, app_of, is_simple, found_of, rows_of, first_of, kind_of};
-ghost use Rattle.clap.specs.declared.error.kind.ErrorKind.TheVariants.{OutOfMemory};
+ghost use Rattle.clap.specs.declared.error.kind.ErrorKind.TheVariants.{OutOfMemory, ValueValidation};
 ghost use Rattle.clap.specs.declared.error.Error.{Error};
 ghost use Rattle.clap.specs.declared.parser.matches.ArgMatches.{ArgMatches};
 ghost use Rattle.rowmatch.specs.Commands.{HasValue, are_taken, faults_by, is_ruled, rows_by, trace_app};
@@ -43,9 +43,9 @@ pub fn read_command(alloc: Global, words: &[String]) -> Result<Job, JobFault>
     }
 }
 
-/// The fault of a command line with an argument that isn't UTF-8.
+/// The fault of a command line with an argument that isn't UTF-8: a mistake in the line, unless memory was refused.
 pub fn not_utf8(alloc: Global) -> JobFault
-    ensures { (error : Error) → result ≡ JobFault.Line error → kind_of error ≡ OutOfMemory → ⊥ }
+    ensures { (error : Error) → result ≡ JobFault.Line error → kind_of error ≡ ValueValidation }
 {
     match line_of_no_text(alloc) {
         Ok(error) => line_fault(error),
@@ -53,7 +53,9 @@ pub fn not_utf8(alloc: Global) -> JobFault
     }
 }
 
-fn line_of_no_text(alloc: Global) -> Result<Error, AllocError> {
+fn line_of_no_text(alloc: Global) -> Result<Error, AllocError>
+    ensures { IfOk result (λ error. kind_of error ≡ ValueValidation) }
+{
     let mut command = Command::new(alloc, "rowmatch");
     command.error(ErrorKind::ValueValidation, "an argument isn't UTF-8")
 }

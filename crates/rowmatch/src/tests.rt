@@ -1,9 +1,9 @@
 //! What no contract says: texts, offsets, counts of real streams, and that calls succeed.
-ghost use Rattle.std.specs.Prelude.{◌≡◌, true};
+ghost use Rattle.std.specs.Prelude.{◌≡◌, ◌≤◌, length, true};
 ghost use Rattle.rp_pattern.specs.PatternForm.{form_of};
 ghost use Rattle.rp_pattern.specs.Variables.{are_below};
 
-use crate::command::{Job, JobFault, read_command};
+use crate::command::{Job, JobFault, not_utf8, read_command};
 use crate::fault::ProgramFault;
 use crate::grammar::{TracePatternFault, trace_pattern};
 use crate::memory::{Sink, Source};
@@ -188,23 +188,32 @@ fn longest_lines(rt: HostRuntime) -> Result<(), Fail> {
     Ok(())
 }
 
+/// A text so many times.
+fn repeated(alloc: Global, text: &[u8], times: usize) -> Result<Vec<u8>, AllocError>
+    requires { times ≤ 50000 }
+    requires { length text.now ≤ 8 }
+{
+    let mut all = Vec::with_capacity(alloc, times * text.len())?;
+    for _time in 0..times {
+        all.extend_from_slice(text)?;
+    }
+    Ok(all)
+}
+
 /// 9,000 replies of 8 bytes are more than a block.
 #[test]
 fn blocks(rt: HostRuntime) -> Result<(), Fail> {
     let pattern = pattern_of(rt.alloc(), "C")?;
-    let mut lines = Vec::with_capacity(rt.alloc(), 18_000)?;
-    for _line in 0..9_000 {
-        lines.extend_from_slice(b"1\n")?;
-    }
+    let lines = repeated(rt.alloc(), b"1\n", 9_000)?;
     let mut ran = run_wide(rt.alloc(), &pattern, lines.as_slice(), 2)?;
     if ran.result == Err(TraceFault::OutOfMemory) {
         ran = run_wide(rt.alloc(), &pattern, lines.as_slice(), 2)?;
     }
     assert_eq!(rt; ran.result, Ok(()));
-    assert_eq!(rt; ran.sink.bytes().len(), 72_000);
-    for (index, byte) in ran.sink.bytes().iter().enumerate() {
-        assert_eq!(rt; *byte, b"refused\n"[index % 8]);
-    }
+    assert_eq!(rt;
+        ran.sink.bytes(),
+        repeated(rt.alloc(), b"refused\n", 9_000)?.as_slice()
+    );
     Ok(())
 }
 
@@ -212,10 +221,7 @@ fn blocks(rt: HostRuntime) -> Result<(), Fail> {
 #[test]
 fn first_block(rt: HostRuntime) -> Result<(), Fail> {
     let pattern = pattern_of(rt.alloc(), "C")?;
-    let mut lines = Vec::with_capacity(rt.alloc(), 100_000)?;
-    for _line in 0..50_000 {
-        lines.extend_from_slice(b"1\n")?;
-    }
+    let lines = repeated(rt.alloc(), b"1\n", 50_000)?;
     let mut source = Source::new(lines.as_slice(), 100_000, NEVER);
     let mut sink = Sink::new(rt.alloc(), 100_000, 100_000, 1)?;
     let result = run_trace(rt.alloc(), &mut source, &mut sink, &pattern, 10);
@@ -375,6 +381,11 @@ fn expected_places(rt: HostRuntime) -> Result<(), Fail> {
             _ => assert!(rt; false, "{text}"),
         }
     }
+    Ok(())
+}
+
+#[test]
+fn accepted(rt: HostRuntime) -> Result<(), Fail> {
     for text in ["()", "( )", "A B", "((A)*|B)C", " A*B | Z "] {
         let _pattern = pattern_of(rt.alloc(), text)?;
     }
@@ -448,6 +459,18 @@ fn line_statuses(rt: HostRuntime) -> Result<(), Fail> {
     assert_eq!(rt; line_status(rt.alloc(), &["trace"])?, Some(2));
     assert_eq!(rt; line_status(rt.alloc(), &["trace", "A", "B"])?, Some(2));
     assert_eq!(rt; line_status(rt.alloc(), &["whole"])?, Some(2));
+    Ok(())
+}
+
+#[test]
+fn line_of_other_bytes(rt: HostRuntime) -> Result<(), Fail> {
+    let fault = ProgramFault::from(not_utf8(rt.alloc()));
+    let told = format!(in rt.alloc(); "{fault}")?;
+    if matches!(&fault, ProgramFault::OutOfMemory) {
+        return Err(Fail::from(AllocError));
+    }
+    assert!(rt; told.as_str().contains("an argument isn't UTF-8"));
+    assert_eq!(rt; fault.status(), Some(2));
     Ok(())
 }
 
