@@ -190,8 +190,8 @@ fn longest_lines(rt: HostRuntime) -> Result<(), Fail> {
 
 /// A text so many times.
 fn repeated(alloc: Global, text: &[u8], times: usize) -> Result<Vec<u8>, AllocError>
-    requires { times ≤ 50000 }
-    requires { length text.now ≤ 8 }
+    requires times { times ≤ 50000 }
+    requires short { length text.now ≤ 8 }
 {
     let mut all = Vec::with_capacity(alloc, times * text.len())?;
     for _time in 0..times {
