@@ -149,7 +149,7 @@ at_row c s ls t cs k h = (k.begun, subst (OfFirst (λ t. t.depth + 1 ≡ length 
 
 -- ---- what the preferred choice came to
 
-later_is : (n : ℕ) (e : End) (r : Rests) → drop 1 (rests_parts n e r) ≡ later_parts n e r
+pub later_is : (n : ℕ) (e : End) (r : Rests) → drop 1 (rests_parts n e r) ≡ later_parts n e r
 later_is n e Done = refl
 later_is n e (Then node then) = refl
 later_is n e (Reached link) = go (links_from link.value)
@@ -391,15 +391,15 @@ module _ (c : Choices) (not : c.begun ≡ false) (n : ℕ) (e : End) where
   unfolding left whole_left
   fresh_left = ap (λ b. cond b (stack_left n e c.start (reverse c.stack.items)) (chain_left (tail_parts n e c.origin) c.start)) not
 
--- What would follow a row, as choices of their own.
-module _ (old new : Choices) (n : ℕ) (e : End) (k : Stack old old.start old.labels.items (reverse old.stack.items)) (start : new.start ≡ old.start + length old.labels.items) (tail : tail_parts n e new.origin ≡ first_later n e (reverse old.stack.items)) where
-  pub apart_whole : whole new n e ≡ after old n e
-  unfolding whole
-  apart_whole = ap (λ ps. chain_words ps new.start) tail ∙ ap (chain_words (first_later n e (reverse old.stack.items))) start ∙ sym (after_is old old.start old.labels.items (reverse old.stack.items) k n e)
+-- what follows a row, at that row
+module _ (c : Choices) (r : Option Rests) (n : ℕ) (e : End) (row : ℕ) (at : row ≡ c.start + length c.labels.items) (h : StandsFor n e row (first_later n e (reverse c.stack.items)) r) where
+  pub followed_words : length (option_words n e r row) ≡ length (after c n e)
+  unfolding after
+  followed_words = ap length (h.words ∙ ap (chain_words (first_later n e (reverse c.stack.items))) at)
 
-  pub apart_left : whole_left new n e ≡ after_left old n e
-  unfolding whole_left
-  apart_left = ap (λ ps. chain_left ps new.start) tail ∙ ap (chain_left (first_later n e (reverse old.stack.items))) start ∙ sym (after_left_is old old.start old.labels.items (reverse old.stack.items) k n e)
+  pub followed_left : option_turns n e r row + length (option_words n e r row) ≡ after_left c n e
+  unfolding after_left
+  followed_left = omega (arith, h.turns, ap length h.words) ∙ ap (chain_left (first_later n e (reverse c.stack.items))) at
 
 pub no_choices : (xs : List Choice) → length xs ≡ 0 → reverse xs ≡ []
 no_choices [] h = refl

@@ -1,11 +1,8 @@
 -- What a stack of choices stands for.
-use Rattle.std.specs.Prelude.{◌≡◌, ℕ, ◌+◌, ◌<◌, ◌≤◌, true, cond, List, [], ◌∷◌, ◌++◌, map, length, take, reverse, Option}
+use Rattle.std.specs.Prelude.{◌≡◌, ℕ, ◌+◌, ◌<◌, ◌≤◌, true, cond, List, [], ◌∷◌, ◌++◌, map, length, take, reverse}
 use Rattle.rp_pattern.specs.declared.word.End.{End}
 use Rattle.rp_pattern.specs.declared.word.End.TheVariants.{Open as OpenEnd}
 use Rattle.rp_pattern.specs.declared.word.Label.{Label}
-use Rattle.std.specs.declared.rc.Rc.{Rc}
-use Rattle.std.specs.declared.alloc.Global.{Global}
-use Rattle.rp_pattern.specs.declared.rests.Link.{Link}
 use Rattle.rp_pattern.specs.declared.rests.Choice.{Choice}
 use Rattle.rp_pattern.specs.declared.choices.Choices.{Choices}
 use Rattle.rp_pattern.specs.declared.choices.Taken.{Taken}
@@ -79,10 +76,6 @@ AtRow c = (c.begun ≡ true) × OfFirst (λ t. t.depth + 1 ≡ length c.labels.i
 
 abbrev pub HasBegun : Choices → Type 0
 HasBegun c = c.begun ≡ true
-
--- it is what comes after the first part of the preferred choice
-abbrev pub IsLaterTail : Choices → Option (Rc Link Global) → Type 0
-IsLaterTail c tail = (n : ℕ) (e : End) → tail_parts n e tail ≡ first_later n e (reverse c.stack.items)
 
 -- the first ones of these labels
 abbrev pub IsFront : List Label → List Label → Type 0

@@ -12,5 +12,6 @@ pub mod PermutedParts
 pub mod Rests
 pub mod Splits
 pub mod Choices
+pub mod Outlooks
 pub mod LabelLaws
 pub mod Listing

@@ -3,8 +3,9 @@ ghost use Rattle.std.specs.Prelude.{◌≡◌, ℕ, ◌∷◌, ◌++◌, ◌+◌
 ghost use Rattle.rp_pattern.specs.Rests.{rises, pushed, without_first};
 
 use crate::form::{Form, Pattern};
+use crate::outlook::Outlook;
 use crate::rests::{Choice, Node, Part, Rests, Tail};
-use crate::tail::{follow, linked, share};
+use crate::tail::{follow, linked};
 use crate::turn::{Split, Turn};
 use crate::word::{End, Label};
 use std::alloc::{AllocError, Global};
@@ -46,7 +47,8 @@ impl Choices {
     ghost use Rattle.rp_pattern.specs.PatternForm.{form_of};
     ghost use Rattle.rp_pattern.specs.Rests.{tail_links};
     ghost use Rattle.rp_pattern.specs.Splits.{StandsFor};
-    ghost use Rattle.rp_pattern.specs.Choices.{start_of, entered, first_later, whole, whole_left, remaining, left, below, below_left, after, after_left, HasTop, AtRow, IsFront, IsShorterFront, IsSameWhole, TakenAs, HasBegun, IsLaterTail};
+    ghost use Rattle.rp_pattern.specs.Choices.{start_of, entered, first_later, whole, whole_left, remaining, left, below, below_left, after, after_left, HasTop, AtRow, IsFront, IsShorterFront, IsSameWhole, TakenAs, HasBegun};
+    ghost use Rattle.rp_pattern.specs.Outlooks.{words_ahead, turns_ahead, held_by};
 
     /// The words of the pattern from the start row on.
     pub fn new(alloc: Global, pattern: &Pattern, start: u64) -> Result<Choices, AllocError>
@@ -174,11 +176,7 @@ impl Choices {
     {
         match top(&self.stack) {
             None => Ok(Some(Rests::Done)),
-            Some(choice) => match &choice.rests {
-                Rests::Done => Ok(Some(Rests::Done)),
-                Rests::Then { node: _, then } => follow(then, row),
-                Rests::Reached(link) => follow(&link.then, row),
-            },
+            Some(choice) => choice.rests.after_first(row),
         }
     }
 
@@ -197,38 +195,15 @@ impl Choices {
         }
     }
 
-    /// What would follow the row that the preferred choice maps, as choices of their own from the next row on.
-    pub fn after_row(&self) -> Result<Choices, AllocError>
+    /// What would follow the row that the preferred choice maps.
+    pub fn after_row(&self) -> Result<Outlook, AllocError>
         requires { AtRow self.now }
-        ensures start { IfOk result (λ c. start_of c ≡ start_of self.now + length (entered self.now)) }
-        ensures labels { IfOk result (λ c. entered c ≡ []) }
-        ensures whole { IfOk result (λ c. (n : ℕ) (e : End) → whole c n e ≡ after self.now n e) }
-        ensures whole_left { IfOk result (λ c. (n : ℕ) (e : End) → whole_left c n e ≡ after_left self.now n e) }
-        ensures remaining { IfOk result (λ c. (n : ℕ) (e : End) → remaining c n e ≡ after self.now n e) }
-        ensures left { IfOk result (λ c. (n : ℕ) (e : End) → left c n e ≡ after_left self.now n e) }
+        ensures words { IfOk result (λ o. (n : ℕ) (e : End) → words_ahead o n e ≡ length (after self.now n e)) }
+        ensures turns { IfOk result (λ o. (n : ℕ) (e : End) → turns_ahead o n e ≡ after_left self.now n e) }
+        ensures held { IfOk result (λ o. held_by o ≤ 1) }
     {
-        Ok(Choices {
-            alloc: self.alloc,
-            start: self.start + self.labels.len() as u64,
-            origin: self.later()?,
-            begun: false,
-            labels: Vec::new(self.alloc),
-            stack: Vec::new(self.alloc),
-        })
-    }
-
-    /// What comes after the first part of the preferred choice.
-    fn later(&self) -> Result<Tail, AllocError>
-        ensures { IfOk result (IsLaterTail self.now) }
-    {
-        match top(&self.stack) {
-            None => Ok(None),
-            Some(choice) => match &choice.rests {
-                Rests::Done => Ok(None),
-                Rests::Then { node: _, then } => share(then),
-                Rests::Reached(link) => share(&link.then),
-            },
-        }
+        let row = self.start + self.labels.len() as u64;
+        Outlook::at(self.alloc, row, self.follow_first(row)?)
     }
 
     /// Begins again. It takes no memory.
@@ -246,7 +221,7 @@ impl Choices {
 
 /// The top choice.
 #[inline(always)]
-fn top(stack: &[Choice]) -> Option<&Choice>
+pub(crate) fn top(stack: &[Choice]) -> Option<&Choice>
     ensures { MatchOption result (reverse stack.now ≡ []) (λ choice. reverse stack.now ≡ choice.now ∷ without_first (reverse stack.now)) }
 {
     stack.last()
@@ -254,7 +229,7 @@ fn top(stack: &[Choice]) -> Option<&Choice>
 
 /// Takes the top choice away.
 #[inline(always)]
-fn drop_top(stack: &mut Vec<Choice>)
+pub(crate) fn drop_top(stack: &mut Vec<Choice>)
     ensures { reverse stack.new.items ≡ without_first (reverse stack.old.items) }
 {
     let _ = stack.pop();
@@ -262,7 +237,11 @@ fn drop_top(stack: &mut Vec<Choice>)
 
 /// Puts a choice on a stack, if there is one.
 #[inline(always)]
-fn push(stack: &mut Vec<Choice>, depth: usize, rests: Option<Rests>) -> Result<(), AllocError>
+pub(crate) fn push(
+    stack: &mut Vec<Choice>,
+    depth: usize,
+    rests: Option<Rests>,
+) -> Result<(), AllocError>
     ensures pushed { OnOk result (reverse stack.new.items ≡ pushed depth rests (reverse stack.old.items)) }
     ensures rises { IsTrue (rises depth (reverse stack.old.items)) → IsTrue (rises depth (reverse stack.new.items)) }
 {

@@ -6,6 +6,7 @@ mod form;
 mod laws;
 mod list;
 mod orders;
+mod outlook;
 mod rests;
 mod tail;
 mod turn;
@@ -16,6 +17,7 @@ pub use form::{Form, Pattern};
 pub use laws::{law_labels, law_words};
 pub use list::{ListFault, list_words};
 pub use orders::permutations;
+pub use outlook::{Outlook, Sight};
 pub use word::{End, Label, Mark, Seen, Word};
 
 #[cfg(test)]

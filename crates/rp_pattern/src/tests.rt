@@ -1,7 +1,7 @@
 //! Tests of patterns and permutations.
 ghost use Rattle.std.specs.Prelude.{◌≤◌};
 
-use crate::{Form, Pattern, permutations};
+use crate::{Choices, End, Form, Outlook, Pattern, Sight, Taken, permutations};
 use std::alloc::{AllocError, Global};
 use std::rc::Rc;
 use std::test::Fail;
@@ -119,6 +119,75 @@ fn pattern_keeps_its_tree(rt: HostRuntime) -> Result<(), Fail> {
             assert_eq!(rt; (*lower, *upper, *reluctant), (1, Some(2), false));
         }
         _ => panic!(rt; "another form"),
+    }
+    Ok(())
+}
+
+/// What follows the row of A in `A B`, at row 2.
+fn behind_first(alloc: Global) -> Result<Option<Outlook>, AllocError> {
+    let first = Rc::new(alloc, Form::Variable(0))?;
+    let second = Rc::new(alloc, Form::Variable(1))?;
+    let pattern = Pattern::new(Form::Concatenation(first, second));
+    let mut choices = Choices::new(alloc, &pattern, 1)?;
+    let _split = choices.take_up(1, End::Open)?;
+    match choices.take_up(1, End::Open)? {
+        Taken::Row => Ok(Some(choices.after_row()?)),
+        _ => Ok(None),
+    }
+}
+
+/// Two turns of an outlook, and what dropping its choices tells.
+fn looked_ahead(
+    alloc: Global,
+    rows: u64,
+    end: End,
+) -> Result<Option<(Sight, Sight, bool, bool)>, AllocError>
+    requires { rows ≤ 2 }
+{
+    let Some(mut outlook) = behind_first(alloc)? else {
+        return Ok(None);
+    };
+    let first = outlook.take_up(rows, end)?;
+    let second = outlook.take_up(rows, end)?;
+    Ok(Some((first, second, outlook.drop_one(), outlook.drop_one())))
+}
+
+/// The row of B is passed over where it is known, and waited for where it may come.
+#[test]
+fn refused_outlook(rt: HostRuntime) -> Result<(), Fail> {
+    for (rows, end, first, second) in [
+        (1, End::Open, Sight::Word, Sight::Word),
+        (1, End::Closed, Sight::Further, Sight::Nothing),
+        (2, End::Open, Sight::Further, Sight::Word),
+        (2, End::Closed, Sight::Further, Sight::Word),
+    ] {
+        let sights = match looked_ahead(rt.alloc(), rows, end) {
+            Ok(sights) => sights,
+            Err(_) => looked_ahead(rt.alloc(), rows, end)?,
+        };
+        assert_eq!(rt; sights, Some((first, second, false, false)));
+    }
+    Ok(())
+}
+
+/// Of both choices of `A (B | C)` behind A, one is left when the other is dropped.
+#[test]
+fn outlook_of_two(rt: HostRuntime) -> Result<(), Fail> {
+    let second = Rc::new(rt.alloc(), Form::Variable(1))?;
+    let third = Rc::new(rt.alloc(), Form::Variable(2))?;
+    let either = Rc::new(rt.alloc(), Form::Alternation(second, third))?;
+    let first = Rc::new(rt.alloc(), Form::Variable(0))?;
+    let pattern = Pattern::new(Form::Concatenation(first, either));
+    let mut choices = Choices::new(rt.alloc(), &pattern, 1)?;
+    let _split = choices.take_up(2, End::Open)?;
+    match choices.take_up(2, End::Open)? {
+        Taken::Row => {
+            let mut outlook = choices.after_row()?;
+            assert_eq!(rt; outlook.take_up(2, End::Open)?, Sight::Further);
+            assert!(rt; outlook.drop_one());
+            assert!(rt; !outlook.drop_one());
+        }
+        _ => panic!(rt; "no row"),
     }
     Ok(())
 }

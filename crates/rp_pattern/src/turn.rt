@@ -3,7 +3,7 @@ ghost use Rattle.std.specs.Prelude.{◌≡◌, ℕ, suc, ◌∷◌, ◌+◌, ◌
 ghost use Rattle.std.specs.List.{AllByRecursion};
 ghost use Rattle.rp_pattern.specs.declared.word.End.{End};
 ghost use Rattle.std.specs.Prelude.{Option, None};
-ghost use Rattle.rp_pattern.specs.Rests.{links_from, reached_parts, tail_parts, rests_parts, node_part, iterations_part, permuted_form_parts, in_order, still, IsOneLess, IsSamePart, IsTimes};
+ghost use Rattle.rp_pattern.specs.Rests.{links_from, reached_parts, tail_parts, rests_parts, later_parts, node_part, iterations_part, permuted_form_parts, in_order, still, IsOneLess, IsSamePart, IsTimes};
 ghost use Rattle.rp_pattern.specs.Movement.{always_moves};
 ghost use Rattle.rp_pattern.specs.declared.rests.Link.TheViews.{out-Link};
 ghost use Rattle.rp_pattern.specs.Turns.{WordsAndTurns};
@@ -91,6 +91,18 @@ impl Rests {
                 node.take_up(alloc, &node.form, then, row, n, end, split)
             }
             Rests::Reached(link) => take_reached(alloc, link, row, n, end, split),
+        }
+    }
+
+    /// What is left at a row when the first part is mapped before it.
+    #[inline(always)]
+    pub(crate) fn after_first(&self, row: u64) -> Result<Option<Rests>, AllocError>
+        ensures { IfOk result (λ rests. (n : ℕ) (e : End) → StandsFor n e row (later_parts n e self.now) rests) }
+    {
+        match self {
+            Rests::Done => Ok(Some(Rests::Done)),
+            Rests::Then { node: _, then } => follow(then, row),
+            Rests::Reached(link) => follow(&link.then, row),
         }
     }
 }

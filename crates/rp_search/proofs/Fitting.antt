@@ -1,21 +1,19 @@
 -- How the choices of a search stand to its tests, step by step.
-use Rattle.std.specs.List.{AllByRecursion}
-use Rattle.std.proofs.Common.{map, ◌≡◌, ℕ, zero, suc, ◌+◌, ◌-◌, ◌<◌, ◌≤◌, List, [], ◌∷◌, ◌++◌, length, take, refl, sym, ap, ◌∙◌, subst, arith, min, length-append}
+use Rattle.std.proofs.Common.{map, ◌≡◌, ℕ, ◌+◌, ◌<◌, ◌≤◌, List, [], ◌∷◌, ◌++◌, length, take, refl, sym, ap, ◌∙◌, subst, arith, length-append}
 use Rattle.std.proofs.lemmas.List.{length-take}
 use Rattle.rp_pattern.specs.declared.word.Label.{Label}
 use Rattle.rp_pattern.specs.declared.word.End.{End}
-use Rattle.rp_pattern.specs.declared.word.End.TheVariants.{Closed as ClosedEnd}
-use Rattle.rp_pattern.specs.declared.word.Seen.{Seen}
 use Rattle.rp_pattern.specs.declared.word.Seen.TheVariants.{True, NotTrue, Open as OpenTest}
-use Rattle.rp_pattern.specs.Mapping.{Mapping, Full, Open}
+use Rattle.rp_pattern.specs.Mapping.{Mapping}
 use Rattle.rp_pattern.specs.Words.{preceded}
 use Rattle.rp_pattern.specs.declared.choices.Choices.{Choices}
+use Rattle.rp_pattern.specs.declared.outlook.Outlook.{Outlook}
 use Rattle.rp_pattern.specs.WordLaws.{IsLater}
 use Rattle.rp_pattern.specs.Choices.{AtRow, start_of, entered, whole, whole_left, remaining, left, below, below_left, after, after_left, IsFront, IsShorterFront, IsSameWhole, IsSplit, MapsRow as TakesRow, IsFullWord, IsOpenWord, IsNothing}
 use Rattle.rp_search.specs.Found.{Test, tested, Stays, TestsStay, found, Match, NoMatch, Waits}
 use Rattle.rp_search.specs.Fits.{rows_from, RefusedBefore, Stands, StandsAtRow, Explores}
 use Rattle.rp_search.specs.Turned.{Goes}
-use Rattle.rp_search.proofs.FoundLaws.{itself_stays, tested_stays}
+use Rattle.rp_search.proofs.FoundLaws.{tested_stays}
 use Rattle.rp_search.proofs.Tested.{tested_take, refused_row, before_more, before_stays, found_before, full_matches, open_waits, begun_waits, last_decides, cut_admitted}
 
 pub now_later : (n : ℕ) (e : End) → IsLater n e n e
@@ -157,18 +155,19 @@ finds_none old new n e test s t =
     found_remaining old n e test s ∙ ap (found test) (t.was n e (now_later n e))
 
 -- where a row's test is open, and something would follow it
-pub finds_begun : (c : Choices) (n : ℕ) (e : End) (test : Test) (w : Mapping) (ws : List Mapping) → Stands c n e test → StandsAtRow c n e test → test (entered c) ≡ OpenTest → after c n e ≡ w ∷ ws → found test (whole c n e) ≡ Waits
-finds_begun c n e test w ws s r seen follows =
-    found_remaining c n e test s
-    ∙ ap (found test) (r.words n e (now_later n e) ∙ ap (λ xs. map (preceded (entered c)) xs ++ below c n e) follows)
-    ∙ begun_waits (entered c) w test (map (preceded (entered c)) ws ++ below c n e) (row_decides c n e test r ∙ seen)
+pub finds_begun : (c : Choices) (n : ℕ) (e : End) (test : Test) → Stands c n e test → StandsAtRow c n e test → test (entered c) ≡ OpenTest → 0 < length (after c n e) → found test (whole c n e) ≡ Waits
+finds_begun c n e test s r seen some = go (after c n e) refl some
+  where
+    go : (ws : List Mapping) → after c n e ≡ ws → 0 < length ws → found test (whole c n e) ≡ Waits
+    go [] follows h = absurd (omega (arith, h))
+    go (w ∷ ws) follows h =
+        found_remaining c n e test s
+        ∙ ap (found test) (r.words n e (now_later n e) ∙ ap (λ xs. map (preceded (entered c)) xs ++ below c n e) follows)
+        ∙ begun_waits (entered c) w test (map (preceded (entered c)) ws ++ below c n e) (row_decides c n e test r ∙ seen)
 
--- what would follow a row, as it is explored
-pub explores_on : (c old new : Choices) (n : ℕ) (e : End) (test : Test) → Explores c old n e test →
-    ((n' : ℕ) (e' : End) → IsLater n e n' e' → remaining new n' e' ≡ remaining old n' e') →
-    ((n' : ℕ) (e' : End) → IsLater n e n' e' → left new n' e' ≤ left old n' e') → Explores c new n e test
-explores_on c old new n e test x same fewer =
-    record { row = x.row; words = λ n' e' h. same n' e' h ∙ x.words n' e' h; turns = λ n' e' h. omega (arith, fewer n' e' h, x.turns n' e' h) }
+pub no_words : (ws : List Mapping) → length ws ≡ 0 → ws ≡ []
+no_words [] h = refl
+no_words (w ∷ ws) h = absurd (omega (arith, h))
 
 -- at its start again
 pub stands_again : (old new : Choices) (n : ℕ) (e : End) (test : Test) → 1 ≤ start_of old → IsSameWhole old new →
@@ -206,8 +205,8 @@ module _ (n n' : ℕ) (e e' : End) (test test' : Test) (later : IsLater n e n' e
         turns = λ m f h. r.turns m f (later_still n n' m e e' f later h);
       }
 
-  pub explores_later : (c probe : Choices) → TestsStay (rows_from (start_of c) n) test test' → length (entered c) ≤ rows_from (start_of c) n → Explores c probe n e test → Explores c probe n' e' test'
-  explores_later c probe stay known x =
+  pub explores_later : (c : Choices) (outlook : Outlook) → TestsStay (rows_from (start_of c) n) test test' → length (entered c) ≤ rows_from (start_of c) n → Explores c outlook n e test → Explores c outlook n' e' test'
+  explores_later c outlook stay known x =
       record {
         row = maps_later c stay known x.row;
         words = λ m f h. x.words m f (later_still n n' m e e' f later h);

@@ -1,8 +1,6 @@
 -- A run, after some turns that did not end it.
-use Rattle.std.proofs.Common.{◌≡◌, ℕ, ◌+◌, ◌≤◌, List}
-use Rattle.rp_pattern.specs.declared.word.Label.{Label}
+use Rattle.std.proofs.Common.{ℕ, ◌+◌, ◌≤◌}
 use Rattle.rp_pattern.specs.declared.word.End.{End}
-use Rattle.rp_pattern.specs.declared.word.Seen.{Seen}
 use Rattle.rp_search.specs.declared.search.Search.{Search}
 use Rattle.rp_search.specs.Found.{Test}
 use Rattle.rp_search.specs.Fits.{IsSameSearch, left_of}

@@ -3,7 +3,6 @@ use Rattle.std.specs.Prelude.{◌≡◌, ℕ, suc, ◌+◌, ◌-◌, ◌≤◌, 
 use Rattle.std.specs.List.{AllByRecursion}
 use Rattle.rp_pattern.specs.declared.word.Label.{Label}
 use Rattle.rp_pattern.specs.declared.word.End.{End}
-use Rattle.rp_pattern.specs.declared.word.End.TheVariants.{Open as OpenEnd, Closed as ClosedEnd}
 use Rattle.rp_pattern.specs.declared.word.Seen.{Seen}
 use Rattle.rp_pattern.specs.declared.word.Seen.TheVariants.{True, NotTrue, Open as OpenTest}
 use Rattle.rp_pattern.specs.Mapping.{Mapping, labels_of}
@@ -11,6 +10,8 @@ use Rattle.rp_pattern.specs.Words.{preceded}
 use Rattle.rp_pattern.specs.declared.choices.Choices.{Choices}
 use Rattle.rp_pattern.specs.WordLaws.{IsLater}
 use Rattle.rp_pattern.specs.Choices.{start_of, entered, whole, whole_left, remaining, left, below, below_left, after, after_left, HasTop, AtRow}
+use Rattle.rp_pattern.specs.declared.outlook.Outlook.{Outlook}
+use Rattle.rp_pattern.specs.Outlooks.{words_ahead, turns_ahead}
 use Rattle.rp_search.specs.declared.search.Search.{Search}
 use Rattle.rp_search.specs.Found.{Test, tested, TestsStay}
 
@@ -62,16 +63,16 @@ pub record StandsAtRow (c : Choices) (n : ℕ) (e : End) (test : Test) : Type 0 
   pub words : (n' : ℕ) (e' : End) → IsLater n e n' e' → remaining c n' e' ≡ map (preceded (entered c)) (after c n' e') ++ below c n' e'
   pub turns : (n' : ℕ) (e' : End) → IsLater n e n' e' → left c n' e' ≡ 1 + after_left c n' e' + below_left c n' e'
 
--- Further choices stand for what would follow that row.
-pub record Explores (c probe : Choices) (n : ℕ) (e : End) (test : Test) : Type 0 where
+-- An outlook has as many words as would follow that row.
+pub record Explores (c : Choices) (outlook : Outlook) (n : ℕ) (e : End) (test : Test) : Type 0 where
   pub row : StandsAtRow c n e test
-  pub words : (n' : ℕ) (e' : End) → IsLater n e n' e' → remaining probe n' e' ≡ after c n' e'
-  pub turns : (n' : ℕ) (e' : End) → IsLater n e n' e' → left probe n' e' ≤ after_left c n' e'
+  pub words : (n' : ℕ) (e' : End) → IsLater n e n' e' → words_ahead outlook n' e' ≡ length (after c n' e')
+  pub turns : (n' : ℕ) (e' : End) → IsLater n e n' e' → turns_ahead outlook n' e' ≤ after_left c n' e'
 
 -- the labels are tested true, all but the last where its test was open
-abbrev pub AreAdmitted : Option Choices → Choices → ℕ → End → Test → Type 0
+abbrev pub AreAdmitted : Option Outlook → Choices → ℕ → End → Test → Type 0
 AreAdmitted None c n e test = tested test (entered c) ≡ True
-AreAdmitted (Some probe) c n e test = Explores c probe n e test
+AreAdmitted (Some outlook) c n e test = Explores c outlook n e test
 
 -- the choices of a search stand where the tests say
 unfoldable pub ChoicesStand : Search → ℕ → End → Test → Type 0
@@ -79,7 +80,7 @@ ChoicesStand s n e test = Stands s.choices n e test
 
 -- the labels of a search are tested true, all but a last one whose test was open
 unfoldable pub LabelsStand : Search → ℕ → End → Test → Type 0
-LabelsStand s n e test = AreAdmitted s.probe s.choices n e test
+LabelsStand s n e test = AreAdmitted s.outlook s.choices n e test
 
 -- A search fits the tests over the rows 1 to n and that end.
 pub record Fits (s : Search) (n : ℕ) (e : End) (test : Test) : Type 0 where
@@ -92,13 +93,13 @@ unless_open True standing exploring = standing
 unless_open NotTrue standing exploring = standing
 unless_open OpenTest standing exploring = exploring
 
-abbrev pub left_in : Option Choices → Choices → ℕ → End → Test → ℕ
+abbrev pub left_in : Option Outlook → Choices → ℕ → End → Test → ℕ
 left_in None c n e test = left c n e
-left_in (Some probe) c n e test = unless_open (test (entered c)) (left c n e) (below_left c n e + left probe n e)
+left_in (Some outlook) c n e test = unless_open (test (entered c)) (left c n e) (below_left c n e + turns_ahead outlook n e)
 
 -- at most so many turns are left
 unfoldable pub left_of : Search → ℕ → End → Test → ℕ
-left_of s n e test = left_in s.probe s.choices n e test
+left_of s n e test = left_in s.outlook s.choices n e test
 
 -- what no run changes
 pub record IsSameSearch (old new : Search) : Type 0 where

@@ -7,6 +7,7 @@ use Rattle.rp_pattern.specs.declared.word.Seen.{Seen}
 use Rattle.rp_pattern.specs.declared.word.Seen.TheVariants.{True, NotTrue, Open as OpenTest}
 use Rattle.rp_pattern.specs.Mapping.{Mapping}
 use Rattle.rp_pattern.specs.declared.choices.Choices.{Choices}
+use Rattle.rp_pattern.specs.declared.outlook.Outlook.{Outlook}
 use Rattle.rp_pattern.specs.Choices.{entered, left}
 use Rattle.rp_search.specs.declared.search.Search.{Search}
 use Rattle.rp_search.specs.declared.search.Outcome.{Outcome}
@@ -48,14 +49,14 @@ Settled old new n e test NotTrue = Goes old new n e test
 Settled old new n e test OpenTest = (new ≡ old) × (test (entered old) ≡ OpenTest)
 
 -- where a row's further choices are explored, its test is open
-abbrev pub IsOpenAt : Option Choices → Choices → Test → Type 0
+abbrev pub IsOpenAt : Option Outlook → Choices → Test → Type 0
 IsOpenAt None c test = Unit {0}
-IsOpenAt (Some probe) c test = test (entered c) ≡ OpenTest
+IsOpenAt (Some outlook) c test = test (entered c) ≡ OpenTest
 
 -- A search within a run: it fits, and the test of a row that is explored is open.
 pub record Searches (s : Search) (n : ℕ) (e : End) (test : Test) : Type 0 where
   pub fits : Fits s n e test
-  pub is_open : IsOpenAt s.probe s.choices test
+  pub is_open : IsOpenAt s.outlook s.choices test
 
 -- What so many turns came to: an answer over these words with these labels, or a fall of what is left.
 abbrev pub Turned : ℕ → List Mapping → List Label → End → Test → ℕ → ℕ → Outcome → Type 0

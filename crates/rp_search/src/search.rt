@@ -1,5 +1,5 @@
 //! A search takes up one choice a turn. Between its runs it keeps the choices that are not given up, and one list of labels
-//! that is cut back to the choice at hand. While a row's test is open, it keeps a second such list: of what would follow.
+//! that is cut back to the choice at hand. While a row's test is open, it keeps an outlook over what would follow that row.
 ghost use Rattle.std.specs.Prelude.{◌≡◌, ◌≢◌, ℕ, ◌+◌, ◌-◌, ◌^◌, ◌<◌, ◌≤◌, List, [], ◌∷◌, ◌++◌, length, take, None, IfOk, OnOk, OnErr};
 ghost use Rattle.rp_pattern.specs.declared.word.End.{End};
 ghost use Rattle.rp_pattern.specs.declared.word.End.TheVariants.{Closed};
@@ -8,12 +8,13 @@ ghost use Rattle.rp_pattern.specs.PatternForm.{form_of};
 ghost use Rattle.rp_pattern.specs.Words.{words};
 ghost use Rattle.rp_pattern.specs.Turns.{turns};
 
-mod probe;
+mod explore;
 
 use crate::asking::{enter_row, follow, settle};
 use crate::conditions::Tests;
 use crate::steps::Steps;
-use rp_pattern::{Choices, Label, Pattern, Seen, Taken};
+use explore::shed;
+use rp_pattern::{Choices, Label, Outlook, Pattern, Seen, Taken};
 use std::alloc::{AllocError, Global};
 use std::sync::ledger::Ledger;
 
@@ -39,13 +40,16 @@ pub struct Search {
     choices: Choices,
     /// Where the test of the row that the preferred choice maps is open: what would follow that row. Only if there is
     /// such a word is the search undecided.
-    probe: Option<Choices>,
+    outlook: Option<Outlook>,
+    /// Outlooks that a decided test has made needless. Each turn drops one of their choices.
+    spent: Vec<Outlook>,
 }
 
-#[tactic(auto, unfolding(crate::specs::Fits::start_of_search, crate::specs::Fits::labels_of_search, crate::specs::Fits::pattern_words, crate::specs::Fits::most_turns, crate::specs::Fits::left_of, crate::specs::Fits::ChoicesStand, crate::specs::Fits::LabelsStand))]
+#[tactic(auto, unfolding(crate::specs::Fits::start_of_search, crate::specs::Fits::labels_of_search, crate::specs::Fits::pattern_words, crate::specs::Fits::most_turns, crate::specs::Fits::left_of, crate::specs::Fits::ChoicesStand, crate::specs::Fits::LabelsStand, crate::specs::Spent::spent_of))]
 impl Search {
     ghost use Rattle.rp_search.specs.Found.{Test, found, Match, NoMatch, Waits};
     ghost use Rattle.rp_search.specs.Fits.{Fits, IsSameSearch, start_of_search, labels_of_search, pattern_words, most_turns, left_of, Stands, StandsAtRow};
+    ghost use Rattle.rp_search.specs.Spent.{spent_of};
     ghost use Rattle.rp_search.specs.Turned.{AsksTheSame, AddsLabel, Searches, Turned};
 
     /// A search from the row `start`, which is at least 1.
@@ -59,7 +63,8 @@ impl Search {
     {
         Ok(Search {
             choices: Choices::new(alloc, pattern, start)?,
-            probe: None,
+            outlook: None,
+            spent: Vec::new(alloc),
         })
     }
 
@@ -99,6 +104,9 @@ impl Search {
         ensures ticked { 0 < budget → OnOk result (steps.old < steps.new) }
         ensures counted { T.entries tests.new + steps.old ≤ T.entries tests.old + steps.new }
         ensures enters { T.entries tests.new ≤ T.entries tests.old + budget }
+
+        // A turn drops at most one of the choices that a decided test has made needless.
+        ensures shed { OnOk result (spent_of self.old + steps.old ≤ spent_of self.new + steps.new) }
 
         ensures nothing { budget ≡ 0 → (result ≡ Ok Outcome.Paused) × (self.new ≡ self.old) × (tests.new ≡ tests.old) × (steps.new ≡ steps.old) }
         ensures begins_again { OnErr result (labels_of_search self.new ≡ []) }
@@ -140,7 +148,8 @@ impl Search {
         ensures fits { 1 ≤ start_of_search self.old → (n : ℕ) (e : End) (test : Test) → Fits self.new n e test }
     {
         self.choices.reset();
-        self.probe = None;
+        self.outlook = None;
+        self.spent.clear();
         tests.cut(0);
     }
 
@@ -165,6 +174,7 @@ impl Search {
         ensures entered { OnOk result (T.entered tests.new (start_of_search self.new) (labels_of_search self.new)) }
         ensures fits { OnOk result (Fits self.new (T.rows tests.old) (T.ending tests.old) (T.outcome tests.old (start_of_search self.old))) }
         ensures turned { IfOk result (Turned budget (pattern_words self.old (T.rows tests.old) (T.ending tests.old)) (labels_of_search self.new) (T.ending tests.old) (T.outcome tests.old (start_of_search self.old)) (left_of self.old (T.rows tests.old) (T.ending tests.old) (T.outcome tests.old (start_of_search self.old))) (left_of self.new (T.rows tests.old) (T.ending tests.old) (T.outcome tests.old (start_of_search self.old)))) }
+        ensures shed { OnOk result (spent_of self.old + steps.old ≤ spent_of self.new + steps.new) }
     {
         self.resume(tests)?;
         for _turn in 0..budget {
@@ -189,18 +199,16 @@ impl Search {
         ensures entered { OnOk result (T.entered tests.new (start_of_search self.new) (labels_of_search self.new)) }
         ensures searches { OnOk result (Searches self.new (T.rows tests.old) (T.ending tests.old) (T.outcome tests.old (start_of_search self.old))) }
         ensures left { OnOk result (left_of self.new (T.rows tests.old) (T.ending tests.old) (T.outcome tests.old (start_of_search self.old)) ≤ left_of self.old (T.rows tests.old) (T.ending tests.old) (T.outcome tests.old (start_of_search self.old))) }
+        ensures spent { OnOk result (spent_of self.old ≤ spent_of self.new) }
     {
-        match self.probe.take() {
-            None => Ok(()),
-            Some(probe) => match settle(&mut self.choices, tests)? {
-                Seen::Open => {
-                    self.probe = Some(probe);
-                    Ok(())
-                }
-                Seen::True => Ok(()),
-                Seen::NotTrue => Ok(()),
-            },
+        let Some(outlook) = self.outlook.take() else {
+            return Ok(());
+        };
+        match settle(&mut self.choices, tests)? {
+            Seen::Open => self.outlook = Some(outlook),
+            Seen::True | Seen::NotTrue => self.spent.push(outlook)?,
         }
+        Ok(())
     }
 
     /// Takes up one choice. It answers `Paused` where the search isn't at its end.
@@ -215,17 +223,19 @@ impl Search {
         ensures entered { OnOk result (T.entered tests.new (start_of_search self.new) (labels_of_search self.new)) }
         ensures searches { OnOk result (Searches self.new (T.rows tests.old) (T.ending tests.old) (T.outcome tests.old (start_of_search self.old))) }
         ensures turned { IfOk result (Turned 1 (pattern_words self.old (T.rows tests.old) (T.ending tests.old)) (labels_of_search self.new) (T.ending tests.old) (T.outcome tests.old (start_of_search self.old)) (left_of self.old (T.rows tests.old) (T.ending tests.old) (T.outcome tests.old (start_of_search self.old))) (left_of self.new (T.rows tests.old) (T.ending tests.old) (T.outcome tests.old (start_of_search self.old)))) }
+        ensures shed { OnOk result (spent_of self.old ≤ spent_of self.new + 1) }
     {
-        match self.probe.take() {
+        shed(&mut self.spent);
+        match self.outlook.take() {
             None => self.take_up(tests),
-            Some(probe) => self.explore(probe, tests),
+            Some(outlook) => self.explore(outlook, tests),
         }
     }
 
     /// Takes up the preferred choice.
     fn take_up<T: Tests>(&mut self, tests: &mut T) -> Result<Outcome, AllocError>
         requires known { start_of_search self.old ≤ T.rows tests.old }
-        requires none { self.old.probe ≡ None }
+        requires none { self.old.outlook ≡ None }
         requires searches { Searches self.old (T.rows tests.old) (T.ending tests.old) (T.outcome tests.old (start_of_search self.old)) }
         requires entered { T.entered tests.old (start_of_search self.old) (labels_of_search self.old) }
 
@@ -235,6 +245,7 @@ impl Search {
         ensures entered { OnOk result (T.entered tests.new (start_of_search self.new) (labels_of_search self.new)) }
         ensures searches { OnOk result (Searches self.new (T.rows tests.old) (T.ending tests.old) (T.outcome tests.old (start_of_search self.old))) }
         ensures turned { IfOk result (Turned 1 (pattern_words self.old (T.rows tests.old) (T.ending tests.old)) (labels_of_search self.new) (T.ending tests.old) (T.outcome tests.old (start_of_search self.old)) (left_of self.old (T.rows tests.old) (T.ending tests.old) (T.outcome tests.old (start_of_search self.old))) (left_of self.new (T.rows tests.old) (T.ending tests.old) (T.outcome tests.old (start_of_search self.old)))) }
+        ensures spent { self.new.spent ≡ self.old.spent }
     {
         match self.choices.take_up(tests.known(), tests.end())? {
             Taken::Row => {
@@ -263,7 +274,7 @@ impl Search {
     /// The preferred choice maps a new row: its label is entered, and its test asked.
     fn map_row<T: Tests>(&mut self, tests: &mut T) -> Result<(), AllocError>
         requires known { start_of_search self.old ≤ T.rows tests.old }
-        requires none { self.old.probe ≡ None }
+        requires none { self.old.outlook ≡ None }
         requires stands { Stands self.old.choices (T.rows tests.old) (T.ending tests.old) (T.outcome tests.old (start_of_search self.old)) }
         requires row { StandsAtRow self.old.choices (T.rows tests.old) (T.ending tests.old) (T.outcome tests.old (start_of_search self.old)) }
         requires new { AddsLabel (T.entered tests.old (start_of_search self.old)) (labels_of_search self.old) }
@@ -274,11 +285,12 @@ impl Search {
         ensures entered { OnOk result (T.entered tests.new (start_of_search self.new) (labels_of_search self.new)) }
         ensures searches { OnOk result (Searches self.new (T.rows tests.old) (T.ending tests.old) (T.outcome tests.old (start_of_search self.old))) }
         ensures turned { OnOk result (left_of self.new (T.rows tests.old) (T.ending tests.old) (T.outcome tests.old (start_of_search self.old)) + 1 ≤ left_of self.old (T.rows tests.old) (T.ending tests.old) (T.outcome tests.old (start_of_search self.old))) }
+        ensures spent { self.new.spent ≡ self.old.spent }
     {
         enter_row(&self.choices, tests)?;
         match settle(&mut self.choices, tests)? {
             Seen::Open => {
-                self.probe = Some(self.choices.after_row()?);
+                self.outlook = Some(self.choices.after_row()?);
                 Ok(())
             }
             Seen::True => Ok(()),

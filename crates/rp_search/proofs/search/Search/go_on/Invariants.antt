@@ -1,5 +1,6 @@
-use Rattle.std.proofs.Common.{◌≡◌, ℕ, ◌+◌, ◌≤◌}
+use Rattle.std.proofs.Common.{◌≡◌, ◌+◌, ◌≤◌}
 use Rattle.rp_search.specs.Fits.{start_of_search, labels_of_search}
+use Rattle.rp_search.specs.Spent.{spent_of}
 use Rattle.rp_search.specs.Turned.{AsksTheSame}
 use Rattle.rp_search.proofs.Running.{RunsFor}
 use Rattle.rp_search.proofs.search.Search.go_on.Given as goal
@@ -11,3 +12,4 @@ invariant-loop-turn g l =
     × g.T.Tests.entered l.tests (start_of_search l.self) (labels_of_search l.self)
     × (g.T.Tests.entries l.tests ≤ g.T.Tests.entries l.fn.tests + l._turn)
     × (l.steps ≡ l.fn.steps + l._turn)
+    × (spent_of l.fn.self ≤ spent_of l.self + l._turn)

@@ -1,0 +1,91 @@
+//! What would follow a row: whether any word does. Which rows it would map is not kept.
+ghost use Rattle.std.specs.Prelude.{◌≡◌, ℕ, ◌+◌, ◌-◌, ◌^◌, ◌<◌, ◌≤◌, IfOk, IsTrue, ◌↔◌, length, reverse};
+ghost use Rattle.rp_pattern.specs.declared.word.End.{End};
+ghost use Rattle.rp_pattern.specs.Rests.{rises};
+ghost use Rattle.rp_pattern.specs.Splits.{option_words, option_turns};
+
+use crate::choices::{drop_top, push, top};
+use crate::rests::{Choice, Rests};
+use crate::turn::{Split, Turn};
+use crate::word::End;
+use std::alloc::{AllocError, Global};
+
+/// What an outlook came to when its preferred choice was taken up.
+#[derive(Clone, Copy, Debug, PartialEq, Eq)]
+pub enum Sight {
+    /// The choice was replaced by those that it stands for, or by what comes after the row that it maps.
+    Further,
+    /// A word follows: it is full, or runs into the row after the last known one. The choice stays.
+    Word,
+    /// No word follows.
+    Nothing,
+}
+
+/// The words that would follow a row, in preferment order. No more is told of them than whether there is one.
+#[derive(Drop)]
+pub struct Outlook {
+    alloc: Global,
+    start: u64,
+    stack: Vec<Choice>,
+    ghost starts: { start < 2 ^ 64 },
+    ghost within: { IsTrue (rises (2 ^ 64 - 1 - start) (reverse stack.items)) },
+}
+
+impl Outlook {
+    ghost use Rattle.rp_pattern.specs.Outlooks.{words_ahead, turns_ahead, held_by, SeenAs};
+
+    /// What is left at a row, if anything is.
+    pub(crate) fn at(alloc: Global, row: u64, rests: Option<Rests>) -> Result<Outlook, AllocError>
+        ensures words { IfOk result (λ o. (n : ℕ) (e : End) → words_ahead o n e ≡ length (option_words n e rests row)) }
+        ensures turns { IfOk result (λ o. (n : ℕ) (e : End) → turns_ahead o n e ≡ option_turns n e rests row + length (option_words n e rests row)) }
+        ensures held { IfOk result (λ o. held_by o ≤ 1) }
+    {
+        let mut stack = Vec::new(alloc);
+        push(&mut stack, 0, rests)?;
+        Ok(Outlook {
+            alloc,
+            start: row,
+            stack,
+        })
+    }
+
+    /// Takes up the preferred choice, over the rows 1 to n and that end. Each row is taken, since none is tested. Where
+    /// memory is refused, nothing is said of the choices that are left.
+    pub fn take_up(&mut self, n: u64, end: End) -> Result<Sight, AllocError>
+        requires { n < 2 ^ 64 - 1 }
+        ensures { IfOk result (SeenAs self.old self.new n end) }
+    {
+        let Some(choice) = top(&self.stack) else {
+            return Ok(Sight::Nothing);
+        };
+        let depth = choice.depth;
+        let row = self.start + depth as u64;
+        let mut split = Split::none();
+        match choice.rests.take_up(self.alloc, row, n, end, &mut split)? {
+            Turn::Full => Ok(Sight::Word),
+            Turn::Open => Ok(Sight::Word),
+            Turn::Row(_) => {
+                let later = choice.rests.after_first(row + 1)?;
+                drop_top(&mut self.stack);
+                push(&mut self.stack, depth + 1, later)?;
+                Ok(Sight::Further)
+            }
+            Turn::Split => {
+                drop_top(&mut self.stack);
+                push(&mut self.stack, depth, split.other)?;
+                push(&mut self.stack, depth, split.preferred)?;
+                Ok(Sight::Further)
+            }
+        }
+    }
+
+    /// Drops the preferred choice, if there is one, and says whether others are left. So an outlook that isn't needed any
+    /// more can be dropped a choice at a time.
+    pub fn drop_one(&mut self) -> bool
+        ensures held { held_by self.new ≡ held_by self.old - 1 }
+        ensures more { IsTrue result ↔ (0 < held_by self.new) }
+    {
+        drop_top(&mut self.stack);
+        !self.stack.is_empty()
+    }
+}
