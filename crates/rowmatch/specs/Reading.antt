@@ -1,6 +1,12 @@
 -- What a front of some symbols derives, where what follows can't go on with it.
-use Rattle.std.specs.Prelude.{◌≡◌, ℕ, List, [], ◌∷◌, ◌++◌, Bool, false, ◌&&◌, ◌||◌, nat_eq, nat_le}
-use Rattle.rowmatch.specs.Grammar.{Tree, Level, Alternatives, Sequences, Factors, Primaries, Derives}
+use Rattle.std.specs.Prelude.{◌≡◌, ℕ, ◌≤◌, List, [], ◌∷◌, ◌++◌, length, drop, Bool, false, ◌&&◌, ◌||◌, nat_eq, nat_le}
+use Rattle.rowmatch.specs.Grammar.{Tree, Level, Alternatives, Sequences, Factors, Primaries, Derives, symbols_of}
+
+-- So many symbols of a text are left from an offset on, and the byte there is the first of them, if there is one.
+pub record LeavesSymbols (text : List ℕ) (left offset : ℕ) : Type 0 where
+  pub within : offset ≤ length text
+  pub symbols : length (symbols_of (drop offset text)) ≡ left
+  pub first : (rest : List ℕ) → drop offset text ≡ 32 ∷ rest → ⊥
 
 -- the symbols don't begin with this one
 abbrev pub Lacks : ℕ → List ℕ → Type 0

@@ -2,7 +2,7 @@
 ghost use Rattle.std.specs.Prelude.{◌≡◌, ℕ, ◌+◌, ◌<◌, ◌≤◌, List, [], ◌∷◌, length, IfOk, IfSome, IfNone};
 ghost use Rattle.rp_pattern.specs.PatternForm.{form_of};
 ghost use Rattle.rowmatch.specs.Grammar.{Tree, Alternatives, Sequences, Factors, Primaries, Derives, Both, Either, Star, IsLettered, symbols_of, tree_of};
-ghost use Rattle.rowmatch.specs.Reading.{Lacks, Reads, ReadsNone, ReadsOnly, begins_primary};
+ghost use Rattle.rowmatch.specs.Reading.{LeavesSymbols, Lacks, Reads, ReadsNone, ReadsOnly, begins_primary};
 
 use rp_pattern::{Form, Pattern};
 use std::alloc::{AllocError, Global};
@@ -22,7 +22,7 @@ pub fn trace_pattern(alloc: Global, text: &str) -> Result<Pattern, TracePatternF
     ensures lettered { IfOk result (λ pattern. IsLettered (form_of pattern)) }
     ensures derived { IfOk result (λ pattern. Derives Alternatives (symbols_of text.now) (tree_of (form_of pattern))) }
     ensures only { IfOk result (λ pattern. (tree : Tree) → Derives Alternatives (symbols_of text.now) tree → tree_of (form_of pattern) ≡ tree) }
-    ensures within { (offset : ℕ) → result ≡ Err (TracePatternFault.Expected offset) → offset ≤ length text.now }
+    ensures place { (offset : ℕ) → result ≡ Err (TracePatternFault.Expected offset) → (left : ℕ) × LeavesSymbols text.now left offset }
     ensures refused { (offset : ℕ) → result ≡ Err (TracePatternFault.Expected offset) → (tree : Tree) → Derives Alternatives (symbols_of text.now) tree → ⊥ }
 {
     let symbols = without_spaces(alloc, text.as_bytes())?;
@@ -54,7 +54,8 @@ fn without_spaces(alloc: Global, text: &[u8]) -> Result<Vec<u8>, AllocError>
 
 /// The fault at the symbol that has so many from it on, or at the end of the text where that is none.
 fn expected(text: &[u8], left: usize) -> TracePatternFault
-    ensures { (offset : ℕ) × (result ≡ TracePatternFault.Expected offset) × (offset ≤ length text.now) }
+    requires { left ≤ length (symbols_of text.now) }
+    ensures { (offset : ℕ) × (result ≡ TracePatternFault.Expected offset) × LeavesSymbols text.now left offset }
 {
     let mut place = text.len();
     let mut seen = 0;
@@ -75,6 +76,7 @@ fn alternatives(alloc: Global, symbols: &[u8]) -> Result<(Form, &[u8]), Stop>
     ensures reads { IfOk result (λ read. Reads Alternatives symbols.now (tree_of read.0) read.1.now) }
     ensures only { IfOk result (λ read. ReadsOnly Alternatives symbols.now (tree_of read.0) read.1.now) }
     ensures none { (left : ℕ) → result ≡ Err (Stop.At left) → ReadsNone Alternatives symbols.now }
+    ensures left { (left : ℕ) → result ≡ Err (Stop.At left) → left ≤ length symbols.now }
     ensures shorter { IfOk result (λ read. length read.1.now < length symbols.now) }
 {
     let (first, rest) = sequence(alloc, symbols)?;
@@ -95,6 +97,7 @@ fn sequence(alloc: Global, symbols: &[u8]) -> Result<(Form, &[u8]), Stop>
     ensures reads { IfOk result (λ read. Reads Sequences symbols.now (tree_of read.0) read.1.now) }
     ensures only { IfOk result (λ read. ReadsOnly Sequences symbols.now (tree_of read.0) read.1.now) }
     ensures none { (left : ℕ) → result ≡ Err (Stop.At left) → ReadsNone Sequences symbols.now }
+    ensures left { (left : ℕ) → result ≡ Err (Stop.At left) → left ≤ length symbols.now }
     ensures shorter { IfOk result (λ read. length read.1.now < length symbols.now) }
 {
     let (first, rest) = factor(alloc, symbols)?;
@@ -113,6 +116,7 @@ fn factor(alloc: Global, symbols: &[u8]) -> Result<(Form, &[u8]), Stop>
     ensures reads { IfOk result (λ read. Reads Factors symbols.now (tree_of read.0) read.1.now) }
     ensures only { IfOk result (λ read. ReadsOnly Factors symbols.now (tree_of read.0) read.1.now) }
     ensures none { (left : ℕ) → result ≡ Err (Stop.At left) → ReadsNone Factors symbols.now }
+    ensures left { (left : ℕ) → result ≡ Err (Stop.At left) → left ≤ length symbols.now }
     ensures shorter { IfOk result (λ read. length read.1.now < length symbols.now) }
 {
     let (body, rest) = primary(alloc, symbols)?;
@@ -130,6 +134,7 @@ fn primary(alloc: Global, symbols: &[u8]) -> Result<(Form, &[u8]), Stop>
     ensures reads { IfOk result (λ read. Reads Primaries symbols.now (tree_of read.0) read.1.now) }
     ensures only { IfOk result (λ read. ReadsOnly Primaries symbols.now (tree_of read.0) read.1.now) }
     ensures none { (left : ℕ) → result ≡ Err (Stop.At left) → ReadsNone Primaries symbols.now }
+    ensures left { (left : ℕ) → result ≡ Err (Stop.At left) → left ≤ length symbols.now }
     ensures shorter { IfOk result (λ read. length read.1.now < length symbols.now) }
 {
     if let Some((var, rest)) = letter(symbols) {
