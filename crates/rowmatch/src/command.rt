@@ -84,6 +84,7 @@ fn trace_command<'a>(alloc: Global) -> Result<Command<'a>, AllocError>
         .required(true)
         .action(ArgAction::Set);
     Command::new(alloc, "trace")
+        .bin_name("rowmatch trace")?
         .about("Prints the variables of each line's match, a row for each letter")
         .arg(pattern)
 }
@@ -126,6 +127,7 @@ fn no_job(alloc: Global, words: &[String]) -> JobFault {
 
 fn line_of_no_job(alloc: Global, words: &[String]) -> Result<Error, AllocError> {
     let mut command = Command::new(alloc, "rowmatch")
+        .bin_name("rowmatch")?
         .no_binary_name(true)
         .subcommand_required(true)
         .subcommand(trace_command(alloc)?)?;

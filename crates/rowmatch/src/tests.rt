@@ -443,10 +443,13 @@ fn line_texts(rt: HostRuntime) -> Result<(), Fail> {
     assert!(rt; text.as_str().contains("trace"));
     assert!(rt; !is_error);
     let (text, is_error) = line_told(rt.alloc(), &["trace", "--help"])?;
-    assert!(rt; text.as_str().contains("trace <PATTERN>"));
+    assert!(rt; text.as_str().contains("Usage: rowmatch trace <PATTERN>"));
+    assert!(rt; !is_error);
+    let (text, is_error) = line_told(rt.alloc(), &["help", "trace"])?;
+    assert!(rt; text.as_str().contains("Usage: rowmatch trace <PATTERN>"));
     assert!(rt; !is_error);
     let (text, is_error) = line_told(rt.alloc(), &["trace"])?;
-    assert!(rt; text.as_str().contains("<PATTERN>"));
+    assert!(rt; text.as_str().contains("Usage: rowmatch trace <PATTERN>"));
     assert!(rt; is_error);
     Ok(())
 }
