@@ -79,11 +79,11 @@ fn keys_in_order(rt: HostRuntime) -> Result<(), Fail> {
         text(alloc, "a")?,
         text(alloc, "é")?,
     ]?;
-    for (place, value) in values.iter().enumerate() {
-        for (other_place, other) in values.iter().enumerate() {
-            assert_eq!(rt; value.cmp(other), place.cmp(&other_place));
-            assert_eq!(rt; value < other, place < other_place);
-        }
+    for (lower, higher) in values.iter().zip(values.iter().skip(1)) {
+        assert_eq!(rt; lower.cmp(higher), Ordering::Less);
+        assert_eq!(rt; higher.cmp(lower), Ordering::Greater);
+        assert_eq!(rt; lower.cmp(lower), Ordering::Equal);
+        assert!(rt; lower < higher);
     }
     let front = Cells::new(vec![in alloc; Value::Int(1)]?);
     let long = Cells::new(vec![in alloc; Value::Int(1), Value::Null]?);
@@ -210,7 +210,7 @@ fn tables(rt: HostRuntime) -> Result<(), Fail> {
     );
     let first = column(alloc, "A", Kind::Int)?;
     let second = column(alloc, "A", Kind::Text)?;
-    let mut columns = vec![in alloc; first, second]?;
+    let columns = vec![in alloc; first, second]?;
     assert_eq!(rt;
         Table::new(alloc, columns).err(),
         Some(TableFault::DoubleName)
