@@ -85,38 +85,22 @@ impl Rests {
     ) -> Result<Turn, AllocError>
         ensures { IfOk result (TakenUp n end row (λ n e. rests_parts n e self.now) split.new) }
     {
-        match self {
-            Rests::Done => Ok(Turn::Full),
-            Rests::Then { node, then } => {
-                node.take_up(alloc, &node.form, then, row, n, end, split)
-            }
-            Rests::Reached(link) => take_reached(alloc, link, row, n, end, split),
-        }
-    }
-}
-
-/// Later parts, the first of which is reached, taken up.
-#[inline(always)]
-fn take_reached(
-    alloc: Global,
-    link: &Rc<Link>,
-    row: u64,
-    n: u64,
-    end: End,
-    split: &mut Split,
-) -> Result<Turn, AllocError>
-    ensures { IfOk result (TakenUp n end row (λ n e. reached_parts n e (links_from link.now.value)) split.new) }
-{
-    match &link.part {
-        Part::Whole(node) => node.take_up(alloc, &node.form, &link.then, row, n, end, split),
-        Part::Times { lower, iterations } => {
-            take_times(alloc, link, *lower, iterations, row, split)?;
-            Ok(Turn::Split)
-        }
-        Part::Orders(orders) => {
-            orders.take_up(alloc, &link.then, row, split)?;
-            Ok(Turn::Split)
-        }
+        let (node, then) = match self {
+            Rests::Done => return Ok(Turn::Full),
+            Rests::Then { node, then } => (node, then),
+            Rests::Reached(link) => match &link.part {
+                Part::Whole(node) => (node, &link.then),
+                Part::Times { lower, iterations } => {
+                    take_times(alloc, link, *lower, iterations, row, split)?;
+                    return Ok(Turn::Split);
+                }
+                Part::Orders(orders) => {
+                    orders.take_up(alloc, &link.then, row, split)?;
+                    return Ok(Turn::Split);
+                }
+            },
+        };
+        node.take_up(alloc, &node.form, then, row, n, end, split)
     }
 }
 
