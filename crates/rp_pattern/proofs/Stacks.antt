@@ -13,7 +13,7 @@ use Rattle.std.proofs.Math.ListN.{set}
 use Rattle.rp_pattern.specs.declared.word.End.{End}
 use Rattle.rp_pattern.specs.declared.word.Label.{Label}
 use Rattle.rp_pattern.specs.declared.rests.Rests.{Rests}
-use Rattle.rp_pattern.specs.declared.rests.Rests.TheVariants.{Done, Then, Reached}
+use Rattle.rp_pattern.specs.declared.rests.Rests.TheVariants.{Done, Then, Row, Reached}
 use Rattle.rp_pattern.specs.declared.rests.Choice.{Choice}
 use Rattle.rp_pattern.specs.declared.turn.Split.{Split}
 use Rattle.rp_pattern.specs.declared.choices.Choices.{Choices}
@@ -154,6 +154,7 @@ at_row c s ls t cs k h = (k.begun, subst (OfFirst (λ t. t.depth + 1 ≡ length 
 later_is : (n : ℕ) (e : End) (r : Rests) → drop 1 (rests_parts n e r) ≡ later_parts n e r
 later_is n e Done = refl
 later_is n e (Then node then) = refl
+later_is n e (Row var next then) = refl
 later_is n e (Reached link) = go (links_from link.value)
   where
     go : (ls : List (Option ℕ × Part)) → drop 1 (reached_parts n e ls) ≡ links_parts n e (drop 1 ls)

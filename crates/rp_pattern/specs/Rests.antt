@@ -3,6 +3,7 @@ use Rattle.std.specs.Prelude.{◌≡◌, ℕ, suc, ◌+◌, Bool, true, ◌&&◌
 use Rattle.std.specs.declared.rc.Rc.{Rc}
 use Rattle.std.specs.declared.alloc.Global.{Global}
 use Rattle.rp_pattern.specs.declared.form.Form.{Form}
+use Rattle.rp_pattern.specs.declared.form.Form.TheVariants.{Variable}
 use Rattle.rp_pattern.specs.declared.word.End.{End}
 use Rattle.rp_pattern.specs.declared.word.Label.{Label}
 use Rattle.rp_pattern.specs.declared.rests.Node.{Node}
@@ -14,7 +15,7 @@ use Rattle.rp_pattern.specs.declared.rests.Link.TheOpen.{Link-F}
 use Rattle.rp_pattern.specs.declared.rests.Link.TheFolds.{fold-Link}
 use Rattle.rp_pattern.specs.declared.rests.Link.TheViews.{out-Link}
 use Rattle.rp_pattern.specs.declared.rests.Rests.{Rests}
-use Rattle.rp_pattern.specs.declared.rests.Rests.TheVariants.{Done, Then, Reached}
+use Rattle.rp_pattern.specs.declared.rests.Rests.TheVariants.{Done, Then, Row, Reached}
 use Rattle.rp_pattern.specs.declared.rests.Choice.{Choice}
 use Rattle.rp_pattern.specs.Mapping.{Mapping}
 use Rattle.rp_pattern.specs.PermutedParts.{permuted_parts}
@@ -81,12 +82,14 @@ reached_parts n e (l ∷ ls) = part_as n e l.1 ∷ links_parts n e ls
 abbrev pub rests_parts : ℕ → End → Rests → List WordsAndTurns
 rests_parts n e Done = []
 rests_parts n e (Then node then) = node_part n e node ∷ tail_parts n e then
+rests_parts n e (Row var next then) = form_part n e (Variable var) next.excluded ∷ node_part n e next ∷ tail_parts n e then
 rests_parts n e (Reached link) = reached_parts n e (links_from link.value)
 
 -- what comes after the first part
 abbrev pub later_parts : ℕ → End → Rests → List WordsAndTurns
 later_parts n e Done = []
 later_parts n e (Then node then) = tail_parts n e then
+later_parts n e (Row var next then) = node_part n e next ∷ tail_parts n e then
 later_parts n e (Reached link) = links_parts n e (drop 1 (links_from link.value))
 
 -- the words of parts one after another

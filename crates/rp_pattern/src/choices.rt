@@ -175,6 +175,10 @@ impl Choices {
             Some(choice) => match &choice.rests {
                 Rests::Done => Ok(Some(Rests::Done)),
                 Rests::Then { node: _, then } => follow(then, row),
+                Rests::Row { var: _, next, then } => Ok(Some(Rests::Then {
+                    node: next.share()?,
+                    then: share(then)?,
+                })),
                 Rests::Reached(link) => follow(&link.then, row),
             },
         }
@@ -224,6 +228,9 @@ impl Choices {
             Some(choice) => match &choice.rests {
                 Rests::Done => Ok(None),
                 Rests::Then { node: _, then } => share(then),
+                Rests::Row { var: _, next, then } => {
+                    linked(self.alloc, None, Part::Whole(next.share()?), share(then)?)
+                }
                 Rests::Reached(link) => share(&link.then),
             },
         }

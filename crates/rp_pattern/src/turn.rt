@@ -3,7 +3,7 @@ ghost use Rattle.std.specs.Prelude.{◌≡◌, ℕ, suc, ◌∷◌, ◌+◌, ◌
 ghost use Rattle.std.specs.List.{AllByRecursion};
 ghost use Rattle.rp_pattern.specs.declared.word.End.{End};
 ghost use Rattle.std.specs.Prelude.{Option, None};
-ghost use Rattle.rp_pattern.specs.Rests.{links_from, reached_parts, tail_parts, rests_parts, node_part, iterations_part, permuted_form_parts, in_order, still, IsOneLess, IsSamePart, IsTimes};
+ghost use Rattle.rp_pattern.specs.Rests.{links_from, reached_parts, tail_parts, rests_parts, form_part, node_part, iterations_part, permuted_form_parts, in_order, still, IsOneLess, IsSamePart, IsTimes};
 ghost use Rattle.rp_pattern.specs.Movement.{always_moves};
 ghost use Rattle.rp_pattern.specs.declared.rests.Link.TheViews.{out-Link};
 ghost use Rattle.rp_pattern.specs.Turns.{WordsAndTurns};
@@ -63,11 +63,11 @@ impl Split {
     /// One choice, if any.
     #[inline(always)]
     fn one(rests: Option<Rests>) -> Split
-        ensures { result ≡ record { preferred = rests; other = None } }
+        ensures { result ≡ record { preferred = None; other = rests } }
     {
         Split {
-            preferred: rests,
-            other: None,
+            preferred: None,
+            other: rests,
         }
     }
 }
@@ -88,6 +88,9 @@ impl Rests {
         let (node, then) = match self {
             Rests::Done => return Ok(Turn::Full),
             Rests::Then { node, then } => (node, then),
+            Rests::Row { var, next, then: _ } => {
+                return Ok(take_row(*var, next.excluded, row, n, end, split));
+            }
             Rests::Reached(link) => match &link.part {
                 Part::Whole(node) => (node, &link.then),
                 Part::Times { lower, iterations } => {
@@ -101,6 +104,23 @@ impl Rests {
             },
         };
         node.take_up(alloc, &node.form, then, row, n, end, split)
+    }
+}
+
+/// One row, taken up.
+#[inline(always)]
+fn take_row(var: usize, excluded: bool, row: u64, n: u64, end: End, split: &mut Split) -> Turn
+    ensures { (later : ℕ → End → List WordsAndTurns) → TakenUp n end row (λ n e. form_part n e (Form.Variable var) excluded ∷ later n e) split.new result }
+{
+    if row <= n {
+        return Turn::Row(Label { var, excluded });
+    }
+    match end {
+        End::Open => Turn::Open,
+        End::Closed => {
+            *split = Split::none();
+            Turn::Split
+        }
     }
 }
 
@@ -148,7 +168,7 @@ impl Node {
         ensures { IfOk result (TakenUp n end row (λ n e. node_part n e self.now ∷ tail_parts n e then.now) split.new) }
     {
         match form {
-            Form::Variable(var) => Ok(self.take_variable(*var, row, n, end, then, split)),
+            Form::Variable(var) => Ok(take_row(*var, self.excluded, row, n, end, split)),
             Form::Empty => {
                 self.take_empty(then, row, split)?;
                 Ok(Turn::Split)
@@ -187,34 +207,6 @@ impl Node {
         }
     }
 
-    #[inline(always)]
-    fn take_variable(
-        &self,
-        var: usize,
-        row: u64,
-        n: u64,
-        end: End,
-        then: &Tail,
-        split: &mut Split,
-    ) -> Turn
-        requires { self.now.form.value ≡ Form.Variable var }
-        ensures { TakenUp n end row (λ n e. node_part n e self.now ∷ tail_parts n e then.now) split.new result }
-    {
-        if row <= n {
-            return Turn::Row(Label {
-                var,
-                excluded: self.excluded,
-            });
-        }
-        match end {
-            End::Open => Turn::Open,
-            End::Closed => {
-                *split = Split::none();
-                Turn::Split
-            }
-        }
-    }
-
     /// The two parts, one after the other.
     #[inline(always)]
     fn take_concatenation(
@@ -228,15 +220,19 @@ impl Node {
         requires { self.now.form.value ≡ Form.Concatenation first.now second.now }
         ensures { OnOk result ((row : ℕ) → AlwaysSplits row (λ n e. node_part n e self.now ∷ tail_parts n e then.now) split.new) }
     {
-        let later = linked(
-            alloc,
-            None,
-            Part::Whole(Node::of(second, self.excluded)?),
-            share(then)?,
-        )?;
+        let next = Node::of(second, self.excluded)?;
+        let then = share(then)?;
+        if let Form::Variable(var) = &**first {
+            *split = Split::one(Some(Rests::Row {
+                var: *var,
+                next,
+                then,
+            }));
+            return Ok(());
+        }
         *split = Split::one(Some(Rests::Then {
             node: Node::of(first, self.excluded)?,
-            then: later,
+            then: linked(alloc, None, Part::Whole(next), then)?,
         }));
         Ok(())
     }
