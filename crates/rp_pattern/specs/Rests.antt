@@ -1,5 +1,5 @@
 -- What is left of a pattern: parts one after another, each as its words and its turns.
-use Rattle.std.specs.Prelude.{◌≡◌, ℕ, suc, ◌+◌, Bool, true, ◌&&◌, List, [], ◌∷◌, ◌++◌, map, length, take, drop, get_or, Option, Some, None, nat_le}
+use Rattle.std.specs.Prelude.{◌≡◌, ℕ, suc, ◌+◌, Bool, true, ◌&&◌, List, [], ◌∷◌, ◌++◌, map, length, take, drop, get_or, Option, Some, None, IsTrue, nat_le}
 use Rattle.std.specs.declared.rc.Rc.{Rc}
 use Rattle.std.specs.declared.alloc.Global.{Global}
 use Rattle.rp_pattern.specs.declared.form.Form.{Form}
@@ -18,6 +18,7 @@ use Rattle.rp_pattern.specs.declared.rests.Rests.{Rests}
 use Rattle.rp_pattern.specs.declared.rests.Rests.TheVariants.{Done, Then, Row, Reached}
 use Rattle.rp_pattern.specs.declared.rests.Choice.{Choice}
 use Rattle.rp_pattern.specs.Mapping.{Mapping}
+use Rattle.rp_pattern.specs.Movement.{always_moves}
 use Rattle.rp_pattern.specs.PermutedParts.{permuted_parts}
 use Rattle.rp_pattern.specs.Words.{Mappings, words, nothing_mapped, sequence, preceded}
 use Rattle.rp_pattern.specs.Turns.{WordsAndTurns, turns, one_turn, chain_turns, past, within, iterations, orders_from, words_of}
@@ -138,6 +139,10 @@ AreIterationsOf it further copy = IsNodeOf it.body.form.value it.body.excluded c
 -- these iterations come first, so many of them required
 abbrev pub IsTimes : ℕ → Iterations → Link → Type 0
 IsTimes lower it link = (out-Link link).part ≡ Times lower it
+
+-- each iteration takes a row, and so any number may follow it
+abbrev pub ComesUnchanged : ℕ → Iterations → Link → Type 0
+ComesUnchanged lower it link = ((out-Link link).since ≡ None) × (lower ≡ 0) × (it.further ≡ None) × IsTrue (always_moves it.body.form.value)
 
 -- one fewer may follow, where there is a bound
 abbrev pub IsOneLess : Option ℕ → Option ℕ → Type 0
