@@ -1,5 +1,5 @@
 -- What an operation on the stack does to the words of its choices.
-use Rattle.std.proofs.Common.{◌≡◌, ℕ, ◌+◌, ◌≤◌, List, [], ◌∷◌, ◌++◌, map, length, take, drop, reverse, Bool, true, false, cond, ◌&&◌, Option, Some, None, IsTrue, refl, sym, ap, ◌∙◌, arith, subst, append_assoc, length-append}
+use Rattle.std.proofs.Common.{◌≡◌, ℕ, ◌+◌, ◌<◌, ◌≤◌, List, [], ◌∷◌, ◌++◌, map, length, take, drop, reverse, Bool, true, false, cond, ◌&&◌, Option, Some, None, IsTrue, refl, sym, ap, ◌∙◌, arith, subst, append_assoc, length-append}
 use Rattle.std.specs.Prelude.{nat_le, sum_by}
 use Rattle.std.proofs.lemmas.List.Sums.{sum_by-cons}
 use Rattle.rp_pattern.specs.declared.form.Form.{Form}
@@ -7,11 +7,13 @@ use Rattle.rp_pattern.specs.declared.rests.Node.{Node}
 use Rattle.rp_pattern.specs.declared.rests.Part.{Part}
 use Rattle.rp_pattern.specs.declared.rests.Part.TheVariants.{Whole}
 use Rattle.std.proofs.lemmas.Bool.Decides.{nat_tests}
-use Rattle.std.proofs.lemmas.List.{take-append-drop, take-append-le, length-take-le, map-append, length-map, reverse-append}
+use Rattle.std.proofs.lemmas.List.{take-append-drop, take-append-le, length-take-le, map-append, length-map, length-reverse, reverse-append, reverse-reverse}
+use Rattle.std.proofs.Math.Seq.{set-append_seam}
+use Rattle.std.proofs.Math.ListN.{set}
 use Rattle.rp_pattern.specs.declared.word.End.{End}
 use Rattle.rp_pattern.specs.declared.word.Label.{Label}
 use Rattle.rp_pattern.specs.declared.rests.Rests.{Rests}
-use Rattle.rp_pattern.specs.declared.rests.Rests.TheVariants.{Done, Then, Reached}
+use Rattle.rp_pattern.specs.declared.rests.Rests.TheVariants.{Done, Then, Row, Reached}
 use Rattle.rp_pattern.specs.declared.rests.Choice.{Choice}
 use Rattle.rp_pattern.specs.declared.turn.Split.{Split}
 use Rattle.rp_pattern.specs.declared.choices.Choices.{Choices}
@@ -152,6 +154,7 @@ at_row c s ls t cs k h = (k.begun, subst (OfFirst (λ t. t.depth + 1 ≡ length 
 pub later_is : (n : ℕ) (e : End) (r : Rests) → drop 1 (rests_parts n e r) ≡ later_parts n e r
 later_is n e Done = refl
 later_is n e (Then node then) = refl
+later_is n e (Row var next then) = refl
 later_is n e (Reached link) = go (links_from link.value)
   where
     go : (ls : List (Option ℕ × Part)) → drop 1 (reached_parts n e ls) ≡ links_parts n e (drop 1 ls)
@@ -298,6 +301,21 @@ same_whole old new s o = record {
 pub on_top : (xs ys : List Choice) (x : Choice) → xs ≡ ys ++ x ∷ [] → reverse xs ≡ x ∷ reverse ys
 on_top xs ys x h = ap reverse h ∙ reverse-append ys (x ∷ [])
 
+-- another choice in the place of the first one
+pub set_first : (xs : List Choice) (k : ℕ) (t : Choice) → k + 1 ≡ length xs → reverse (set xs k t) ≡ t ∷ without_first (reverse xs)
+set_first xs k t long = go (reverse xs) refl
+  where
+    go : (cs : List Choice) → reverse xs ≡ cs → reverse (set xs k t) ≡ t ∷ without_first (reverse xs)
+    go [] h = absurd (omega (arith, long, ap length h, length-reverse xs))
+    go (c ∷ cs) h =
+        let parts : xs ≡ reverse cs ++ c ∷ [] = sym (reverse-reverse xs) ∙ ap reverse h ∙ reverse-append (c ∷ []) cs in
+        let at : k ≡ length (reverse cs) = omega (arith, long, ap length parts, length-append (reverse cs) (c ∷ [])) in
+        ap (λ ys. reverse (set ys k t)) parts
+        ∙ ap (λ j. reverse (set (reverse cs ++ c ∷ []) j t)) at
+        ∙ ap reverse (set-append_seam (reverse cs) c [] t)
+        ∙ reverse-append (reverse cs) (t ∷ [])
+        ∙ ap (λ ys. t ∷ ys) (reverse-reverse cs ∙ ap without_first (sym h))
+
 pub rises_below : (m : ℕ) (cs : List Choice) → IsTrue (rises m cs) → IsTrue (rises m (without_first cs))
 rises_below m [] h = refl
 rises_below m (c ∷ cs) h = let f = rises_first m c cs h in rises_more c.depth m cs f.0 f.1
@@ -313,6 +331,14 @@ no_top c h t = subst (OfFirst (λ c. Unit {0})) h t.1
 pub row_begun : (c : Choices) → AtRow c → c.begun ≡ true
 unfolding AtRow
 row_begun c h = h.0
+
+pub row_some : (c : Choices) → AtRow c → 0 < length c.stack.items
+unfolding AtRow
+row_some c h = go (reverse c.stack.items) refl h.1
+  where
+    go : (cs : List Choice) → reverse c.stack.items ≡ cs → OfFirst (λ t. t.depth + 1 ≡ length c.labels.items) cs → 0 < length c.stack.items
+    go [] is r = absurd r
+    go (t ∷ cs) is r = omega (arith, ap length is, length-reverse c.stack.items)
 
 -- the whole is put on the stack as one choice, or as none
 module _ (old new : Choices) (r : Option Rests) (n : ℕ) (e : End) (not : old.begun ≡ false) (m : Stack new old.start [] (pushed 0 r [])) (h : StandsFor n e old.start (tail_parts n e old.origin) r) where

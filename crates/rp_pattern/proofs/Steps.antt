@@ -20,7 +20,6 @@ use Rattle.rp_pattern.specs.WordLaws.{IsLater}
 use Rattle.rp_pattern.specs.Words.{preceded}
 use Rattle.rp_pattern.specs.Rests.{part_as, form_part, node_part, iterations_part, still, tail_links, tail_parts, links_parts, guarded, rests_parts, chain_words, IsNodeOf, AreIterationsOf, IsOneLess}
 use Rattle.rp_pattern.specs.Splits.{StandsFor, SplitsAt, AlwaysSplits, Splits, ComesAgain, repeated, TakenUp, option_words, split_turns}
-use Rattle.rp_pattern.proofs.Algebra.{append_nil}
 use Rattle.rp_pattern.proofs.TurnsTaken.{same_first}
 use Rattle.rp_pattern.proofs.Expansions.{Leaves, LeavesTwo, same_first_words, greedy_leaves, lazy_leaves, greedy_unbounded, lazy_unbounded, none_left_leaves, form_within}
 
@@ -51,9 +50,9 @@ stands_as n e i r qs h = record { words = ap (λ ps. chain_words ps i) h; turns 
 pub none_splits : (n : ℕ) (e : End) (i : ℕ) (ps : List WordsAndTurns) (s : Split) → s ≡ record { preferred = None; other = None } → [] ≡ chain_words ps i → 0 < chain_turns ps i → SplitsAt n e i ps s
 none_splits n e i ps s is w t = subst (SplitsAt n e i ps) (sym is) (record { words = w; turns = t })
 
-pub one_splits : (n : ℕ) (e : End) (i : ℕ) (ps qs : List WordsAndTurns) (r : Option Rests) (s : Split) → s ≡ record { preferred = r; other = None } → StandsFor n e i qs r → Leaves i ps qs → SplitsAt n e i ps s
+pub one_splits : (n : ℕ) (e : End) (i : ℕ) (ps qs : List WordsAndTurns) (r : Option Rests) (s : Split) → s ≡ record { preferred = None; other = r } → StandsFor n e i qs r → Leaves i ps qs → SplitsAt n e i ps s
 one_splits n e i ps qs r s is h k = subst (SplitsAt n e i ps) (sym is) (record {
-  words = append_nil (option_words n e r i) ∙ h.words ∙ k.words;
+  words = h.words ∙ k.words;
   turns = omega (arith, h.turns, k.turns);
 })
 

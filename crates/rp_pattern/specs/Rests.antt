@@ -1,8 +1,9 @@
 -- What is left of a pattern: parts one after another, each as its words and its turns.
-use Rattle.std.specs.Prelude.{◌≡◌, ℕ, suc, ◌+◌, Bool, true, ◌&&◌, List, [], ◌∷◌, ◌++◌, map, length, take, drop, get_or, Option, Some, None, nat_le}
+use Rattle.std.specs.Prelude.{◌≡◌, ℕ, suc, ◌+◌, Bool, true, ◌&&◌, List, [], ◌∷◌, ◌++◌, map, length, take, drop, get_or, Option, Some, None, IsTrue, nat_le}
 use Rattle.std.specs.declared.rc.Rc.{Rc}
 use Rattle.std.specs.declared.alloc.Global.{Global}
 use Rattle.rp_pattern.specs.declared.form.Form.{Form}
+use Rattle.rp_pattern.specs.declared.form.Form.TheVariants.{Variable}
 use Rattle.rp_pattern.specs.declared.word.End.{End}
 use Rattle.rp_pattern.specs.declared.word.Label.{Label}
 use Rattle.rp_pattern.specs.declared.rests.Node.{Node}
@@ -14,9 +15,10 @@ use Rattle.rp_pattern.specs.declared.rests.Link.TheOpen.{Link-F}
 use Rattle.rp_pattern.specs.declared.rests.Link.TheFolds.{fold-Link}
 use Rattle.rp_pattern.specs.declared.rests.Link.TheViews.{out-Link}
 use Rattle.rp_pattern.specs.declared.rests.Rests.{Rests}
-use Rattle.rp_pattern.specs.declared.rests.Rests.TheVariants.{Done, Then, Reached}
+use Rattle.rp_pattern.specs.declared.rests.Rests.TheVariants.{Done, Then, Row, Reached}
 use Rattle.rp_pattern.specs.declared.rests.Choice.{Choice}
 use Rattle.rp_pattern.specs.Mapping.{Mapping}
+use Rattle.rp_pattern.specs.Movement.{always_moves}
 use Rattle.rp_pattern.specs.PermutedParts.{permuted_parts}
 use Rattle.rp_pattern.specs.Words.{Mappings, words, nothing_mapped, sequence, preceded}
 use Rattle.rp_pattern.specs.Turns.{WordsAndTurns, turns, one_turn, chain_turns, past, within, iterations, orders_from, words_of}
@@ -81,12 +83,14 @@ reached_parts n e (l ∷ ls) = part_as n e l.1 ∷ links_parts n e ls
 abbrev pub rests_parts : ℕ → End → Rests → List WordsAndTurns
 rests_parts n e Done = []
 rests_parts n e (Then node then) = node_part n e node ∷ tail_parts n e then
+rests_parts n e (Row var next then) = form_part n e (Variable var) next.excluded ∷ node_part n e next ∷ tail_parts n e then
 rests_parts n e (Reached link) = reached_parts n e (links_from link.value)
 
 -- what comes after the first part
 abbrev pub later_parts : ℕ → End → Rests → List WordsAndTurns
 later_parts n e Done = []
 later_parts n e (Then node then) = tail_parts n e then
+later_parts n e (Row var next then) = node_part n e next ∷ tail_parts n e then
 later_parts n e (Reached link) = links_parts n e (drop 1 (links_from link.value))
 
 -- the words of parts one after another
@@ -135,6 +139,10 @@ AreIterationsOf it further copy = IsNodeOf it.body.form.value it.body.excluded c
 -- these iterations come first, so many of them required
 abbrev pub IsTimes : ℕ → Iterations → Link → Type 0
 IsTimes lower it link = (out-Link link).part ≡ Times lower it
+
+-- each iteration takes a row, and so any number may follow it
+abbrev pub ComesUnchanged : ℕ → Iterations → Link → Type 0
+ComesUnchanged lower it link = ((out-Link link).since ≡ None) × (lower ≡ 0) × (it.further ≡ None) × IsTrue (always_moves it.body.form.value)
 
 -- one fewer may follow, where there is a bound
 abbrev pub IsOneLess : Option ℕ → Option ℕ → Type 0

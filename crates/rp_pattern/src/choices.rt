@@ -145,8 +145,7 @@ impl Choices {
             }
             Turn::Open => Ok(Taken::Open),
             Turn::Split => {
-                drop_top(&mut self.stack);
-                push(&mut self.stack, depth, split.other)?;
+                set_top(&mut self.stack, depth, split.other);
                 push(&mut self.stack, depth, split.preferred)?;
                 Ok(Taken::Split)
             }
@@ -164,8 +163,7 @@ impl Choices {
     {
         let depth = self.labels.len();
         let rests = self.follow_first(self.start + depth as u64)?;
-        drop_top(&mut self.stack);
-        push(&mut self.stack, depth, rests)?;
+        set_top(&mut self.stack, depth, rests);
         Ok(())
     }
 
@@ -233,6 +231,22 @@ pub(crate) fn drop_top(stack: &mut Vec<Choice>)
     ensures { reverse stack.new.items ≡ without_first (reverse stack.old.items) }
 {
     let _ = stack.pop();
+}
+
+/// Puts another choice, if there is one, in the top one's place.
+#[inline(always)]
+fn set_top(stack: &mut Vec<Choice>, depth: usize, rests: Option<Rests>)
+    requires { 0 < length stack.old.items }
+    ensures set { reverse stack.new.items ≡ pushed depth rests (without_first (reverse stack.old.items)) }
+    ensures rises { IsTrue (rises depth (without_first (reverse stack.old.items))) → IsTrue (rises depth (reverse stack.new.items)) }
+{
+    match rests {
+        None => drop_top(stack),
+        Some(rests) => {
+            let last = stack.len() - 1;
+            stack[last] = Choice { depth, rests };
+        }
+    }
 }
 
 /// Puts a choice on a stack, if there is one.

@@ -69,6 +69,8 @@ pub(crate) enum Rests {
     Done,
     /// A part as it stands in the pattern, before later ones.
     Then { node: Node, then: Tail },
+    /// One row, mapped to the variable of this number, before a part and later ones. The label is excluded as the part is.
+    Row { var: usize, next: Node, then: Tail },
     /// Later parts, the first of which is reached.
     Reached(Rc<Link>),
 }

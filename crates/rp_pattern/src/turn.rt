@@ -2,10 +2,8 @@
 ghost use Rattle.std.specs.Prelude.{◌≡◌, ℕ, suc, ◌∷◌, ◌+◌, ◌-◌, ◌^◌, ◌<◌, ◌≤◌, ◌++◌, IfOk, OnOk, IsTrue, List, map, length, drop};
 ghost use Rattle.std.specs.List.{AllByRecursion};
 ghost use Rattle.rp_pattern.specs.declared.word.End.{End};
-ghost use Rattle.std.specs.Prelude.{Option, None};
-ghost use Rattle.rp_pattern.specs.Rests.{links_from, reached_parts, tail_parts, rests_parts, later_parts, node_part, iterations_part, permuted_form_parts, in_order, still, IsOneLess, IsSamePart, IsTimes};
-ghost use Rattle.rp_pattern.specs.Movement.{always_moves};
-ghost use Rattle.rp_pattern.specs.declared.rests.Link.TheViews.{out-Link};
+ghost use Rattle.std.specs.Prelude.{Option};
+ghost use Rattle.rp_pattern.specs.Rests.{links_from, reached_parts, tail_parts, rests_parts, later_parts, form_part, node_part, iterations_part, permuted_form_parts, in_order, still, IsOneLess, IsSamePart, IsTimes, ComesUnchanged};
 ghost use Rattle.rp_pattern.specs.Turns.{WordsAndTurns};
 ghost use Rattle.rp_pattern.specs.Bounds.{is_allowed};
 ghost use Rattle.rp_pattern.specs.Variables.{all_true};
@@ -63,19 +61,79 @@ impl Split {
     /// One choice, if any.
     #[inline(always)]
     fn one(rests: Option<Rests>) -> Split
-        ensures { result ≡ record { preferred = rests; other = None } }
+        ensures { result ≡ record { preferred = None; other = rests } }
     {
         Split {
-            preferred: rests,
-            other: None,
+            preferred: None,
+            other: rests,
         }
     }
 }
 
 impl Rests {
-    /// What is left at a row, taken up.
+    /// What is left at a row, taken up. What comes up most often is inlined, and all else apart.
     #[inline(always)]
     pub(crate) fn take_up(
+        &self,
+        alloc: Global,
+        row: u64,
+        n: u64,
+        end: End,
+        split: &mut Split,
+    ) -> Result<Turn, AllocError>
+        ensures { IfOk result (TakenUp n end row (λ n e. rests_parts n e self.now) split.new) }
+    {
+        match self {
+            Rests::Row { var, next, then: _ } => {
+                return Ok(take_row(*var, next.excluded, row, n, end, split));
+            }
+            Rests::Then { node, then } => match &*node.form {
+                Form::Variable(var) => {
+                    return Ok(take_row(*var, node.excluded, row, n, end, split));
+                }
+                Form::Concatenation(first, second) => {
+                    node.take_concatenation(alloc, first, second, then, split)?;
+                    return Ok(Turn::Split);
+                }
+                Form::Alternation(first, second) => {
+                    node.take_alternation(first, second, then, split)?;
+                    return Ok(Turn::Split);
+                }
+                _ => {}
+            },
+            Rests::Reached(link) => {
+                if let Part::Times { lower, iterations } = &link.part {
+                    if comes_again(link, *lower, iterations) {
+                        take_again(link, *lower, iterations, row, split)?;
+                        return Ok(Turn::Split);
+                    }
+                }
+            }
+            Rests::Done => return Ok(Turn::Full),
+        }
+        let (turn, rare) = self.take_up_apart(alloc, row, n, end)?;
+        *split = rare;
+        Ok(turn)
+    }
+
+    /// What is left at a row, taken up, with the choices that it stands for.
+    #[inline(never)]
+    fn take_up_apart(
+        &self,
+        alloc: Global,
+        row: u64,
+        n: u64,
+        end: End,
+    ) -> Result<(Turn, Split), AllocError>
+        ensures { IfOk result (λ taken. TakenUp n end row (λ n e. rests_parts n e self.now) taken.1 taken.0) }
+    {
+        let mut split = Split::none();
+        let turn = self.take_any(alloc, row, n, end, &mut split)?;
+        Ok((turn, split))
+    }
+
+    /// What is left at a row, taken up, whatever it is.
+    fn take_any(
         &self,
         alloc: Global,
         row: u64,
@@ -90,6 +148,9 @@ impl Rests {
             Rests::Then { node, then } => {
                 node.take_up(alloc, &node.form, then, row, n, end, split)
             }
+            Rests::Row { var, next, then: _ } => {
+                Ok(take_row(*var, next.excluded, row, n, end, split))
+            }
             Rests::Reached(link) => take_reached(alloc, link, row, n, end, split),
         }
     }
@@ -102,13 +163,16 @@ impl Rests {
         match self {
             Rests::Done => Ok(Some(Rests::Done)),
             Rests::Then { node: _, then } => follow(then, row),
+            Rests::Row { var: _, next, then } => Ok(Some(Rests::Then {
+                node: next.share()?,
+                then: share(then)?,
+            })),
             Rests::Reached(link) => follow(&link.then, row),
         }
     }
 }
 
 /// Later parts, the first of which is reached, taken up.
-#[inline(always)]
 fn take_reached(
     alloc: Global,
     link: &Rc<Link>,
@@ -132,8 +196,24 @@ fn take_reached(
     }
 }
 
-/// Iterations that are reached, taken up. Where any number may follow and each takes a row, the same link comes again.
+/// One row, taken up.
 #[inline(always)]
+fn take_row(var: usize, excluded: bool, row: u64, n: u64, end: End, split: &mut Split) -> Turn
+    ensures { (later : ℕ → End → List WordsAndTurns) → TakenUp n end row (λ n e. form_part n e (Form.Variable var) excluded ∷ later n e) split.new result }
+{
+    if row <= n {
+        return Turn::Row(Label { var, excluded });
+    }
+    match end {
+        End::Open => Turn::Open,
+        End::Closed => {
+            *split = Split::none();
+            Turn::Split
+        }
+    }
+}
+
+/// Iterations that are reached, taken up. Where any number may follow and each takes a row, the same link comes again.
 fn take_times(
     alloc: Global,
     link: &Rc<Link>,
@@ -145,9 +225,25 @@ fn take_times(
     requires { IsTimes lower iterations.now link.now.value }
     ensures { OnOk result (AlwaysSplits row (λ n e. reached_parts n e (links_from link.now.value)) split.new) }
 {
-    if !comes_again(link, lower, iterations) {
-        return iterations.take_up(alloc, lower, &link.then, row, split);
+    if comes_again(link, lower, iterations) {
+        return take_again(link, lower, iterations, row, split);
     }
+    iterations.take_up(alloc, lower, &link.then, row, split)
+}
+
+/// An iteration, before the same link again, or to stop.
+#[inline(always)]
+fn take_again(
+    link: &Rc<Link>,
+    lower: u32,
+    iterations: &Iterations,
+    row: u64,
+    split: &mut Split,
+) -> Result<(), AllocError>
+    requires times { IsTimes lower iterations.now link.now.value }
+    requires again { ComesUnchanged lower iterations.now link.now.value }
+    ensures { OnOk result (AlwaysSplits row (λ n e. reached_parts n e (links_from link.now.value)) split.new) }
+{
     let stop = follow(&link.then, row)?;
     iterations.another_or(Some(link.clone()?), stop, split)
 }
@@ -155,13 +251,12 @@ fn take_times(
 /// Whether it is known that the same may come after each iteration.
 #[inline(always)]
 fn comes_again(link: &Link, lower: u32, iterations: &Iterations) -> bool
-    ensures { IsTrue result → ((out-Link link.now).since ≡ None) × (lower ≡ 0) × (iterations.now.further ≡ None) × IsTrue (always_moves iterations.now.body.form.value) }
+    ensures { IsTrue result → ComesUnchanged lower iterations.now link.now }
 {
     lower == 0 && iterations.moving && iterations.further.is_none() && link.since.is_none()
 }
 
 impl Node {
-    #[inline(always)]
     fn take_up(
         &self,
         alloc: Global,
@@ -176,7 +271,7 @@ impl Node {
         ensures { IfOk result (TakenUp n end row (λ n e. node_part n e self.now ∷ tail_parts n e then.now) split.new) }
     {
         match form {
-            Form::Variable(var) => Ok(self.take_variable(*var, row, n, end, then, split)),
+            Form::Variable(var) => Ok(take_row(*var, self.excluded, row, n, end, split)),
             Form::Empty => {
                 self.take_empty(then, row, split)?;
                 Ok(Turn::Split)
@@ -215,34 +310,6 @@ impl Node {
         }
     }
 
-    #[inline(always)]
-    fn take_variable(
-        &self,
-        var: usize,
-        row: u64,
-        n: u64,
-        end: End,
-        then: &Tail,
-        split: &mut Split,
-    ) -> Turn
-        requires { self.now.form.value ≡ Form.Variable var }
-        ensures { TakenUp n end row (λ n e. node_part n e self.now ∷ tail_parts n e then.now) split.new result }
-    {
-        if row <= n {
-            return Turn::Row(Label {
-                var,
-                excluded: self.excluded,
-            });
-        }
-        match end {
-            End::Open => Turn::Open,
-            End::Closed => {
-                *split = Split::none();
-                Turn::Split
-            }
-        }
-    }
-
     /// The two parts, one after the other.
     #[inline(always)]
     fn take_concatenation(
@@ -256,15 +323,19 @@ impl Node {
         requires { self.now.form.value ≡ Form.Concatenation first.now second.now }
         ensures { OnOk result ((row : ℕ) → AlwaysSplits row (λ n e. node_part n e self.now ∷ tail_parts n e then.now) split.new) }
     {
-        let later = linked(
-            alloc,
-            None,
-            Part::Whole(Node::of(second, self.excluded)?),
-            share(then)?,
-        )?;
+        let next = Node::of(second, self.excluded)?;
+        let then = share(then)?;
+        if let Form::Variable(var) = &**first {
+            *split = Split::one(Some(Rests::Row {
+                var: *var,
+                next,
+                then,
+            }));
+            return Ok(());
+        }
         *split = Split::one(Some(Rests::Then {
             node: Node::of(first, self.excluded)?,
-            then: later,
+            then: linked(alloc, None, Part::Whole(next), then)?,
         }));
         Ok(())
     }

@@ -1,45 +1,18 @@
-use Rattle.std.proofs.Common.{◌≡◌, ◌∷◌, None, Some, refl, sym, ap, ◌∙◌, subst}
+use Rattle.std.proofs.Common.{◌∷◌, refl}
 use Rattle.rp_pattern.specs.declared.rests.Part.TheVariants.{Times}
 use Rattle.rp_pattern.specs.declared.rests.Link.TheViews.{out-Link}
-use Rattle.rp_pattern.specs.Turns.{iterations}
-use Rattle.rp_pattern.specs.Rests.{IsOneLess, guarded, iterations_part, links_from, links_parts, node_part, part_as, reached_parts, still, tail_parts}
-use Rattle.rp_pattern.specs.Splits.{AlwaysSplits, StandsFor}
-use Rattle.rp_pattern.proofs.Steps.{OnOk-map, splits_as, comes_moving}
-use Rattle.rp_pattern.proofs.Tails.{reached_as, tail_out}
+use Rattle.rp_pattern.specs.Rests.{iterations_part, links_from, reached_parts, tail_parts}
+use Rattle.rp_pattern.specs.Splits.{AlwaysSplits}
+use Rattle.rp_pattern.proofs.Steps.{OnOk-map, splits_as}
+use Rattle.rp_pattern.proofs.Tails.{reached_as}
 use Rattle.rp_pattern.proofs.turn.take_times.Goals as goal
-
-pub returns-then-not-comes_again : goal.returns-then-not-comes_again
-returns-then-not-comes_again c =
-    let row = c.args.row in
-    let l = c.args.link.now.value in
-    let d = c.deref-then-not-comes_again in
-    let split = c.take_up.new.split in
-    OnOk-map (AlwaysSplits row (λ n e. iterations_part n e c.args.lower c.args.iterations.now ∷ tail_parts n e (out-Link d.result.now).then) split) (AlwaysSplits row (λ n e. reached_parts n e (links_from l)) split)
-    (λ h n e. splits_as n e row _ (reached_parts n e (links_from l)) split (reached_as n e l l d.result.now (Times c.args.lower c.args.iterations.now) refl d.ensures c.requires) (h n e))
-    c.take_up.result c.take_up.ensures
 
 pub returns : goal.returns
 returns c =
     let row = c.args.row in
     let l = c.args.link.now.value in
-    let it = c.args.iterations.now in
-    let copy = c.in_ok-clone.field-0 in
-    let known = c.comes_again.ensures c.if-not-comes_again.false in
-    let since = ap (λ k. (out-Link k).since) (sym c.deref.ensures) ∙ known.0 in
-    let none = known.2 in
-    let split = c.another_or.new.split in
-    OnOk-map _ (AlwaysSplits row (λ n e. reached_parts n e (links_from l)) split)
-    (λ h n e.
-    let p = node_part n e it.body in
-    let ts = tail_parts n e (out-Link l).then in
-    let more = iterations 0 (still n None) it.reluctant p in
-    let first : part_as n e (out-Link l).part ≡ more =
-    ap (part_as n e) c.requires ∙ ap (λ k. iterations k (still n it.further) it.reluctant p) known.1 ∙ ap (λ k. iterations 0 (still n k) it.reluctant p) none in
-    let again : tail_parts n e (Some copy) ≡ more ∷ ts =
-    ap (λ k. links_parts n e (links_from k)) c.in_ok-clone.ensures.cases ∙ tail_out n e l ∙ ap (λ s. guarded s (part_as n e (out-Link l).part) ∷ ts) since ∙ ap (λ z. z ∷ ts) first in
-    let stop : StandsFor n e row ts c.in_ok-stop.stop = subst (λ k. StandsFor n e row (tail_parts n e (out-Link k).then) c.in_ok-stop.stop) c.deref-2.ensures (c.in_ok-stop.ensures n e) in
-    let mine : iterations_part n e 0 it ∷ ts ≡ reached_parts n e (links_from l) =
-    ap (λ k. iterations_part n e k it ∷ ts) (sym known.1) ∙ reached_as n e l l l (Times c.args.lower it) refl refl c.requires in
-    splits_as n e row _ (reached_parts n e (links_from l)) split mine
-    (h row n e None ts (subst (λ k. IsOneLess k None) (sym none) refl) (comes_moving n e row it None ts (tail_parts n e (Some copy)) known.3 again) stop))
-    c.another_or.result c.another_or.ensures
+    let d = c.deref-2 in
+    let split = c.take_up.new.split in
+    OnOk-map (AlwaysSplits row (λ n e. iterations_part n e c.args.lower c.args.iterations.now ∷ tail_parts n e (out-Link d.result.now).then) split) (AlwaysSplits row (λ n e. reached_parts n e (links_from l)) split)
+    (λ h n e. splits_as n e row _ (reached_parts n e (links_from l)) split (reached_as n e l l d.result.now (Times c.args.lower c.args.iterations.now) refl d.ensures c.requires) (h n e))
+    c.take_up.result c.take_up.ensures

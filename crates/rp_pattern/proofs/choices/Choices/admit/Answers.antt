@@ -2,24 +2,23 @@ use Rattle.std.proofs.Common.{◌≡◌, refl, sym, subst, reverse, length, IsTr
 use Rattle.rp_pattern.specs.Choices.{entered, first_later}
 use Rattle.rp_pattern.specs.Rests.{rises, pushed, without_first}
 use Rattle.rp_pattern.specs.Splits.{StandsFor}
-use Rattle.rp_pattern.proofs.Stacks.{Stack, same_whole, row_begun, rises_below, rises_subst, admitted_remaining, admitted_left}
+use Rattle.rp_pattern.proofs.Stacks.{Stack, same_whole, row_begun, row_some, rises_below, admitted_remaining, admitted_left}
 use Rattle.rp_pattern.proofs.choices.Choices.admit.Goals as goal
+
+pub set_top-requires : goal.set_top-requires
+set_top-requires c = row_some c.args.self.now c.requires
 
 pub invariant_of-self : goal.invariant_of-self
 invariant_of-self c =
     let old = c.args.self.now in
     let m = length old.labels.items in
-    let cs = reverse old.stack.items in
+    let cs = without_first (reverse old.stack.items) in
     let long : c.len-depth.result ≡ m = omega (arith, c.len-depth.ensures, old.labels.ok.0) in
-    let lower = rises_subst m (reverse c.drop_top.new.stack.items) (without_first cs) c.drop_top.ensures (rises_below m cs old.rises) in
-    let all = c.push.ensures.rises (subst (λ z. IsTrue (rises z (reverse c.drop_top.new.stack.items))) (sym long) lower) in
-    record { rises = subst (λ z. IsTrue (rises z (reverse c.push.new.stack.items))) long all; ends = old.ends }
+    let lower = subst (λ z. IsTrue (rises z cs)) (sym long) (rises_below m (reverse old.stack.items) old.rises) in
+    record { rises = subst (λ z. IsTrue (rises z (reverse c.set_top.new.stack.items))) long (c.set_top.ensures.rises lower); ends = old.ends }
 
 pub returns-in_err-rests-clause-whole : goal.returns-in_err-rests-clause-whole
 returns-in_err-rests-clause-whole c = same_whole _ _ refl refl
-
-pub returns-in_err-push-clause-whole : goal.returns-in_err-push-clause-whole
-returns-in_err-push-clause-whole c = same_whole _ _ refl refl
 
 pub returns-clause-whole : goal.returns-clause-whole
 returns-clause-whole c = same_whole _ _ refl refl
@@ -31,7 +30,7 @@ returns-clause-remaining c = λ n e.
     let long : c.len-depth.result ≡ length old.labels.items = omega (arith, c.len-depth.ensures, old.labels.ok.0) in
     let r = c.in_ok-rests.rests in
     let cs = reverse old.stack.items in
-    let on : reverse c.push.new.stack.items ≡ pushed (length old.labels.items) r (without_first cs) = c.in_ok-push.ensures.pushed ∙ ap (pushed c.len-depth.result r) c.drop_top.ensures ∙ ap (λ z. pushed z r (without_first cs)) long in
+    let on : reverse c.set_top.new.stack.items ≡ pushed (length old.labels.items) r (without_first cs) = c.set_top.ensures.set ∙ ap (λ z. pushed z r (without_first cs)) long in
     let stands = subst (λ z. StandsFor n e (old.start + z) (first_later n e cs) r) long (c.in_ok-rests.ensures n e) in
     admitted_remaining old _ r n e k (record { begun = row_begun old c.requires; start = refl; labels = refl; choices = on }) stands
 
@@ -42,7 +41,7 @@ returns-clause-left c = λ n e.
     let long : c.len-depth.result ≡ length old.labels.items = omega (arith, c.len-depth.ensures, old.labels.ok.0) in
     let r = c.in_ok-rests.rests in
     let cs = reverse old.stack.items in
-    let on : reverse c.push.new.stack.items ≡ pushed (length old.labels.items) r (without_first cs) = c.in_ok-push.ensures.pushed ∙ ap (pushed c.len-depth.result r) c.drop_top.ensures ∙ ap (λ z. pushed z r (without_first cs)) long in
+    let on : reverse c.set_top.new.stack.items ≡ pushed (length old.labels.items) r (without_first cs) = c.set_top.ensures.set ∙ ap (λ z. pushed z r (without_first cs)) long in
     let stands = subst (λ z. StandsFor n e (old.start + z) (first_later n e cs) r) long (c.in_ok-rests.ensures n e) in
     admitted_left old _ r n e k (record { begun = row_begun old c.requires; start = refl; labels = refl; choices = on }) stands
 

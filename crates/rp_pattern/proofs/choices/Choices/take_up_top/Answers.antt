@@ -1,4 +1,4 @@
-use Rattle.std.proofs.Common.{◌≡◌, ◌∷◌, ◌++◌, ◌+◌, [], List, refl, subst, sym, ap, ◌∙◌, reverse, length, IsTrue, arith}
+use Rattle.std.proofs.Common.{◌≡◌, ◌∷◌, ◌++◌, ◌+◌, [], List, refl, subst, ap, ◌∙◌, reverse, length, IsTrue, arith}
 use Rattle.std.proofs.lemmas.List.{length-take-le}
 use Rattle.rp_pattern.specs.declared.turn.Turn.{Turn}
 use Rattle.rp_pattern.specs.Rests.{pushed, rises, rests_parts, without_first}
@@ -32,10 +32,9 @@ invariant_of-self-in-Split c =
     let cs = without_first (reverse old.stack.items) in
     let on = top_is t _ _ c.deref.ensures.value c.in-Some.ensures in
     let first = rises_first (length old.labels.items) t cs (subst (λ z. IsTrue (rises (length old.labels.items) z)) on old.rises) in
-    let below = subst (λ z. IsTrue (rises t.depth z)) (sym c.drop_top.ensures) first.1 in
     let long : length c.truncate.new.self.items ≡ t.depth = ap length c.truncate.ensures.items ∙ length-take-le t.depth old.labels.items first.0 in
     record {
-      rises = rises_more t.depth (length c.truncate.new.self.items) (reverse c.push-in-Split-2.new.stack.items) (omega (arith, long)) (c.push-in-Split-2.ensures.rises (c.push-in-Split.ensures.rises below));
+      rises = rises_more t.depth (length c.truncate.new.self.items) (reverse c.push-in-Split.new.stack.items) (omega (arith, long)) (c.push-in-Split.ensures.rises (c.set_top.ensures.rises first.1));
       ends = omega (arith, long, first.0, old.ends);
     }
 
@@ -90,11 +89,11 @@ returns-in-Open-clause-taken c =
     let turn = λ (z : Turn). TakenUp a.n a.end (old.start + t.depth) (λ n e. rests_parts n e t.rests) split z in
     is_open old _ old.start old.labels.items t cs a.n a.end k r (record { begun = c.requires.begun; start = refl; labels = c.truncate.ensures.items; choices = on }) (subst turn c.in-Open.is c.in_ok-take_up.ensures)
 
-pub returns-in_ok-push-in-Split-2-clause-whole : goal.returns-in_ok-push-in-Split-2-clause-whole
-returns-in_ok-push-in-Split-2-clause-whole c = same_whole _ _ refl refl
+pub returns-in_ok-push-in-Split-clause-whole : goal.returns-in_ok-push-in-Split-clause-whole
+returns-in_ok-push-in-Split-clause-whole c = same_whole _ _ refl refl
 
-pub returns-in_ok-push-in-Split-2-clause-taken : goal.returns-in_ok-push-in-Split-2-clause-taken
-returns-in_ok-push-in-Split-2-clause-taken c =
+pub returns-in_ok-push-in-Split-clause-taken : goal.returns-in_ok-push-in-Split-clause-taken
+returns-in_ok-push-in-Split-clause-taken c =
     let a = c.args in
     let old = a.self.now in
     let t = c.in-Some.choice.now in
@@ -104,7 +103,4 @@ returns-in_ok-push-in-Split-2-clause-taken c =
     let r : IsTrue (rises (length old.labels.items) (t ∷ cs)) = subst (λ z. IsTrue (rises (length old.labels.items) z)) on old.rises in
     let split = c.take_up.new.split in
     let turn = λ (z : Turn). TakenUp a.n a.end (old.start + t.depth) (λ n e. rests_parts n e t.rests) split z in
-    is_split old _ old.start old.labels.items t cs a.n a.end k r split (record { begun = c.requires.begun; start = refl; labels = c.truncate.ensures.items; choices = c.in_ok-push-in-Split-2.ensures.pushed ∙ ap (pushed t.depth split.preferred) c.in_ok-push-in-Split.ensures.pushed ∙ ap (λ z. pushed t.depth split.preferred (pushed t.depth split.other z)) c.drop_top.ensures }) (subst turn c.in-Split.is c.in_ok-take_up.ensures)
-
-pub returns-in_err-push-in-Split-2-clause-whole : goal.returns-in_err-push-in-Split-2-clause-whole
-returns-in_err-push-in-Split-2-clause-whole c = same_whole _ _ refl refl
+    is_split old _ old.start old.labels.items t cs a.n a.end k r split (record { begun = c.requires.begun; start = refl; labels = c.truncate.ensures.items; choices = c.in_ok-push-in-Split.ensures.pushed ∙ ap (pushed t.depth split.preferred) c.set_top.ensures.set }) (subst turn c.in-Split.is c.in_ok-take_up.ensures)

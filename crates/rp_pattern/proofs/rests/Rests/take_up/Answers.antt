@@ -1,7 +1,33 @@
-use Rattle.std.proofs.Common.{sym, subst, IfOk}
-use Rattle.rp_pattern.specs.Rests.{rests_parts}
-use Rattle.rp_pattern.specs.Splits.{TakenUp}
+use Rattle.std.proofs.Common.{◌∷◌, ap, sym, ◌∙◌}
+use Rattle.rp_pattern.specs.Rests.{form_part, rests_parts, node_part, tail_parts}
+use Rattle.rp_pattern.proofs.Steps.{always_splits, splits_as, taken_as}
 use Rattle.rp_pattern.proofs.rests.Rests.take_up.Goals as goal
 
-pub returns-in-Then : goal.returns-in-Then
-returns-in-Then c = subst (λ r. IfOk c.take_up.result (TakenUp c.args.n c.args.end c.args.row (λ n e. rests_parts n e r) c.take_up.new.split)) (sym c.in-Then.is) c.take_up.ensures
+pub returns-in-Row : goal.returns-in-Row
+returns-in-Row c =
+    let a = c.args in
+    let w = c.in-Row in
+    taken_as a.n a.end a.row _ (λ n e. rests_parts n e a.self.now) (λ n e. ap (rests_parts n e) (sym w.is)) c.take_row.new.split c.take_row.result
+    (c.take_row.ensures (λ n e. node_part n e w.next ∷ tail_parts n e w.then))
+
+pub returns-in-Variable : goal.returns-in-Variable
+returns-in-Variable c =
+    let a = c.args in
+    let w = c.in-Then in
+    taken_as a.n a.end a.row _ (λ n e. rests_parts n e a.self.now)
+    (λ n e. ap (λ f. form_part n e f w.node.excluded ∷ tail_parts n e w.then) (sym c.in-Variable.is ∙ c.deref.ensures) ∙ ap (rests_parts n e) (sym w.is)) c.take_row-in-Variable.new.split c.take_row-in-Variable.result
+    (c.take_row-in-Variable.ensures (λ n e. tail_parts n e w.then))
+
+pub returns-in-Concatenation : goal.returns-in-Concatenation
+returns-in-Concatenation c =
+    let a = c.args in
+    let s = c.take_concatenation.new.split in
+    always_splits a.n a.end a.row (λ n e. rests_parts n e a.self.now) s (λ n e.
+    splits_as n e a.row _ (rests_parts n e a.self.now) s (ap (rests_parts n e) (sym c.in-Then.is)) (c.in_ok-take_concatenation-in-Concatenation.ensures a.row n e))
+
+pub returns-in-Alternation : goal.returns-in-Alternation
+returns-in-Alternation c =
+    let a = c.args in
+    let s = c.take_alternation.new.split in
+    always_splits a.n a.end a.row (λ n e. rests_parts n e a.self.now) s (λ n e.
+    splits_as n e a.row _ (rests_parts n e a.self.now) s (ap (rests_parts n e) (sym c.in-Then.is)) (c.in_ok-take_alternation-in-Alternation.ensures a.row n e))
