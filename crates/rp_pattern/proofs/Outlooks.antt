@@ -25,6 +25,10 @@ pub pushed_long : (d : ℕ) (r : Option Rests) (cs : List Choice) → length (pu
 pushed_long d None cs = omega arith
 pushed_long d (Some r) cs = omega arith
 
+pub pushed_keeps : (d : ℕ) (r : Option Rests) (cs : List Choice) → length cs ≤ length (pushed d r cs)
+pushed_keeps d None cs = omega arith
+pushed_keeps d (Some r) cs = omega arith
+
 -- its choices, the preferred one first
 pub words_ahead_is : (o : Outlook) (s : ℕ) (cs : List Choice) (n : ℕ) (e : End) → o.start ≡ s → reverse o.stack.items ≡ cs → words_ahead o n e ≡ stack_count n e s cs
 unfolding words_ahead
@@ -49,7 +53,8 @@ module _ (old new : Outlook) (t : Choice) (cs : List Choice) (n : ℕ) (e : End)
       record {
         same = λ n' e' h. omega (arith, words_ahead_is new s (pushed t.depth x.preferred ds) n' e' start now, words_ahead_is old s (t ∷ cs) n' e' refl on, pushed_count n' e' s t.depth x.preferred ds, pushed_count n' e' s t.depth x.other cs, long n' e' h);
         less = λ n' e' h. omega (arith, turns_ahead_is new s (pushed t.depth x.preferred ds) n' e' start now, turns_ahead_is old s (t ∷ cs) n' e' refl on, pushed_left n' e' s t.depth x.preferred ds, pushed_left n' e' s t.depth x.other cs, long n' e' h, w.turns n' e' h);
-        held = omega (arith, held_is new (pushed t.depth x.preferred ds) now, held_is old (t ∷ cs) on, pushed_long t.depth x.preferred ds, pushed_long t.depth x.other cs);
+        gains = omega (arith, held_is new (pushed t.depth x.preferred ds) now, held_is old (t ∷ cs) on, pushed_long t.depth x.preferred ds, pushed_long t.depth x.other cs);
+        drops = omega (arith, held_is new (pushed t.depth x.preferred ds) now, held_is old (t ∷ cs) on, pushed_keeps t.depth x.preferred ds, pushed_keeps t.depth x.other cs);
       }
 
   pub further_row : (l : Label) (r : Option Rests) → reverse new.stack.items ≡ pushed (t.depth + 1) r cs → TakesRow n e (old.start + t.depth) (λ n e. rests_parts n e t.rests) l →
@@ -69,7 +74,8 @@ module _ (old new : Outlook) (t : Choice) (cs : List Choice) (n : ℕ) (e : End)
       record {
         same = λ n' e' h. omega (arith, words_ahead_is new s (pushed (t.depth + 1) r cs) n' e' start now, words_ahead_is old s (t ∷ cs) n' e' refl on, pushed_count n' e' s (t.depth + 1) r cs, count n' e' h);
         less = λ n' e' h. omega (arith, turns_ahead_is new s (pushed (t.depth + 1) r cs) n' e' start now, turns_ahead_is old s (t ∷ cs) n' e' refl on, pushed_left n' e' s (t.depth + 1) r cs, count n' e' h, turns n' e' h);
-        held = omega (arith, held_is new (pushed (t.depth + 1) r cs) now, held_is old (t ∷ cs) on, pushed_long (t.depth + 1) r cs);
+        gains = omega (arith, held_is new (pushed (t.depth + 1) r cs) now, held_is old (t ∷ cs) on, pushed_long (t.depth + 1) r cs);
+        drops = omega (arith, held_is new (pushed (t.depth + 1) r cs) now, held_is old (t ∷ cs) on, pushed_keeps (t.depth + 1) r cs);
       }
 
 module _ (o : Outlook) (t : Choice) (cs : List Choice) (on : reverse o.stack.items ≡ t ∷ cs) where

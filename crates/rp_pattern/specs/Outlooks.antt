@@ -25,11 +25,12 @@ turns_ahead o n e = stack_left n e o.start (reverse o.stack.items)
 unfoldable pub held_by : Outlook → ℕ
 held_by o = length o.stack.items
 
--- The preferred choice gave way to others, with as many words and fewer turns, one more of them at most.
+-- The preferred choice gave way to two others at most, with as many words and fewer turns.
 pub record LooksFurther (old new : Outlook) (n : ℕ) (e : End) : Type 0 where
   pub same : (n' : ℕ) (e' : End) → IsLater n e n' e' → words_ahead new n' e' ≡ words_ahead old n' e'
   pub less : (n' : ℕ) (e' : End) → IsLater n e n' e' → turns_ahead new n' e' < turns_ahead old n' e'
-  pub held : held_by new ≤ held_by old + 1
+  pub gains : held_by new ≤ held_by old + 1
+  pub drops : held_by old ≤ held_by new + 1
 
 -- what an outlook came to, over the rows 1 to n and that end
 abbrev pub SeenAs : Outlook → Outlook → ℕ → End → Sight → Type 0

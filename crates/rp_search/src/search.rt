@@ -1,6 +1,6 @@
 //! A search takes up one choice a turn. Between its runs it keeps the choices that are not given up, and one list of labels
 //! that is cut back to the choice at hand. While a row's test is open, it keeps an outlook over what would follow that row.
-ghost use Rattle.std.specs.Prelude.{◌≡◌, ◌≢◌, ℕ, ◌+◌, ◌-◌, ◌^◌, ◌<◌, ◌≤◌, List, [], ◌∷◌, ◌++◌, length, take, None, IfOk, OnOk, OnErr};
+ghost use Rattle.std.specs.Prelude.{◌≡◌, ◌≢◌, ℕ, ◌+◌, ◌-◌, ◌*◌, ◌^◌, ◌<◌, ◌≤◌, List, [], ◌∷◌, ◌++◌, length, take, None, IfOk, OnOk, OnErr};
 ghost use Rattle.rp_pattern.specs.declared.word.End.{End};
 ghost use Rattle.rp_pattern.specs.declared.word.End.TheVariants.{Closed};
 ghost use Rattle.rp_pattern.specs.declared.word.Seen.TheVariants.{Open as OpenTest};
@@ -45,11 +45,11 @@ pub struct Search {
     spent: Vec<Outlook>,
 }
 
-#[tactic(auto, unfolding(crate::specs::Fits::start_of_search, crate::specs::Fits::labels_of_search, crate::specs::Fits::pattern_words, crate::specs::Fits::most_turns, crate::specs::Fits::left_of, crate::specs::Fits::ChoicesStand, crate::specs::Fits::LabelsStand, crate::specs::Spent::spent_of))]
+#[tactic(auto, unfolding(crate::specs::Fits::start_of_search, crate::specs::Fits::labels_of_search, crate::specs::Fits::pattern_words, crate::specs::Fits::most_turns, crate::specs::Fits::left_of, crate::specs::Fits::ChoicesStand, crate::specs::Fits::LabelsStand, crate::specs::Spent::kept_by, crate::specs::Spent::spent_of, crate::specs::Spent::in_use))]
 impl Search {
     ghost use Rattle.rp_search.specs.Found.{Test, found, Match, NoMatch, Waits};
     ghost use Rattle.rp_search.specs.Fits.{Fits, IsSameSearch, start_of_search, labels_of_search, pattern_words, most_turns, left_of, Stands, StandsAtRow};
-    ghost use Rattle.rp_search.specs.Spent.{spent_of};
+    ghost use Rattle.rp_search.specs.Spent.{kept_by, spent_of, in_use, held_in};
     ghost use Rattle.rp_search.specs.Turned.{AsksTheSame, AddsLabel, Searches, Turned};
 
     /// A search from the row `start`, which is at least 1.
@@ -105,11 +105,16 @@ impl Search {
         ensures counted { T.entries tests.new + steps.old ≤ T.entries tests.old + steps.new }
         ensures enters { T.entries tests.new ≤ T.entries tests.old + budget }
 
-        // A turn drops at most one of the choices that a decided test has made needless.
-        ensures shed { OnOk result (spent_of self.old + steps.old ≤ spent_of self.new + steps.new) }
+        // Of the choices of outlooks a turn adds at most one, and drops at most two: the one it takes up, and one that a
+        // decided test has made needless. Those fall with each turn, until none is left.
+        ensures gains { OnOk result (kept_by self.new + steps.old ≤ kept_by self.old + steps.new) }
+        ensures drops { OnOk result (kept_by self.old + 2 * steps.old ≤ kept_by self.new + 2 * steps.new) }
+        ensures spent_falls { OnOk result (spent_of self.new ≤ spent_of self.old + in_use self.old - (steps.new - steps.old)) }
 
         ensures nothing { budget ≡ 0 → (result ≡ Ok Outcome.Paused) × (self.new ≡ self.old) × (tests.new ≡ tests.old) × (steps.new ≡ steps.old) }
         ensures begins_again { OnErr result (labels_of_search self.new ≡ []) }
+        ensures fits_all { OnErr result ((n : ℕ) (e : End) (test : Test) → Fits self.new n e test) }
+        ensures kept_none { OnErr result (kept_by self.new ≡ 0) }
         ensures nothing_given_up { OnErr result ((n : ℕ) (e : End) (test : Test) → left_of self.new n e test ≡ most_turns self.new n e) }
     {
         if budget == 0 {
@@ -146,6 +151,7 @@ impl Search {
         ensures labels { labels_of_search self.new ≡ [] }
         ensures left { (n : ℕ) (e : End) (test : Test) → left_of self.new n e test ≡ most_turns self.new n e }
         ensures fits { 1 ≤ start_of_search self.old → (n : ℕ) (e : End) (test : Test) → Fits self.new n e test }
+        ensures kept { kept_by self.new ≡ 0 }
     {
         self.choices.reset();
         self.outlook = None;
@@ -174,7 +180,9 @@ impl Search {
         ensures entered { OnOk result (T.entered tests.new (start_of_search self.new) (labels_of_search self.new)) }
         ensures fits { OnOk result (Fits self.new (T.rows tests.old) (T.ending tests.old) (T.outcome tests.old (start_of_search self.old))) }
         ensures turned { IfOk result (Turned budget (pattern_words self.old (T.rows tests.old) (T.ending tests.old)) (labels_of_search self.new) (T.ending tests.old) (T.outcome tests.old (start_of_search self.old)) (left_of self.old (T.rows tests.old) (T.ending tests.old) (T.outcome tests.old (start_of_search self.old))) (left_of self.new (T.rows tests.old) (T.ending tests.old) (T.outcome tests.old (start_of_search self.old)))) }
-        ensures shed { OnOk result (spent_of self.old + steps.old ≤ spent_of self.new + steps.new) }
+        ensures gains { OnOk result (kept_by self.new + steps.old ≤ kept_by self.old + steps.new) }
+        ensures drops { OnOk result (kept_by self.old + 2 * steps.old ≤ kept_by self.new + 2 * steps.new) }
+        ensures spent_falls { OnOk result (spent_of self.new ≤ spent_of self.old + in_use self.old - (steps.new - steps.old)) }
     {
         self.resume(tests)?;
         for _turn in 0..budget {
@@ -199,7 +207,8 @@ impl Search {
         ensures entered { OnOk result (T.entered tests.new (start_of_search self.new) (labels_of_search self.new)) }
         ensures searches { OnOk result (Searches self.new (T.rows tests.old) (T.ending tests.old) (T.outcome tests.old (start_of_search self.old))) }
         ensures left { OnOk result (left_of self.new (T.rows tests.old) (T.ending tests.old) (T.outcome tests.old (start_of_search self.old)) ≤ left_of self.old (T.rows tests.old) (T.ending tests.old) (T.outcome tests.old (start_of_search self.old))) }
-        ensures spent { OnOk result (spent_of self.old ≤ spent_of self.new) }
+        ensures kept { OnOk result (kept_by self.new ≡ kept_by self.old) }
+        ensures spent { OnOk result (spent_of self.new ≤ spent_of self.old + in_use self.old) }
     {
         let Some(outlook) = self.outlook.take() else {
             return Ok(());
@@ -223,7 +232,9 @@ impl Search {
         ensures entered { OnOk result (T.entered tests.new (start_of_search self.new) (labels_of_search self.new)) }
         ensures searches { OnOk result (Searches self.new (T.rows tests.old) (T.ending tests.old) (T.outcome tests.old (start_of_search self.old))) }
         ensures turned { IfOk result (Turned 1 (pattern_words self.old (T.rows tests.old) (T.ending tests.old)) (labels_of_search self.new) (T.ending tests.old) (T.outcome tests.old (start_of_search self.old)) (left_of self.old (T.rows tests.old) (T.ending tests.old) (T.outcome tests.old (start_of_search self.old))) (left_of self.new (T.rows tests.old) (T.ending tests.old) (T.outcome tests.old (start_of_search self.old)))) }
-        ensures shed { OnOk result (spent_of self.old ≤ spent_of self.new + 1) }
+        ensures gains { OnOk result (kept_by self.new ≤ kept_by self.old + 1) }
+        ensures drops { OnOk result (kept_by self.old ≤ kept_by self.new + 2) }
+        ensures spent { OnOk result (spent_of self.new ≤ spent_of self.old - 1) }
     {
         shed(&mut self.spent);
         match self.outlook.take() {
@@ -246,6 +257,7 @@ impl Search {
         ensures searches { OnOk result (Searches self.new (T.rows tests.old) (T.ending tests.old) (T.outcome tests.old (start_of_search self.old))) }
         ensures turned { IfOk result (Turned 1 (pattern_words self.old (T.rows tests.old) (T.ending tests.old)) (labels_of_search self.new) (T.ending tests.old) (T.outcome tests.old (start_of_search self.old)) (left_of self.old (T.rows tests.old) (T.ending tests.old) (T.outcome tests.old (start_of_search self.old))) (left_of self.new (T.rows tests.old) (T.ending tests.old) (T.outcome tests.old (start_of_search self.old)))) }
         ensures spent { self.new.spent ≡ self.old.spent }
+        ensures outlook { OnOk result (held_in self.new.outlook ≤ 1) }
     {
         match self.choices.take_up(tests.known(), tests.end())? {
             Taken::Row => {
@@ -286,6 +298,7 @@ impl Search {
         ensures searches { OnOk result (Searches self.new (T.rows tests.old) (T.ending tests.old) (T.outcome tests.old (start_of_search self.old))) }
         ensures turned { OnOk result (left_of self.new (T.rows tests.old) (T.ending tests.old) (T.outcome tests.old (start_of_search self.old)) + 1 ≤ left_of self.old (T.rows tests.old) (T.ending tests.old) (T.outcome tests.old (start_of_search self.old))) }
         ensures spent { self.new.spent ≡ self.old.spent }
+        ensures outlook { OnOk result (held_in self.new.outlook ≤ 1) }
     {
         enter_row(&self.choices, tests)?;
         match settle(&mut self.choices, tests)? {

@@ -1,7 +1,7 @@
 //! What would follow a row whose test is open: it decides whether there is anything to wait for.
-ghost use Rattle.std.specs.Prelude.{◌≡◌, ℕ, ◌+◌, ◌<◌, ◌≤◌, None, IfOk, OnOk, length};
+ghost use Rattle.std.specs.Prelude.{◌≡◌, ℕ, ◌+◌, ◌-◌, ◌≤◌, None, IfOk, OnOk};
 ghost use Rattle.rp_pattern.specs.declared.word.Seen.TheVariants.{Open as OpenTest};
-ghost use Rattle.rp_search.specs.Spent.{held_together, weight};
+ghost use Rattle.rp_search.specs.Spent.{held_in, held_together, weight};
 
 use super::{Outcome, Search};
 use crate::asking::follow;
@@ -14,7 +14,7 @@ impl Search {
     ghost use Rattle.rp_search.specs.Fits.{IsSameSearch, start_of_search, labels_of_search, pattern_words, left_of, Stands, Explores};
     ghost use Rattle.rp_search.specs.Turned.{AsksTheSame, Searches, Turned};
     ghost use Rattle.rp_pattern.specs.Choices.{below_left};
-    ghost use Rattle.rp_pattern.specs.Outlooks.{turns_ahead};
+    ghost use Rattle.rp_pattern.specs.Outlooks.{turns_ahead, held_by};
 
     /// Takes up what would follow a row whose test is open. There each row is taken without a test. Where nothing would
     /// follow it, the choice that maps it is given up, and the next one is taken up.
@@ -37,6 +37,8 @@ impl Search {
         ensures searches { OnOk result (Searches self.new (T.rows tests.old) (T.ending tests.old) (T.outcome tests.old (start_of_search self.old))) }
         ensures turned { IfOk result (Turned 1 (pattern_words self.old (T.rows tests.old) (T.ending tests.old)) (labels_of_search self.new) (T.ending tests.old) (T.outcome tests.old (start_of_search self.old)) (below_left self.old.choices (T.rows tests.old) (T.ending tests.old) + turns_ahead outlook (T.rows tests.old) (T.ending tests.old)) (left_of self.new (T.rows tests.old) (T.ending tests.old) (T.outcome tests.old (start_of_search self.old)))) }
         ensures spent { self.new.spent ≡ self.old.spent }
+        ensures gains { OnOk result (held_in self.new.outlook ≤ held_by outlook + 1) }
+        ensures drops { OnOk result (held_by outlook ≤ held_in self.new.outlook + 1) }
     {
         match outlook.take_up(tests.known(), tests.end())? {
             Sight::Further => {
@@ -59,7 +61,8 @@ impl Search {
 /// Drops one choice of the outlooks that aren't needed any more. So no turn drops all that was explored.
 pub(super) fn shed(spent: &mut Vec<Outlook>)
     ensures one { held_together spent.old.items ≤ held_together spent.new.items + 1 }
-    ensures less { 0 < length spent.old.items → weight spent.new.items < weight spent.old.items }
+    ensures none { held_together spent.new.items ≤ held_together spent.old.items }
+    ensures less { weight spent.new.items ≤ weight spent.old.items - 1 }
 {
     let Some(last) = spent.last_mut() else {
         return;
