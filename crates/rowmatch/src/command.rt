@@ -56,8 +56,7 @@ pub fn not_utf8(alloc: Global) -> JobFault
 fn line_of_no_text(alloc: Global) -> Result<Error, AllocError>
     ensures { IfOk result (λ error. kind_of error ≡ ValueValidation) }
 {
-    let mut command = Command::new(alloc, "rowmatch");
-    command.error(ErrorKind::ValueValidation, "an argument isn't UTF-8")
+    program(alloc)?.error(ErrorKind::ValueValidation, "an argument isn't UTF-8")
 }
 
 #[tactic(auto, using(crate::proofs::Rows::trace_simple))]
@@ -125,12 +124,17 @@ fn no_job(alloc: Global, words: &[String]) -> JobFault {
     }
 }
 
-fn line_of_no_job(alloc: Global, words: &[String]) -> Result<Error, AllocError> {
-    let mut command = Command::new(alloc, "rowmatch")
+/// All commands together.
+fn program<'a>(alloc: Global) -> Result<Command<'a>, AllocError> {
+    Command::new(alloc, "rowmatch")
         .bin_name("rowmatch")?
         .no_binary_name(true)
         .subcommand_required(true)
-        .subcommand(trace_command(alloc)?)?;
+        .subcommand(trace_command(alloc)?)
+}
+
+fn line_of_no_job(alloc: Global, words: &[String]) -> Result<Error, AllocError> {
+    let mut command = program(alloc)?;
     match command.try_get_matches_from_mut(words) {
         Err(error) => Ok(error),
         Ok(_) => command.error(ErrorKind::InvalidSubcommand, "no such command"),

@@ -14,28 +14,31 @@ use crate::command::{Job, not_utf8, read_command};
 use crate::fault::ProgramFault;
 use crate::grammar::trace_pattern;
 use crate::port::Port;
-use crate::trace::run_trace;
+use crate::trace::{TURNS, run_trace};
 use std::process::ExitCode;
 use std::rt::Env;
 use std::{env, io};
 
-/// How often a device is read at most.
-const TURNS: u64 = 1_000_000_000;
-
 fn main(rt: HostRuntime) -> io::Result<ExitCode> {
-    let Err(fault) = run(&rt) else {
-        return Ok(ExitCode::SUCCESS);
-    };
-    let told = match &fault {
-        ProgramFault::Line(error) => error.print(&rt),
-        _ => eprintln!(rt; "rowmatch: {fault}"),
-    };
-    if told.is_err() {
-        let fault = ProgramFault::Write;
-        eprintln!(rt; "rowmatch: {fault}")?;
-        return Ok(ExitCode::from(fault.status().unwrap_or(0)));
+    match run(&rt) {
+        Ok(()) => Ok(ExitCode::SUCCESS),
+        Err(fault) => Ok(ExitCode::from(told(&rt, fault).status().unwrap_or(0))),
     }
-    Ok(ExitCode::from(fault.status().unwrap_or(0)))
+}
+
+/// Tells the fault, and gives the one to end with: where help can't be written, that is a device's fault. What standard
+/// error doesn't take is lost.
+fn told(rt: &HostRuntime, fault: ProgramFault) -> ProgramFault {
+    let ProgramFault::Line(error) = &fault else {
+        let _ = eprintln!(rt; "rowmatch: {fault}");
+        return fault;
+    };
+    if error.print(rt).is_ok() || error.use_stderr() {
+        return fault;
+    }
+    let unwritten = ProgramFault::Write;
+    let _ = eprintln!(rt; "rowmatch: {unwritten}");
+    unwritten
 }
 
 fn run(rt: &HostRuntime) -> Result<(), ProgramFault> {

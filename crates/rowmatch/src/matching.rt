@@ -9,7 +9,7 @@ use std::alloc::AllocError;
 use std::sync::ledger::Ledger;
 
 /// How many turns one run of a search takes at most.
-const BUDGET: u32 = 100_000;
+pub const BUDGET: u32 = 100_000;
 
 /// Whether there is a match, whose labels the search then has.
 pub fn find<T: Tests, L: Ledger>(

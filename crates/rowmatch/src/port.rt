@@ -6,6 +6,9 @@ ghost use Rattle.rowmatch.specs.Devices.{AppendsFront, MakesCalls, Moves};
 
 use std::io::{Read, Write};
 
+/// From how many bytes on a gathered text is written.
+const BLOCK: usize = 65_536;
+
 /// A read failed.
 #[derive(Clone, Copy, Debug, PartialEq, Eq)]
 pub struct ReadFailed;
@@ -171,6 +174,3 @@ pub fn write_block<W: Outlet>(writer: &mut W, text: &mut Vec<u8>) -> Result<(), 
     text.clear();
     Ok(())
 }
-
-/// From how many bytes on a gathered text is written.
-const BLOCK: usize = 65_536;

@@ -6,9 +6,10 @@ ghost use Rattle.rp_pattern.specs.Variables.{are_below};
 use crate::command::{Job, JobFault, not_utf8, read_command};
 use crate::fault::ProgramFault;
 use crate::grammar::{TracePatternFault, trace_pattern};
+use crate::matching::BUDGET;
 use crate::memory::{Sink, Source};
 use crate::port::Port;
-use crate::trace::{TraceFault, run_trace};
+use crate::trace::{TURNS, TraceFault, run_trace};
 use rp_pattern::Pattern;
 use std::alloc::{AllocError, Global};
 use std::test::Fail;
@@ -436,22 +437,59 @@ fn line_told(alloc: Global, texts: &[&str]) -> Result<(String, bool), AllocError
     }
 }
 
-/// Help names the job and its argument, on standard output. A mistake is told on standard error.
+const HELP: &str = "\
+Usage: rowmatch <COMMAND>
+
+Commands:
+  trace  Prints the variables of each line's match, a row for each letter
+  help   Print this message or the help of the given subcommand(s)
+
+Options:
+  -h, --help  Print help
+";
+
+const HELP_OF_TRACE: &str = "\
+Prints the variables of each line's match, a row for each letter
+
+Usage: rowmatch trace <PATTERN>
+
+Arguments:
+  <PATTERN>  Variables A to Z, `( )`, `|` and `*`, as \"(A B | A)* C\"
+
+Options:
+  -h, --help  Print help
+";
+
+const NO_PATTERN: &str = "\
+error: the following required arguments were not provided:
+  <PATTERN>
+
+Usage: rowmatch trace <PATTERN>
+
+For more information, try '--help'.
+";
+
+/// Help is told on standard output, a mistake on standard error.
 #[test]
 fn line_texts(rt: HostRuntime) -> Result<(), Fail> {
-    let (text, is_error) = line_told(rt.alloc(), &["--help"])?;
-    assert!(rt; text.as_str().contains("trace"));
-    assert!(rt; !is_error);
-    let (text, is_error) = line_told(rt.alloc(), &["trace", "--help"])?;
-    assert!(rt; text.as_str().contains("Usage: rowmatch trace <PATTERN>"));
-    assert!(rt; !is_error);
-    let (text, is_error) = line_told(rt.alloc(), &["help", "trace"])?;
-    assert!(rt; text.as_str().contains("Usage: rowmatch trace <PATTERN>"));
-    assert!(rt; !is_error);
-    let (text, is_error) = line_told(rt.alloc(), &["trace"])?;
-    assert!(rt; text.as_str().contains("Usage: rowmatch trace <PATTERN>"));
-    assert!(rt; is_error);
+    for (words, text, is_error) in [
+        (["--help"].as_slice(), HELP, false),
+        (["trace", "--help"].as_slice(), HELP_OF_TRACE, false),
+        (["help", "trace"].as_slice(), HELP_OF_TRACE, false),
+        (["trace"].as_slice(), NO_PATTERN, true),
+    ] {
+        let (told, is_told_as_error) = line_told(rt.alloc(), words)?;
+        assert_eq!(rt; told.as_str(), text);
+        assert_eq!(rt; is_told_as_error, is_error);
+    }
     Ok(())
+}
+
+/// What the program passes for turns and budget.
+#[test]
+fn numbers_of_the_program(rt: HostRuntime) {
+    assert_eq!(rt; TURNS, 1_000_000_000);
+    assert_eq!(rt; BUDGET, 100_000);
 }
 
 #[test]

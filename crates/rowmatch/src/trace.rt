@@ -25,11 +25,14 @@ pub enum TraceFault {
     Read,
     /// A call of the writer failed.
     Write,
-    /// All calls of the reader that are allowed were made, each gave a byte, and another is due.
+    /// All calls of the reader that are allowed were made, none of them told the end, and another is due.
     Turns,
     /// Memory was refused.
     OutOfMemory,
 }
+
+/// How often the program reads its input at most.
+pub const TURNS: u64 = 1_000_000_000;
 
 /// The longest line that is looked at.
 const MAX_LINE: usize = 4096;

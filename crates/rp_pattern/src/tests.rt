@@ -1,7 +1,9 @@
 //! Tests of patterns and permutations.
 ghost use Rattle.std.specs.Prelude.{◌≤◌};
 
-use crate::{Choices, End, Form, Outlook, Pattern, Sight, Taken, permutations};
+use crate::{
+    Choices, End, Form, Outlook, Pattern, Sight, Taken, law_labels, law_words, permutations,
+};
 use std::alloc::{AllocError, Global};
 use std::rc::Rc;
 use std::test::Fail;
@@ -101,6 +103,13 @@ fn variables_are_below(rt: HostRuntime) -> Result<(), Fail> {
     assert!(rt; form.are_below(3));
     assert!(rt; !form.are_below(2));
     Ok(())
+}
+
+/// Calls of the laws do nothing.
+#[test]
+fn laws(_rt: HostRuntime) {
+    law_words();
+    law_labels();
 }
 
 #[test]

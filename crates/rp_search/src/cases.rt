@@ -5,8 +5,9 @@ mod script;
 mod table;
 mod turns;
 
+use crate::{Search, law_found, law_search};
 use grid::Grid;
-use rp_pattern::{End, Form, Seen};
+use rp_pattern::{End, Form, Pattern, Seen};
 use script::{MANY, a, any, b, both, either, play};
 use std::test::Fail;
 
@@ -162,5 +163,16 @@ fn rows_are_entered_one_by_one(rt: HostRuntime) -> Result<(), Fail> {
     )?;
     assert_eq!(rt; played.outcomes.as_str(), "A ");
     assert!(rt; ["A |", "!A |"].contains(&played.calls.as_str()));
+    Ok(())
+}
+
+/// A search begins at its start row without labels. What the laws say, calls of them do nothing for.
+#[test]
+fn search_begins(rt: HostRuntime) -> Result<(), Fail> {
+    law_found();
+    law_search();
+    let search = Search::new(rt.alloc(), &Pattern::new(a()), 3)?;
+    assert_eq!(rt; search.start(), 3);
+    assert!(rt; search.labels().is_empty());
     Ok(())
 }

@@ -306,8 +306,7 @@ impl Search {
                 self.outlook = Some(self.choices.after_row()?);
                 Ok(())
             }
-            Seen::True => Ok(()),
-            Seen::NotTrue => Ok(()),
+            Seen::True | Seen::NotTrue => Ok(()),
         }
     }
 }

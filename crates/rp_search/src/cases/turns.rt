@@ -112,5 +112,8 @@ fn turns_behind_an_open_test(rt: HostRuntime) -> Result<(), Fail> {
     // Chosen from, joined, A, the start, which isn't there, B in place of finding nothing behind A, the word.
     let form = either(alloc, both(alloc, a(), Form::PartitionStart)?, b())?;
     assert_eq!(rt; turns(alloc, form, &FIRST_OPEN, &[], 1, End::Open)?, 6);
+    // Joined, A, whose test is open, joined, B, B, a word behind it.
+    let form = both(alloc, a(), both(alloc, b(), b())?)?;
+    assert_eq!(rt; turns(alloc, form, &FIRST_OPEN, &[], 3, End::Open)?, 6);
     Ok(())
 }
