@@ -102,11 +102,8 @@ impl Rests {
                 _ => {}
             },
             Rests::Reached(link) => {
-                if let Part::Times { lower, iterations } = &link.part {
-                    if comes_again(link, *lower, iterations) {
-                        take_again(link, *lower, iterations, row, split)?;
-                        return Ok(Turn::Split);
-                    }
+                if try_again(link, row, split)? {
+                    return Ok(Turn::Split);
                 }
             }
             Rests::Done => return Ok(Turn::Full),
@@ -229,6 +226,20 @@ fn take_times(
         return take_again(link, lower, iterations, row, split);
     }
     iterations.take_up(alloc, lower, &link.then, row, split)
+}
+
+/// Whether they are iterations of which it is known that the same may come after each. If so, they are taken up.
+#[inline(always)]
+fn try_again(link: &Rc<Link>, row: u64, split: &mut Split) -> Result<bool, AllocError>
+    ensures { IfOk result (λ again. IsTrue again → AlwaysSplits row (λ n e. reached_parts n e (links_from link.now.value)) split.new) }
+{
+    if let Part::Times { lower, iterations } = &link.part {
+        if comes_again(link, *lower, iterations) {
+            take_again(link, *lower, iterations, row, split)?;
+            return Ok(true);
+        }
+    }
+    Ok(false)
 }
 
 /// An iteration, before the same link again, or to stop.
