@@ -11,7 +11,7 @@ after_calls (suc more) count = after_calls more (raised count)
 abbrev pub MakesCalls : ℕ → ℕ → ℕ → ℕ → Type 0
 MakesCalls least most old new = (made : ℕ) × (least ≤ made) × (made ≤ most) × (new ≡ after_calls made old)
 
--- Of so many calls that were allowed before, and so many after, each that was made gave a known byte.
+-- So many calls were allowed before, and so many after: at least as many known bytes came as calls were made.
 abbrev pub GivesEach : ℕ → ℕ → Option (List ℕ) → Option (List ℕ) → Type 0
 GivesEach before after None new = Unit {0}
 GivesEach before after (Some xs) None = ⊥

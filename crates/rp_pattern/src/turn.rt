@@ -290,7 +290,7 @@ impl Node {
             Form::PartitionStart => {
                 self.take_start(then, row, split)?;
                 Ok(Turn::Split)
-            },
+            }
             Form::PartitionEnd => self.take_end(then, row, n, end, split),
             Form::Concatenation(first, second) => {
                 self.take_concatenation(alloc, first, second, then, split)?;

@@ -237,6 +237,10 @@ impl Search {
         ensures spent { OnOk result (spent_of self.new ≤ spent_of self.old - 1) }
     {
         shed(&mut self.spent);
+        // To take an outlook out moves it, so most turns only look whether there is one.
+        if self.outlook.is_none() {
+            return self.take_up(tests);
+        }
         match self.outlook.take() {
             None => self.take_up(tests),
             Some(outlook) => self.explore(outlook, tests),
