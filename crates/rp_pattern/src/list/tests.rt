@@ -218,3 +218,15 @@ fn orders(rt: HostRuntime) -> Result<(), Fail> {
     assert_eq!(rt; text.as_str(), "ABC ACB BAC BCA CAB CBA ");
     Ok(())
 }
+
+/// A list that is refused memory, asked for again, is what it is with ample memory.
+#[test]
+fn refused_list(rt: HostRuntime) -> Result<(), Fail> {
+    let pattern = pattern(&rt, nested(rt.alloc())?);
+    let list = match list_words(rt.alloc(), &pattern, 1, 3, End::Closed, 8) {
+        Err(ListFault::OutOfMemory) => list_words(rt.alloc(), &pattern, 1, 3, End::Closed, 8)?,
+        other => other?,
+    };
+    assert_eq!(rt; list.len(), 8);
+    Ok(())
+}
