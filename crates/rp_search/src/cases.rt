@@ -171,7 +171,9 @@ fn rows_are_entered_one_by_one(rt: HostRuntime) -> Result<(), Fail> {
 fn search_begins(rt: HostRuntime) -> Result<(), Fail> {
     law_found();
     law_search();
-    let search = Search::new(rt.alloc(), &Pattern::new(a()), 3)?;
+    let form = a();
+    assert!(rt; form.is_allowed());
+    let search = Search::new(rt.alloc(), &Pattern::new(form), 3)?;
     assert_eq!(rt; search.start(), 3);
     assert!(rt; search.labels().is_empty());
     Ok(())
