@@ -19,7 +19,7 @@ use Rattle.rp_pattern.specs.Turns.{WordsAndTurns, chain_turns, iterations, past}
 use Rattle.rp_pattern.specs.WordLaws.{IsLater}
 use Rattle.rp_pattern.specs.Words.{preceded}
 use Rattle.rp_pattern.specs.Rests.{part_as, form_part, node_part, iterations_part, still, tail_links, tail_parts, links_parts, guarded, rests_parts, chain_words, IsNodeOf, AreIterationsOf, IsOneLess}
-use Rattle.rp_pattern.specs.Splits.{StandsFor, SplitsAt, AlwaysSplits, Splits, ComesAgain, repeated, TakenUp, option_words, split_turns}
+use Rattle.rp_pattern.specs.Splits.{StandsFor, Replaces, SplitsAt, AlwaysSplits, Splits, ComesAgain, repeated, TakenUp, option_words, split_turns}
 use Rattle.rp_pattern.proofs.TurnsTaken.{same_first}
 use Rattle.rp_pattern.proofs.Expansions.{Leaves, LeavesTwo, same_first_words, greedy_leaves, lazy_leaves, greedy_unbounded, lazy_unbounded, none_left_leaves, form_within}
 
@@ -47,16 +47,30 @@ then_parts n e node copy then p a b = ap (λ z. z ∷ links_parts n e (tail_link
 pub stands_as : (n : ℕ) (e : End) (i : ℕ) (r : Rests) (qs : List WordsAndTurns) → rests_parts n e r ≡ qs → StandsFor n e i qs (Some r)
 stands_as n e i r qs h = record { words = ap (λ ps. chain_words ps i) h; turns = ap (λ ps. chain_turns ps i) h }
 
+pub replaces : (n : ℕ) (e : End) (i : ℕ) (ps : List WordsAndTurns) (r : Option Rests) → StandsFor n e i ps r → Replaces n e i ps r
+replaces n e i ps r h = record { words = h.words; turns = omega (arith, h.turns) }
+
+-- what parts leave replaces them
+pub leaves_replaces : (n : ℕ) (e : End) (i : ℕ) (ps qs : List WordsAndTurns) (r : Option Rests) → StandsFor n e i qs r → Leaves i ps qs → Replaces n e i ps r
+leaves_replaces n e i ps qs r h k = record { words = h.words ∙ k.words; turns = omega (arith, h.turns, k.turns) }
+
+pub replaces_as : (n : ℕ) (e : End) (i : ℕ) (ps qs : List WordsAndTurns) (r : Option Rests) → ps ≡ qs → Replaces n e i ps r → Replaces n e i qs r
+replaces_as n e i ps qs r h k = subst (λ z. Replaces n e i z r) h k
+
+pub before_shared : (n : ℕ) (e : End) (i : ℕ) (p : WordsAndTurns) (shared then : Option (Rc Link Global)) (r : Option Rests) → tail_links shared ≡ tail_links then →
+    Replaces n e i (p ∷ tail_parts n e shared) r → Replaces n e i (p ∷ tail_parts n e then) r
+before_shared n e i p shared then r h k = replaces_as n e i _ _ r (ap (λ ls. p ∷ links_parts n e ls) h) k
+
 pub none_splits : (n : ℕ) (e : End) (i : ℕ) (ps : List WordsAndTurns) (s : Split) → s ≡ record { preferred = None; other = None } → [] ≡ chain_words ps i → 0 < chain_turns ps i → SplitsAt n e i ps s
 none_splits n e i ps s is w t = subst (SplitsAt n e i ps) (sym is) (record { words = w; turns = t })
 
-pub one_splits : (n : ℕ) (e : End) (i : ℕ) (ps qs : List WordsAndTurns) (r : Option Rests) (s : Split) → s ≡ record { preferred = None; other = r } → StandsFor n e i qs r → Leaves i ps qs → SplitsAt n e i ps s
+pub one_splits : (n : ℕ) (e : End) (i : ℕ) (ps qs : List WordsAndTurns) (r : Option Rests) (s : Split) → s ≡ record { preferred = None; other = r } → Replaces n e i qs r → Leaves i ps qs → SplitsAt n e i ps s
 one_splits n e i ps qs r s is h k = subst (SplitsAt n e i ps) (sym is) (record {
   words = h.words ∙ k.words;
   turns = omega (arith, h.turns, k.turns);
 })
 
-pub two_splits : (n : ℕ) (e : End) (i : ℕ) (ps qs rs : List WordsAndTurns) (r r' : Option Rests) → StandsFor n e i qs r → StandsFor n e i rs r' → LeavesTwo i ps qs rs →
+pub two_splits : (n : ℕ) (e : End) (i : ℕ) (ps qs rs : List WordsAndTurns) (r r' : Option Rests) → Replaces n e i qs r → Replaces n e i rs r' → LeavesTwo i ps qs rs →
     SplitsAt n e i ps (record { preferred = r; other = r' })
 two_splits n e i ps qs rs r r' a b k = record {
   words = ap (λ z. z ++ option_words n e r' i) a.words ∙ ap (λ z. chain_words qs i ++ z) b.words ∙ k.words;
@@ -125,11 +139,11 @@ module _ (n : ℕ) (e : End) (row : ℕ) (it : Iterations) (less : Option ℕ) (
   pub comes_past : again ≡ past row more ∷ ts → ComesAgain n e row it less ts again
   comes_past is = record { words = ap (λ z. chain_words (p ∷ z) row) is; turns = ap (λ z. chain_turns (p ∷ z) row) is }
 
-  module _ (another : Rests) (stop : Option Rests) (fewer : IsOneLess it.further less) (comes : ComesAgain n e row it less ts again) (is_another : rests_parts n e another ≡ p ∷ again) (stops : StandsFor n e row ts stop) where
-    stands : StandsFor n e row (repeated (still n less) it.reluctant p ts row) (Some another)
+  module _ (another : Rests) (stop : Option Rests) (fewer : IsOneLess it.further less) (comes : ComesAgain n e row it less ts again) (is_another : Replaces n e row (p ∷ again) (Some another)) (stops : Replaces n e row ts stop) where
+    stands : Replaces n e row (repeated (still n less) it.reluctant p ts row) (Some another)
     stands = record {
-      words = ap (λ z. chain_words z row) is_another ∙ comes.words;
-      turns = ap (λ z. chain_turns z row) is_another ∙ comes.turns;
+      words = is_another.words ∙ comes.words;
+      turns = omega (arith, is_another.turns, comes.turns);
     }
 
     leaves_greedy : (further less : Option ℕ) → IsOneLess further less → LeavesTwo row (iterations 0 (still n further) false p ∷ ts) (repeated (still n less) false p ts row) ts

@@ -38,6 +38,11 @@ pub record StandsFor (n : ℕ) (e : End) (i : ℕ) (ps : List WordsAndTurns) (r 
   pub words : option_words n e r i ≡ chain_words ps i
   pub turns : option_turns n e r i ≡ chain_turns ps i
 
+-- It has the words of these parts, and takes no more turns.
+pub record Replaces (n : ℕ) (e : End) (i : ℕ) (ps : List WordsAndTurns) (r : Option Rests) : Type 0 where
+  pub words : option_words n e r i ≡ chain_words ps i
+  pub turns : option_turns n e r i ≤ chain_turns ps i
+
 -- The choices have the words of these parts, and take fewer turns.
 pub record SplitsAt (n : ℕ) (e : End) (i : ℕ) (ps : List WordsAndTurns) (s : Split) : Type 0 where
   pub words : split_words n e s i ≡ chain_words ps i

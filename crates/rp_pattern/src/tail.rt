@@ -1,10 +1,12 @@
 //! Later parts, linked.
-ghost use Rattle.std.specs.Prelude.{◌≡◌, ℕ, ◌∷◌, IfOk};
+ghost use Rattle.std.specs.Prelude.{◌≡◌, ℕ, ◌∷◌, IfOk, IsTrue, Some};
 ghost use Rattle.rp_pattern.specs.declared.word.End.{End};
-ghost use Rattle.rp_pattern.specs.Rests.{links_from, tail_links, tail_parts};
-ghost use Rattle.rp_pattern.specs.Splits.{StandsFor};
+ghost use Rattle.rp_pattern.specs.Bounds.{is_allowed};
+ghost use Rattle.rp_pattern.specs.Rests.{form_part, links_from, tail_links, tail_parts};
+ghost use Rattle.rp_pattern.specs.Splits.{Replaces, StandsFor};
 
-use crate::rests::{Link, Part, Rests, Tail};
+use crate::form::Form;
+use crate::rests::{Link, Node, Part, Rests, Tail};
 use std::alloc::{AllocError, Global};
 use std::rc::Rc;
 
@@ -59,4 +61,25 @@ pub(crate) fn follow(tail: &Tail, row: u64) -> Result<Option<Rests>, AllocError>
         }
     }
     Ok(Some(Rests::Reached(link.clone()?)))
+}
+
+/// A part before later ones. Where it begins with a variable, it is that row before the rest of the part, so that no turn
+/// is spent on coming to the row.
+#[inline(always)]
+pub(crate) fn before(form: &Rc<Form>, excluded: bool, then: Tail) -> Result<Rests, AllocError>
+    requires { IsTrue (is_allowed form.now.value) }
+    ensures { IfOk result (λ rests. (n : ℕ) (e : End) (i : ℕ) → Replaces n e i (form_part n e form.now.value excluded ∷ tail_parts n e then) (Some rests)) }
+{
+    if let Form::Concatenation(first, second) = &**form {
+        if let Form::Variable(var) = &**first {
+            let next = Node::of(second, excluded)?;
+            return Ok(Rests::Row {
+                var: *var,
+                next,
+                then,
+            });
+        }
+    }
+    let node = Node::of(form, excluded)?;
+    Ok(Rests::Then { node, then })
 }

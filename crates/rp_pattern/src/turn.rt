@@ -19,7 +19,7 @@ ghost use Rattle.rp_pattern.specs.Splits.{TakenUp, AlwaysSplits, SplitsAt, Stand
 use crate::form::Form;
 use crate::orders::{factorial, permutation_at};
 use crate::rests::{Iterations, Link, Node, Orders, Part, Rests, Tail};
-use crate::tail::{follow, link_of, linked, share};
+use crate::tail::{before, follow, link_of, linked, share};
 use crate::word::{End, Label};
 use std::alloc::{AllocError, Global};
 use std::rc::Rc;
@@ -344,10 +344,8 @@ impl Node {
             }));
             return Ok(());
         }
-        *split = Split::one(Some(Rests::Then {
-            node: Node::of(first, self.excluded)?,
-            then: linked(alloc, None, Part::Whole(next), then)?,
-        }));
+        let later = linked(alloc, None, Part::Whole(next), then)?;
+        *split = Split::one(Some(before(first, self.excluded, later)?));
         Ok(())
     }
 
@@ -363,15 +361,11 @@ impl Node {
         requires { self.now.form.value ≡ Form.Alternation first.now second.now }
         ensures { OnOk result ((row : ℕ) → AlwaysSplits row (λ n e. node_part n e self.now ∷ tail_parts n e then.now) split.new) }
     {
+        let preferred = before(first, self.excluded, share(then)?)?;
+        let other = before(second, self.excluded, share(then)?)?;
         *split = Split {
-            preferred: Some(Rests::Then {
-                node: Node::of(first, self.excluded)?,
-                then: share(then)?,
-            }),
-            other: Some(Rests::Then {
-                node: Node::of(second, self.excluded)?,
-                then: share(then)?,
-            }),
+            preferred: Some(preferred),
+            other: Some(other),
         };
         Ok(())
     }
@@ -437,10 +431,7 @@ impl Node {
         requires { self.now.form.value ≡ Form.Exclusion body.now }
         ensures { OnOk result ((row : ℕ) → AlwaysSplits row (λ n e. node_part n e self.now ∷ tail_parts n e then.now) split.new) }
     {
-        *split = Split::one(Some(Rests::Then {
-            node: Node::of(body, true)?,
-            then: share(then)?,
-        }));
+        *split = Split::one(Some(before(body, true, share(then)?)?));
         Ok(())
     }
 
@@ -606,10 +597,7 @@ impl Iterations {
     {
         let iterations = self.with_further(self.further)?;
         let later = linked(alloc, None, Part::Times { lower, iterations }, share(then)?)?;
-        *split = Split::one(Some(Rests::Then {
-            node: self.body.share()?,
-            then: later,
-        }));
+        *split = Split::one(Some(before(&self.body.form, self.body.excluded, later)?));
         Ok(())
     }
 
@@ -662,10 +650,7 @@ impl Iterations {
     ) -> Result<(), AllocError>
         ensures { OnOk result ((row : ℕ) (n : ℕ) (e : End) (further : Option ℕ) (ts : List WordsAndTurns) → IsOneLess self.now.further further → ComesAgain n e row self.now further ts (tail_parts n e again) → StandsFor n e row ts stop → SplitsAt n e row (iterations_part n e 0 self.now ∷ ts) split.new) }
     {
-        let another = Some(Rests::Then {
-            node: self.body.share()?,
-            then: again,
-        });
+        let another = Some(before(&self.body.form, self.body.excluded, again)?);
         if self.reluctant {
             *split = Split {
                 preferred: stop,

@@ -1,7 +1,7 @@
 use Rattle.std.proofs.Common.{ap, ◌∙◌, ◌∷◌, arith}
 use Rattle.rp_pattern.specs.Rests.{form_part, node_part, tail_parts}
 use Rattle.rp_pattern.proofs.Expansions.{passed, no_words, some_turns, open_words, end_words, end_open, end_none, end_turns}
-use Rattle.rp_pattern.proofs.Steps.{one_splits, none_splits, later_splits}
+use Rattle.rp_pattern.proofs.Steps.{one_splits, replaces, none_splits, later_splits}
 use Rattle.rp_pattern.proofs.rests.Node.take_end.Goals as goal
 
 pub returns-then-row-n : goal.returns-then-row-n
@@ -23,7 +23,7 @@ returns-in_ok-follow-in-Closed c =
     let then = c.args.then.now in
     later_splits c.args.n c.args.end i (λ n e. node_part n e node ∷ tail_parts n e then) c.one.result (λ n e later.
     let stays = later.1 c.in-Closed.is in
-    one_splits n e i _ (tail_parts n e then) _ c.one.result c.one.ensures (c.in_ok-follow-in-Closed.ensures n e)
+    one_splits n e i _ (tail_parts n e then) _ c.one.result c.one.ensures (replaces n e i (tail_parts n e then) _ (c.in_ok-follow-in-Closed.ensures n e))
     (passed (node_part n e node) (tail_parts n e then) i
     (ap (λ f. (form_part n e f x).0 i) c.requires ∙ end_words n e x i (omega (arith, stays.0, c.if-row-n.false)) stays.1)
     (ap (λ f. (form_part n e f x).1 i) c.requires ∙ end_turns n e x i)))

@@ -4,7 +4,7 @@ use Rattle.rp_pattern.specs.PermutedParts.{permuted_parts}
 use Rattle.rp_pattern.specs.Turns.{orders_from}
 use Rattle.rp_pattern.specs.Rests.{permuted_form_parts, in_order, tail_parts, form_part}
 use Rattle.rp_pattern.specs.Splits.{StandsFor}
-use Rattle.rp_pattern.proofs.Steps.{two_splits}
+use Rattle.rp_pattern.proofs.Steps.{two_splits, replaces}
 use Rattle.rp_pattern.proofs.OrderRests.{order_leaves}
 use Rattle.rp_pattern.proofs.rests.Orders.take_up.Goals as goal
 
@@ -19,5 +19,5 @@ returns c = λ n e.
     let r = c.in_ok-follow.field-0 in
     let order : tail_parts n e c.in_ok-first.first ≡ in_order ps items ++ ts = c.in_ok-first.ensures n e ∙ ap (λ z. in_order ps z ++ ts) c.deref.ensures.value in
     two_splits n e i (orders_from o.from ps ∷ ts) (in_order ps items ++ ts) (orders_from (o.from + 1) ps ∷ ts) r c.in_ok-after.field-0
-    (subst (λ z. StandsFor n e i z r) order (c.in_ok-follow.ensures n e)) (c.in_ok-after.ensures n e i)
+    (replaces n e i _ r (subst (λ z. StandsFor n e i z r) order (c.in_ok-follow.ensures n e))) (replaces n e i _ c.in_ok-after.field-0 (c.in_ok-after.ensures n e i))
     (order_leaves o.from ps (length fs) items ts i (sym (length-map fs (λ f. form_part n e f o.permute.excluded))) c.in_ok-order.ensures.order)
