@@ -3,11 +3,13 @@
 
 mod choices;
 mod form;
+mod label_list;
 mod laws;
 mod list;
 mod orders;
 mod outlook;
 mod rests;
+mod stack;
 mod tail;
 mod turn;
 mod word;

@@ -1,0 +1,139 @@
+//! A stack whose elements stay where they are put.
+ghost use Rattle.std.specs.Prelude.{◌≡◌, List, [], ◌∷◌, ◌<◌, length, reverse, drop, OnOk, OnErr, MatchOption, IsTrue, ◌↔◌};
+ghost use Rattle.rp_pattern.specs.Stacked.{stacked, AreBlocks, AreFilled};
+
+use std::alloc::{AllocError, Global};
+use std::marker::Model;
+use std::mem::replace;
+
+/// How many elements the first block has room for.
+const FIRST_ROOM: usize = 32;
+
+/// A stack in blocks, each with twice the room of the one below it. No push moves what the stack holds, so none takes
+/// longer where it holds more. Seen as a list, the top comes first.
+#[derive(Drop)]
+pub(crate) struct Stack<T> {
+    alloc: Global,
+    /// The highest elements, the top one last. It is empty only where the stack is.
+    block: Vec<T>,
+    /// The full blocks below it, the lowest first.
+    below: Vec<Vec<T>>,
+    /// The block above, kept without elements, so that a stack that rises and falls there takes no memory each time.
+    above: Vec<T>,
+}
+
+impl<T> Model for Stack<T> {
+    ghost Value = { List T };
+
+    ghost view = { λ s. stacked (s.block ∷ reverse s.below.items) };
+
+    ghost invariant = { λ s. AreBlocks s.block (reverse s.below.items) × (s.above.items ≡ []) };
+}
+
+impl<T: Drop> Stack<T> {
+    /// No elements. It takes no memory.
+    pub(crate) fn new(alloc: Global) -> Stack<T>
+        ensures { result ≡ [] }
+    {
+        Stack {
+            alloc,
+            block: Vec::new(alloc),
+            below: Vec::new(alloc),
+            above: Vec::new(alloc),
+        }
+    }
+
+    /// The top element.
+    #[inline(always)]
+    pub(crate) fn top(&self) -> Option<&T>
+        ensures { MatchOption result (self.now ≡ []) (λ top. self.now ≡ top.now ∷ drop 1 self.now) }
+    {
+        self.block.last()
+    }
+
+    /// Whether there are no elements.
+    pub(crate) fn is_empty(&self) -> bool
+        ensures { IsTrue result ↔ (self.now ≡ []) }
+    {
+        self.block.is_empty()
+    }
+
+    /// Puts another element in the top one's place.
+    #[inline(always)]
+    pub(crate) fn set_top(&mut self, element: T)
+        requires { 0 < length self.old }
+        ensures { self.new ≡ element ∷ drop 1 self.old }
+    {
+        let last = self.block.len() - 1;
+        self.block[last] = element;
+    }
+
+    /// Puts an element on top.
+    #[inline(always)]
+    pub(crate) fn push(&mut self, element: T) -> Result<(), AllocError>
+        ensures ok { OnOk result (self.new ≡ element ∷ self.old) }
+        ensures err { OnErr result (self.new ≡ self.old) }
+    {
+        if self.block.len() < self.block.capacity() {
+            self.block.push_reserved(element);
+            return Ok(());
+        }
+        self.push_above(element)
+    }
+
+    /// Puts an element on top, as the first one of another block.
+    #[cold]
+    #[inline(never)]
+    fn push_above(&mut self, element: T) -> Result<(), AllocError>
+        ensures ok { OnOk result (self.new ≡ element ∷ self.old) }
+        ensures err { OnErr result (self.new ≡ self.old) }
+    {
+        let mut above = replace(&mut self.above, Vec::new(self.alloc));
+        if above.capacity() == 0 {
+            let room = self.block.capacity().saturating_mul(2).max(FIRST_ROOM);
+            above = Vec::with_capacity(self.alloc, room)?;
+        }
+        above.push(element)?;
+        if self.block.is_empty() {
+            self.block = above;
+            return Ok(());
+        }
+        self.below.reserve(1)?;
+        self.below.push_reserved(replace(&mut self.block, above));
+        Ok(())
+    }
+
+    /// Drops the top element, if there is one.
+    #[inline(always)]
+    pub(crate) fn drop_top(&mut self)
+        ensures { self.new ≡ drop 1 self.old }
+    {
+        let _ = self.block.pop();
+        if self.block.is_empty() {
+            go_below(&mut self.block, &mut self.below, &mut self.above);
+        }
+    }
+
+    /// Drops all elements.
+    pub(crate) fn clear(&mut self)
+        ensures { self.new ≡ [] }
+    {
+        self.block.clear();
+        self.below.clear();
+    }
+}
+
+/// Takes the highest block below, if there is one, in the place of an empty one, which is kept.
+#[cold]
+#[inline(never)]
+fn go_below<T: Drop>(block: &mut Vec<T>, below: &mut Vec<Vec<T>>, above: &mut Vec<T>)
+    requires empty { block.old.items ≡ [] }
+    requires filled { AreFilled (reverse below.old.items) }
+    ensures same { stacked (block.new ∷ reverse below.new.items) ≡ stacked (reverse below.old.items) }
+    ensures blocks { AreBlocks block.new (reverse below.new.items) }
+    ensures above { above.old.items ≡ [] → above.new.items ≡ [] }
+{
+    if let Some(lower) = below.pop() {
+        *above = replace(block, lower);
+    }
+}
