@@ -1,6 +1,6 @@
 -- What taking up a choice of an outlook does to the words and turns ahead.
-use Rattle.std.proofs.Common.{◌≡◌, ℕ, ◌+◌, ◌-◌, ◌^◌, ◌<◌, ◌≤◌, IsTrue, ◌↔◌, ◌==◌, not, Bool, true, false, List, [], ◌∷◌, length, drop, reverse, Option, Some, None, refl, sym, ap, ◌∙◌, subst, arith, length-append}
-use Rattle.std.proofs.lemmas.List.{length-map, length-reverse}
+use Rattle.std.proofs.Common.{◌≡◌, ℕ, ◌+◌, ◌-◌, ◌^◌, ◌<◌, ◌≤◌, IsTrue, ◌↔◌, ◌==◌, not, Bool, true, false, List, [], ◌∷◌, length, drop, Option, Some, None, refl, sym, ap, ◌∙◌, subst, arith, length-append}
+use Rattle.std.proofs.lemmas.List.{length-map}
 use Rattle.std.proofs.lemmas.Bool.Decides.{nat_tests}
 use Rattle.rp_pattern.specs.declared.word.End.{End}
 use Rattle.rp_pattern.specs.declared.word.Label.{Label}
@@ -12,7 +12,7 @@ use Rattle.rp_pattern.specs.Mapping.{Mapping}
 use Rattle.rp_pattern.specs.WordLaws.{IsLater}
 use Rattle.rp_pattern.specs.Words.{preceded}
 use Rattle.rp_pattern.specs.Turns.{chain_turns}
-use Rattle.rp_pattern.specs.Rests.{rests_parts, later_parts, chain_words, stack_left, rises, pushed, without_first}
+use Rattle.rp_pattern.specs.Rests.{rests_parts, later_parts, chain_words, stack_left, rises, pushed}
 use Rattle.rp_pattern.specs.Splits.{StandsFor, option_words, option_turns, Splits, TakesRow}
 use Rattle.rp_pattern.specs.Outlooks.{stack_count, words_ahead, turns_ahead, held_by, LooksFurther}
 use Rattle.rp_pattern.proofs.Stacks.{pushed_left, later_is, rises_first, rises_more}
@@ -30,20 +30,20 @@ pushed_keeps d None cs = omega arith
 pushed_keeps d (Some r) cs = omega arith
 
 -- its choices, the preferred one first
-pub words_ahead_is : (o : Outlook) (s : ℕ) (cs : List Choice) (n : ℕ) (e : End) → o.start ≡ s → reverse o.stack.items ≡ cs → words_ahead o n e ≡ stack_count n e s cs
+pub words_ahead_is : (o : Outlook) (s : ℕ) (cs : List Choice) (n : ℕ) (e : End) → o.start ≡ s → o.stack ≡ cs → words_ahead o n e ≡ stack_count n e s cs
 unfolding words_ahead
-words_ahead_is o s cs n e h k = ap (λ z. stack_count n e z (reverse o.stack.items)) h ∙ ap (stack_count n e s) k
+words_ahead_is o s cs n e h k = ap (λ z. stack_count n e z o.stack) h ∙ ap (stack_count n e s) k
 
-pub turns_ahead_is : (o : Outlook) (s : ℕ) (cs : List Choice) (n : ℕ) (e : End) → o.start ≡ s → reverse o.stack.items ≡ cs → turns_ahead o n e ≡ stack_left n e s cs
+pub turns_ahead_is : (o : Outlook) (s : ℕ) (cs : List Choice) (n : ℕ) (e : End) → o.start ≡ s → o.stack ≡ cs → turns_ahead o n e ≡ stack_left n e s cs
 unfolding turns_ahead
-turns_ahead_is o s cs n e h k = ap (λ z. stack_left n e z (reverse o.stack.items)) h ∙ ap (stack_left n e s) k
+turns_ahead_is o s cs n e h k = ap (λ z. stack_left n e z o.stack) h ∙ ap (stack_left n e s) k
 
-pub held_is : (o : Outlook) (cs : List Choice) → reverse o.stack.items ≡ cs → held_by o ≡ length cs
+pub held_is : (o : Outlook) (cs : List Choice) → o.stack ≡ cs → held_by o ≡ length cs
 unfolding held_by
-held_is o cs h = sym (length-reverse o.stack.items) ∙ ap length h
+held_is o cs h = ap length h
 
-module _ (old new : Outlook) (t : Choice) (cs : List Choice) (n : ℕ) (e : End) (on : reverse old.stack.items ≡ t ∷ cs) (start : new.start ≡ old.start) where
-  pub further_split : (x : Split) → reverse new.stack.items ≡ pushed t.depth x.preferred (pushed t.depth x.other cs) → Splits n e (old.start + t.depth) (λ n e. rests_parts n e t.rests) x → LooksFurther old new n e
+module _ (old new : Outlook) (t : Choice) (cs : List Choice) (n : ℕ) (e : End) (on : old.stack ≡ t ∷ cs) (start : new.start ≡ old.start) where
+  pub further_split : (x : Split) → new.stack ≡ pushed t.depth x.preferred (pushed t.depth x.other cs) → Splits n e (old.start + t.depth) (λ n e. rests_parts n e t.rests) x → LooksFurther old new n e
   further_split x now w =
       let s = old.start in
       let i : ℕ = s + t.depth in
@@ -57,7 +57,7 @@ module _ (old new : Outlook) (t : Choice) (cs : List Choice) (n : ℕ) (e : End)
         drops = omega (arith, held_is new (pushed t.depth x.preferred ds) now, held_is old (t ∷ cs) on, pushed_keeps t.depth x.preferred ds, pushed_keeps t.depth x.other cs);
       }
 
-  pub further_row : (l : Label) (r : Option Rests) → reverse new.stack.items ≡ pushed (t.depth + 1) r cs → TakesRow n e (old.start + t.depth) (λ n e. rests_parts n e t.rests) l →
+  pub further_row : (l : Label) (r : Option Rests) → new.stack ≡ pushed (t.depth + 1) r cs → TakesRow n e (old.start + t.depth) (λ n e. rests_parts n e t.rests) l →
       ((n' : ℕ) (e' : End) → StandsFor n' e' (old.start + t.depth + 1) (later_parts n' e' t.rests) r) → LooksFurther old new n e
   further_row l r now w stands =
       let s = old.start in
@@ -78,7 +78,7 @@ module _ (old new : Outlook) (t : Choice) (cs : List Choice) (n : ℕ) (e : End)
         drops = omega (arith, held_is new (pushed (t.depth + 1) r cs) now, held_is old (t ∷ cs) on, pushed_keeps (t.depth + 1) r cs);
       }
 
-module _ (o : Outlook) (t : Choice) (cs : List Choice) (on : reverse o.stack.items ≡ t ∷ cs) where
+module _ (o : Outlook) (t : Choice) (cs : List Choice) (on : o.stack ≡ t ∷ cs) where
   -- the preferred choice is at a row that has a number
   pub preferred_within : (o.start + t.depth < 2 ^ 64) × IsTrue (rises t.depth cs)
   preferred_within =
@@ -88,11 +88,11 @@ module _ (o : Outlook) (t : Choice) (cs : List Choice) (on : reverse o.stack.ite
   pub word_ahead : (n : ℕ) (e : End) (w : Mapping) → chain_words (rests_parts n e t.rests) (o.start + t.depth) ≡ w ∷ [] → 0 < words_ahead o n e
   word_ahead n e w h = omega (arith, words_ahead_is o o.start (t ∷ cs) n e refl on, ap length h)
 
-pub nothing_ahead : (o : Outlook) → reverse o.stack.items ≡ [] → (n : ℕ) (e : End) → words_ahead o n e ≡ 0
+pub nothing_ahead : (o : Outlook) → o.stack ≡ [] → (n : ℕ) (e : End) → words_ahead o n e ≡ 0
 nothing_ahead o on n e = words_ahead_is o o.start [] n e refl on
 
 -- what is left at a row
-module _ (o : Outlook) (r : Option Rests) (n : ℕ) (e : End) (on : reverse o.stack.items ≡ pushed 0 r []) where
+module _ (o : Outlook) (r : Option Rests) (n : ℕ) (e : End) (on : o.stack ≡ pushed 0 r []) where
   at_row : o.start + 0 ≡ o.start
   at_row = omega arith
 
@@ -102,16 +102,16 @@ module _ (o : Outlook) (r : Option Rests) (n : ℕ) (e : End) (on : reverse o.st
   pub turns_at : turns_ahead o n e ≡ option_turns n e r o.start + length (option_words n e r o.start)
   turns_at = omega (arith, turns_ahead_is o o.start (pushed 0 r []) n e refl on, pushed_left n e o.start 0 r [], ap (λ i. length (option_words n e r i)) at_row, ap (option_turns n e r) at_row)
 
-pub held_at : (o : Outlook) (r : Option Rests) → reverse o.stack.items ≡ pushed 0 r [] → held_by o ≤ 1
+pub held_at : (o : Outlook) (r : Option Rests) → o.stack ≡ pushed 0 r [] → held_by o ≤ 1
 held_at o r on = omega (arith, held_is o (pushed 0 r []) on, pushed_long 0 r [])
 
-pub shorter : (cs : List Choice) → length (without_first cs) ≡ length cs - 1
+pub shorter : (cs : List Choice) → length (drop 1 cs) ≡ length cs - 1
 shorter [] = refl
 shorter (c ∷ cs) = omega arith
 
 -- one is dropped
-pub held_without : (old new : Outlook) → reverse new.stack.items ≡ without_first (reverse old.stack.items) → held_by new ≡ held_by old - 1
-held_without old new h = omega (arith, held_is new (without_first (reverse old.stack.items)) h, held_is old (reverse old.stack.items) refl, shorter (reverse old.stack.items))
+pub held_without : (old new : Outlook) → new.stack ≡ drop 1 old.stack → held_by new ≡ held_by old - 1
+held_without old new h = omega (arith, held_is new (drop 1 old.stack) h, held_is old old.stack refl, shorter old.stack)
 
 -- choices at rows that have numbers
 pub all_within : (start deepest : ℕ) (cs : List Choice) → start + deepest < 2 ^ 64 → IsTrue (rises deepest cs) → IsTrue (rises (2 ^ 64 - 1 - start) cs)

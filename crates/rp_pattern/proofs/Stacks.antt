@@ -7,9 +7,7 @@ use Rattle.rp_pattern.specs.declared.rests.Node.{Node}
 use Rattle.rp_pattern.specs.declared.rests.Part.{Part}
 use Rattle.rp_pattern.specs.declared.rests.Part.TheVariants.{Whole}
 use Rattle.std.proofs.lemmas.Bool.Decides.{nat_tests}
-use Rattle.std.proofs.lemmas.List.{take-append-drop, take-append-le, length-take-le, map-append, length-map, length-reverse, reverse-append, reverse-reverse}
-use Rattle.std.proofs.Math.Seq.{set-append_seam}
-use Rattle.std.proofs.Math.ListN.{set}
+use Rattle.std.proofs.lemmas.List.{take-append-drop, take-append-le, length-take-le, map-append, length-map, reverse-append}
 use Rattle.rp_pattern.specs.declared.word.End.{End}
 use Rattle.rp_pattern.specs.declared.word.Label.{Label}
 use Rattle.rp_pattern.specs.declared.rests.Rests.{Rests}
@@ -21,7 +19,7 @@ use Rattle.rp_pattern.specs.Mapping.{Mapping, Full, Open}
 use Rattle.rp_pattern.specs.Words.{preceded, words}
 use Rattle.rp_pattern.specs.Turns.{turns, turns_after, chain_turns, within}
 use Rattle.rp_pattern.specs.WordLaws.{IsLater}
-use Rattle.rp_pattern.specs.Rests.{links_from, reached_parts, tail_links, links_parts, tail_parts, rests_parts, later_parts, chain_words, chain_left, choice_words, stack_words, stack_left, rises, pushed, without_first}
+use Rattle.rp_pattern.specs.Rests.{links_from, reached_parts, tail_links, links_parts, tail_parts, rests_parts, later_parts, chain_words, chain_left, choice_words, stack_words, stack_left, rises, pushed}
 use Rattle.rp_pattern.specs.Splits.{StandsFor, option_words, option_turns, Splits, TakesRow, Waits}
 use Rattle.rp_pattern.specs.Choices.{start_of, entered, whole, whole_left, remaining, left, below, below_left, after, after_left, first_later, OfFirst, HasTop, AtRow, IsFront, IsShorterFront, IsSameWhole, IsSplit, MapsRow, IsFullWord, IsOpenWord, IsNothing}
 use Rattle.rp_pattern.proofs.Lists.{map-map}
@@ -59,9 +57,6 @@ take_take a b ls h k =
     sym (take-append-le a (take b ls) (drop b ls) (omega (arith, long))) ∙ ap (take a) (take-append-drop b ls)
 
 -- the top of a stack, and the choices below it
-pub top_is : (t : Choice) (xs ys : List Choice) → xs ≡ ys → reverse xs ≡ t ∷ without_first (reverse xs) → reverse ys ≡ t ∷ without_first (reverse ys)
-top_is t xs ys same h = subst (λ (zs : List Choice). reverse zs ≡ t ∷ without_first (reverse zs)) same h
-
 -- choices see only the labels before them
 pub same_labels : (n : ℕ) (e : End) (s d : ℕ) (ls ls' : List Label) (cs : List Choice) → d ≤ length ls → d ≤ length ls' → take d ls ≡ take d ls' → IsTrue (rises d cs) → stack_words n e s ls cs ≡ stack_words n e s ls' cs
 same_labels n e s d ls ls' [] a b h r = refl
@@ -88,8 +83,8 @@ pushed_left n e s d (Some r) cs = refl
 pub record Stack (c : Choices) (s : ℕ) (ls : List Label) (cs : List Choice) : Type 0 where
   pub begun : c.begun ≡ true
   pub start : c.start ≡ s
-  pub labels : c.labels.items ≡ ls
-  pub choices : reverse c.stack.items ≡ cs
+  pub labels : c.labels ≡ ls
+  pub choices : c.stack ≡ cs
 
 module _ (c : Choices) (s : ℕ) (ls : List Label) (cs : List Choice) (k : Stack c s ls cs) where
   pub entered_is : entered c ≡ ls
@@ -100,45 +95,45 @@ module _ (c : Choices) (s : ℕ) (ls : List Label) (cs : List Choice) (k : Stack
   unfolding start_of
   start_is = k.start
 
-  same_words : (n : ℕ) (e : End) → stack_words n e c.start c.labels.items (reverse c.stack.items) ≡ stack_words n e s ls cs
+  same_words : (n : ℕ) (e : End) → stack_words n e c.start c.labels c.stack ≡ stack_words n e s ls cs
   same_words n e =
-      ap (λ z. stack_words n e z c.labels.items (reverse c.stack.items)) k.start
-      ∙ ap (λ z. stack_words n e s z (reverse c.stack.items)) k.labels
+      ap (λ z. stack_words n e z c.labels c.stack) k.start
+      ∙ ap (λ z. stack_words n e s z c.stack) k.labels
       ∙ ap (stack_words n e s ls) k.choices
 
   pub remaining_is : (n : ℕ) (e : End) → remaining c n e ≡ stack_words n e s ls cs
   unfolding remaining
-  remaining_is n e = ap (λ b. cond b (stack_words n e c.start c.labels.items (reverse c.stack.items)) (chain_words (tail_parts n e c.origin) c.start)) k.begun ∙ same_words n e
+  remaining_is n e = ap (λ b. cond b (stack_words n e c.start c.labels c.stack) (chain_words (tail_parts n e c.origin) c.start)) k.begun ∙ same_words n e
 
   pub left_is : (n : ℕ) (e : End) → left c n e ≡ stack_left n e s cs
   unfolding left
   left_is n e =
-      ap (λ b. cond b (stack_left n e c.start (reverse c.stack.items)) (chain_left (tail_parts n e c.origin) c.start)) k.begun
-      ∙ ap (λ z. stack_left n e z (reverse c.stack.items)) k.start ∙ ap (stack_left n e s) k.choices
+      ap (λ b. cond b (stack_left n e c.start c.stack) (chain_left (tail_parts n e c.origin) c.start)) k.begun
+      ∙ ap (λ z. stack_left n e z c.stack) k.start ∙ ap (stack_left n e s) k.choices
 
-  pub below_is : (n : ℕ) (e : End) → below c n e ≡ stack_words n e s ls (without_first cs)
+  pub below_is : (n : ℕ) (e : End) → below c n e ≡ stack_words n e s ls (drop 1 cs)
   unfolding below
   below_is n e =
-      ap (λ z. stack_words n e z c.labels.items (without_first (reverse c.stack.items))) k.start
-      ∙ ap (λ z. stack_words n e s z (without_first (reverse c.stack.items))) k.labels
-      ∙ ap (λ z. stack_words n e s ls (without_first z)) k.choices
+      ap (λ z. stack_words n e z c.labels (drop 1 c.stack)) k.start
+      ∙ ap (λ z. stack_words n e s z (drop 1 c.stack)) k.labels
+      ∙ ap (λ z. stack_words n e s ls (drop 1 z)) k.choices
 
-  pub below_left_is : (n : ℕ) (e : End) → below_left c n e ≡ stack_left n e s (without_first cs)
+  pub below_left_is : (n : ℕ) (e : End) → below_left c n e ≡ stack_left n e s (drop 1 cs)
   unfolding below_left
-  below_left_is n e = ap (λ z. stack_left n e z (without_first (reverse c.stack.items))) k.start ∙ ap (λ z. stack_left n e s (without_first z)) k.choices
+  below_left_is n e = ap (λ z. stack_left n e z (drop 1 c.stack)) k.start ∙ ap (λ z. stack_left n e s (drop 1 z)) k.choices
 
   pub after_is : (n : ℕ) (e : End) → after c n e ≡ chain_words (first_later n e cs) (s + length ls)
   unfolding after
   after_is n e =
-      ap (λ z. chain_words (first_later n e (reverse c.stack.items)) (z + length c.labels.items)) k.start
-      ∙ ap (λ z. chain_words (first_later n e (reverse c.stack.items)) (s + length z)) k.labels
+      ap (λ z. chain_words (first_later n e c.stack) (z + length c.labels)) k.start
+      ∙ ap (λ z. chain_words (first_later n e c.stack) (s + length z)) k.labels
       ∙ ap (λ z. chain_words (first_later n e z) (s + length ls)) k.choices
 
   pub after_left_is : (n : ℕ) (e : End) → after_left c n e ≡ chain_left (first_later n e cs) (s + length ls)
   unfolding after_left
   after_left_is n e =
-      ap (λ z. chain_left (first_later n e (reverse c.stack.items)) (z + length c.labels.items)) k.start
-      ∙ ap (λ z. chain_left (first_later n e (reverse c.stack.items)) (s + length z)) k.labels
+      ap (λ z. chain_left (first_later n e c.stack) (z + length c.labels)) k.start
+      ∙ ap (λ z. chain_left (first_later n e c.stack) (s + length z)) k.labels
       ∙ ap (λ z. chain_left (first_later n e z) (s + length ls)) k.choices
 
 pub has_top : (c : Choices) (s : ℕ) (ls : List Label) (t : Choice) (cs : List Choice) → Stack c s ls (t ∷ cs) → HasTop c
@@ -147,7 +142,7 @@ has_top c s ls t cs k = (k.begun, subst (OfFirst (λ t. Unit {0})) (sym k.choice
 
 pub at_row : (c : Choices) (s : ℕ) (ls : List Label) (t : Choice) (cs : List Choice) → Stack c s ls (t ∷ cs) → t.depth + 1 ≡ length ls → AtRow c
 unfolding AtRow
-at_row c s ls t cs k h = (k.begun, subst (OfFirst (λ t. t.depth + 1 ≡ length c.labels.items)) (sym k.choices) (h ∙ sym (ap length k.labels)))
+at_row c s ls t cs k h = (k.begun, subst (OfFirst (λ t. t.depth + 1 ≡ length c.labels)) (sym k.choices) (h ∙ sym (ap length k.labels)))
 
 -- ---- what the preferred choice came to
 
@@ -301,22 +296,7 @@ same_whole old new s o = record {
 pub on_top : (xs ys : List Choice) (x : Choice) → xs ≡ ys ++ x ∷ [] → reverse xs ≡ x ∷ reverse ys
 on_top xs ys x h = ap reverse h ∙ reverse-append ys (x ∷ [])
 
--- another choice in the place of the first one
-pub set_first : (xs : List Choice) (k : ℕ) (t : Choice) → k + 1 ≡ length xs → reverse (set xs k t) ≡ t ∷ without_first (reverse xs)
-set_first xs k t long = go (reverse xs) refl
-  where
-    go : (cs : List Choice) → reverse xs ≡ cs → reverse (set xs k t) ≡ t ∷ without_first (reverse xs)
-    go [] h = absurd (omega (arith, long, ap length h, length-reverse xs))
-    go (c ∷ cs) h =
-        let parts : xs ≡ reverse cs ++ c ∷ [] = sym (reverse-reverse xs) ∙ ap reverse h ∙ reverse-append (c ∷ []) cs in
-        let at : k ≡ length (reverse cs) = omega (arith, long, ap length parts, length-append (reverse cs) (c ∷ [])) in
-        ap (λ ys. reverse (set ys k t)) parts
-        ∙ ap (λ j. reverse (set (reverse cs ++ c ∷ []) j t)) at
-        ∙ ap reverse (set-append_seam (reverse cs) c [] t)
-        ∙ reverse-append (reverse cs) (t ∷ [])
-        ∙ ap (λ ys. t ∷ ys) (reverse-reverse cs ∙ ap without_first (sym h))
-
-pub rises_below : (m : ℕ) (cs : List Choice) → IsTrue (rises m cs) → IsTrue (rises m (without_first cs))
+pub rises_below : (m : ℕ) (cs : List Choice) → IsTrue (rises m cs) → IsTrue (rises m (drop 1 cs))
 rises_below m [] h = refl
 rises_below m (c ∷ cs) h = let f = rises_first m c cs h in rises_more c.depth m cs f.0 f.1
 
@@ -324,7 +304,7 @@ pub top_begun : (c : Choices) → HasTop c → c.begun ≡ true
 unfolding HasTop
 top_begun c h = h.0
 
-pub no_top : (c : Choices) → reverse c.stack.items ≡ [] → HasTop c → ⊥
+pub no_top : (c : Choices) → c.stack ≡ [] → HasTop c → ⊥
 unfolding HasTop
 no_top c h t = subst (OfFirst (λ c. Unit {0})) h t.1
 
@@ -332,13 +312,13 @@ pub row_begun : (c : Choices) → AtRow c → c.begun ≡ true
 unfolding AtRow
 row_begun c h = h.0
 
-pub row_some : (c : Choices) → AtRow c → 0 < length c.stack.items
+pub row_some : (c : Choices) → AtRow c → 0 < length c.stack
 unfolding AtRow
-row_some c h = go (reverse c.stack.items) refl h.1
+row_some c h = go c.stack refl h.1
   where
-    go : (cs : List Choice) → reverse c.stack.items ≡ cs → OfFirst (λ t. t.depth + 1 ≡ length c.labels.items) cs → 0 < length c.stack.items
+    go : (cs : List Choice) → c.stack ≡ cs → OfFirst (λ t. t.depth + 1 ≡ length c.labels) cs → 0 < length c.stack
     go [] is r = absurd r
-    go (t ∷ cs) is r = omega (arith, ap length is, length-reverse c.stack.items)
+    go (t ∷ cs) is r = omega (arith, ap length is)
 
 -- the whole is put on the stack as one choice, or as none
 module _ (old new : Choices) (r : Option Rests) (n : ℕ) (e : End) (not : old.begun ≡ false) (m : Stack new old.start [] (pushed 0 r [])) (h : StandsFor n e old.start (tail_parts n e old.origin) r) where
@@ -353,7 +333,7 @@ module _ (old new : Choices) (r : Option Rests) (n : ℕ) (e : End) (not : old.b
       ∙ append_nil (map (preceded []) (option_words n e r (old.start + 0)))
       ∙ map_preceded_nothing (option_words n e r (old.start + 0))
       ∙ ap (option_words n e r) at_start ∙ h.words
-      ∙ sym (ap (λ b. cond b (stack_words n e old.start old.labels.items (reverse old.stack.items)) (chain_words (tail_parts n e old.origin) old.start)) not)
+      ∙ sym (ap (λ b. cond b (stack_words n e old.start old.labels old.stack) (chain_words (tail_parts n e old.origin) old.start)) not)
 
   pub begun_left : left new n e ≡ left old n e
   unfolding left
@@ -362,48 +342,48 @@ module _ (old new : Choices) (r : Option Rests) (n : ℕ) (e : End) (not : old.b
       ∙ pushed_left n e old.start 0 r []
       ∙ ap (λ j. option_turns n e r j + length (option_words n e r j) + 0) at_start
       ∙ omega (arith, h.turns, ap length h.words)
-      ∙ sym (ap (λ b. cond b (stack_left n e old.start (reverse old.stack.items)) (chain_left (tail_parts n e old.origin) old.start)) not)
+      ∙ sym (ap (λ b. cond b (stack_left n e old.start old.stack) (chain_left (tail_parts n e old.origin) old.start)) not)
 
 -- the first choice is given up, and the labels are cut to those before it
-module _ (old new : Choices) (t : Choice) (cs : List Choice) (n : ℕ) (e : End) (k : Stack old old.start old.labels.items (t ∷ cs)) (m : Stack new old.start (take t.depth old.labels.items) cs) where
+module _ (old new : Choices) (t : Choice) (cs : List Choice) (n : ℕ) (e : End) (k : Stack old old.start old.labels (t ∷ cs)) (m : Stack new old.start (take t.depth old.labels) cs) where
   pub given_up_remaining : remaining new n e ≡ below old n e
   given_up_remaining =
-      let r : IsTrue (rises (length old.labels.items) (t ∷ cs)) = subst (λ z. IsTrue (rises (length old.labels.items) z)) k.choices old.rises in
-      remaining_is new old.start (take t.depth old.labels.items) cs m n e
-      ∙ sym (below_cut old new old.start old.labels.items t cs n e k r n e)
-      ∙ sym (below_is old old.start old.labels.items (t ∷ cs) k n e)
+      let r : IsTrue (rises (length old.labels) (t ∷ cs)) = subst (λ z. IsTrue (rises (length old.labels) z)) k.choices old.rises in
+      remaining_is new old.start (take t.depth old.labels) cs m n e
+      ∙ sym (below_cut old new old.start old.labels t cs n e k r n e)
+      ∙ sym (below_is old old.start old.labels (t ∷ cs) k n e)
 
   pub given_up_left : left new n e ≡ below_left old n e
-  given_up_left = left_is new old.start (take t.depth old.labels.items) cs m n e ∙ sym (below_left_is old old.start old.labels.items (t ∷ cs) k n e)
+  given_up_left = left_is new old.start (take t.depth old.labels) cs m n e ∙ sym (below_left_is old old.start old.labels (t ∷ cs) k n e)
 
-pub cut_front : (old new : Choices) (depth : ℕ) → new.labels.items ≡ take depth old.labels.items → IsFront (entered new) (entered old)
+pub cut_front : (old new : Choices) (depth : ℕ) → new.labels ≡ take depth old.labels → IsFront (entered new) (entered old)
 unfolding entered
 cut_front old new depth h = (depth, h)
 
-pub cut_off : (old new : Choices) (t : Choice) (cs : List Choice) → reverse old.stack.items ≡ t ∷ cs → new.labels.items ≡ take t.depth old.labels.items → AtRow old → IsShorterFront (entered new) (entered old)
+pub cut_off : (old new : Choices) (t : Choice) (cs : List Choice) → old.stack ≡ t ∷ cs → new.labels ≡ take t.depth old.labels → AtRow old → IsShorterFront (entered new) (entered old)
 unfolding entered AtRow
 cut_off old new t cs k h r =
-    let row : t.depth + 1 ≡ length old.labels.items = subst (OfFirst (λ c. c.depth + 1 ≡ length old.labels.items)) k r.1 in
+    let row : t.depth + 1 ≡ length old.labels = subst (OfFirst (λ c. c.depth + 1 ≡ length old.labels)) k r.1 in
     (t.depth, omega (arith, row), h)
 
 -- the row is admitted: what comes after it takes the choice's place
-module _ (old new : Choices) (r : Option Rests) (n : ℕ) (e : End) (k : Stack old old.start old.labels.items (reverse old.stack.items))
-    (m : Stack new old.start old.labels.items (pushed (length old.labels.items) r (without_first (reverse old.stack.items))))
-    (h : StandsFor n e (old.start + length old.labels.items) (first_later n e (reverse old.stack.items)) r) where
+module _ (old new : Choices) (r : Option Rests) (n : ℕ) (e : End) (k : Stack old old.start old.labels old.stack)
+    (m : Stack new old.start old.labels (pushed (length old.labels) r (drop 1 old.stack)))
+    (h : StandsFor n e (old.start + length old.labels) (first_later n e old.stack) r) where
   pub admitted_remaining : remaining new n e ≡ map (preceded (entered old)) (after old n e) ++ below old n e
   admitted_remaining =
-      remaining_is new old.start old.labels.items (pushed (length old.labels.items) r (without_first (reverse old.stack.items))) m n e
-      ∙ pushed_words n e old.start (length old.labels.items) old.labels.items r (without_first (reverse old.stack.items))
-      ∙ ap (λ z. map (preceded z) (option_words n e r (old.start + length old.labels.items)) ++ stack_words n e old.start old.labels.items (without_first (reverse old.stack.items))) (take-all old.labels.items ∙ sym (entered_is old old.start old.labels.items (reverse old.stack.items) k))
-      ∙ ap (λ z. map (preceded (entered old)) z ++ stack_words n e old.start old.labels.items (without_first (reverse old.stack.items))) (h.words ∙ sym (after_is old old.start old.labels.items (reverse old.stack.items) k n e))
-      ∙ ap (λ z. map (preceded (entered old)) (after old n e) ++ z) (sym (below_is old old.start old.labels.items (reverse old.stack.items) k n e))
+      remaining_is new old.start old.labels (pushed (length old.labels) r (drop 1 old.stack)) m n e
+      ∙ pushed_words n e old.start (length old.labels) old.labels r (drop 1 old.stack)
+      ∙ ap (λ z. map (preceded z) (option_words n e r (old.start + length old.labels)) ++ stack_words n e old.start old.labels (drop 1 old.stack)) (take-all old.labels ∙ sym (entered_is old old.start old.labels old.stack k))
+      ∙ ap (λ z. map (preceded (entered old)) z ++ stack_words n e old.start old.labels (drop 1 old.stack)) (h.words ∙ sym (after_is old old.start old.labels old.stack k n e))
+      ∙ ap (λ z. map (preceded (entered old)) (after old n e) ++ z) (sym (below_is old old.start old.labels old.stack k n e))
 
   pub admitted_left : left new n e ≡ after_left old n e + below_left old n e
   admitted_left =
-      let a = left_is new old.start old.labels.items (pushed (length old.labels.items) r (without_first (reverse old.stack.items))) m n e in
-      let b = pushed_left n e old.start (length old.labels.items) r (without_first (reverse old.stack.items)) in
-      let c = after_left_is old old.start old.labels.items (reverse old.stack.items) k n e in
-      let d = below_left_is old old.start old.labels.items (reverse old.stack.items) k n e in
+      let a = left_is new old.start old.labels (pushed (length old.labels) r (drop 1 old.stack)) m n e in
+      let b = pushed_left n e old.start (length old.labels) r (drop 1 old.stack) in
+      let c = after_left_is old old.start old.labels old.stack k n e in
+      let d = below_left_is old old.start old.labels old.stack k n e in
       omega (arith, a, b, c, d, h.turns, ap length h.words)
 
 -- ---- values that have not begun
@@ -411,21 +391,21 @@ module _ (old new : Choices) (r : Option Rests) (n : ℕ) (e : End) (k : Stack o
 module _ (c : Choices) (not : c.begun ≡ false) (n : ℕ) (e : End) where
   pub fresh_remaining : remaining c n e ≡ whole c n e
   unfolding remaining whole
-  fresh_remaining = ap (λ b. cond b (stack_words n e c.start c.labels.items (reverse c.stack.items)) (chain_words (tail_parts n e c.origin) c.start)) not
+  fresh_remaining = ap (λ b. cond b (stack_words n e c.start c.labels c.stack) (chain_words (tail_parts n e c.origin) c.start)) not
 
   pub fresh_left : left c n e ≡ whole_left c n e
   unfolding left whole_left
-  fresh_left = ap (λ b. cond b (stack_left n e c.start (reverse c.stack.items)) (chain_left (tail_parts n e c.origin) c.start)) not
+  fresh_left = ap (λ b. cond b (stack_left n e c.start c.stack) (chain_left (tail_parts n e c.origin) c.start)) not
 
 -- what follows a row, at that row
-module _ (c : Choices) (r : Option Rests) (n : ℕ) (e : End) (row : ℕ) (at : row ≡ c.start + length c.labels.items) (h : StandsFor n e row (first_later n e (reverse c.stack.items)) r) where
+module _ (c : Choices) (r : Option Rests) (n : ℕ) (e : End) (row : ℕ) (at : row ≡ c.start + length c.labels) (h : StandsFor n e row (first_later n e c.stack) r) where
   pub followed_words : length (option_words n e r row) ≡ length (after c n e)
   unfolding after
-  followed_words = ap length (h.words ∙ ap (chain_words (first_later n e (reverse c.stack.items))) at)
+  followed_words = ap length (h.words ∙ ap (chain_words (first_later n e c.stack)) at)
 
   pub followed_left : option_turns n e r row + length (option_words n e r row) ≡ after_left c n e
   unfolding after_left
-  followed_left = omega (arith, h.turns, ap length h.words) ∙ ap (chain_left (first_later n e (reverse c.stack.items))) at
+  followed_left = omega (arith, h.turns, ap length h.words) ∙ ap (chain_left (first_later n e c.stack)) at
 
 pub no_choices : (xs : List Choice) → length xs ≡ 0 → reverse xs ≡ []
 no_choices [] h = refl

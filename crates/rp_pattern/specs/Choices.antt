@@ -1,5 +1,5 @@
 -- What a stack of choices stands for.
-use Rattle.std.specs.Prelude.{◌≡◌, ℕ, ◌+◌, ◌<◌, ◌≤◌, true, cond, List, [], ◌∷◌, ◌++◌, map, length, take, reverse}
+use Rattle.std.specs.Prelude.{◌≡◌, ℕ, ◌+◌, ◌<◌, ◌≤◌, true, cond, List, [], ◌∷◌, ◌++◌, map, length, take, drop}
 use Rattle.rp_pattern.specs.declared.word.End.{End}
 use Rattle.rp_pattern.specs.declared.word.End.TheVariants.{Open as OpenEnd}
 use Rattle.rp_pattern.specs.declared.word.Label.{Label}
@@ -11,7 +11,7 @@ use Rattle.rp_pattern.specs.Mapping.{Mapping, Full, Open}
 use Rattle.rp_pattern.specs.Words.{preceded}
 use Rattle.rp_pattern.specs.Turns.{WordsAndTurns}
 use Rattle.rp_pattern.specs.WordLaws.{IsLater}
-use Rattle.rp_pattern.specs.Rests.{tail_parts, later_parts, chain_words, chain_left, stack_words, stack_left, without_first}
+use Rattle.rp_pattern.specs.Rests.{tail_parts, later_parts, chain_words, chain_left, stack_words, stack_left}
 
 -- the start row
 unfoldable pub start_of : Choices → ℕ
@@ -19,11 +19,11 @@ start_of c = c.start
 
 -- the labels now
 unfoldable pub entered : Choices → List Label
-entered c = c.labels.items
+entered c = c.labels
 
 -- the choices that are not taken up, the preferred one first
 unfoldable pub standing : Choices → List Choice
-standing c = reverse c.stack.items
+standing c = c.stack
 
 -- the words that it stood for when it was made
 unfoldable pub whole : Choices → ℕ → End → List Mapping
@@ -34,18 +34,18 @@ whole_left c n e = chain_left (tail_parts n e c.origin) c.start
 
 -- the words of the choices that are not given up, in preferment order. Before the first one is taken up, it is the whole.
 unfoldable pub remaining : Choices → ℕ → End → List Mapping
-remaining c n e = cond c.begun (stack_words n e c.start c.labels.items (reverse c.stack.items)) (chain_words (tail_parts n e c.origin) c.start)
+remaining c n e = cond c.begun (stack_words n e c.start c.labels c.stack) (chain_words (tail_parts n e c.origin) c.start)
 
 -- turns of the choices, and one more for each word
 unfoldable pub left : Choices → ℕ → End → ℕ
-left c n e = cond c.begun (stack_left n e c.start (reverse c.stack.items)) (chain_left (tail_parts n e c.origin) c.start)
+left c n e = cond c.begun (stack_left n e c.start c.stack) (chain_left (tail_parts n e c.origin) c.start)
 
 -- the same without the preferred choice
 unfoldable pub below : Choices → ℕ → End → List Mapping
-below c n e = stack_words n e c.start c.labels.items (without_first (reverse c.stack.items))
+below c n e = stack_words n e c.start c.labels (drop 1 c.stack)
 
 unfoldable pub below_left : Choices → ℕ → End → ℕ
-below_left c n e = stack_left n e c.start (without_first (reverse c.stack.items))
+below_left c n e = stack_left n e c.start (drop 1 c.stack)
 
 -- what comes after the first part of the preferred choice
 abbrev pub first_later : ℕ → End → List Choice → List WordsAndTurns
@@ -54,10 +54,10 @@ first_later n e (c ∷ cs) = later_parts n e c.rests
 
 -- the words that may follow the row that the preferred choice maps
 unfoldable pub after : Choices → ℕ → End → List Mapping
-after c n e = chain_words (first_later n e (reverse c.stack.items)) (c.start + length c.labels.items)
+after c n e = chain_words (first_later n e c.stack) (c.start + length c.labels)
 
 unfoldable pub after_left : Choices → ℕ → End → ℕ
-after_left c n e = chain_left (first_later n e (reverse c.stack.items)) (c.start + length c.labels.items)
+after_left c n e = chain_left (first_later n e c.stack) (c.start + length c.labels)
 
 -- there is a first choice, and so is it
 abbrev pub OfFirst : (Choice → Type 0) → List Choice → Type 0
@@ -66,11 +66,11 @@ OfFirst P (c ∷ cs) = P c
 
 -- a choice is preferred, and can be given up
 unfoldable pub HasTop : Choices → Type 0
-HasTop c = (c.begun ≡ true) × OfFirst (λ t. Unit {0}) (reverse c.stack.items)
+HasTop c = (c.begun ≡ true) × OfFirst (λ t. Unit {0}) c.stack
 
 -- The preferred choice maps a row, whose label is the last one.
 unfoldable pub AtRow : Choices → Type 0
-AtRow c = (c.begun ≡ true) × OfFirst (λ t. t.depth + 1 ≡ length c.labels.items) (reverse c.stack.items)
+AtRow c = (c.begun ≡ true) × OfFirst (λ t. t.depth + 1 ≡ length c.labels) c.stack
 
 -- ---- what an operation does
 

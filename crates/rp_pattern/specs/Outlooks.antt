@@ -1,5 +1,5 @@
 -- What would follow a row, by the number of its words.
-use Rattle.std.specs.Prelude.{◌≡◌, ℕ, ◌+◌, ◌<◌, ◌≤◌, List, [], ◌∷◌, length, reverse}
+use Rattle.std.specs.Prelude.{◌≡◌, ℕ, ◌+◌, ◌<◌, ◌≤◌, List, [], ◌∷◌, length}
 use Rattle.rp_pattern.specs.declared.word.End.{End}
 use Rattle.rp_pattern.specs.declared.rests.Choice.{Choice}
 use Rattle.rp_pattern.specs.declared.outlook.Outlook.{Outlook}
@@ -15,15 +15,15 @@ stack_count n e start (c ∷ cs) = length (chain_words (rests_parts n e c.rests)
 
 -- so many words would follow
 unfoldable pub words_ahead : Outlook → ℕ → End → ℕ
-words_ahead o n e = stack_count n e o.start (reverse o.stack.items)
+words_ahead o n e = stack_count n e o.start o.stack
 
 -- turns of the choices, and one more for each word
 unfoldable pub turns_ahead : Outlook → ℕ → End → ℕ
-turns_ahead o n e = stack_left n e o.start (reverse o.stack.items)
+turns_ahead o n e = stack_left n e o.start o.stack
 
 -- so many choices are kept
 unfoldable pub held_by : Outlook → ℕ
-held_by o = length o.stack.items
+held_by o = length o.stack
 
 -- The preferred choice gave way to two others at most, with as many words and fewer turns.
 pub record LooksFurther (old new : Outlook) (n : ℕ) (e : End) : Type 0 where

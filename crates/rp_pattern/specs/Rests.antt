@@ -114,11 +114,6 @@ abbrev pub stack_left : ℕ → End → ℕ → List Choice → ℕ
 stack_left n e start [] = 0
 stack_left n e start (c ∷ cs) = chain_left (rests_parts n e c.rests) (start + c.depth) + stack_left n e start cs
 
--- the choices below the first one
-abbrev pub without_first : List Choice → List Choice
-without_first [] = []
-without_first (c ∷ cs) = cs
-
 -- no choice has more labels before it than there are, or than the one above it
 abbrev pub rises : ℕ → List Choice → Bool
 rises depth [] = true

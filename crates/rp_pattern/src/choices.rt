@@ -1,10 +1,12 @@
 //! The words of a pattern listed lazily, by a stack of choices.
-ghost use Rattle.std.specs.Prelude.{◌≡◌, ℕ, ◌∷◌, ◌++◌, ◌+◌, ◌-◌, ◌^◌, ◌<◌, ◌≤◌, IfOk, OnOk, IsTrue, List, [], map, length, reverse, MatchOption};
-ghost use Rattle.rp_pattern.specs.Rests.{rises, pushed, without_first};
+ghost use Rattle.std.specs.Prelude.{◌≡◌, ℕ, ◌∷◌, ◌++◌, ◌+◌, ◌-◌, ◌^◌, ◌<◌, ◌≤◌, IfOk, OnOk, IsTrue, List, [], map, length, drop};
+ghost use Rattle.rp_pattern.specs.Rests.{rises, pushed};
 
 use crate::form::{Form, Pattern};
+use crate::label_list::LabelList;
 use crate::outlook::Outlook;
 use crate::rests::{Choice, Node, Part, Rests, Tail};
+use crate::stack::Stack;
 use crate::tail::{follow, linked};
 use crate::turn::{Split, Turn};
 use crate::word::{End, Label};
@@ -33,14 +35,14 @@ pub struct Choices {
     start: u64,
     origin: Tail,
     begun: bool,
-    labels: Vec<Label>,
-    stack: Vec<Choice>,
-    ghost rises: { IsTrue (rises (length labels.items) (reverse stack.items)) },
-    ghost ends: { start + length labels.items < 2 ^ 64 },
+    labels: LabelList,
+    stack: Stack<Choice>,
+    ghost rises: { IsTrue (rises (length labels) stack) },
+    ghost ends: { start + length labels < 2 ^ 64 },
 }
 
 impl Choices {
-    ghost use Rattle.std.specs.Prelude.{OnOk, IfOk, take, ◌∷◌, ◌++◌, map, reverse};
+    ghost use Rattle.std.specs.Prelude.{OnOk, IfOk, take, ◌∷◌, ◌++◌, map};
     ghost use Rattle.rp_pattern.specs.declared.word.End.{End};
     ghost use Rattle.rp_pattern.specs.Words.{words, preceded};
     ghost use Rattle.rp_pattern.specs.Turns.{turns};
@@ -70,8 +72,8 @@ impl Choices {
             start,
             origin: linked(alloc, None, part, None)?,
             begun: false,
-            labels: Vec::new(alloc),
-            stack: Vec::new(alloc),
+            labels: LabelList::new(alloc),
+            stack: Stack::new(alloc),
         })
     }
 
@@ -80,7 +82,7 @@ impl Choices {
     pub fn labels(&self) -> &[Label]
         ensures { result.now ≡ entered self.now }
     {
-        &self.labels
+        self.labels.as_slice()
     }
 
     /// The start row.
@@ -130,7 +132,7 @@ impl Choices {
         ensures whole { IsSameWhole self.old self.new }
         ensures taken { IfOk result (TakenAs self.old self.new n end) }
     {
-        let Some(choice) = top(&self.stack) else {
+        let Some(choice) = self.stack.top() else {
             return Ok(Taken::Nothing);
         };
         let depth = choice.depth;
@@ -170,9 +172,9 @@ impl Choices {
     /// What is left at a row when the first part of the preferred choice is mapped before it.
     #[inline(always)]
     fn follow_first(&self, row: u64) -> Result<Option<Rests>, AllocError>
-        ensures { IfOk result (λ rests. (n : ℕ) (e : End) → StandsFor n e row (first_later n e (reverse self.now.stack.items)) rests) }
+        ensures { IfOk result (λ rests. (n : ℕ) (e : End) → StandsFor n e row (first_later n e self.now.stack) rests) }
     {
-        match top(&self.stack) {
+        match self.stack.top() {
             None => Ok(Some(Rests::Done)),
             Some(choice) => choice.rests.after_first(row),
         }
@@ -188,8 +190,9 @@ impl Choices {
         ensures labels { IsFront (entered self.new) (entered self.old) }
         ensures cut_off { AtRow self.old → IsShorterFront (entered self.new) (entered self.old) }
     {
-        if let Some(choice) = self.stack.pop() {
+        if let Some(choice) = self.stack.top() {
             self.labels.truncate(choice.depth);
+            self.stack.drop_top();
         }
     }
 
@@ -217,47 +220,28 @@ impl Choices {
     }
 }
 
-/// The top choice.
-#[inline(always)]
-pub(crate) fn top(stack: &[Choice]) -> Option<&Choice>
-    ensures { MatchOption result (reverse stack.now ≡ []) (λ choice. reverse stack.now ≡ choice.now ∷ without_first (reverse stack.now)) }
-{
-    stack.last()
-}
-
-/// Takes the top choice away.
-#[inline(always)]
-pub(crate) fn drop_top(stack: &mut Vec<Choice>)
-    ensures { reverse stack.new.items ≡ without_first (reverse stack.old.items) }
-{
-    let _ = stack.pop();
-}
-
 /// Puts another choice, if there is one, in the top one's place.
 #[inline(always)]
-fn set_top(stack: &mut Vec<Choice>, depth: usize, rests: Option<Rests>)
-    requires { 0 < length stack.old.items }
-    ensures set { reverse stack.new.items ≡ pushed depth rests (without_first (reverse stack.old.items)) }
-    ensures rises { IsTrue (rises depth (without_first (reverse stack.old.items))) → IsTrue (rises depth (reverse stack.new.items)) }
+fn set_top(stack: &mut Stack<Choice>, depth: usize, rests: Option<Rests>)
+    requires { 0 < length stack.old }
+    ensures set { stack.new ≡ pushed depth rests (drop 1 stack.old) }
+    ensures rises { IsTrue (rises depth (drop 1 stack.old)) → IsTrue (rises depth stack.new) }
 {
     match rests {
-        None => drop_top(stack),
-        Some(rests) => {
-            let last = stack.len() - 1;
-            stack[last] = Choice { depth, rests };
-        }
+        None => stack.drop_top(),
+        Some(rests) => stack.set_top(Choice { depth, rests }),
     }
 }
 
 /// Puts a choice on a stack, if there is one.
 #[inline(always)]
 pub(crate) fn push(
-    stack: &mut Vec<Choice>,
+    stack: &mut Stack<Choice>,
     depth: usize,
     rests: Option<Rests>,
 ) -> Result<(), AllocError>
-    ensures pushed { OnOk result (reverse stack.new.items ≡ pushed depth rests (reverse stack.old.items)) }
-    ensures rises { IsTrue (rises depth (reverse stack.old.items)) → IsTrue (rises depth (reverse stack.new.items)) }
+    ensures pushed { OnOk result (stack.new ≡ pushed depth rests stack.old) }
+    ensures rises { IsTrue (rises depth stack.old) → IsTrue (rises depth stack.new) }
 {
     if let Some(rests) = rests {
         stack.push(Choice { depth, rests })?;

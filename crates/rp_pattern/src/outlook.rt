@@ -1,11 +1,12 @@
 //! What would follow a row: whether any word does. Which rows it would map is not kept.
-ghost use Rattle.std.specs.Prelude.{◌≡◌, ℕ, ◌+◌, ◌-◌, ◌^◌, ◌<◌, ◌≤◌, IfOk, IsTrue, ◌↔◌, length, reverse};
+ghost use Rattle.std.specs.Prelude.{◌≡◌, ℕ, ◌+◌, ◌-◌, ◌^◌, ◌<◌, ◌≤◌, IfOk, IsTrue, ◌↔◌, length};
 ghost use Rattle.rp_pattern.specs.declared.word.End.{End};
 ghost use Rattle.rp_pattern.specs.Rests.{rises};
 ghost use Rattle.rp_pattern.specs.Splits.{option_words, option_turns};
 
-use crate::choices::{drop_top, push, top};
+use crate::choices::push;
 use crate::rests::{Choice, Rests};
+use crate::stack::Stack;
 use crate::turn::{Split, Turn};
 use crate::word::End;
 use std::alloc::{AllocError, Global};
@@ -26,9 +27,9 @@ pub enum Sight {
 pub struct Outlook {
     alloc: Global,
     start: u64,
-    stack: Vec<Choice>,
+    stack: Stack<Choice>,
     ghost starts: { start < 2 ^ 64 },
-    ghost within: { IsTrue (rises (2 ^ 64 - 1 - start) (reverse stack.items)) },
+    ghost within: { IsTrue (rises (2 ^ 64 - 1 - start) stack) },
 }
 
 impl Outlook {
@@ -40,7 +41,7 @@ impl Outlook {
         ensures turns { IfOk result (λ o. (n : ℕ) (e : End) → turns_ahead o n e ≡ option_turns n e rests row + length (option_words n e rests row)) }
         ensures held { IfOk result (λ o. held_by o ≤ 1) }
     {
-        let mut stack = Vec::new(alloc);
+        let mut stack = Stack::new(alloc);
         push(&mut stack, 0, rests)?;
         Ok(Outlook {
             alloc,
@@ -55,7 +56,7 @@ impl Outlook {
         requires { n < 2 ^ 64 - 1 }
         ensures { IfOk result (SeenAs self.old self.new n end) }
     {
-        let Some(choice) = top(&self.stack) else {
+        let Some(choice) = self.stack.top() else {
             return Ok(Sight::Nothing);
         };
         let depth = choice.depth;
@@ -66,12 +67,12 @@ impl Outlook {
             Turn::Open => Ok(Sight::Word),
             Turn::Row(_) => {
                 let later = choice.rests.after_first(row + 1)?;
-                drop_top(&mut self.stack);
+                self.stack.drop_top();
                 push(&mut self.stack, depth + 1, later)?;
                 Ok(Sight::Further)
             }
             Turn::Split => {
-                drop_top(&mut self.stack);
+                self.stack.drop_top();
                 push(&mut self.stack, depth, split.other)?;
                 push(&mut self.stack, depth, split.preferred)?;
                 Ok(Sight::Further)
@@ -85,7 +86,7 @@ impl Outlook {
         ensures held { held_by self.new ≡ held_by self.old - 1 }
         ensures more { IsTrue result ↔ (0 < held_by self.new) }
     {
-        drop_top(&mut self.stack);
+        self.stack.drop_top();
         !self.stack.is_empty()
     }
 }

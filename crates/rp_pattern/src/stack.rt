@@ -1,5 +1,5 @@
 //! A stack whose elements stay where they are put.
-ghost use Rattle.std.specs.Prelude.{◌≡◌, List, [], ◌∷◌, ◌<◌, length, reverse, drop, OnOk, OnErr, MatchOption, IsTrue, ◌↔◌};
+ghost use Rattle.std.specs.Prelude.{◌≡◌, List, [], ◌∷◌, ◌<◌, length, reverse, drop, OnOk, OnErr, MatchOption, ◌==◌};
 ghost use Rattle.rp_pattern.specs.Stacked.{stacked, AreBlocks, AreFilled};
 
 use std::alloc::{AllocError, Global};
@@ -53,7 +53,7 @@ impl<T: Drop> Stack<T> {
 
     /// Whether there are no elements.
     pub(crate) fn is_empty(&self) -> bool
-        ensures { IsTrue result ↔ (self.now ≡ []) }
+        ensures { result ≡ (length self.now == 0) }
     {
         self.block.is_empty()
     }

@@ -1,4 +1,4 @@
-use Rattle.std.proofs.Common.{◌∷◌, ◌≡◌, List, Some, sym, ap, ◌∙◌, subst, arith}
+use Rattle.std.proofs.Common.{◌∷◌, ◌≡◌, List, Some, sym, ap, ◌∙◌, subst}
 use Rattle.rp_pattern.specs.declared.form.Form.TheVariants.{Variable, Concatenation}
 use Rattle.rp_pattern.specs.declared.rests.Rests.TheVariants.{Then, Row}
 use Rattle.rp_pattern.specs.Turns.{WordsAndTurns}

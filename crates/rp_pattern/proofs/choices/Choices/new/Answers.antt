@@ -16,7 +16,7 @@ returns-clause-start c = refl
 
 pub returns-clause-labels : goal.returns-clause-labels
 unfolding entered
-returns-clause-labels c = c.new-2.ensures.items
+returns-clause-labels c = c.new-2.ensures
 
 pub returns-clause-whole : goal.returns-clause-whole
 returns-clause-whole c = λ n e.

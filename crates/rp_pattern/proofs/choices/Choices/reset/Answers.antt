@@ -16,4 +16,4 @@ returns-clause-left c = λ n e. refl
 
 pub returns-clause-labels : goal.returns-clause-labels
 unfolding entered
-returns-clause-labels c = c.clear-2.ensures.items
+returns-clause-labels c = c.clear-2.ensures

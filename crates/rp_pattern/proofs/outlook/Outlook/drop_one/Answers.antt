@@ -1,5 +1,4 @@
-use Rattle.std.proofs.Common.{◌≡◌, ◌==◌, ◌∙◌, ap, length, ◌-◌, ◌^◌, List, subst, sym, reverse, IsTrue, arith}
-use Rattle.std.specs.Prelude.{vec_len}
+use Rattle.std.proofs.Common.{length, ◌-◌, ◌^◌, List, subst, sym, IsTrue}
 use Rattle.rp_pattern.specs.declared.rests.Choice.{Choice}
 use Rattle.rp_pattern.specs.Rests.{rises}
 use Rattle.rp_pattern.specs.Outlooks.{held_by}
@@ -10,7 +9,7 @@ use Rattle.rp_pattern.proofs.outlook.Outlook.drop_one.Goals as goal
 pub invariant_of-self : goal.invariant_of-self
 invariant_of-self c =
     let old = c.args.self.now in
-    record { starts = old.starts; within = subst (λ (cs : List Choice). IsTrue (rises (2 ^ 64 - 1 - old.start) cs)) (sym c.drop_top.ensures) (rises_below (2 ^ 64 - 1 - old.start) (reverse old.stack.items) old.within) }
+    record { starts = old.starts; within = subst (λ (cs : List Choice). IsTrue (rises (2 ^ 64 - 1 - old.start) cs)) (sym c.drop_top.ensures) (rises_below (2 ^ 64 - 1 - old.start) old.stack old.within) }
 
 pub returns-clause-held : goal.returns-clause-held
 returns-clause-held c = held_without c.args.self.now _ c.drop_top.ensures
@@ -18,6 +17,4 @@ returns-clause-held c = held_without c.args.self.now _ c.drop_top.ensures
 pub returns-clause-more : goal.returns-clause-more
 unfolding held_by
 returns-clause-more c =
-    let left = c.drop_top.new.stack in
-    let long : vec_len left ≡ length left.items = omega (arith, left.ok.0) in
-    some_left c.is_empty.result (length left.items) (c.is_empty.ensures ∙ ap (λ m. m == 0) long)
+    some_left c.is_empty.result (length c.drop_top.new.self) c.is_empty.ensures

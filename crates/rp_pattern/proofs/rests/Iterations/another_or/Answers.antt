@@ -1,4 +1,3 @@
-use Rattle.std.proofs.Common.{Some}
 use Rattle.rp_pattern.specs.Rests.{tail_parts}
 use Rattle.rp_pattern.proofs.Steps.{replaces, greedy_splits, lazy_splits}
 use Rattle.rp_pattern.proofs.rests.Iterations.another_or.Goals as goal

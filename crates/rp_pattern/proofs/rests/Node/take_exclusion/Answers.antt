@@ -1,6 +1,6 @@
 use Rattle.std.proofs.Common.{◌∷◌, List, true, sym, subst, Some}
 use Rattle.rp_pattern.specs.Turns.{WordsAndTurns}
-use Rattle.rp_pattern.specs.Rests.{form_part, links_parts, tail_parts}
+use Rattle.rp_pattern.specs.Rests.{form_part, tail_parts}
 use Rattle.rp_pattern.proofs.Expansions.{Leaves, exclusion_leaves}
 use Rattle.rp_pattern.proofs.Steps.{one_splits, before_shared}
 use Rattle.rp_pattern.proofs.rests.Node.take_exclusion.Goals as goal
