@@ -312,13 +312,9 @@ pub row_begun : (c : Choices) → AtRow c → c.begun ≡ true
 unfolding AtRow
 row_begun c h = h.0
 
-pub row_some : (c : Choices) → AtRow c → 0 < length c.stack
+pub row_top : (c : Choices) → c.stack ≡ [] → AtRow c → ⊥
 unfolding AtRow
-row_some c h = go c.stack refl h.1
-  where
-    go : (cs : List Choice) → c.stack ≡ cs → OfFirst (λ t. t.depth + 1 ≡ length c.labels) cs → 0 < length c.stack
-    go [] is r = absurd r
-    go (t ∷ cs) is r = omega (arith, ap length is)
+row_top c h r = subst (OfFirst (λ t. t.depth + 1 ≡ length c.labels)) h r.1
 
 -- the whole is put on the stack as one choice, or as none
 module _ (old new : Choices) (r : Option Rests) (n : ℕ) (e : End) (not : old.begun ≡ false) (m : Stack new old.start [] (pushed 0 r [])) (h : StandsFor n e old.start (tail_parts n e old.origin) r) where

@@ -164,13 +164,15 @@ impl Choices {
         ensures labels { OnOk result (entered self.new ≡ entered self.old) }
     {
         let depth = self.labels.len();
-        let rests = self.follow_first(self.start + depth as u64)?;
-        set_top(&mut self.stack, depth, rests);
+        let Some(choice) = self.stack.pop() else {
+            unreachable!();
+        };
+        let rests = choice.rests.into_later(self.start + depth as u64)?;
+        push(&mut self.stack, depth, rests)?;
         Ok(())
     }
 
     /// What is left at a row when the first part of the preferred choice is mapped before it.
-    #[inline(always)]
     fn follow_first(&self, row: u64) -> Result<Option<Rests>, AllocError>
         ensures { IfOk result (λ rests. (n : ℕ) (e : End) → StandsFor n e row (first_later n e self.now.stack) rests) }
     {

@@ -103,15 +103,25 @@ impl<T: Drop> Stack<T> {
         Ok(())
     }
 
+    /// Takes the top element away.
+    #[inline(always)]
+    pub(crate) fn pop(&mut self) -> Option<T>
+        ensures rest { self.new ≡ drop 1 self.old }
+        ensures top { MatchOption result (self.old ≡ []) (λ top. self.old ≡ top ∷ drop 1 self.old) }
+    {
+        let top = self.block.pop();
+        if self.block.is_empty() {
+            go_below(&mut self.block, &mut self.below, &mut self.above);
+        }
+        top
+    }
+
     /// Drops the top element, if there is one.
     #[inline(always)]
     pub(crate) fn drop_top(&mut self)
         ensures { self.new ≡ drop 1 self.old }
     {
-        let _ = self.block.pop();
-        if self.block.is_empty() {
-            go_below(&mut self.block, &mut self.below, &mut self.above);
-        }
+        let _ = self.pop();
     }
 
     /// Drops all elements.

@@ -49,18 +49,26 @@ pub(crate) fn share(tail: &Tail) -> Result<Tail, AllocError>
 
 /// What is left at a row when these parts come next, or nothing where an iteration that had to take a row has taken none.
 #[inline(always)]
-pub(crate) fn follow(tail: &Tail, row: u64) -> Result<Option<Rests>, AllocError>
-    ensures { IfOk result (λ rests. (n : ℕ) (e : End) → StandsFor n e row (tail_parts n e tail.now) rests) }
+pub(crate) fn reach(tail: Tail, row: u64) -> Option<Rests>
+    ensures { (n : ℕ) (e : End) → StandsFor n e row (tail_parts n e tail) result }
 {
     let Some(link) = tail else {
-        return Ok(Some(Rests::Done));
+        return Some(Rests::Done);
     };
     if let Some(since) = link.since {
         if row <= since {
-            return Ok(None);
+            return None;
         }
     }
-    Ok(Some(Rests::Reached(link.clone()?)))
+    Some(Rests::Reached(link))
+}
+
+/// The same, of parts that others share.
+#[inline(always)]
+pub(crate) fn follow(tail: &Tail, row: u64) -> Result<Option<Rests>, AllocError>
+    ensures { IfOk result (λ rests. (n : ℕ) (e : End) → StandsFor n e row (tail_parts n e tail.now) rests) }
+{
+    Ok(reach(share(tail)?, row))
 }
 
 /// A part before later ones. Where it begins with a variable, it is that row before the rest of the part, so that no turn

@@ -19,7 +19,7 @@ ghost use Rattle.rp_pattern.specs.Splits.{TakenUp, AlwaysSplits, SplitsAt, Stand
 use crate::form::Form;
 use crate::orders::{factorial, permutation_at};
 use crate::rests::{Iterations, Link, Node, Orders, Part, Rests, Tail};
-use crate::tail::{before, follow, link_of, linked, share};
+use crate::tail::{before, follow, link_of, linked, reach, share};
 use crate::word::{End, Label};
 use std::alloc::{AllocError, Global};
 use std::rc::Rc;
@@ -154,6 +154,18 @@ impl Rests {
 
     /// What is left at a row when the first part is mapped before it.
     #[inline(always)]
+    pub(crate) fn into_later(self, row: u64) -> Result<Option<Rests>, AllocError>
+        ensures { IfOk result (λ rests. (n : ℕ) (e : End) → StandsFor n e row (later_parts n e self) rests) }
+    {
+        match self {
+            Rests::Done => Ok(Some(Rests::Done)),
+            Rests::Then { node: _, then } => Ok(reach(then, row)),
+            Rests::Row { var: _, next, then } => Ok(Some(Rests::Then { node: next, then })),
+            Rests::Reached(link) => follow(&link.then, row),
+        }
+    }
+
+    /// The same, of which the first part is kept.
     pub(crate) fn after_first(&self, row: u64) -> Result<Option<Rests>, AllocError>
         ensures { IfOk result (λ rests. (n : ℕ) (e : End) → StandsFor n e row (later_parts n e self.now) rests) }
     {

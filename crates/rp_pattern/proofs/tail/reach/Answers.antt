@@ -1,11 +1,11 @@
-use Rattle.std.proofs.Common.{sym, ap, ◌∙◌, subst, Some}
+use Rattle.std.proofs.Common.{refl, sym, ap, ◌∙◌, subst, Some}
 use Rattle.rp_pattern.specs.declared.rests.Link.TheViews.{out-Link}
 use Rattle.rp_pattern.specs.declared.rests.Rests.TheVariants.{Reached}
 use Rattle.rp_pattern.specs.Rests.{tail_parts}
 use Rattle.rp_pattern.specs.Splits.{StandsFor}
 use Rattle.rp_pattern.proofs.Tails.{follow_stands, IsPassed}
-use Rattle.rp_pattern.proofs.tail.follow.Goals as goal
-use Rattle.rp_pattern.proofs.tail.follow.Goals.{in-Some-since+else-row-since, in_default-since}
+use Rattle.rp_pattern.proofs.tail.reach.Goals as goal
+use Rattle.rp_pattern.proofs.tail.reach.Goals.{in-Some-since+else-row-since, in_default-since}
 
 pub returns : goal.returns
 returns c = λ n e.
@@ -16,5 +16,5 @@ returns c = λ n e.
       | in-Some-since+else-row-since w ↦ subst (λ s. IsPassed s i) (sym (ap (λ k. (out-Link k).since) (sym c.deref.ensures) ∙ w.in-Some-since.is)) w.if-row-since.false
       | in_default-since w ↦ subst (λ s. IsPassed s i) (sym (ap (λ k. (out-Link k).since) (sym c.deref.ensures) ∙ w.in_default-since.is)) tt
     ] in
-    subst (λ t. StandsFor n e i (tail_parts n e t) (Some (Reached c.in_ok-clone.field-0))) (sym c.in-Some.is)
-    (follow_stands n e i l c.in_ok-clone.field-0 c.in_ok-clone.ensures.cases passed)
+    subst (λ t. StandsFor n e i (tail_parts n e t) (Some (Reached c.in-Some.link))) (sym c.in-Some.is)
+    (follow_stands n e i l c.in-Some.link refl passed)
