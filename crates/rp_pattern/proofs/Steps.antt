@@ -4,6 +4,8 @@ use Rattle.std.specs.declared.rc.Rc.{Rc}
 use Rattle.std.specs.declared.alloc.Global.{Global}
 use Rattle.rp_pattern.specs.declared.form.Form.{Form}
 use Rattle.rp_pattern.specs.declared.word.End.{End}
+use Rattle.rp_pattern.specs.declared.word.End.TheVariants.{Open as OpenEnd, Closed as ClosedEnd}
+use Rattle.rp_pattern.specs.declared.form.Form.TheVariants.{Variable}
 use Rattle.rp_pattern.specs.declared.rests.Node.{Node}
 use Rattle.rp_pattern.specs.declared.rests.Iterations.{Iterations}
 use Rattle.rp_pattern.specs.declared.rests.Part.{Part}
@@ -19,9 +21,9 @@ use Rattle.rp_pattern.specs.Turns.{WordsAndTurns, chain_turns, iterations, past}
 use Rattle.rp_pattern.specs.WordLaws.{IsLater}
 use Rattle.rp_pattern.specs.Words.{preceded}
 use Rattle.rp_pattern.specs.Rests.{part_as, form_part, node_part, iterations_part, still, tail_links, tail_parts, links_parts, guarded, rests_parts, chain_words, IsNodeOf, AreIterationsOf, IsOneLess}
-use Rattle.rp_pattern.specs.Splits.{StandsFor, Replaces, SplitsAt, AlwaysSplits, Splits, ComesAgain, repeated, TakenUp, option_words, split_turns}
+use Rattle.rp_pattern.specs.Splits.{StandsFor, Replaces, SplitsAt, AlwaysSplits, Splits, TakesRow, Waits, ComesAgain, repeated, TakenUp, option_words, split_turns}
 use Rattle.rp_pattern.proofs.TurnsTaken.{same_first}
-use Rattle.rp_pattern.proofs.Expansions.{Leaves, LeavesTwo, same_first_words, greedy_leaves, lazy_leaves, greedy_unbounded, lazy_unbounded, none_left_leaves, form_within}
+use Rattle.rp_pattern.proofs.Expansions.{no_words, some_turns, open_words, row_words, row_turns, variable_row, variable_open, variable_closed, variable_turns, Leaves, LeavesTwo, same_first_words, greedy_leaves, lazy_leaves, greedy_unbounded, lazy_unbounded, none_left_leaves, form_within}
 
 -- ---- parts that were copied or put together
 
@@ -117,6 +119,34 @@ taken_as n e i ps qs h s SplitTurn k = record {
 
 pub splits_as : (n : ℕ) (e : End) (i : ℕ) (ps qs : List WordsAndTurns) (s : Split) → ps ≡ qs → SplitsAt n e i ps s → SplitsAt n e i qs s
 splits_as n e i ps qs s h k = subst (λ z. SplitsAt n e i z s) h k
+
+-- ---- a row
+
+module _ (n : ℕ) (e : End) (i v : ℕ) (x : Bool) (later : ℕ → End → List WordsAndTurns) where
+  abbrev row_parts : ℕ → End → List WordsAndTurns
+  row_parts n' e' = form_part n' e' (Variable v) x ∷ later n' e'
+
+  pub row_taken : i ≤ n → TakesRow n e i row_parts (record { var = v; excluded = x })
+  row_taken known = record {
+    known = known;
+    words = λ n' e' more. row_words _ (form_part n' e' (Variable v) x) (later n' e') i (variable_row n' e' x v i (omega (arith, more, known)));
+    turns = λ n' e' more. row_turns _ (form_part n' e' (Variable v) x) (later n' e') i (variable_row n' e' x v i (omega (arith, more, known))) (variable_turns n' e' x v i);
+  }
+
+  pub row_none : (s : Split) → s ≡ record { preferred = None; other = None } → n < i → e ≡ ClosedEnd → Splits n e i row_parts s
+  row_none s is past closed = later_splits n e i row_parts s (λ n' e' more.
+      let p = form_part n' e' (Variable v) x in
+      let stays = more.1 closed in
+      none_splits n' e' i (p ∷ later n' e') s is
+      (no_words p (later n' e') i (variable_closed n' e' x v i (omega (arith, stays.0, past)) stays.1))
+      (some_turns p (later n' e') i (variable_turns n' e' x v i)))
+
+  pub row_waits : n < i → e ≡ OpenEnd → Waits n e i row_parts
+  row_waits past no_end = record {
+    end = no_end;
+    words = open_words (form_part n e (Variable v) x) (later n e) i (variable_open n e x v i past no_end);
+    turns = λ n' e'. some_turns (form_part n' e' (Variable v) x) (later n' e') i (variable_turns n' e' x v i);
+  }
 
 -- ---- another iteration
 

@@ -93,6 +93,10 @@ later_parts n e (Then node then) = tail_parts n e then
 later_parts n e (Row var next then) = node_part n e next ∷ tail_parts n e then
 later_parts n e (Reached link) = links_parts n e (drop 1 (links_from link.value))
 
+-- it maps a row first, with this label
+abbrev pub BeginsWithRow : Label → Rests → Type 0
+BeginsWithRow l r = (n : ℕ) (e : End) → rests_parts n e r ≡ form_part n e (Variable l.var) l.excluded ∷ later_parts n e r
+
 -- the words of parts one after another
 abbrev pub chain_words : List WordsAndTurns → Mappings
 chain_words ps = sequence (map words_of ps)

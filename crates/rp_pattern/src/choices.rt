@@ -47,9 +47,9 @@ impl Choices {
     ghost use Rattle.rp_pattern.specs.Words.{words, preceded};
     ghost use Rattle.rp_pattern.specs.Turns.{turns};
     ghost use Rattle.rp_pattern.specs.PatternForm.{form_of};
-    ghost use Rattle.rp_pattern.specs.Rests.{tail_links};
+    ghost use Rattle.rp_pattern.specs.Rests.{tail_links, BeginsWithRow};
     ghost use Rattle.rp_pattern.specs.Splits.{StandsFor};
-    ghost use Rattle.rp_pattern.specs.Choices.{start_of, entered, first_later, whole, whole_left, remaining, left, below, below_left, after, after_left, HasTop, AtRow, IsFront, IsShorterFront, IsSameWhole, TakenAs, HasBegun};
+    ghost use Rattle.rp_pattern.specs.Choices.{start_of, entered, first_later, whole, whole_left, remaining, left, below, below_left, after, after_left, OfFirst, HasTop, AtRow, IsFront, IsShorterFront, IsSameWhole, TakenAs, HasBegun};
     ghost use Rattle.rp_pattern.specs.Outlooks.{words_ahead, turns_ahead, held_by};
 
     /// The words of the pattern from the start row on.
@@ -124,9 +124,53 @@ impl Choices {
         Ok(())
     }
 
-    /// Takes up the choice on the stack's top.
+    /// Takes up the choice on the stack's top. Rows come up most often, and go their own way.
     #[inline(always)]
     fn take_up_top(&mut self, n: u64, end: End) -> Result<Taken, AllocError>
+        requires rows { n < 2 ^ 64 - 1 }
+        requires begun { HasBegun self.old }
+        ensures whole { IsSameWhole self.old self.new }
+        ensures taken { IfOk result (TakenAs self.old self.new n end) }
+    {
+        let Some(choice) = self.stack.top() else {
+            return Ok(Taken::Nothing);
+        };
+        match choice.rests.label() {
+            Some(label) => self.take_row(label, n, end),
+            None => self.take_any(n, end),
+        }
+    }
+
+    /// Takes up the top choice, which maps a row first.
+    #[inline(always)]
+    fn take_row(&mut self, label: Label, n: u64, end: End) -> Result<Taken, AllocError>
+        requires rows { n < 2 ^ 64 - 1 }
+        requires begun { HasBegun self.old }
+        requires first { OfFirst (λ t. BeginsWithRow label t.rests) self.old.stack }
+        ensures whole { IsSameWhole self.old self.new }
+        ensures taken { IfOk result (TakenAs self.old self.new n end) }
+    {
+        let Some(choice) = self.stack.top() else {
+            unreachable!();
+        };
+        let depth = choice.depth;
+        self.labels.truncate(depth);
+        if self.start + depth as u64 <= n {
+            self.labels.push(label)?;
+            return Ok(Taken::Row);
+        }
+        match end {
+            End::Open => Ok(Taken::Open),
+            End::Closed => {
+                self.stack.drop_top();
+                Ok(Taken::Split)
+            }
+        }
+    }
+
+    /// Takes up the top choice, whatever it is.
+    #[inline(always)]
+    fn take_any(&mut self, n: u64, end: End) -> Result<Taken, AllocError>
         requires rows { n < 2 ^ 64 - 1 }
         requires begun { HasBegun self.old }
         ensures whole { IsSameWhole self.old self.new }

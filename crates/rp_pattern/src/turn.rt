@@ -1,9 +1,9 @@
 //! A choice taken up: the choices that it stands for.
-ghost use Rattle.std.specs.Prelude.{◌≡◌, ℕ, suc, ◌∷◌, ◌+◌, ◌-◌, ◌^◌, ◌<◌, ◌≤◌, ◌++◌, IfOk, OnOk, IsTrue, List, map, length, drop};
+ghost use Rattle.std.specs.Prelude.{◌≡◌, ℕ, suc, ◌∷◌, ◌+◌, ◌-◌, ◌^◌, ◌<◌, ◌≤◌, ◌++◌, IfOk, IfSome, OnOk, IsTrue, List, map, length, drop};
 ghost use Rattle.std.specs.List.{AllByRecursion};
 ghost use Rattle.rp_pattern.specs.declared.word.End.{End};
 ghost use Rattle.std.specs.Prelude.{Option};
-ghost use Rattle.rp_pattern.specs.Rests.{links_from, reached_parts, tail_parts, rests_parts, later_parts, form_part, node_part, iterations_part, permuted_form_parts, in_order, still, IsOneLess, IsSamePart, IsTimes, ComesUnchanged};
+ghost use Rattle.rp_pattern.specs.Rests.{links_from, reached_parts, tail_parts, rests_parts, later_parts, form_part, node_part, iterations_part, permuted_form_parts, in_order, still, IsOneLess, IsSamePart, IsTimes, ComesUnchanged, BeginsWithRow};
 ghost use Rattle.rp_pattern.specs.Turns.{WordsAndTurns};
 ghost use Rattle.rp_pattern.specs.Bounds.{is_allowed};
 ghost use Rattle.rp_pattern.specs.Variables.{all_true};
@@ -71,6 +71,22 @@ impl Split {
 }
 
 impl Rests {
+    /// The label of the row that it maps first, if it begins with a row.
+    #[inline(always)]
+    pub(crate) fn label(&self) -> Option<Label>
+        ensures { IfSome result (λ label. BeginsWithRow label self.now) }
+    {
+        let (var, excluded) = match self {
+            Rests::Row { var, next, then: _ } => (*var, next.excluded),
+            Rests::Then { node, then: _ } => match &*node.form {
+                Form::Variable(var) => (*var, node.excluded),
+                _ => return None,
+            },
+            _ => return None,
+        };
+        Some(Label { var, excluded })
+    }
+
     /// What is left at a row, taken up. What comes up most often is inlined, and all else apart.
     #[inline(always)]
     pub(crate) fn take_up(
@@ -84,13 +100,7 @@ impl Rests {
         ensures { IfOk result (TakenUp n end row (λ n e. rests_parts n e self.now) split.new) }
     {
         match self {
-            Rests::Row { var, next, then: _ } => {
-                return Ok(take_row(*var, next.excluded, row, n, end, split));
-            }
             Rests::Then { node, then } => match &*node.form {
-                Form::Variable(var) => {
-                    return Ok(take_row(*var, node.excluded, row, n, end, split));
-                }
                 Form::Concatenation(first, second) => {
                     node.take_concatenation(alloc, first, second, then, split)?;
                     return Ok(Turn::Split);
@@ -106,7 +116,7 @@ impl Rests {
                     return Ok(Turn::Split);
                 }
             }
-            Rests::Done => return Ok(Turn::Full),
+            _ => {}
         }
         let (turn, rare) = self.take_up_apart(alloc, row, n, end)?;
         *split = rare;

@@ -3,21 +3,6 @@ use Rattle.rp_pattern.specs.Rests.{form_part, rests_parts, node_part, tail_parts
 use Rattle.rp_pattern.proofs.Steps.{always_splits, splits_as, taken_as}
 use Rattle.rp_pattern.proofs.rests.Rests.take_up.Goals as goal
 
-pub returns-in-Row : goal.returns-in-Row
-returns-in-Row c =
-    let a = c.args in
-    let w = c.in-Row in
-    taken_as a.n a.end a.row _ (λ n e. rests_parts n e a.self.now) (λ n e. ap (rests_parts n e) (sym w.is)) c.take_row.new.split c.take_row.result
-    (c.take_row.ensures (λ n e. node_part n e w.next ∷ tail_parts n e w.then))
-
-pub returns-in-Variable : goal.returns-in-Variable
-returns-in-Variable c =
-    let a = c.args in
-    let w = c.in-Then in
-    taken_as a.n a.end a.row _ (λ n e. rests_parts n e a.self.now)
-    (λ n e. ap (λ f. form_part n e f w.node.excluded ∷ tail_parts n e w.then) (sym c.in-Variable.is ∙ c.deref.ensures) ∙ ap (rests_parts n e) (sym w.is)) c.take_row-in-Variable.new.split c.take_row-in-Variable.result
-    (c.take_row-in-Variable.ensures (λ n e. tail_parts n e w.then))
-
 pub returns-in-Concatenation : goal.returns-in-Concatenation
 returns-in-Concatenation c =
     let a = c.args in

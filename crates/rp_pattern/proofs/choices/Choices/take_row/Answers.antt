@@ -1,0 +1,69 @@
+use Rattle.std.proofs.Common.{◌≡◌, ◌∷◌, ◌++◌, ◌+◌, [], refl, sym, subst, ap, ◌∙◌, None, length, drop, IsTrue, arith}
+use Rattle.rp_pattern.specs.declared.turn.Split.{Split}
+use Rattle.rp_pattern.specs.declared.turn.Turn.TheVariants.{Row as RowTurn, Open as OpenTurn, Split as SplitTurn}
+use Rattle.rp_pattern.specs.Choices.{OfFirst}
+use Rattle.rp_pattern.specs.Rests.{BeginsWithRow, form_part, later_parts, rests_parts, rises}
+use Rattle.rp_pattern.specs.declared.form.Form.TheVariants.{Variable}
+use Rattle.rp_pattern.proofs.Stacks.{Stack, same_whole, is_open, is_split, maps_row}
+use Rattle.rp_pattern.proofs.Steps.{row_taken, row_waits, row_none, taken_as}
+use Rattle.rp_pattern.proofs.choices.Choices.take_row.Goals as goal
+
+pub returns-in_err-push-clause-whole : goal.returns-in_err-push-clause-whole
+returns-in_err-push-clause-whole c = same_whole _ _ refl refl
+
+pub returns-then-self-depth-clause-whole : goal.returns-then-self-depth-clause-whole
+returns-then-self-depth-clause-whole c = same_whole _ _ refl refl
+
+pub returns-then-self-depth-clause-taken : goal.returns-then-self-depth-clause-taken
+returns-then-self-depth-clause-taken c =
+    let a = c.args in
+    let l = a.label in
+    let old = a.self.now in
+    let t = c.in-Some.choice.now in
+    let cs = drop 1 old.stack in
+    let on = c.in-Some.ensures in
+    let k : Stack old old.start old.labels (t ∷ cs) = record { begun = c.requires.begun; start = refl; labels = refl; choices = on } in
+    let r : IsTrue (rises (length old.labels) (t ∷ cs)) = subst (λ z. IsTrue (rises (length old.labels) z)) on old.rises in
+    let begins : BeginsWithRow l t.rests = subst (OfFirst (λ t. BeginsWithRow l t.rests)) on c.requires.first in
+    let s : Split = record { preferred = None; other = None } in
+    let row = taken_as a.n a.end (old.start + t.depth) (λ n e. form_part n e (Variable l.var) l.excluded ∷ later_parts n e t.rests) (λ n e. rests_parts n e t.rests) (λ n e. sym (begins n e)) s (RowTurn l)
+        (row_taken a.n a.end (old.start + t.depth) l.var l.excluded (λ n e. later_parts n e t.rests) c.if-self-depth.true) in
+    maps_row old _ old.start old.labels t cs a.n a.end k r l (record { begun = c.requires.begun; start = refl; labels = c.in_ok-push.ensures.ok ∙ ap (λ z. z ++ l ∷ []) c.truncate.ensures; choices = on }) row
+
+pub returns-in-Open-clause-whole : goal.returns-in-Open-clause-whole
+returns-in-Open-clause-whole c = same_whole _ _ refl refl
+
+pub returns-in-Open-clause-taken : goal.returns-in-Open-clause-taken
+returns-in-Open-clause-taken c =
+    let a = c.args in
+    let l = a.label in
+    let old = a.self.now in
+    let t = c.in-Some.choice.now in
+    let cs = drop 1 old.stack in
+    let on = c.in-Some.ensures in
+    let k : Stack old old.start old.labels (t ∷ cs) = record { begun = c.requires.begun; start = refl; labels = refl; choices = on } in
+    let r : IsTrue (rises (length old.labels) (t ∷ cs)) = subst (λ z. IsTrue (rises (length old.labels) z)) on old.rises in
+    let begins : BeginsWithRow l t.rests = subst (OfFirst (λ t. BeginsWithRow l t.rests)) on c.requires.first in
+    let s : Split = record { preferred = None; other = None } in
+    let waits = taken_as a.n a.end (old.start + t.depth) (λ n e. form_part n e (Variable l.var) l.excluded ∷ later_parts n e t.rests) (λ n e. rests_parts n e t.rests) (λ n e. sym (begins n e)) s OpenTurn
+        (row_waits a.n a.end (old.start + t.depth) l.var l.excluded (λ n e. later_parts n e t.rests) c.if-self-depth.false c.in-Open.is) in
+    is_open old _ old.start old.labels t cs a.n a.end k r (record { begun = c.requires.begun; start = refl; labels = c.truncate.ensures; choices = on }) waits
+
+pub returns-in-Closed-clause-whole : goal.returns-in-Closed-clause-whole
+returns-in-Closed-clause-whole c = same_whole _ _ refl refl
+
+pub returns-in-Closed-clause-taken : goal.returns-in-Closed-clause-taken
+returns-in-Closed-clause-taken c =
+    let a = c.args in
+    let l = a.label in
+    let old = a.self.now in
+    let t = c.in-Some.choice.now in
+    let cs = drop 1 old.stack in
+    let on = c.in-Some.ensures in
+    let k : Stack old old.start old.labels (t ∷ cs) = record { begun = c.requires.begun; start = refl; labels = refl; choices = on } in
+    let r : IsTrue (rises (length old.labels) (t ∷ cs)) = subst (λ z. IsTrue (rises (length old.labels) z)) on old.rises in
+    let begins : BeginsWithRow l t.rests = subst (OfFirst (λ t. BeginsWithRow l t.rests)) on c.requires.first in
+    let s : Split = record { preferred = None; other = None } in
+    let none = taken_as a.n a.end (old.start + t.depth) (λ n e. form_part n e (Variable l.var) l.excluded ∷ later_parts n e t.rests) (λ n e. rests_parts n e t.rests) (λ n e. sym (begins n e)) s SplitTurn
+        (row_none a.n a.end (old.start + t.depth) l.var l.excluded (λ n e. later_parts n e t.rests) s refl c.if-self-depth.false c.in-Closed.is) in
+    is_split old _ old.start old.labels t cs a.n a.end k r s (record { begun = c.requires.begun; start = refl; labels = c.truncate.ensures; choices = c.drop_top.ensures }) none
