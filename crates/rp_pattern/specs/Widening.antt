@@ -13,4 +13,4 @@ pub record IsWidening {T : Type 0} (list wider : Vec T Global) : Type 0 where
   pub front : IsFrontIn wider.items list.items
   pub twice : 0 < vec_capacity wider → 2 * vec_capacity list ≤ vec_capacity wider
   pub in_time : 0 < vec_capacity wider → 2 * length list.items ≤ vec_capacity list + length wider.items
-  pub short : vec_capacity wider ≡ 0 → vec_capacity list ≤ 2048
+  pub short : vec_capacity wider ≡ 0 → vec_capacity list ≤ 8192

@@ -12,7 +12,7 @@ use std::mem::replace;
 const FIRST_ROOM: usize = 16;
 
 /// At most so many labels are moved at once.
-const MOVED_AT_ONCE: usize = 2048;
+const MOVED_AT_ONCE: usize = 8192;
 
 /// Labels one after another in memory. While more than a few are kept, each one that is added has two copied to a wider
 /// list, which takes the place of the list when that is full. So no push has to move them all.

@@ -674,10 +674,7 @@ impl Iterations {
     {
         let another = Some(before(&self.body.form, self.body.excluded, again)?);
         if self.reluctant {
-            *split = Split {
-                preferred: stop,
-                other: another,
-            };
+            stop_first(stop, another, split);
             return Ok(());
         }
         *split = Split {
@@ -686,4 +683,15 @@ impl Iterations {
         };
         Ok(())
     }
+}
+
+/// To stop, and below it another iteration. It stands apart, so that greedy iterations make no choice between the two orders.
+#[inline(never)]
+fn stop_first(stop: Option<Rests>, another: Option<Rests>, split: &mut Split)
+    ensures { split.new ≡ record { preferred = stop; other = another } }
+{
+    *split = Split {
+        preferred: stop,
+        other: another,
+    };
 }
