@@ -245,19 +245,19 @@ fn take_times(
     ensures { OnOk result (AlwaysSplits row (λ n e. reached_parts n e (links_from link.now.value)) split.new) }
 {
     if comes_again(link, lower, iterations) {
-        return take_again(link, lower, iterations, row, split);
+        return take_again(link, lower, iterations, iterations.reluctant, row, split);
     }
     iterations.take_up(alloc, lower, &link.then, row, split)
 }
 
-/// Whether they are iterations of which it is known that the same may come after each. If so, they are taken up.
+/// Whether they are greedy iterations of which it is known that the same may come after each. If so, they are taken up.
 #[inline(always)]
 fn try_again(link: &Rc<Link>, row: u64, split: &mut Split) -> Result<bool, AllocError>
     ensures { IfOk result (λ again. IsTrue again → AlwaysSplits row (λ n e. reached_parts n e (links_from link.now.value)) split.new) }
 {
     if let Part::Times { lower, iterations } = &link.part {
-        if comes_again(link, *lower, iterations) {
-            take_again(link, *lower, iterations, row, split)?;
+        if !iterations.reluctant && comes_again(link, *lower, iterations) {
+            take_again(link, *lower, iterations, false, row, split)?;
             return Ok(true);
         }
     }
@@ -270,15 +270,17 @@ fn take_again(
     link: &Rc<Link>,
     lower: u32,
     iterations: &Iterations,
+    reluctant: bool,
     row: u64,
     split: &mut Split,
 ) -> Result<(), AllocError>
     requires times { IsTimes lower iterations.now link.now.value }
     requires again { ComesUnchanged lower iterations.now link.now.value }
+    requires reluctant { reluctant ≡ iterations.now.reluctant }
     ensures { OnOk result (AlwaysSplits row (λ n e. reached_parts n e (links_from link.now.value)) split.new) }
 {
     let stop = follow(&link.then, row)?;
-    iterations.another_or(Some(link.clone()?), stop, split)
+    iterations.another_or(reluctant, Some(link.clone()?), stop, split)
 }
 
 /// Whether it is known that the same may come after each iteration.
@@ -639,7 +641,7 @@ impl Iterations {
         ensures { OnOk result (AlwaysSplits row (λ n e. iterations_part n e 0 self.now ∷ tail_parts n e then.now) split.new) }
     {
         let again = self.again(alloc, further, then, row)?;
-        self.another_or(again, stop, split)
+        self.another_or(self.reluctant, again, stop, split)
     }
 
     /// What comes after another iteration: `further` ones may follow, if it has taken a row.
@@ -666,15 +668,20 @@ impl Iterations {
     #[inline(always)]
     fn another_or(
         &self,
+        reluctant: bool,
         again: Tail,
         stop: Option<Rests>,
         split: &mut Split,
     ) -> Result<(), AllocError>
+        requires { reluctant ≡ self.now.reluctant }
         ensures { OnOk result ((row : ℕ) (n : ℕ) (e : End) (further : Option ℕ) (ts : List WordsAndTurns) → IsOneLess self.now.further further → ComesAgain n e row self.now further ts (tail_parts n e again) → StandsFor n e row ts stop → SplitsAt n e row (iterations_part n e 0 self.now ∷ ts) split.new) }
     {
         let another = Some(before(&self.body.form, self.body.excluded, again)?);
-        if self.reluctant {
-            stop_first(stop, another, split);
+        if reluctant {
+            *split = Split {
+                preferred: stop,
+                other: another,
+            };
             return Ok(());
         }
         *split = Split {
@@ -683,15 +690,4 @@ impl Iterations {
         };
         Ok(())
     }
-}
-
-/// To stop, and below it another iteration. It stands apart, so that greedy iterations make no choice between the two orders.
-#[inline(never)]
-fn stop_first(stop: Option<Rests>, another: Option<Rests>, split: &mut Split)
-    ensures { split.new ≡ record { preferred = stop; other = another } }
-{
-    *split = Split {
-        preferred: stop,
-        other: another,
-    };
 }
