@@ -95,11 +95,7 @@ impl LabelList {
 /// Makes room for another label where the list is full.
 #[cold]
 #[inline(never)]
-fn widen(
-    alloc: Global,
-    list: &mut Vec<Label>,
-    wider: &mut Vec<Label>,
-) -> Result<(), AllocError>
+fn widen(alloc: Global, list: &mut Vec<Label>, wider: &mut Vec<Label>) -> Result<(), AllocError>
     requires full { length list.old.items ≡ vec_capacity list.old }
     requires widening { IsWidening list.old wider.old }
     ensures same { list.new.items ≡ list.old.items }
@@ -152,3 +148,6 @@ fn copy_next(list: &[Label], wider: &mut Vec<Label>)
         wider.push_reserved(list[next]);
     }
 }
+
+#[cfg(test)]
+mod tests;

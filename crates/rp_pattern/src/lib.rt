@@ -20,6 +20,7 @@ pub use laws::{law_labels, law_words};
 pub use list::{ListFault, list_words};
 pub use orders::permutations;
 pub use outlook::{Outlook, Sight};
+pub use stack::Stack;
 pub use word::{End, Label, Mark, Seen, Word};
 
 #[cfg(test)]

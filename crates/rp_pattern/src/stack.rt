@@ -11,8 +11,10 @@ const FIRST_ROOM: usize = 32;
 
 /// A stack in blocks, each with twice the room of the one below it. No push moves what the stack holds, so none takes
 /// longer where it holds more. Seen as a list, the top comes first.
+///
+/// After pushes of 1 and 2, `pop` gives 2 and then 1.
 #[derive(Drop)]
-pub(crate) struct Stack<T> {
+pub struct Stack<T> {
     alloc: Global,
     /// The highest elements, the top one last. It is empty only where the stack is.
     block: Vec<T>,
@@ -32,7 +34,7 @@ impl<T> Model for Stack<T> {
 
 impl<T: Drop> Stack<T> {
     /// No elements. It takes no memory.
-    pub(crate) fn new(alloc: Global) -> Stack<T>
+    pub fn new(alloc: Global) -> Stack<T>
         ensures { result ≡ [] }
     {
         Stack {
@@ -45,22 +47,22 @@ impl<T: Drop> Stack<T> {
 
     /// The top element.
     #[inline(always)]
-    pub(crate) fn top(&self) -> Option<&T>
+    pub fn top(&self) -> Option<&T>
         ensures { MatchOption result (self.now ≡ []) (λ top. self.now ≡ top.now ∷ drop 1 self.now) }
     {
         self.block.last()
     }
 
     /// Whether there are no elements.
-    pub(crate) fn is_empty(&self) -> bool
+    pub fn is_empty(&self) -> bool
         ensures { result ≡ (length self.now == 0) }
     {
-        self.block.is_empty()
+        self.top().is_none()
     }
 
     /// Puts another element in the top one's place.
     #[inline(always)]
-    pub(crate) fn set_top(&mut self, element: T)
+    pub fn set_top(&mut self, element: T)
         requires { 0 < length self.old }
         ensures { self.new ≡ element ∷ drop 1 self.old }
     {
@@ -68,9 +70,9 @@ impl<T: Drop> Stack<T> {
         self.block[last] = element;
     }
 
-    /// Puts an element on top.
+    /// Puts an element on top. Where memory is refused the element is dropped, and the stack is as before.
     #[inline(always)]
-    pub(crate) fn push(&mut self, element: T) -> Result<(), AllocError>
+    pub fn push(&mut self, element: T) -> Result<(), AllocError>
         ensures ok { OnOk result (self.new ≡ element ∷ self.old) }
         ensures err { OnErr result (self.new ≡ self.old) }
     {
@@ -105,7 +107,7 @@ impl<T: Drop> Stack<T> {
 
     /// Takes the top element away.
     #[inline(always)]
-    pub(crate) fn pop(&mut self) -> Option<T>
+    pub fn pop(&mut self) -> Option<T>
         ensures rest { self.new ≡ drop 1 self.old }
         ensures top { MatchOption result (self.old ≡ []) (λ top. self.old ≡ top ∷ drop 1 self.old) }
     {
@@ -118,14 +120,14 @@ impl<T: Drop> Stack<T> {
 
     /// Drops the top element, if there is one.
     #[inline(always)]
-    pub(crate) fn drop_top(&mut self)
+    pub fn drop_top(&mut self)
         ensures { self.new ≡ drop 1 self.old }
     {
         let _ = self.pop();
     }
 
     /// Drops all elements.
-    pub(crate) fn clear(&mut self)
+    pub fn clear(&mut self)
         ensures { self.new ≡ [] }
     {
         self.block.clear();
@@ -147,3 +149,6 @@ fn go_below<T: Drop>(block: &mut Vec<T>, below: &mut Vec<Vec<T>>, above: &mut Ve
         *above = replace(block, lower);
     }
 }
+
+#[cfg(test)]
+mod tests;

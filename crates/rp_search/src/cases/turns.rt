@@ -1,5 +1,6 @@
 //! How many turns a search takes. Each choice that is taken up is one: where parts are joined or chosen from, a row, a
-//! place that takes none, a whole word, and that nothing is left.
+//! place that takes none, a whole word, and that nothing is left. Where a part that begins with a variable is chosen,
+//! excluded or repeated, its row is the next choice, and joining it takes none.
 
 use super::grid::Grid;
 use super::script::{MANY, a, any, b, both, either, excluded, many, permuted, play};
@@ -72,6 +73,9 @@ fn turns_of_quantifiers(rt: HostRuntime) -> Result<(), Fail> {
         turns(alloc, any(alloc, a())?, &[], &[], 2, End::Closed)?,
         7
     );
+    // Another iteration or none, A, B, another or none, an A past the last row, the word.
+    let pairs = any(alloc, both(alloc, a(), b())?)?;
+    assert_eq!(rt; turns(alloc, pairs, &[], &[], 2, End::Closed)?, 6);
     // A required iteration and its row, twice, another or none, the word.
     let some = many(alloc, a(), 2, Some(3), true)?;
     assert_eq!(rt; turns(alloc, some, &[], &[], 3, End::Closed)?, 6);
@@ -109,9 +113,9 @@ fn turns_behind_an_open_test(rt: HostRuntime) -> Result<(), Fail> {
     // Joined, A, whose test is open, B past the known row.
     let form = both(alloc, a(), b())?;
     assert_eq!(rt; turns(alloc, form, &FIRST_OPEN, &[], 1, End::Open)?, 3);
-    // Chosen from, joined, A, the start, which isn't there, B in place of finding nothing behind A, the word.
+    // Chosen from, A, the start, which isn't there, B in place of finding nothing behind A, the word.
     let form = either(alloc, both(alloc, a(), Form::PartitionStart)?, b())?;
-    assert_eq!(rt; turns(alloc, form, &FIRST_OPEN, &[], 1, End::Open)?, 6);
+    assert_eq!(rt; turns(alloc, form, &FIRST_OPEN, &[], 1, End::Open)?, 5);
     // Joined, A, whose test is open, joined, B, B, a word behind it.
     let form = both(alloc, a(), both(alloc, b(), b())?)?;
     assert_eq!(rt; turns(alloc, form, &FIRST_OPEN, &[], 3, End::Open)?, 6);

@@ -1,4 +1,4 @@
-use Rattle.std.proofs.Common.{◌≡◌, ◌∷◌, refl, sym, subst, length, drop, IsTrue, ◌∙◌, ap, ◌+◌, arith}
+use Rattle.std.proofs.Common.{◌≡◌, refl, sym, subst, length, drop, IsTrue, ◌∙◌, ap, ◌+◌}
 use Rattle.rp_pattern.specs.Choices.{entered, first_later}
 use Rattle.rp_pattern.specs.Rests.{rises, pushed, later_parts}
 use Rattle.rp_pattern.specs.Splits.{StandsFor}

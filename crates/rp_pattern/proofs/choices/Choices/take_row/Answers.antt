@@ -1,4 +1,4 @@
-use Rattle.std.proofs.Common.{◌≡◌, ◌∷◌, ◌++◌, ◌+◌, [], refl, sym, subst, ap, ◌∙◌, None, length, drop, IsTrue, arith}
+use Rattle.std.proofs.Common.{◌∷◌, ◌++◌, ◌+◌, [], refl, sym, subst, ap, ◌∙◌, None, length, drop, IsTrue}
 use Rattle.rp_pattern.specs.declared.turn.Split.{Split}
 use Rattle.rp_pattern.specs.declared.turn.Turn.TheVariants.{Row as RowTurn, Open as OpenTurn, Split as SplitTurn}
 use Rattle.rp_pattern.specs.Choices.{OfFirst}
@@ -27,7 +27,7 @@ returns-then-self-depth-clause-taken c =
     let begins : BeginsWithRow l t.rests = subst (OfFirst (λ t. BeginsWithRow l t.rests)) on c.requires.first in
     let s : Split = record { preferred = None; other = None } in
     let row = taken_as a.n a.end (old.start + t.depth) (λ n e. form_part n e (Variable l.var) l.excluded ∷ later_parts n e t.rests) (λ n e. rests_parts n e t.rests) (λ n e. sym (begins n e)) s (RowTurn l)
-        (row_taken a.n a.end (old.start + t.depth) l.var l.excluded (λ n e. later_parts n e t.rests) c.if-self-depth.true) in
+    (row_taken a.n a.end (old.start + t.depth) l.var l.excluded (λ n e. later_parts n e t.rests) c.if-self-depth.true) in
     maps_row old _ old.start old.labels t cs a.n a.end k r l (record { begun = c.requires.begun; start = refl; labels = c.in_ok-push.ensures.ok ∙ ap (λ z. z ++ l ∷ []) c.truncate.ensures; choices = on }) row
 
 pub returns-in-Open-clause-whole : goal.returns-in-Open-clause-whole
@@ -46,7 +46,7 @@ returns-in-Open-clause-taken c =
     let begins : BeginsWithRow l t.rests = subst (OfFirst (λ t. BeginsWithRow l t.rests)) on c.requires.first in
     let s : Split = record { preferred = None; other = None } in
     let waits = taken_as a.n a.end (old.start + t.depth) (λ n e. form_part n e (Variable l.var) l.excluded ∷ later_parts n e t.rests) (λ n e. rests_parts n e t.rests) (λ n e. sym (begins n e)) s OpenTurn
-        (row_waits a.n a.end (old.start + t.depth) l.var l.excluded (λ n e. later_parts n e t.rests) c.if-self-depth.false c.in-Open.is) in
+    (row_waits a.n a.end (old.start + t.depth) l.var l.excluded (λ n e. later_parts n e t.rests) c.if-self-depth.false c.in-Open.is) in
     is_open old _ old.start old.labels t cs a.n a.end k r (record { begun = c.requires.begun; start = refl; labels = c.truncate.ensures; choices = on }) waits
 
 pub returns-in-Closed-clause-whole : goal.returns-in-Closed-clause-whole
@@ -65,5 +65,5 @@ returns-in-Closed-clause-taken c =
     let begins : BeginsWithRow l t.rests = subst (OfFirst (λ t. BeginsWithRow l t.rests)) on c.requires.first in
     let s : Split = record { preferred = None; other = None } in
     let none = taken_as a.n a.end (old.start + t.depth) (λ n e. form_part n e (Variable l.var) l.excluded ∷ later_parts n e t.rests) (λ n e. rests_parts n e t.rests) (λ n e. sym (begins n e)) s SplitTurn
-        (row_none a.n a.end (old.start + t.depth) l.var l.excluded (λ n e. later_parts n e t.rests) s refl c.if-self-depth.false c.in-Closed.is) in
+    (row_none a.n a.end (old.start + t.depth) l.var l.excluded (λ n e. later_parts n e t.rests) s refl c.if-self-depth.false c.in-Closed.is) in
     is_split old _ old.start old.labels t cs a.n a.end k r s (record { begun = c.requires.begun; start = refl; labels = c.truncate.ensures; choices = c.drop_top.ensures }) none

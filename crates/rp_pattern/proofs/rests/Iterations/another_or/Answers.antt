@@ -1,4 +1,4 @@
-use Rattle.std.proofs.Common.{Some, sym, ◌∙◌}
+use Rattle.std.proofs.Common.{sym, ◌∙◌}
 use Rattle.rp_pattern.specs.Rests.{tail_parts}
 use Rattle.rp_pattern.proofs.Steps.{replaces, greedy_splits, lazy_splits}
 use Rattle.rp_pattern.proofs.rests.Iterations.another_or.Goals as goal

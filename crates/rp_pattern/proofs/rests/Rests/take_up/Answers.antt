@@ -1,6 +1,6 @@
-use Rattle.std.proofs.Common.{◌∷◌, ap, sym, ◌∙◌}
-use Rattle.rp_pattern.specs.Rests.{form_part, rests_parts, node_part, tail_parts}
-use Rattle.rp_pattern.proofs.Steps.{always_splits, splits_as, taken_as}
+use Rattle.std.proofs.Common.{ap, sym}
+use Rattle.rp_pattern.specs.Rests.{rests_parts}
+use Rattle.rp_pattern.proofs.Steps.{always_splits, splits_as}
 use Rattle.rp_pattern.proofs.rests.Rests.take_up.Goals as goal
 
 pub returns-in-Concatenation : goal.returns-in-Concatenation
