@@ -22,11 +22,11 @@ weight_in (Some o) = held_by o + 1
 
 -- so many choices of outlooks a search keeps, needed or not
 unfoldable pub kept_by : Search → ℕ
-kept_by s = held_in s.outlook + held_together s.spent.items
+kept_by s = held_in s.outlook + held_together s.spent
 
 -- what it has put aside, as it isn't needed any more
 unfoldable pub spent_of : Search → ℕ
-spent_of s = weight s.spent.items
+spent_of s = weight s.spent
 
 -- what it may put aside when its test is decided
 unfoldable pub in_use : Search → ℕ

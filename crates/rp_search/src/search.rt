@@ -14,7 +14,7 @@ use crate::asking::{enter_row, follow, settle};
 use crate::conditions::Tests;
 use crate::steps::Steps;
 use explore::shed;
-use rp_pattern::{Choices, Label, Outlook, Pattern, Seen, Taken};
+use rp_pattern::{Choices, Label, Outlook, Pattern, Seen, Stack, Taken};
 use std::alloc::{AllocError, Global};
 use std::sync::ledger::Ledger;
 
@@ -42,7 +42,7 @@ pub struct Search {
     /// such a word is the search undecided.
     outlook: Option<Outlook>,
     /// Outlooks that a decided test has made needless. Each turn drops one of their choices.
-    spent: Vec<Outlook>,
+    spent: Stack<Outlook>,
 }
 
 #[tactic(auto, unfolding(crate::specs::Fits::start_of_search, crate::specs::Fits::labels_of_search, crate::specs::Fits::pattern_words, crate::specs::Fits::most_turns, crate::specs::Fits::left_of, crate::specs::Fits::ChoicesStand, crate::specs::Fits::LabelsStand, crate::specs::Spent::kept_by, crate::specs::Spent::spent_of, crate::specs::Spent::in_use))]
@@ -64,7 +64,7 @@ impl Search {
         Ok(Search {
             choices: Choices::new(alloc, pattern, start)?,
             outlook: None,
-            spent: Vec::new(alloc),
+            spent: Stack::new(alloc),
         })
     }
 
@@ -236,7 +236,7 @@ impl Search {
         ensures drops { OnOk result (kept_by self.old ≤ kept_by self.new + 2) }
         ensures spent { OnOk result (spent_of self.new ≤ spent_of self.old - 1) }
     {
-        shed(&mut self.spent);
+        shed(&mut self.spent)?;
         // To take an outlook out moves it, so most turns only look whether there is one.
         if self.outlook.is_none() {
             return self.take_up(tests);

@@ -6,7 +6,7 @@ ghost use Rattle.rp_search.specs.Spent.{held_in, held_together, weight};
 use super::{Outcome, Search};
 use crate::asking::follow;
 use crate::conditions::Tests;
-use rp_pattern::{Outlook, Sight};
+use rp_pattern::{Outlook, Sight, Stack};
 use std::alloc::AllocError;
 
 #[tactic(auto, unfolding(crate::specs::Fits::start_of_search, crate::specs::Fits::labels_of_search, crate::specs::Fits::pattern_words, crate::specs::Fits::most_turns, crate::specs::Fits::left_of, crate::specs::Fits::ChoicesStand, crate::specs::Fits::LabelsStand))]
@@ -59,15 +59,18 @@ impl Search {
 }
 
 /// Drops one choice of the outlooks that aren't needed any more. So no turn drops all that was explored.
-pub(super) fn shed(spent: &mut Vec<Outlook>)
-    ensures one { held_together spent.old.items ≤ held_together spent.new.items + 1 }
-    ensures none { held_together spent.new.items ≤ held_together spent.old.items }
-    ensures less { weight spent.new.items ≤ weight spent.old.items - 1 }
+pub(super) fn shed(spent: &mut Stack<Outlook>) -> Result<(), AllocError>
+    ensures one { OnOk result (held_together spent.old ≤ held_together spent.new + 1) }
+    ensures none { OnOk result (held_together spent.new ≤ held_together spent.old) }
+    ensures less { OnOk result (weight spent.new ≤ weight spent.old - 1) }
 {
-    let Some(last) = spent.last_mut() else {
-        return;
-    };
-    if !last.drop_one() {
-        spent.pop();
+    if spent.is_empty() {
+        return Ok(());
     }
+    if let Some(mut last) = spent.pop() {
+        if last.drop_one() {
+            spent.push(last)?;
+        }
+    }
+    Ok(())
 }
