@@ -1,21 +1,22 @@
-use Rattle.std.proofs.Common.{rules, ◌≡◌, ◌++◌, ap, ◌∙◌}
+use Rattle.std.proofs.Common.{rules, ◌≡◌, ◌++◌, refl, ap, ◌∙◌}
 use Rattle.rp_pattern.specs.PatternForm.{form_of}
+use Rattle.rp_lines.specs.Devices.{after_calls}
 use Rattle.rp_lines.specs.Pending.{coming}
 use Rattle.rp_trace.specs.Replies.{last_reply, reply_to}
 use Rattle.rp_lines.proofs.Cutting.{on_err_from}
 use Rattle.rp_trace.proofs.Replied.{AppendsFront-none, Replied-start, Replied-more, Replied-moved, Replied-last, Replied-end, Replied-fault}
-use Rattle.rp_lines.proofs.Giving.{GivesEach-trans}
+use Rattle.rp_lines.proofs.Giving.{GivesEach-start, GivesEach-trans}
 use Rattle.rp_trace.proofs.trace.run_trace.Goals as goal
 
 pub loop-text-init : goal.loop-text-init
 loop-text-init g c = record {
   replied = Replied-start (form_of c.args.pattern.now) (g.R.Intake.remaining c.args.reader.now) (g.W.Outlet.contents c.args.writer.now) _ c.new-text.result.items c.new-lines.ensures.pending c.new-text.ensures.items;
-  kept = search rules;
-  read = search rules;
-  write = search rules;
-  ended = search rules;
-  gives = search rules;
-  calls = search rules;
+  kept = c.new-lines.ensures.kept;
+  read = refl;
+  write = refl;
+  ended = refl;
+  gives = rw c.new-lines.ensures.turns (GivesEach-start c.args.turns (g.R.Intake.remaining c.args.reader.now));
+  calls = ap (λ turns. after_calls turns (g.R.Intake.calls c.args.reader.now)) c.new-lines.ensures.turns;
 }
 
 pub returns-in_err-next-clause-front : goal.returns-in_err-next-clause-front
@@ -40,12 +41,12 @@ loop-text-preserved g c =
     let more = Replied-more form input (coming c.loop-text.lines (g.R.Intake.remaining c.loop-text.reader)) next contents now c.loop-text.text.items c.push_reply.new.text.items c.next.new.line.items c.loop-text.invariant.replied takes text in
     record {
       replied = Replied-moved form input next contents now (g.W.Outlet.contents c.write_block.new.writer) c.push_reply.new.text.items c.write_block.new.text.items more c.in_ok-write_block.ensures.ok;
-      kept = search rules;
-      read = search rules;
-      write = search rules;
-      ended = search rules;
+      kept = c.in_ok-next.ensures.kept ∙ c.loop-text.invariant.kept;
+      read = c.in_ok-next.ensures.goes ∙ c.loop-text.invariant.read;
+      write = c.in_ok-write_block.ensures.goes ∙ c.loop-text.invariant.write;
+      ended = c.in_ok-next.ensures.more (search rules) ∙ c.loop-text.invariant.ended;
       gives = GivesEach-trans _ _ _ _ _ _ c.loop-text.invariant.gives (c.in_ok-next.ensures.gives (search rules));
-      calls = search rules;
+      calls = c.in_ok-next.ensures.calls ∙ c.loop-text.invariant.calls;
     }
 
 pub returns-in_err-write_block-clause-front : goal.returns-in_err-write_block-clause-front
