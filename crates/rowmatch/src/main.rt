@@ -3,18 +3,11 @@
 
 mod command;
 mod fault;
-mod grammar;
-mod letters;
-mod lines;
-mod matching;
-mod port;
-mod trace;
 
 use crate::command::{Job, not_utf8, read_command};
 use crate::fault::ProgramFault;
-use crate::grammar::trace_pattern;
-use crate::port::Port;
-use crate::trace::{TURNS, run_trace};
+use rp_lines::Port;
+use rp_trace::{TURNS, run_trace, trace_pattern};
 use std::process::ExitCode;
 use std::rt::Env;
 use std::{env, io};
@@ -70,7 +63,5 @@ fn unread(rt: &HostRuntime, error: &io::Error) -> ProgramFault {
     }
 }
 
-#[cfg(test)]
-mod memory;
 #[cfg(test)]
 mod tests;

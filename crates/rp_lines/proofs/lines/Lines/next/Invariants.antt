@@ -1,0 +1,20 @@
+use Rattle.std.proofs.Common.{◌≡◌, ◌≤◌, vec_len}
+use Rattle.rp_lines.specs.Devices.{GivesEach, after_calls}
+use Rattle.rp_lines.specs.Pending.{coming, left_in}
+use Rattle.rp_lines.proofs.Cutting.{ReadFront}
+use Rattle.rp_lines.proofs.lines.Lines.next.Given as goal
+
+abbrev pub invariant-loop-self : goal.invariant-loop-self
+invariant-loop-self g l = record {
+  read : ReadFront l.fn.self.kept (coming l.fn.self (g.R.Intake.remaining l.fn.reader)) (coming l.self (g.R.Intake.remaining l.reader)) l.line.items;
+  fits : vec_len l.line ≤ l.self.kept;
+  kept : l.self.kept ≡ l.fn.self.kept;
+  goes : g.R.Intake.failures l.reader ≡ g.R.Intake.failures l.fn.reader;
+  calls : after_calls l.self.turns (g.R.Intake.calls l.reader) ≡ after_calls l.fn.self.turns (g.R.Intake.calls l.fn.reader);
+  ended : g.R.Intake.ended l.reader ≡ g.R.Intake.ended l.fn.reader;
+  gives : GivesEach l.fn.self.turns l.self.turns (g.R.Intake.remaining l.fn.reader) (g.R.Intake.remaining l.reader);
+  left : left_in l.self ≤ left_in l.fn.self;
+}
+
+abbrev pub decreases-loop-self : goal.decreases-loop-self
+decreases-loop-self g l = l.self.turns

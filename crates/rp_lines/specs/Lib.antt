@@ -1,0 +1,4 @@
+pub mod Counts
+pub mod Devices
+pub mod Lines
+pub mod Pending

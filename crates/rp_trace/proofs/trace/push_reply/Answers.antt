@@ -1,0 +1,9 @@
+use Rattle.std.proofs.Common.{[], ◌∷◌, ◌++◌, ◌∙◌, ap, append_assoc}
+use Rattle.rp_pattern.specs.PatternForm.{form_of}
+use Rattle.rp_trace.specs.Replies.{reply_text}
+use Rattle.rp_trace.proofs.trace.push_reply.Goals as goal
+
+pub returns : goal.returns
+returns c =
+    c.in_ok-push.ensures.items ∙ ap (λ text. text ++ 10 ∷ []) c.in_ok-push_answer.ensures
+    ∙ append_assoc c.args.text.now.items (reply_text (form_of c.args.pattern.now) c.args.line.now) (10 ∷ [])

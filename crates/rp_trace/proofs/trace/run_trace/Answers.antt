@@ -1,0 +1,88 @@
+use Rattle.std.proofs.Common.{rules, ◌≡◌, ◌++◌, refl, ap, ◌∙◌}
+use Rattle.rp_pattern.specs.PatternForm.{form_of}
+use Rattle.rp_lines.specs.Devices.{after_calls}
+use Rattle.rp_lines.specs.Pending.{coming}
+use Rattle.rp_trace.specs.Replies.{last_reply, reply_to}
+use Rattle.rp_lines.proofs.Cutting.{on_err_from}
+use Rattle.rp_trace.proofs.Replied.{AppendsFront-none, Replied-start, Replied-more, Replied-moved, Replied-last, Replied-end, Replied-fault}
+use Rattle.rp_lines.proofs.Giving.{GivesEach-start, GivesEach-trans}
+use Rattle.rp_trace.proofs.trace.run_trace.Goals as goal
+
+pub loop-text-init : goal.loop-text-init
+loop-text-init g c = record {
+  replied = Replied-start (form_of c.args.pattern.now) (g.R.Intake.remaining c.args.reader.now) (g.W.Outlet.contents c.args.writer.now) _ c.new-text.result.items c.new-lines.ensures.pending c.new-text.ensures.items;
+  kept = c.new-lines.ensures.kept;
+  read = refl;
+  write = refl;
+  ended = refl;
+  gives = rw c.new-lines.ensures.turns (GivesEach-start c.args.turns (g.R.Intake.remaining c.args.reader.now));
+  calls = ap (λ turns. after_calls turns (g.R.Intake.calls c.args.reader.now)) c.new-lines.ensures.turns;
+}
+
+pub returns-in_err-next-clause-front : goal.returns-in_err-next-clause-front
+returns-in_err-next-clause-front g c =
+    on_err_from _ (Replied-fault (form_of c.args.pattern.now) (g.R.Intake.remaining c.args.reader.now) (coming c.loop-text.lines (g.R.Intake.remaining c.loop-text.reader)) (g.W.Outlet.contents c.args.writer.now)
+    (g.W.Outlet.contents c.loop-text.writer) (g.W.Outlet.contents c.loop-text.writer) c.loop-text.text.items c.loop-text.invariant.replied (AppendsFront-none (g.W.Outlet.contents c.loop-text.writer) c.loop-text.text.items))
+
+pub returns-in_err-push_reply-clause-front : goal.returns-in_err-push_reply-clause-front
+returns-in_err-push_reply-clause-front g c =
+    on_err_from _ (Replied-fault (form_of c.args.pattern.now) (g.R.Intake.remaining c.args.reader.now) (coming c.loop-text.lines (g.R.Intake.remaining c.loop-text.reader)) (g.W.Outlet.contents c.args.writer.now)
+    (g.W.Outlet.contents c.loop-text.writer) (g.W.Outlet.contents c.loop-text.writer) c.loop-text.text.items c.loop-text.invariant.replied (AppendsFront-none (g.W.Outlet.contents c.loop-text.writer) c.loop-text.text.items))
+
+pub loop-text-preserved : goal.loop-text-preserved
+loop-text-preserved g c =
+    let form = form_of c.args.pattern.now in
+    let input = g.R.Intake.remaining c.args.reader.now in
+    let contents = g.W.Outlet.contents c.args.writer.now in
+    let next = coming c.next.new.self (g.R.Intake.remaining c.next.new.reader) in
+    let now = g.W.Outlet.contents c.loop-text.writer in
+    let takes = rw c.loop-text.invariant.kept at c.in_ok-next.ensures.line (search rules) in
+    let text : c.push_reply.new.text.items ≡ c.loop-text.text.items ++ reply_to form c.next.new.line.items = c.in_ok-push_reply.ensures ∙ ap (λ t. c.loop-text.text.items ++ reply_to form t) c.as_slice.ensures.value in
+    let more = Replied-more form input (coming c.loop-text.lines (g.R.Intake.remaining c.loop-text.reader)) next contents now c.loop-text.text.items c.push_reply.new.text.items c.next.new.line.items c.loop-text.invariant.replied takes text in
+    record {
+      replied = Replied-moved form input next contents now (g.W.Outlet.contents c.write_block.new.writer) c.push_reply.new.text.items c.write_block.new.text.items more c.in_ok-write_block.ensures.ok;
+      kept = c.in_ok-next.ensures.kept ∙ c.loop-text.invariant.kept;
+      read = c.in_ok-next.ensures.goes ∙ c.loop-text.invariant.read;
+      write = c.in_ok-write_block.ensures.goes ∙ c.loop-text.invariant.write;
+      ended = c.in_ok-next.ensures.more (search rules) ∙ c.loop-text.invariant.ended;
+      gives = GivesEach-trans _ _ _ _ _ _ c.loop-text.invariant.gives (c.in_ok-next.ensures.gives (search rules));
+      calls = c.in_ok-next.ensures.calls ∙ c.loop-text.invariant.calls;
+    }
+
+pub returns-in_err-write_block-clause-front : goal.returns-in_err-write_block-clause-front
+returns-in_err-write_block-clause-front g c =
+    let form = form_of c.args.pattern.now in
+    let input = g.R.Intake.remaining c.args.reader.now in
+    let contents = g.W.Outlet.contents c.args.writer.now in
+    let next = coming c.next.new.self (g.R.Intake.remaining c.next.new.reader) in
+    let now = g.W.Outlet.contents c.loop-text.writer in
+    let takes = rw c.loop-text.invariant.kept at c.in_ok-next.ensures.line (search rules) in
+    let text : c.push_reply.new.text.items ≡ c.loop-text.text.items ++ reply_to form c.next.new.line.items = c.in_ok-push_reply.ensures ∙ ap (λ t. c.loop-text.text.items ++ reply_to form t) c.as_slice.ensures.value in
+    let more = Replied-more form input (coming c.loop-text.lines (g.R.Intake.remaining c.loop-text.reader)) next contents now c.loop-text.text.items c.push_reply.new.text.items c.next.new.line.items c.loop-text.invariant.replied takes text in
+    on_err_from _ (Replied-fault form input next contents now (g.W.Outlet.contents c.write_block.new.writer) c.push_reply.new.text.items more c.in_err-write_block.ensures.err)
+
+pub returns-in_err-push_last-clause-front : goal.returns-in_err-push_last-clause-front
+returns-in_err-push_last-clause-front g c =
+    on_err_from _ (Replied-fault (form_of c.args.pattern.now) (g.R.Intake.remaining c.args.reader.now) (coming c.loop-text.lines (g.R.Intake.remaining c.loop-text.reader)) (g.W.Outlet.contents c.args.writer.now)
+    (g.W.Outlet.contents c.loop-text.writer) (g.W.Outlet.contents c.loop-text.writer) c.loop-text.text.items c.loop-text.invariant.replied (AppendsFront-none (g.W.Outlet.contents c.loop-text.writer) c.loop-text.text.items))
+
+pub returns-in_err-write_all-clause-front : goal.returns-in_err-write_all-clause-front
+returns-in_err-write_all-clause-front g c =
+    let form = form_of c.args.pattern.now in
+    let input = g.R.Intake.remaining c.args.reader.now in
+    let contents = g.W.Outlet.contents c.args.writer.now in
+    let next = coming c.next.new.self (g.R.Intake.remaining c.next.new.reader) in
+    let now = g.W.Outlet.contents c.loop-text.writer in
+    let takes = rw c.loop-text.invariant.kept at c.in_ok-next.ensures.last (search rules) in
+    let text : c.push_last.new.text.items ≡ c.loop-text.text.items ++ last_reply form c.next.new.line.items = c.in_ok-push_last.ensures ∙ ap (λ t. c.loop-text.text.items ++ last_reply form t) c.as_slice-2.ensures.value in
+    let last = Replied-last form input (coming c.loop-text.lines (g.R.Intake.remaining c.loop-text.reader)) next contents now c.loop-text.text.items c.push_last.new.text.items c.next.new.line.items c.loop-text.invariant.replied takes text in
+    on_err_from _ (Replied-fault form input next contents now (g.W.Outlet.contents c.write_all.new.writer) c.push_last.new.text.items last (rw c.as_slice-3.ensures.value at c.in_err-write_all.ensures.err))
+
+pub returns-clause-written : goal.returns-clause-written
+returns-clause-written g c =
+    let form = form_of c.args.pattern.now in
+    let takes = rw c.loop-text.invariant.kept at c.in_ok-next.ensures.last (search rules) in
+    let text : c.push_last.new.text.items ≡ c.loop-text.text.items ++ last_reply form c.next.new.line.items = c.in_ok-push_last.ensures ∙ ap (λ t. c.loop-text.text.items ++ last_reply form t) c.as_slice-2.ensures.value in
+    Replied-end form (g.R.Intake.remaining c.args.reader.now) (coming c.loop-text.lines (g.R.Intake.remaining c.loop-text.reader)) (coming c.next.new.self (g.R.Intake.remaining c.next.new.reader))
+    (g.W.Outlet.contents c.args.writer.now) (g.W.Outlet.contents c.loop-text.writer) (g.W.Outlet.contents c.write_all.new.writer) c.loop-text.text.items c.push_last.new.text.items c.next.new.line.items
+    c.loop-text.invariant.replied takes text (rw c.as_slice-3.ensures.value at c.in_ok-write_all.ensures.ok)

@@ -1,0 +1,37 @@
+-- What a front of some symbols derives, where what follows can't go on with it.
+use Rattle.std.specs.Prelude.{◌≡◌, ℕ, ◌≤◌, List, [], ◌∷◌, ◌++◌, length, drop, Bool, false, ◌&&◌, ◌||◌, nat_eq, nat_le}
+use Rattle.rp_trace.specs.Grammar.{Tree, Level, Alternatives, Sequences, Factors, Primaries, Derives, symbols_of}
+
+-- So many symbols of a text are left from an offset on, and the byte there is the first of them, if there is one.
+pub record LeavesSymbols (text : List ℕ) (left offset : ℕ) : Type 0 where
+  pub within : offset ≤ length text
+  pub symbols : length (symbols_of (drop offset text)) ≡ left
+  pub first : (rest : List ℕ) → drop offset text ≡ 32 ∷ rest → ⊥
+
+-- the symbols don't begin with this one
+abbrev pub Lacks : ℕ → List ℕ → Type 0
+Lacks mark symbols = (rest : List ℕ) → symbols ≡ mark ∷ rest → ⊥
+
+-- a letter or an opening bracket is first
+abbrev pub begins_primary : List ℕ → Bool
+begins_primary [] = false
+begins_primary (b ∷ rest) = nat_eq b 40 || (nat_le 65 b && nat_le b 90)
+
+-- the symbols can't go on with a front of this level
+abbrev pub Ends : Level → List ℕ → Type 0
+Ends Alternatives symbols = Lacks 42 symbols × (begins_primary symbols ≡ false) × Lacks 124 symbols
+Ends Sequences symbols = Lacks 42 symbols × (begins_primary symbols ≡ false)
+Ends Factors symbols = Lacks 42 symbols
+Ends Primaries symbols = Unit {0}
+
+-- a front of the symbols derives the tree, and these are left
+abbrev pub Reads : Level → List ℕ → Tree → List ℕ → Type 0
+Reads level symbols tree rest = (used : List ℕ) × Derives level used tree × (symbols ≡ used ++ rest)
+
+-- no other front derives a tree, and this one no other tree
+abbrev pub ReadsOnly : Level → List ℕ → Tree → List ℕ → Type 0
+ReadsOnly level symbols tree rest = (used rest' : List ℕ) (tree' : Tree) → Derives level used tree' → symbols ≡ used ++ rest' → Ends level rest' → (tree ≡ tree') × (rest ≡ rest')
+
+-- no front derives a tree
+abbrev pub ReadsNone : Level → List ℕ → Type 0
+ReadsNone level symbols = (used rest : List ℕ) (tree : Tree) → Derives level used tree → symbols ≡ used ++ rest → Ends level rest → ⊥

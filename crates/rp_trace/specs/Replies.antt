@@ -1,0 +1,45 @@
+-- What is written for the lines of `trace`.
+use Rattle.std.specs.Prelude.{ℕ, ◌+◌, List, [], ◌∷◌, ◌++◌, length, map, Bool, ◌&&◌, nat_le, codes, if◌then◌else◌}
+use Rattle.std.specs.List.{list_all, flat_map}
+use Rattle.rp_pattern.specs.declared.word.Label.{Label}
+use Rattle.rp_pattern.specs.declared.word.End.TheVariants.{Closed}
+use Rattle.rp_pattern.specs.declared.form.Form.{Form}
+use Rattle.rp_pattern.specs.Words.{words}
+use Rattle.rp_trace.specs.LetterTest.{letter_test}
+use Rattle.rp_search.specs.Found.{Found, Match, Waits, NoMatch, found}
+
+abbrev pub is_letter : ℕ → Bool
+is_letter byte = nat_le 97 byte && nat_le byte 122
+
+-- at most 4096 letters
+abbrev pub is_looked_at : List ℕ → Bool
+is_looked_at line = nat_le (length line) 4096 && list_all is_letter line
+
+abbrev pub match_text : List Label → List ℕ
+match_text [] = codes "empty"
+match_text (label ∷ labels) = map (λ l. l.var + 65) (label ∷ labels)
+
+abbrev pub found_text : Found → List ℕ
+found_text (Match labels) = match_text labels
+found_text Waits = []
+found_text NoMatch = codes "none"
+
+-- the search at row 1 of a closed partition with these letters; an empty line has no such row
+abbrev pub search_text : Form → List ℕ → List ℕ
+search_text form [] = codes "none"
+search_text form (letter ∷ letters) = found_text (found (letter_test (letter ∷ letters) 1) (words (length (letter ∷ letters)) Closed form 1))
+
+abbrev pub reply_text : Form → List ℕ → List ℕ
+reply_text form line = if is_looked_at line then search_text form line else codes "refused"
+
+abbrev pub reply_to : Form → List ℕ → List ℕ
+reply_to form line = reply_text form line ++ 10 ∷ []
+
+-- the part behind the last LF is a line unless it is empty
+abbrev pub last_reply : Form → List ℕ → List ℕ
+last_reply form [] = []
+last_reply form (byte ∷ part) = reply_to form (byte ∷ part)
+
+-- a reply for each line
+abbrev pub replies_to : Form → List (List ℕ) → List ℕ
+replies_to form lines = flat_map (reply_to form) lines

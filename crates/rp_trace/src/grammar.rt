@@ -1,0 +1,241 @@
+//! The patterns of `trace`, as its command line gives them.
+ghost use Rattle.std.specs.Prelude.{◌≡◌, ℕ, ◌+◌, ◌<◌, ◌≤◌, List, [], ◌∷◌, length, IfOk, IfSome, IfNone};
+ghost use Rattle.rp_pattern.specs.PatternForm.{form_of};
+ghost use Rattle.rp_trace.specs.Grammar.{Tree, Alternatives, Sequences, Factors, Primaries, Derives, Both, Either, Star, IsLettered, symbols_of, tree_of};
+ghost use Rattle.rp_trace.specs.Reading.{LeavesSymbols, Lacks, Reads, ReadsNone, ReadsOnly, begins_primary};
+
+use rp_pattern::{Form, Pattern};
+use std::alloc::{AllocError, Global};
+use std::rc::Rc;
+
+/// Why a text is no pattern of `trace`.
+#[derive(Clone, Copy, Debug, PartialEq, Eq)]
+pub enum TracePatternFault {
+    /// The byte at this offset can't follow, or the text ends there too early.
+    Expected(usize),
+    /// Memory was refused.
+    OutOfMemory,
+}
+
+/// The pattern that the text derives. Spaces mean nothing, and the letters A to Z are the variables 0 to 25.
+pub fn trace_pattern(alloc: Global, text: &str) -> Result<Pattern, TracePatternFault>
+    ensures lettered { IfOk result (λ pattern. IsLettered (form_of pattern)) }
+    ensures derived { IfOk result (λ pattern. Derives Alternatives (symbols_of text.now) (tree_of (form_of pattern))) }
+    ensures only { IfOk result (λ pattern. (tree : Tree) → Derives Alternatives (symbols_of text.now) tree → tree_of (form_of pattern) ≡ tree) }
+    ensures place { (offset : ℕ) → result ≡ Err (TracePatternFault.Expected offset) → (left : ℕ) × LeavesSymbols text.now left offset }
+    ensures refused { (offset : ℕ) → result ≡ Err (TracePatternFault.Expected offset) → (tree : Tree) → Derives Alternatives (symbols_of text.now) tree → ⊥ }
+{
+    let symbols = without_spaces(alloc, text.as_bytes())?;
+    match alternatives(alloc, symbols.as_slice()) {
+        Ok((form, [])) => Ok(Pattern::new(form)),
+        Ok((_, rest)) => Err(expected(text.as_bytes(), rest.len())),
+        Err(Stop::At(left)) => Err(expected(text.as_bytes(), left)),
+        Err(Stop::OutOfMemory) => Err(TracePatternFault::OutOfMemory),
+    }
+}
+
+/// Why no form begins here.
+#[derive(Clone, Copy, Debug, PartialEq, Eq)]
+enum Stop {
+    /// With so many symbols left, the next one can't follow.
+    At(usize),
+    /// Memory was refused.
+    OutOfMemory,
+}
+
+fn without_spaces(alloc: Global, text: &[u8]) -> Result<Vec<u8>, AllocError>
+    ensures { IfOk result (λ symbols. symbols.items ≡ symbols_of text.now) }
+{
+    text.iter()
+        .copied()
+        .filter(|byte| *byte != b' ')
+        .collect(alloc)
+}
+
+/// The fault at the symbol that has so many from it on, or at the end of the text where that is none.
+fn expected(text: &[u8], left: usize) -> TracePatternFault
+    requires { left ≤ length (symbols_of text.now) }
+    ensures { (offset : ℕ) × (result ≡ TracePatternFault.Expected offset) × LeavesSymbols text.now left offset }
+{
+    let mut place = text.len();
+    let mut seen = 0;
+    while place > 0 && seen < left {
+        place -= 1;
+        if text[place] != b' ' {
+            seen += 1;
+        }
+    }
+    TracePatternFault::Expected(place)
+}
+
+/// Sequences with `|` between them, and what follows.
+#[cycle(grammar)]
+#[tactic(auto, using(crate::proofs::Derivations::reads, crate::proofs::Choices::alternatives_read))]
+fn alternatives(alloc: Global, symbols: &[u8]) -> Result<(Form, &[u8]), Stop>
+    ensures form { IfOk result (λ read. IsLettered read.0) }
+    ensures reads { IfOk result (λ read. Reads Alternatives symbols.now (tree_of read.0) read.1.now) }
+    ensures only { IfOk result (λ read. ReadsOnly Alternatives symbols.now (tree_of read.0) read.1.now) }
+    ensures none { (left : ℕ) → result ≡ Err (Stop.At left) → ReadsNone Alternatives symbols.now }
+    ensures left { (left : ℕ) → result ≡ Err (Stop.At left) → left ≤ length symbols.now }
+    ensures shorter { IfOk result (λ read. length read.1.now < length symbols.now) }
+{
+    let (first, rest) = sequence(alloc, symbols)?;
+    match after(rest, b'|') {
+        Some(rest) => {
+            let (second, rest) = alternatives(alloc, rest)?;
+            Ok((alternation(alloc, first, second)?, rest))
+        }
+        None => Ok((first, rest)),
+    }
+}
+
+/// One or more factors, and what follows.
+#[cycle(grammar)]
+#[tactic(auto, using(crate::proofs::Derivations::reads, crate::proofs::Choices::sequences_read))]
+fn sequence(alloc: Global, symbols: &[u8]) -> Result<(Form, &[u8]), Stop>
+    ensures form { IfOk result (λ read. IsLettered read.0) }
+    ensures reads { IfOk result (λ read. Reads Sequences symbols.now (tree_of read.0) read.1.now) }
+    ensures only { IfOk result (λ read. ReadsOnly Sequences symbols.now (tree_of read.0) read.1.now) }
+    ensures none { (left : ℕ) → result ≡ Err (Stop.At left) → ReadsNone Sequences symbols.now }
+    ensures left { (left : ℕ) → result ≡ Err (Stop.At left) → left ≤ length symbols.now }
+    ensures shorter { IfOk result (λ read. length read.1.now < length symbols.now) }
+{
+    let (first, rest) = factor(alloc, symbols)?;
+    if !begins_primary(rest) {
+        return Ok((first, rest));
+    }
+    let (second, rest) = sequence(alloc, rest)?;
+    Ok((concatenation(alloc, first, second)?, rest))
+}
+
+/// A primary, perhaps with `*`, and what follows.
+#[cycle(grammar)]
+#[tactic(auto, using(crate::proofs::Derivations::reads, crate::proofs::Choices::factors_read))]
+fn factor(alloc: Global, symbols: &[u8]) -> Result<(Form, &[u8]), Stop>
+    ensures form { IfOk result (λ read. IsLettered read.0) }
+    ensures reads { IfOk result (λ read. Reads Factors symbols.now (tree_of read.0) read.1.now) }
+    ensures only { IfOk result (λ read. ReadsOnly Factors symbols.now (tree_of read.0) read.1.now) }
+    ensures none { (left : ℕ) → result ≡ Err (Stop.At left) → ReadsNone Factors symbols.now }
+    ensures left { (left : ℕ) → result ≡ Err (Stop.At left) → left ≤ length symbols.now }
+    ensures shorter { IfOk result (λ read. length read.1.now < length symbols.now) }
+{
+    let (body, rest) = primary(alloc, symbols)?;
+    match after(rest, b'*') {
+        Some(rest) => Ok((star(alloc, body)?, rest)),
+        None => Ok((body, rest)),
+    }
+}
+
+/// A variable or a group, and what follows.
+#[cycle(grammar)]
+#[tactic(auto, using(crate::proofs::Derivations::reads, crate::proofs::Choices::primaries_read))]
+fn primary(alloc: Global, symbols: &[u8]) -> Result<(Form, &[u8]), Stop>
+    ensures form { IfOk result (λ read. IsLettered read.0) }
+    ensures reads { IfOk result (λ read. Reads Primaries symbols.now (tree_of read.0) read.1.now) }
+    ensures only { IfOk result (λ read. ReadsOnly Primaries symbols.now (tree_of read.0) read.1.now) }
+    ensures none { (left : ℕ) → result ≡ Err (Stop.At left) → ReadsNone Primaries symbols.now }
+    ensures left { (left : ℕ) → result ≡ Err (Stop.At left) → left ≤ length symbols.now }
+    ensures shorter { IfOk result (λ read. length read.1.now < length symbols.now) }
+{
+    if let Some((var, rest)) = letter(symbols) {
+        return Ok((Form::Variable(var), rest));
+    }
+    let Some(inner) = after(symbols, b'(') else {
+        return Err(Stop::At(symbols.len()));
+    };
+    if let Some(rest) = after(inner, b')') {
+        return Ok((Form::Empty, rest));
+    }
+    let (form, rest) = alternatives(alloc, inner)?;
+    match after(rest, b')') {
+        Some(rest) => Ok((form, rest)),
+        None => Err(Stop::At(rest.len())),
+    }
+}
+
+/// Whether the symbols begin with a letter or an opening bracket.
+fn begins_primary(symbols: &[u8]) -> bool
+    ensures { result ≡ begins_primary symbols.now }
+{
+    match symbols.first() {
+        Some(first) => *first == b'(' || (b'A' <= *first && *first <= b'Z'),
+        None => false,
+    }
+}
+
+/// What follows the mark, if the symbols begin with it.
+fn after(symbols: &[u8], mark: u8) -> Option<&[u8]>
+    ensures some { IfSome result (λ rest. symbols.now ≡ mark ∷ rest.now) }
+    ensures none { IfNone result (Lacks mark symbols.now) }
+{
+    match symbols.split_first() {
+        Some((first, rest)) if *first == mark => Some(rest),
+        _ => None,
+    }
+}
+
+/// The variable whose letter the symbols begin with, and what follows.
+fn letter(symbols: &[u8]) -> Option<(usize, &[u8])>
+    ensures some { IfSome result (λ read. symbols.now ≡ (read.0 + 65) ∷ read.1.now) }
+    ensures range { IfSome result (λ read. read.0 ≤ 25) }
+    ensures none { IfNone result ((var : ℕ) → var ≤ 25 → Lacks (var + 65) symbols.now) }
+{
+    let (first, rest) = symbols.split_first()?;
+    if *first < b'A' || *first > b'Z' {
+        return None;
+    }
+    Some((usize::from(*first - b'A'), rest))
+}
+
+fn star(alloc: Global, body: Form) -> Result<Form, AllocError>
+    requires { IsLettered body }
+    ensures lettered { IfOk result IsLettered }
+    ensures tree { IfOk result (λ form. tree_of form ≡ Star (tree_of body)) }
+{
+    Ok(Form::Quantified {
+        body: Rc::new(alloc, body)?,
+        lower: 0,
+        upper: None,
+        reluctant: false,
+    })
+}
+
+fn alternation(alloc: Global, first: Form, second: Form) -> Result<Form, AllocError>
+    requires first { IsLettered first }
+    requires second { IsLettered second }
+    ensures lettered { IfOk result IsLettered }
+    ensures tree { IfOk result (λ form. tree_of form ≡ Either (tree_of first) (tree_of second)) }
+{
+    Ok(Form::Alternation(Rc::new(alloc, first)?, Rc::new(alloc, second)?))
+}
+
+fn concatenation(alloc: Global, first: Form, second: Form) -> Result<Form, AllocError>
+    requires first { IsLettered first }
+    requires second { IsLettered second }
+    ensures lettered { IfOk result IsLettered }
+    ensures tree { IfOk result (λ form. tree_of form ≡ Both (tree_of first) (tree_of second)) }
+{
+    Ok(Form::Concatenation(Rc::new(alloc, first)?, Rc::new(alloc, second)?))
+}
+
+impl From<AllocError> for Stop {
+    ghost use Rattle.std.specs.Prelude.{◌≡◌};
+    ghost use Rattle.rp_trace.specs.declared.grammar.Stop.TheVariants.{OutOfMemory};
+
+    ghost from_gives = { λ _ fault. fault ≡ OutOfMemory };
+
+    fn from(_: AllocError) -> Stop {
+        Stop::OutOfMemory
+    }
+}
+
+impl From<AllocError> for TracePatternFault {
+    ghost use Rattle.std.specs.Prelude.{◌≡◌};
+    ghost use Rattle.rp_trace.specs.declared.grammar.TracePatternFault.TheVariants.{OutOfMemory};
+
+    ghost from_gives = { λ _ fault. fault ≡ OutOfMemory };
+
+    fn from(_: AllocError) -> TracePatternFault {
+        TracePatternFault::OutOfMemory
+    }
+}

@@ -1,0 +1,87 @@
+//! A line as the rows of a partition.
+ghost use Rattle.std.specs.Prelude.{◌≡◌, ◌≤◌, length};
+ghost use Rattle.rp_trace.specs.LetterTest.{admits};
+
+use rp_pattern::{End, Label, Seen};
+use rp_search::Tests;
+use std::alloc::AllocError;
+
+/// A closed partition with a row for each letter of a line. Variable Z admits every row, any other its own letter.
+#[derive(Drop)]
+pub struct Letters<'a> {
+    line: &'a [u8],
+    /// How many calls of `enter` were made. It stays at its last value.
+    entries: u64,
+    ghost short: { length line.now ≤ 4096 },
+}
+
+/// The variable that admits every row.
+const ANY: usize = 25;
+
+impl<'a> Letters<'a> {
+    ghost use Rattle.std.specs.Prelude.{◌≡◌, ◌≤◌, length};
+    ghost use Rattle.rp_trace.specs.LetterRows.{line_of};
+
+    /// The rows of a line, none of which was entered yet.
+    pub fn new(line: &'a [u8]) -> Self
+        requires { length line.now ≤ 4096 }
+        ensures { line_of result ≡ line.entry.now }
+    {
+        Letters { line, entries: 0 }
+    }
+}
+
+impl Tests for Letters<'_> {
+    ghost use Rattle.std.specs.Prelude.{◌≡◌, ℕ, ◌<◌, ◌≤◌, length};
+    ghost use Rattle.rp_pattern.specs.declared.word.End.TheVariants.{Closed};
+    ghost use Rattle.rp_trace.specs.LetterRows.{line_of};
+    ghost use Rattle.rp_trace.specs.LetterTest.{letter_test};
+    ghost use Rattle.rp_trace.specs.LetterLaws.{letter_test-decided, short_fits};
+
+    ghost rows = { λ letters. length (line_of letters) };
+
+    ghost ending = { λ _. Closed };
+
+    ghost outcome = { λ letters start labels. letter_test (line_of letters) start labels };
+
+    // A letter is tested alone, so no labels are kept.
+    ghost entered = { λ _ _ _. Unit {0} };
+
+    ghost entries = { λ letters. letters.entries };
+
+    fn known(&self) -> u64 {
+        self.line.len() as u64
+    }
+
+    fn end(&self) -> End {
+        End::Closed
+    }
+
+    fn test(&self, start: u64, labels: &[Label]) -> Seen {
+        let label = labels[labels.len() - 1];
+        let letter = self.line[start as usize + labels.len() - 2];
+        if admits(label.var, letter) {
+            Seen::True
+        } else {
+            Seen::NotTrue
+        }
+    }
+
+    fn enter(&mut self, _start: u64, _labels: &[Label]) -> Result<(), AllocError> {
+        self.entries = self.entries.saturating_add(1);
+        Ok(())
+    }
+
+    fn cut(&mut self, _depth: usize) {}
+
+    ghost few = { λ letters. short_fits (length (line_of letters)) letters.short };
+
+    ghost decided = { λ letters start labels _. letter_test-decided (line_of letters) start labels };
+}
+
+/// Whether a row with this letter is admitted for the variable.
+fn admits(var: usize, letter: u8) -> bool
+    ensures { result ≡ admits var letter }
+{
+    var == ANY || (letter >= b'a' && usize::from(letter - b'a') == var)
+}

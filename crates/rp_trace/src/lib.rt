@@ -1,0 +1,14 @@
+//! The matches of lines of letters: the text of a pattern, the rows of a line, and a reply for each line.
+#![tactic(auto)]
+
+mod grammar;
+mod letters;
+mod matching;
+#[cfg(test)]
+mod memory;
+#[cfg(test)]
+mod tests;
+mod trace;
+
+pub use grammar::{TracePatternFault, trace_pattern};
+pub use trace::{TURNS, TraceFault, run_trace};

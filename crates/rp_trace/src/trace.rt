@@ -1,0 +1,217 @@
+//! The matches of lines of letters.
+ghost use Rattle.std.specs.Prelude.{◌≡◌, ℕ, ◌<◌, ◌≤◌, ◌++◌, true, length, IfOk, IfSome, OnOk, OnErr, All};
+ghost use Rattle.std.specs.Io.KnownBytes.{Appends, IsAtEnd};
+ghost use Rattle.rp_pattern.specs.PatternForm.{form_of};
+ghost use Rattle.rp_pattern.specs.Variables.{are_below};
+ghost use Rattle.rp_lines.specs.Counts.{raised};
+ghost use Rattle.rp_lines.specs.Devices.{AppendsFront, after_calls};
+ghost use Rattle.rp_lines.specs.Lines.{lines_of};
+ghost use Rattle.rp_trace.specs.Replies.{is_letter, is_looked_at, last_reply, match_text, reply_text, reply_to, replies_to, search_text};
+
+use crate::letters::Letters;
+use crate::matching::find;
+use rp_lines::{Intake, LineFault, Lines, Outlet, WriteFailed, write_all, write_block};
+use rp_pattern::{Label, Pattern, law_labels};
+use rp_search::{Search, Steps};
+use std::alloc::{AllocError, Global};
+use std::marker::Brand;
+use std::sync::ledger::{Blank, Ledger};
+
+/// Why a run of `trace` ended before its input did.
+#[derive(Clone, Copy, Debug, PartialEq, Eq)]
+pub enum TraceFault {
+    /// A call of the reader failed.
+    Read,
+    /// A call of the writer failed.
+    Write,
+    /// All calls of the reader that are allowed were made, none of them told the end, and another is due.
+    Turns,
+    /// Memory was refused.
+    OutOfMemory,
+}
+
+/// How often the program reads its input at most.
+pub const TURNS: u64 = 1_000_000_000;
+
+/// The longest line that is looked at.
+const MAX_LINE: usize = 4096;
+
+/// Writes a line for each line that is read: the labels of its match at row 1, where each letter is a row.
+///
+/// Of a line `abac` and the pattern `(A B | A)* C` the line is `ABAC`. A match without rows is told as `empty`, and no
+/// match as `none`. A line that has another byte than `a` to `z`, or more than 4,096 bytes, is `refused`. The reader is
+/// called at most `turns` times. Bytes are written in blocks, so after a fault the replies to some lines that were read
+/// may be missing.
+pub fn run_trace<R: Intake, W: Outlet>(
+    alloc: Global,
+    reader: &mut R,
+    writer: &mut W,
+    pattern: &Pattern,
+    turns: u64,
+) -> Result<(), TraceFault>
+    requires { are_below 26 (form_of pattern.now) ≡ true }
+    ensures written { OnOk result (IfSome (R.remaining reader.old) (λ input.
+        Appends (W.contents writer.old) (W.contents writer.new) (replies_to (form_of pattern.now) (lines_of input)))) }
+    ensures front { OnErr result (IfSome (R.remaining reader.old) (λ input.
+        AppendsFront (W.contents writer.old) (W.contents writer.new) (replies_to (form_of pattern.now) (lines_of input)))) }
+    ensures end { OnOk result (IsAtEnd (R.remaining reader.new)) }
+    ensures told { OnOk result (R.ended reader.new ≡ true) }
+    ensures reads_go { OnOk result (R.failures reader.new ≡ R.failures reader.old) }
+    ensures writes_go { OnOk result (W.failures writer.new ≡ W.failures writer.old) }
+    ensures read { result ≡ Err TraceFault.Read → R.failures reader.new ≡ raised (R.failures reader.old) }
+    ensures write { result ≡ Err TraceFault.Write → W.failures writer.new ≡ raised (W.failures writer.old) }
+    ensures turns { result ≡ Err TraceFault.Turns → R.calls reader.new ≡ after_calls turns (R.calls reader.old) }
+    ensures due { result ≡ Err TraceFault.Turns → R.ended reader.new ≡ R.ended reader.old }
+    ensures gave { result ≡ Err TraceFault.Turns → IfSome (R.remaining reader.old) (λ input. turns ≤ length input) }
+    ensures within { (left : ℕ) × (after_calls left (R.calls reader.new) ≡ after_calls turns (R.calls reader.old)) }
+{
+    let mut lines = Lines::new(alloc, turns, MAX_LINE + 1);
+    let mut line = Vec::new(alloc);
+    let mut text = Vec::new(alloc);
+    while lines.next(reader, &mut line)? {
+        push_reply(alloc, &mut text, pattern, line.as_slice())?;
+        write_block(writer, &mut text)?;
+    }
+    push_last(alloc, &mut text, pattern, line.as_slice())?;
+    write_all(writer, text.as_slice())?;
+    Ok(())
+}
+
+/// Adds what is written for the part behind the last LF, which is a line unless it is empty.
+fn push_last(
+    alloc: Global,
+    text: &mut Vec<u8>,
+    pattern: &Pattern,
+    part: &[u8],
+) -> Result<(), AllocError>
+    requires { are_below 26 (form_of pattern.now) ≡ true }
+    ensures { OnOk result (text.new.items ≡ text.old.items ++ last_reply (form_of pattern.now) part.now) }
+{
+    if part.is_empty() {
+        return Ok(());
+    }
+    push_reply(alloc, text, pattern, part)
+}
+
+/// Adds what is written for a line.
+fn push_reply(
+    alloc: Global,
+    text: &mut Vec<u8>,
+    pattern: &Pattern,
+    line: &[u8],
+) -> Result<(), AllocError>
+    requires { are_below 26 (form_of pattern.now) ≡ true }
+    ensures { OnOk result (text.new.items ≡ text.old.items ++ reply_to (form_of pattern.now) line.now) }
+{
+    push_answer(alloc, text, pattern, line)?;
+    text.push(b'\n')?;
+    Ok(())
+}
+
+fn push_answer(
+    alloc: Global,
+    text: &mut Vec<u8>,
+    pattern: &Pattern,
+    line: &[u8],
+) -> Result<(), AllocError>
+    requires { are_below 26 (form_of pattern.now) ≡ true }
+    ensures { OnOk result (text.new.items ≡ text.old.items ++ reply_text (form_of pattern.now) line.now) }
+{
+    if !is_looked_at(line) {
+        return text.extend_from_slice(b"refused");
+    }
+    if line.is_empty() {
+        return text.extend_from_slice(b"none");
+    }
+    push_match::<Brand>(alloc, text, pattern, line, Blank::new(1))
+}
+
+/// Adds the labels of the match at row 1. Nothing is counted.
+fn push_match<L: Ledger>(
+    alloc: Global,
+    text: &mut Vec<u8>,
+    pattern: &Pattern,
+    line: &[u8],
+    blank: Blank,
+) -> Result<(), AllocError>
+    requires lettered { are_below 26 (form_of pattern.now) ≡ true }
+    requires some { 0 < length line.now }
+    requires short { length line.now ≤ 4096 }
+    requires name { blank.name ≡ L.name }
+    requires parts { blank.parts ≡ L.parts }
+    requires counts { 0 < blank.parts }
+    ensures { OnOk result (text.new.items ≡ text.old.items ++ search_text (form_of pattern.now) line.now) }
+{
+    law_labels();
+    let mut steps = Steps::<L>::new(blank);
+    let mut letters = Letters::new(line);
+    let mut search = Search::new(alloc, pattern, 1)?;
+    if !find(&mut search, &mut letters, &mut steps)? {
+        return text.extend_from_slice(b"none");
+    }
+    push_labels(text, search.labels())
+}
+
+/// Adds the letters of a match's labels.
+fn push_labels(text: &mut Vec<u8>, labels: &[Label]) -> Result<(), AllocError>
+    requires { All (λ label. label.var < 26) labels.now }
+    ensures { OnOk result (text.new.items ≡ text.old.items ++ match_text labels.now) }
+{
+    if labels.is_empty() {
+        return text.extend_from_slice(b"empty");
+    }
+    for label in labels {
+        text.push(b'A' + label.var as u8)?;
+    }
+    Ok(())
+}
+
+/// Whether the line is short enough, and has letters alone.
+fn is_looked_at(line: &[u8]) -> bool
+    ensures { result ≡ is_looked_at line.now }
+{
+    line.len() <= MAX_LINE && line.iter().all(|byte| is_letter(*byte))
+}
+
+fn is_letter(byte: u8) -> bool
+    ensures { result ≡ is_letter byte }
+{
+    byte >= b'a' && byte <= b'z'
+}
+
+impl From<AllocError> for TraceFault {
+    ghost use Rattle.std.specs.Prelude.{◌≡◌};
+    ghost use Rattle.rp_trace.specs.declared.trace.TraceFault.TheVariants.{OutOfMemory};
+
+    ghost from_gives = { λ _ fault. fault ≡ OutOfMemory };
+
+    fn from(_: AllocError) -> TraceFault {
+        TraceFault::OutOfMemory
+    }
+}
+
+impl From<WriteFailed> for TraceFault {
+    ghost use Rattle.std.specs.Prelude.{◌≡◌};
+    ghost use Rattle.rp_trace.specs.declared.trace.TraceFault.TheVariants.{Write};
+
+    ghost from_gives = { λ _ fault. fault ≡ Write };
+
+    fn from(_: WriteFailed) -> TraceFault {
+        TraceFault::Write
+    }
+}
+
+impl From<LineFault> for TraceFault {
+    ghost use Rattle.std.specs.Prelude.{◌≡◌};
+    ghost use Rattle.rp_trace.specs.Faults.{trace_fault};
+
+    ghost from_gives = { λ fault given. given ≡ trace_fault fault };
+
+    fn from(fault: LineFault) -> TraceFault {
+        match fault {
+            LineFault::Read => TraceFault::Read,
+            LineFault::Turns => TraceFault::Turns,
+            LineFault::OutOfMemory => TraceFault::OutOfMemory,
+        }
+    }
+}
