@@ -12,7 +12,7 @@ pub some_in_block : {T : Type 0} (b : Vec T Global) (bs : List (Vec T Global)) (
 some_in_block {T} b bs xs h is some = go b.items refl
   where
     go : (ys : List T) → b.items ≡ ys → 0 < length b.items
-    go [] none = absurd (omega (arith, some, ap length (sym is ∙ ap (λ zs. reverse zs ++ stacked bs) none ∙ ap stacked (h.0 none))))
+    go [] none = absurd (omega (arith, some, ap length (sym is ∙ ap (λ zs. reverse zs ++ stacked bs) none ∙ ap stacked (h.some none))))
     go (y ∷ ys) there = omega (arith, ap length there)
 
 module _ {T : Type 0} (xs ys : List T) (k : ℕ) (t : T) (long : k + 1 ≡ length xs) where

@@ -136,14 +136,14 @@ impl Choices {
             return Ok(Taken::Nothing);
         };
         match choice.rests.label() {
-            Some(label) => self.take_row(label, n, end),
-            None => self.take_any(n, end),
+            Some(label) => self.take_top_row(label, n, end),
+            None => self.take_top(n, end),
         }
     }
 
     /// Takes up the top choice, which maps a row first.
     #[inline(always)]
-    fn take_row(&mut self, label: Label, n: u64, end: End) -> Result<Taken, AllocError>
+    fn take_top_row(&mut self, label: Label, n: u64, end: End) -> Result<Taken, AllocError>
         requires rows { n < 2 ^ 64 - 1 }
         requires begun { HasBegun self.old }
         requires first { OfFirst (λ t. BeginsWithRow label t.rests) self.old.stack }
@@ -170,7 +170,7 @@ impl Choices {
 
     /// Takes up the top choice, whatever it is.
     #[inline(always)]
-    fn take_any(&mut self, n: u64, end: End) -> Result<Taken, AllocError>
+    fn take_top(&mut self, n: u64, end: End) -> Result<Taken, AllocError>
         requires rows { n < 2 ^ 64 - 1 }
         requires begun { HasBegun self.old }
         ensures whole { IsSameWhole self.old self.new }

@@ -11,7 +11,7 @@ use std::mem::replace;
 /// How many labels the first list has room for.
 const FIRST_ROOM: usize = 16;
 
-/// At most so many labels are moved at once.
+/// At most so many labels are moved at once: 128 KB.
 const MOVED_AT_ONCE: usize = 8192;
 
 /// Labels one after another in memory. While more than a few are kept, each one that is added has two copied to a wider
@@ -44,6 +44,7 @@ impl LabelList {
         }
     }
 
+    /// The labels, in row order.
     #[inline(always)]
     pub(crate) fn as_slice(&self) -> &[Label]
         ensures { result.now ≡ self.now }
@@ -51,6 +52,7 @@ impl LabelList {
         &self.list
     }
 
+    /// How many there are.
     #[inline(always)]
     pub(crate) fn len(&self) -> usize
         ensures { result ≡ length self.now }

@@ -1,6 +1,6 @@
 //! A stack whose elements stay where they are put.
-ghost use Rattle.std.specs.Prelude.{◌≡◌, List, [], ◌∷◌, ◌<◌, length, reverse, drop, OnOk, OnErr, MatchOption, ◌==◌};
-ghost use Rattle.rp_pattern.specs.Stacked.{stacked, AreBlocks, AreFilled};
+ghost use Rattle.std.specs.Prelude.{◌≡◌, List, [], ◌∷◌, ◌<◌, length, reverse, drop, OnOk, OnErr, MatchOption, ◌==◌, vec_capacity};
+ghost use Rattle.rp_pattern.specs.Stacked.{stacked, room_above, AreBlocks, AreFull, IsSpare};
 
 use std::alloc::{AllocError, Global};
 use std::marker::Model;
@@ -20,7 +20,7 @@ pub struct Stack<T> {
     block: Vec<T>,
     /// The full blocks below it, the lowest first.
     below: Vec<Vec<T>>,
-    /// The block above, kept without elements, so that a stack that rises and falls there takes no memory each time.
+    /// The block above, without elements: so a stack that rises and falls where a block ends takes no memory each time.
     above: Vec<T>,
 }
 
@@ -29,7 +29,7 @@ impl<T> Model for Stack<T> {
 
     ghost view = { λ s. stacked (s.block ∷ reverse s.below.items) };
 
-    ghost invariant = { λ s. AreBlocks s.block (reverse s.below.items) × (s.above.items ≡ []) };
+    ghost invariant = { λ s. AreBlocks s.block (reverse s.below.items) × IsSpare s.above (s.block ∷ reverse s.below.items) };
 }
 
 impl<T: Drop> Stack<T> {
@@ -45,7 +45,7 @@ impl<T: Drop> Stack<T> {
         }
     }
 
-    /// The top element.
+    /// The top element, or None where there is none.
     #[inline(always)]
     pub fn top(&self) -> Option<&T>
         ensures { MatchOption result (self.now ≡ []) (λ top. self.now ≡ top.now ∷ drop 1 self.now) }
@@ -60,7 +60,7 @@ impl<T: Drop> Stack<T> {
         self.top().is_none()
     }
 
-    /// Puts another element in the top one's place.
+    /// Puts another element in the top one's place, which is dropped. There is one.
     #[inline(always)]
     pub fn set_top(&mut self, element: T)
         requires { 0 < length self.old }
@@ -76,36 +76,19 @@ impl<T: Drop> Stack<T> {
         ensures ok { OnOk result (self.new ≡ element ∷ self.old) }
         ensures err { OnErr result (self.new ≡ self.old) }
     {
-        if self.block.len() < self.block.capacity() {
-            self.block.push_reserved(element);
-            return Ok(());
+        if self.block.len() == self.block.capacity() {
+            go_above(
+                self.alloc,
+                &mut self.block,
+                &mut self.below,
+                &mut self.above,
+            )?;
         }
-        self.push_above(element)
-    }
-
-    /// Puts an element on top, as the first one of another block.
-    #[cold]
-    #[inline(never)]
-    fn push_above(&mut self, element: T) -> Result<(), AllocError>
-        ensures ok { OnOk result (self.new ≡ element ∷ self.old) }
-        ensures err { OnErr result (self.new ≡ self.old) }
-    {
-        let mut above = replace(&mut self.above, Vec::new(self.alloc));
-        if above.capacity() == 0 {
-            let room = self.block.capacity().saturating_mul(2).max(FIRST_ROOM);
-            above = Vec::with_capacity(self.alloc, room)?;
-        }
-        above.push(element)?;
-        if self.block.is_empty() {
-            self.block = above;
-            return Ok(());
-        }
-        self.below.reserve(1)?;
-        self.below.push_reserved(replace(&mut self.block, above));
+        self.block.push_reserved(element);
         Ok(())
     }
 
-    /// Takes the top element away.
+    /// Takes the top element away, or gives None where there is none.
     #[inline(always)]
     pub fn pop(&mut self) -> Option<T>
         ensures rest { self.new ≡ drop 1 self.old }
@@ -126,13 +109,49 @@ impl<T: Drop> Stack<T> {
         let _ = self.pop();
     }
 
-    /// Drops all elements.
+    /// Drops all elements, and the memory that they lie in.
     pub fn clear(&mut self)
         ensures { self.new ≡ [] }
     {
-        self.block.clear();
-        self.below.clear();
+        *self = Stack::new(self.alloc);
     }
+}
+
+/// Begins the block above a full one. The kept one is taken, if there is one.
+#[cold]
+#[inline(never)]
+fn go_above<T: Drop>(
+    alloc: Global,
+    block: &mut Vec<T>,
+    below: &mut Vec<Vec<T>>,
+    above: &mut Vec<T>,
+) -> Result<(), AllocError>
+    requires full { length block.old.items ≡ vec_capacity block.old }
+    requires blocks { AreBlocks block.old (reverse below.old.items) }
+    requires spare { IsSpare above.old (block.old ∷ reverse below.old.items) }
+    ensures same { stacked (block.new ∷ reverse below.new.items) ≡ stacked (block.old ∷ reverse below.old.items) }
+    ensures begun { OnOk result (block.new.items ≡ []) }
+    ensures room { OnOk result (0 < vec_capacity block.new) }
+    ensures full { AreFull (reverse below.new.items) }
+    ensures place { 0 < vec_capacity block.new → vec_capacity block.new ≡ room_above (reverse below.new.items) }
+    ensures spare { IsSpare above.new (block.new ∷ reverse below.new.items) }
+    ensures refused { OnErr result (AreBlocks block.new (reverse below.new.items)) }
+{
+    if block.capacity() == 0 {
+        *block = Vec::with_capacity(alloc, FIRST_ROOM)?;
+        *above = Vec::new(alloc);
+        return Ok(());
+    }
+    below.reserve(1)?;
+    if above.capacity() == 0 {
+        let Some(room) = block.capacity().checked_mul(2) else {
+            return Err(AllocError);
+        };
+        *above = Vec::with_capacity(alloc, room)?;
+    }
+    let next = replace(above, Vec::new(alloc));
+    below.push_reserved(replace(block, next));
+    Ok(())
 }
 
 /// Takes the highest block below, if there is one, in the place of an empty one, which is kept.
@@ -140,10 +159,12 @@ impl<T: Drop> Stack<T> {
 #[inline(never)]
 fn go_below<T: Drop>(block: &mut Vec<T>, below: &mut Vec<Vec<T>>, above: &mut Vec<T>)
     requires empty { block.old.items ≡ [] }
-    requires filled { AreFilled (reverse below.old.items) }
+    requires full { AreFull (reverse below.old.items) }
+    requires room { 0 < vec_capacity block.old → vec_capacity block.old ≡ room_above (reverse below.old.items) }
+    requires spare { IsSpare above.old (block.old ∷ reverse below.old.items) }
     ensures same { stacked (block.new ∷ reverse below.new.items) ≡ stacked (reverse below.old.items) }
     ensures blocks { AreBlocks block.new (reverse below.new.items) }
-    ensures above { above.old.items ≡ [] → above.new.items ≡ [] }
+    ensures spare { IsSpare above.new (block.new ∷ reverse below.new.items) }
 {
     if let Some(lower) = below.pop() {
         *above = replace(block, lower);

@@ -35,6 +35,7 @@ fn stack_that_rises_and_falls_where_a_block_ends(rt: HostRuntime) -> Result<(), 
         assert_eq!(rt; stack.top().copied(), Some(number + 100));
         stack.drop_top();
         assert_eq!(rt; stack.top().copied(), Some(31));
+        assert_eq!(rt; stack.above.capacity(), 64);
     }
     stack.push(7)?;
     stack.clear();

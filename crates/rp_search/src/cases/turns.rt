@@ -1,6 +1,6 @@
 //! How many turns a search takes. Each choice that is taken up is one: where parts are joined or chosen from, a row, a
 //! place that takes none, a whole word, and that nothing is left. Where a part that begins with a variable is chosen,
-//! excluded or repeated, its row is the next choice, and joining it takes none.
+//! excluded, repeated or joined with another behind it, its row is the next choice, and joining it takes none.
 
 use super::grid::Grid;
 use super::script::{MANY, a, any, b, both, either, excluded, many, permuted, play};
@@ -76,6 +76,9 @@ fn turns_of_quantifiers(rt: HostRuntime) -> Result<(), Fail> {
     // Another iteration or none, A, B, another or none, an A past the last row, the word.
     let pairs = any(alloc, both(alloc, a(), b())?)?;
     assert_eq!(rt; turns(alloc, pairs, &[], &[], 2, End::Closed)?, 6);
+    // A required iteration, A, B, the other one, A, B, none after it, the word.
+    let twice = many(alloc, both(alloc, a(), b())?, 2, Some(2), false)?;
+    assert_eq!(rt; turns(alloc, twice, &[], &[], 4, End::Closed)?, 8);
     // A required iteration and its row, twice, another or none, the word.
     let some = many(alloc, a(), 2, Some(3), true)?;
     assert_eq!(rt; turns(alloc, some, &[], &[], 3, End::Closed)?, 6);
@@ -97,6 +100,9 @@ fn turns_of_other_forms(rt: HostRuntime) -> Result<(), Fail> {
     // Joined, the exclusion, A, B, the word.
     let form = both(alloc, excluded(alloc, a())?, b())?;
     assert_eq!(rt; turns(alloc, form, &[], &[], 2, End::Closed)?, 5);
+    // The exclusion, A, B, the word.
+    let form = excluded(alloc, both(alloc, a(), b())?)?;
+    assert_eq!(rt; turns(alloc, form, &[], &[], 2, End::Closed)?, 4);
     // Joined, the start, joined, A, the end, the word.
     let whole = both(
         alloc,

@@ -4,7 +4,7 @@ use Rattle.rp_pattern.specs.declared.turn.Turn.{Turn}
 use Rattle.rp_pattern.specs.Rests.{pushed, rises, rests_parts}
 use Rattle.rp_pattern.specs.Splits.{TakenUp}
 use Rattle.rp_pattern.proofs.Stacks.{Stack, same_whole, rises_first, rises_more, is_full, is_open, is_split, maps_row, is_nothing}
-use Rattle.rp_pattern.proofs.choices.Choices.take_any.Goals as goal
+use Rattle.rp_pattern.proofs.choices.Choices.take_top.Goals as goal
 
 pub returns-in_default-clause-whole : goal.returns-in_default-clause-whole
 returns-in_default-clause-whole c = same_whole _ _ refl refl

@@ -6,7 +6,7 @@ use Rattle.rp_pattern.specs.Rests.{BeginsWithRow, form_part, later_parts, rests_
 use Rattle.rp_pattern.specs.declared.form.Form.TheVariants.{Variable}
 use Rattle.rp_pattern.proofs.Stacks.{Stack, same_whole, is_open, is_split, maps_row}
 use Rattle.rp_pattern.proofs.Steps.{row_taken, row_waits, row_none, taken_as}
-use Rattle.rp_pattern.proofs.choices.Choices.take_row.Goals as goal
+use Rattle.rp_pattern.proofs.choices.Choices.take_top_row.Goals as goal
 
 pub returns-in_err-push-clause-whole : goal.returns-in_err-push-clause-whole
 returns-in_err-push-clause-whole c = same_whole _ _ refl refl
