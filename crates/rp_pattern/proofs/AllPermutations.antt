@@ -5,9 +5,8 @@ use Rattle.std.specs.List.{flat_map, remove, AllByRecursion}
 use Rattle.std.specs.List.Sorted.{IsStrictlySortedBy}
 use Rattle.std.specs.Ordering.{ordering_then}
 use Rattle.std.specs.Cmp.Lexicographic.{slice_cmp}
-use Rattle.std.proofs.lemmas.List.{length-map, get_or-map}
 use Rattle.std.proofs.lemmas.Map.Keys.{sorted_from_strictly_increasing}
-use Rattle.std.proofs.lemmas.List.Elements.{All-from_recursion, Contains-append_left, Contains-append_right}
+use Rattle.std.proofs.lemmas.List.Elements.{All-from_recursion}
 use Rattle.std.proofs.lemmas.List.Sums.{sum_by-cons, sum_by-remove}
 use Rattle.std.proofs.lemmas.List.Sorted.{IsPermutation-refl, IsPermutation-cons, IsPermutation-trans, IsPermutation-swap, sum_by-IsPermutation, length_permutation}
 use Rattle.std.proofs.lemmas.List.FromFn.{length-range_with_len, get_or-range_with_len}
@@ -16,6 +15,7 @@ use Rattle.std.proofs.lemmas.Bool.Decides.{nat_tests}
 use Rattle.rp_pattern.specs.Words.{picks, led, arrangements, orders}
 use Rattle.rp_pattern.specs.Permutations.{upto, AreAllPermutations}
 use Rattle.rp_pattern.proofs.Lists.{All-append, All-map, All-flat_map, map-map}
+use Rattle.rp_pattern.proofs.Elements.{Contains-map, flat_map-at}
 use Rattle.rp_pattern.proofs.Places.{length-picks, get_or-picks}
 
 -- ---- each order is a permutation
@@ -45,7 +45,7 @@ module _ {A : Type 0} where
       (arrangements k p.1) (each p.1 (length_permutation xs (p.0 ∷ p.1) a.0)))
       (led_permute k xs each ps a.1)
 
-  arrangements_permute : (k : ℕ) (xs : List A) → length xs ≡ k → AllByRecursion (IsPermutation xs) (arrangements k xs)
+  pub arrangements_permute : (k : ℕ) (xs : List A) → length xs ≡ k → AllByRecursion (IsPermutation xs) (arrangements k xs)
   arrangements_permute zero [] h = (IsPermutation-refl [], tt)
   arrangements_permute zero (x ∷ xs) h = absurd (omega arith)
   arrangements_permute (suc k) xs h = led_permute k xs (λ ys l. arrangements_permute k ys (omega arith)) (picks xs) (picks_permute xs)
@@ -80,17 +80,6 @@ place_of y (x ∷ xs) h = go (is y x) refl (place_of y xs)
     go zero e next = let later = next (omega (arith, h, sum_by-cons (is y) x xs, e)) in (suc later.0, omega (arith, later.1), later.2)
     go (suc c) e next = (0, omega arith, is_only y x (omega (arith, e)))
 
-module _ {X Y : Type 0} (f : X → List Y) (y : Y) where
-  Contains-flat_map : (xs : List X) (p : ℕ) (d : X) → p < length xs → Contains (f (get_or xs p d)) y → Contains (flat_map f xs) y
-  Contains-flat_map [] p d h c = absurd (omega arith)
-  Contains-flat_map (x ∷ xs) zero d h c = Contains-append_left (f x) (flat_map f xs) y c
-  Contains-flat_map (x ∷ xs) (suc p) d h c = Contains-append_right (f x) (flat_map f xs) y (Contains-flat_map xs p d (omega arith) c)
-
-Contains-map : {X Y : Type 0} (f : X → Y) (xs : List X) (x : X) → Contains xs x → Contains (map f xs) (f x)
-Contains-map f xs x c =
-    let inside : c.0 < length (map f xs) = omega (arith, length-map xs f, c.1) in
-    (c.0, inside, get_or-map f xs c.0 x (f x) c.1 ∙ ap f c.2)
-
 -- a list with as many of each number is an arrangement
 contains : (ys xs : List ℕ) → ((f : ℕ → ℕ) → sum_by f ys ≡ sum_by f xs) → length ys ≡ length xs → Contains (arrangements (length ys) xs) ys
 contains [] xs same long = (0, omega arith, refl)
@@ -104,10 +93,10 @@ contains (y ∷ ys) xs same long =
     let rest_long : length ys ≡ length rest = omega (arith, length-remove xs p at.1, long) in
     let here : get_or (picks xs) p (0, []) ≡ (y, rest) = get_or-picks xs p 0 (0, []) at.1 ∙ ap (λ z. (z, rest)) at.2 in
     let inner : Contains (led (arrangements (length ys)) (y, rest)) (y ∷ ys) = Contains-map (λ order. y ∷ order) (arrangements (length ys) rest) ys (contains ys rest rest_same rest_long) in
-    Contains-flat_map (led (arrangements (length ys))) (y ∷ ys) (picks xs) p (0, []) in_picks
+    flat_map-at (led (arrangements (length ys))) (y ∷ ys) (picks xs) p (0, []) in_picks
     (subst (λ q. Contains (led (arrangements (length ys)) q) (y ∷ ys)) (sym here) inner)
 
-every_order : (xs ys : List ℕ) → IsPermutation xs ys → Contains (orders xs) ys
+pub every_order : (xs ys : List ℕ) → IsPermutation xs ys → Contains (orders xs) ys
 every_order xs ys h =
     subst (λ k. Contains (arrangements k xs) ys) (length_permutation xs ys h)
     (contains ys xs (λ f. sum_by-IsPermutation f xs ys h) (length_permutation xs ys h))

@@ -1,5 +1,7 @@
 pub mod Mapping
 pub mod Words
+pub mod Maps
+pub mod Readings
 pub mod WordLaws
 pub mod Variables
 pub mod Turns

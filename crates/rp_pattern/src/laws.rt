@@ -1,11 +1,18 @@
 //! Laws of the words, for callers.
 ghost use Rattle.rp_pattern.specs.LabelLaws.{LabelsBelow};
 ghost use Rattle.rp_pattern.specs.WordLaws.{WordsExtend, NoBoundStays, GreatBoundsAgree, GreatBoundsTakeAsMany, WordsEnd, WordsWait, WordsClose};
+ghost use Rattle.rp_pattern.specs.Maps.{WordsAreMappings};
+ghost use Rattle.rp_pattern.specs.Readings.{WordsAreReadings, ChoicesDecide};
 
-/// The laws of the word list. More rows, or the close, leave a full word, and replace an open one in its own place by
-/// words that begin with its labels. Without an upper bound the rows are bound enough, for words and for turns. Words
-/// end within the known rows, an open one at the last of them, and over a closed end each is full.
+/// The laws of the word list. It has the mappings that the rules of a row pattern allow, and no others: one for each
+/// reading, in the order of preferment, and the choices of a reading decide its mapping. More rows, or the close, leave
+/// a full word, and replace an open one in its own place by words that begin with its labels. Without an upper bound the
+/// rows are bound enough, for words and for turns. Words end within the known rows, an open one at the last of them, and
+/// over a closed end each is full.
 pub fn law_words()
+    ensures mappings { WordsAreMappings }
+    ensures readings { WordsAreReadings }
+    ensures choices { ChoicesDecide }
     ensures extend { WordsExtend }
     ensures no_bound { NoBoundStays }
     ensures great_bounds { GreatBoundsAgree }

@@ -5,7 +5,18 @@ use Rattle.rp_pattern.proofs.TurnLaws.{optional_turns_enough}
 use Rattle.rp_pattern.proofs.AllForms.{words_extend_later}
 use Rattle.rp_pattern.proofs.Within.{words_within, words_wait, words_full}
 use Rattle.rp_pattern.proofs.Bounds.{unbounded, optional_enough}
+use Rattle.rp_pattern.proofs.Maps.{words_are_mappings}
+use Rattle.rp_pattern.proofs.Readings.{words_are_readings, choices_decide}
 use Rattle.rp_pattern.proofs.laws.law_words.Goals as goal
+
+pub returns-clause-mappings : goal.returns-clause-mappings
+returns-clause-mappings c = words_are_mappings
+
+pub returns-clause-readings : goal.returns-clause-readings
+returns-clause-readings c = words_are_readings
+
+pub returns-clause-choices : goal.returns-clause-choices
+returns-clause-choices c = choices_decide
 
 pub returns-clause-extend : goal.returns-clause-extend
 returns-clause-extend c = λ f n n' e e' i later. words_extend_later f n n' e e' i later
