@@ -1,6 +1,7 @@
 //! Cuts a text into tokens, and says what names, texts and numbers mean.
 #![tactic(auto)]
 
+mod cursor;
 mod fault;
 mod gap;
 mod kind;
@@ -12,9 +13,10 @@ mod scan;
 mod tests;
 mod token;
 
+pub use cursor::{next, next_if, next_offset};
 pub use fault::LexFault;
 pub use kind::{Keyword, Mark, TokenKind};
 pub use laws::law_lexes;
 pub use lexer::lex;
-pub use meaning::{name_of, number_of, text_of};
+pub use meaning::{name_of, number_of, text_of, upper_case_name};
 pub use token::Token;
