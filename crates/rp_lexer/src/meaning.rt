@@ -54,9 +54,9 @@ pub fn upper_case_name(alloc: Global, text: &str) -> Result<Option<String>, Allo
     if !scan::is_identifier(text.as_bytes()) {
         return Ok(None);
     }
-    let mut name = String::from_str(alloc, text)?;
-    name.make_ascii_uppercase();
-    Ok(Some(name))
+    let mut form = String::from_str(alloc, text)?;
+    form.make_ascii_uppercase();
+    Ok(Some(form))
 }
 
 /// The upper-case form of a name.

@@ -1,4 +1,19 @@
-//! Values, truth values, exact sums, and the tables and rows that hold them.
+//! The values of SQL that a pattern's conditions and measures work on: null, whole numbers and texts, with their comparison,
+//! arithmetic, three truth values and exact sums; and the tables and rows that hold them.
+//!
+//! A table says which rows it takes, and a row that it has made stays one of it:
+//!
+//!     let price = (String::from_str(alloc, "price")?, Kind::Int);
+//!     let table = Table::new(alloc, vec![in alloc; price]?)?;
+//!     let row = table.row(alloc, vec![in alloc; Value::Int(17)]?)?;
+//!
+//! A comparison has one of three truth values, since with null nothing can be told; a condition over rows of which some
+//! haven't come yet is `Judged`, told or open:
+//!
+//!     Value::Int(17).judged(Comparison::Less, &Value::Int(18))    // Tri::True
+//!     Value::Null.judged(Comparison::Equal, &Value::Null)         // Tri::Unknown
+//!
+//! What these mean is said in `specs/`: Compared and Order, Arithmetic and Sums, Truth, Tables and Rows.
 #![tactic(auto)]
 
 mod cells;

@@ -6,8 +6,8 @@ ghost use Rattle.rp_value.specs.declared.row.RowFault.TheVariants.{OutOfMemory};
 ghost use Rattle.rp_value.specs.contracts.value.ValuePartialEq.TheImpl.Laws.{laws-law as value_per};
 ghost use Rattle.rp_value.specs.contracts.value.ValueEq.TheImpl.Laws.{laws-law as value_equiv};
 
-use crate::{Kind, Value};
 use crate::cells::same_values;
+use crate::{Kind, Value};
 use std::alloc::{AllocError, AllocFailed, Global};
 use std::marker::Model;
 use std::rc::Rc;
