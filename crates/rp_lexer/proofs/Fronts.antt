@@ -1,5 +1,5 @@
 -- The front of a list: what each element of it has, and of which kind a token is.
-use Rattle.std.proofs.Common.{◌≡◌, ℕ, zero, suc, true, List, ◌∷◌, All, subst, arith, rules}
+use Rattle.std.proofs.Common.{◌≡◌, zero, suc, true, List, ◌∷◌, All, subst, arith, rules}
 use Rattle.rp_lexer.specs.declared.kind.TokenKind.{TokenKind}
 use Rattle.rp_lexer.specs.contracts.kind.TokenKindPartialEq.TheImpl.{ghosts}
 

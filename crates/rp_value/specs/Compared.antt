@@ -9,7 +9,7 @@ use Rattle.rp_value.specs.declared.comparison.Comparison.TheVariants.{Equal, Not
 use Rattle.rp_value.specs.declared.truth.Tri.{Tri}
 use Rattle.rp_value.specs.declared.truth.Tri.TheVariants.{True, False, Unknown}
 use Rattle.rp_value.specs.declared.value.Value.{Value}
-use Rattle.rp_value.specs.declared.value.Value.TheVariants.{Null, Int, Text}
+use Rattle.rp_value.specs.declared.value.Value.TheVariants.{Int, Text}
 
 -- whole numbers by their size, texts by their bytes from the first on; none for null, and none for values of different kinds
 abbrev pub comparison : Value → Value → Option Ordering
