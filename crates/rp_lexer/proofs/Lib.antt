@@ -1,5 +1,6 @@
 pub mod Doubled
 pub mod FormLemmas
+pub mod Fronts
 pub mod Places
 pub mod Readings
 pub mod Quotes

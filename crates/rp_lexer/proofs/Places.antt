@@ -4,7 +4,8 @@ use Rattle.std.proofs.lemmas.List.{append-nil, length-take, take_rest}
 use Rattle.std.proofs.lemmas.Bool.{cases_order, both_ways}
 use Rattle.std.specs.List.{slice_range}
 use Rattle.rp_lexer.specs.Forms.{HasForm}
-use Rattle.rp_lexer.specs.Lexes.{is_separator, CommentBegins, IsComment, Stops, IsGap, nothing, separator, comment, IsLongest, IsToken}
+use Rattle.rp_lexer.specs.Lexes.{is_separator, CommentBegins, IsComment, IsGap, nothing, separator, comment, IsLongest, IsToken}
+use Rattle.rp_lexer.specs.Scan.{Stops}
 use Rattle.rp_lexer.proofs.FormLemmas.{one_kind, form_no_separator}
 use Rattle.rp_lexer.specs.declared.kind.TokenKind.{TokenKind}
 use Rattle.rp_lexer.specs.declared.token.Token.{Token}

@@ -6,7 +6,8 @@ use Rattle.std.proofs.lemmas.List.Elements.{All-nil, All-cons}
 use Rattle.std.specs.Prelude.{All}
 use Rattle.std.specs.List.{slice_range}
 use Rattle.rp_lexer.specs.Forms.{doubled, enclosed, HasForm}
-use Rattle.rp_lexer.specs.Lexes.{is_separator, Stops, IsLongest, IsToken, IsInRange, LexesUpTo}
+use Rattle.rp_lexer.specs.Lexes.{is_separator, IsLongest, IsToken, IsInRange, LexesUpTo}
+use Rattle.rp_lexer.specs.Scan.{Stops}
 use Rattle.rp_lexer.specs.Faults.{IsStray, IsEmptyQuoted, IsOpen, IsFault, offset}
 use Rattle.rp_lexer.specs.Laws.{OneTokenList, OneFirstFault, NoTokensWithFault, EachStands}
 use Rattle.rp_lexer.proofs.Doubled.{doubled-quote, doubled-other, closed_not_open}

@@ -7,9 +7,9 @@ use Rattle.std.specs.List.{slice_range}
 use Rattle.std.specs.Char.{is_ascii_digit}
 use Rattle.rp_lexer.specs.Spelling.{keyword_spelling}
 use Rattle.rp_lexer.specs.Forms.{is_name_start, is_name_byte, SpellsAlike, HasForm}
-use Rattle.rp_lexer.specs.Lexes.{is_separator, Stops, IsToken, IsInRange}
+use Rattle.rp_lexer.specs.Lexes.{is_separator, IsToken, IsInRange}
 use Rattle.rp_lexer.specs.Faults.{IsFault, IsStray}
-use Rattle.rp_lexer.specs.Scan.{IsRun, Closes, IsLongestMark, BeginsNoMark, IsSign}
+use Rattle.rp_lexer.specs.Scan.{Stops, IsRun, Closes, IsLongestMark, BeginsNoMark, IsSign}
 use Rattle.rp_lexer.proofs.Places.{Longest, longest_at, part_is_front, rest_first}
 use Rattle.rp_lexer.proofs.Tokens.{token_from, no_comment_at, identifier_from, name_longest, digits_from, number_longest, text_longest, quoted_longest, empty_quoted, mark_longest, no_mark_stray}
 use Rattle.rp_lexer.specs.declared.fault.LexFault.TheVariants.{BadChar, NumberRange}

@@ -14,7 +14,10 @@ IsStray b = (is_separator b ≡ false) × ((kind : TokenKind) (more : List ℕ) 
 
 -- `""` stands at the place, and no third `"` directly follows
 abbrev pub IsEmptyQuoted : List ℕ → ℕ → Type 0
-IsEmptyQuoted text at = (slice_index text at ≡ double_quote) × (slice_index text (at + 1) ≡ double_quote) × (slice_index text (at + 2) ≢ double_quote)
+IsEmptyQuoted text at =
+    (slice_index text at ≡ double_quote)
+    × (slice_index text (at + 1) ≡ double_quote)
+    × (slice_index text (at + 2) ≢ double_quote)
 
 -- a quote stands at the place, and never closes: each later one is half of a double one
 abbrev pub IsOpen : ℕ → List ℕ → ℕ → Type 0
@@ -25,7 +28,8 @@ abbrev pub IsFault : List ℕ → LexFault → Type 0
 IsFault text (BadChar at) = (at < length text) × (IsStray (slice_index text at) ⊎ IsEmptyQuoted text at)
 IsFault text (OpenText at) = IsOpen single_quote text at
 IsFault text (OpenName at) = IsOpen double_quote text at
-IsFault text (NumberRange at) = (end : ℕ) × IsLongest text kind.Number at end × (IsInRange (slice_range text at end) → ⊥)
+IsFault text (NumberRange at) =
+    (end : ℕ) × IsLongest text kind.Number at end × (IsInRange (slice_range text at end) → ⊥)
 IsFault text OutOfMemory = ⊥
 
 -- the offset of a fault

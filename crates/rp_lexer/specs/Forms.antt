@@ -1,6 +1,8 @@
 -- The lexical table: which bytes have the form of a token of each kind.
 use Rattle.std.specs.Prelude.{◌≡◌, ◌≢◌, ℕ, ◌<◌, Bool, true, ◌||◌, ◌==◌, if◌then◌else◌, List, [], ◌∷◌, ◌++◌, length, map, slice_index, All}
 use Rattle.std.specs.Char.{is_ascii_alphabetic, is_ascii_alphanumeric, is_ascii_digit, to_ascii_lowercase}
+use Rattle.rp_lexer.specs.Bytes.{underscore}
+pub use Rattle.rp_lexer.specs.Bytes.{single_quote, double_quote}
 use Rattle.rp_lexer.specs.Spelling.{keyword_spelling, mark_spelling}
 use Rattle.rp_lexer.specs.declared.kind.Keyword.{Keyword}
 use Rattle.rp_lexer.specs.declared.kind.TokenKind.{TokenKind}
@@ -8,10 +10,10 @@ use Rattle.rp_lexer.specs.declared.kind.TokenKind.TheVariants as kind
 
 -- a letter or `_`, and what may follow it in a name
 abbrev pub is_name_start : ℕ → Bool
-is_name_start b = is_ascii_alphabetic b || b == 95
+is_name_start b = is_ascii_alphabetic b || b == underscore
 
 abbrev pub is_name_byte : ℕ → Bool
-is_name_byte b = is_ascii_alphanumeric b || b == 95
+is_name_byte b = is_ascii_alphanumeric b || b == underscore
 
 -- a letter or `_`, and then letters, digits and `_`
 pub record IsIdentifier (bytes : List ℕ) : Type 0 where
@@ -25,18 +27,12 @@ SpellsAlike a b = map to_ascii_lowercase a ≡ map to_ascii_lowercase b
 -- the bytes, with each quote doubled
 abbrev pub doubled : ℕ → List ℕ → List ℕ
 doubled quote [] = []
-doubled quote (b ∷ bytes) = if b == quote then quote ∷ quote ∷ doubled quote bytes else b ∷ doubled quote bytes
+doubled quote (b ∷ bytes) =
+    if b == quote then quote ∷ quote ∷ doubled quote bytes else b ∷ doubled quote bytes
 
 -- the bytes between quotes, with each quote among them doubled
 abbrev pub enclosed : ℕ → List ℕ → List ℕ
 enclosed quote inside = quote ∷ (doubled quote inside ++ quote ∷ [])
-
--- `'` and `"`
-abbrev pub single_quote : ℕ
-single_quote = 39
-
-abbrev pub double_quote : ℕ
-double_quote = 34
 
 -- one or more digits
 pub record IsDigits (bytes : List ℕ) : Type 0 where

@@ -9,15 +9,18 @@ use Rattle.rp_lexer.specs.declared.token.Token.{Token}
 
 -- no text has two token lists
 abbrev pub OneTokenList : Type 0
-OneTokenList = (text : List ℕ) (tokens others : List Token) → Lexes text tokens → Lexes text others → tokens ≡ others
+OneTokenList =
+    (text : List ℕ) (tokens others : List Token) → Lexes text tokens → Lexes text others → tokens ≡ others
 
 -- no text has two first faults
 abbrev pub OneFirstFault : Type 0
-OneFirstFault = (text : List ℕ) (fault other : LexFault) → IsFirstFault text fault → IsFirstFault text other → fault ≡ other
+OneFirstFault =
+    (text : List ℕ) (fault other : LexFault) → IsFirstFault text fault → IsFirstFault text other → fault ≡ other
 
 -- no text that has a fault has a token list
 abbrev pub NoTokensWithFault : Type 0
-NoTokensWithFault = (text : List ℕ) (tokens : List Token) (fault : LexFault) → Lexes text tokens → IsFirstFault text fault → ⊥
+NoTokensWithFault =
+    (text : List ℕ) (tokens : List Token) (fault : LexFault) → Lexes text tokens → IsFirstFault text fault → ⊥
 
 -- each token of the list stands in the text
 abbrev pub EachStands : Type 0
@@ -25,7 +28,8 @@ EachStands = (text : List ℕ) (tokens : List Token) → Lexes text tokens → A
 
 -- the bytes of a token mean one name
 abbrev pub OneNameMeaning : Type 0
-OneNameMeaning = (kind : TokenKind) (bytes name other : List ℕ) → NameMeans kind bytes name → NameMeans kind bytes other → name ≡ other
+OneNameMeaning =
+    (kind : TokenKind) (bytes name other : List ℕ) → NameMeans kind bytes name → NameMeans kind bytes other → name ≡ other
 
 -- the bytes of a token mean one text
 abbrev pub OneTextMeaning : Type 0

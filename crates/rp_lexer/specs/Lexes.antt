@@ -1,6 +1,7 @@
 -- The one token list of a text.
-use Rattle.std.specs.Prelude.{◌≡◌, ◌≢◌, ℕ, suc, ◌+◌, ◌<◌, ◌≤◌, ◌^◌, Bool, ◌||◌, true, false, ◌==◌, ◌⊎◌, List, [], ◌∷◌, length, slice_index, slice_range}
+use Rattle.std.specs.Prelude.{◌≡◌, ◌≢◌, ℕ, suc, ◌+◌, ◌<◌, ◌≤◌, ◌^◌, Bool, ◌||◌, true, ◌==◌, ◌⊎◌, List, [], ◌∷◌, length, slice_index, slice_range}
 use Rattle.std.specs.Str.Parse.{digits_value}
+use Rattle.rp_lexer.specs.Bytes.{space, tab, carriage_return, line_feed, minus_sign}
 use Rattle.rp_lexer.specs.Forms.{HasForm, BeginsToken}
 use Rattle.rp_lexer.specs.declared.kind.TokenKind.{TokenKind}
 use Rattle.rp_lexer.specs.declared.kind.TokenKind.TheVariants as kind
@@ -8,24 +9,19 @@ use Rattle.rp_lexer.specs.declared.token.Token.{Token}
 
 -- space, tab, CR and LF
 abbrev pub is_separator : ℕ → Bool
-is_separator b = b == 32 || b == 9 || b == 13 || b == 10
+is_separator b = b == space || b == tab || b == carriage_return || b == line_feed
 
 -- `--` stands at the place
 abbrev pub CommentBegins : List ℕ → ℕ → Type 0
-CommentBegins text at = (slice_index text at ≡ 45) × (slice_index text (at + 1) ≡ 45)
+CommentBegins text at = (slice_index text at ≡ minus_sign) × (slice_index text (at + 1) ≡ minus_sign)
 
 -- a comment goes from `--` up to the next LF, or to the end of the text
 pub record IsComment (text : List ℕ) (start end : ℕ) : Type 0 where
   pub begins : CommentBegins text start
   pub order : start + 2 ≤ end
   pub within : end ≤ length text
-  pub inside : (at : ℕ) → start + 2 ≤ at → at < end → slice_index text at ≢ 10
-  pub ends : (end ≡ length text) ⊎ (slice_index text end ≡ 10)
-
--- neither a separator nor a comment begins at the place
-pub record Stops (text : List ℕ) (at : ℕ) : Type 0 where
-  pub no_separator : is_separator (slice_index text at) ≡ false
-  pub no_comment : CommentBegins text at → ⊥
+  pub inside : (at : ℕ) → start + 2 ≤ at → at < end → slice_index text at ≢ line_feed
+  pub ends : (end ≡ length text) ⊎ (slice_index text end ≡ line_feed)
 
 -- separators and comments alone stand from one place up to another
 pub data IsGap : List ℕ → ℕ → ℕ → Type 0 where
@@ -58,3 +54,13 @@ LexesUpTo text at (token ∷ tokens) end = IsGap text at token.start × IsToken 
 -- the tokens are those of the text
 abbrev pub Lexes : List ℕ → List Token → Type 0
 Lexes text tokens = LexesUpTo text 0 tokens (length text)
+
+-- the first of the tokens is of the kind
+abbrev pub BeginsWith : TokenKind → List Token → Type 0
+BeginsWith kind [] = ⊥
+BeginsWith kind (token ∷ tokens) = token.kind ≡ kind
+
+-- the offset of the first of the tokens, or of the end of the text
+abbrev pub next_offset : List ℕ → List Token → ℕ
+next_offset text [] = length text
+next_offset text (token ∷ tokens) = token.start

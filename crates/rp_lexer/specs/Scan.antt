@@ -1,13 +1,25 @@
--- What the scanners of one token find at the front of what is left of a text. No public contract cites it: it stands here
--- since a contract may name only what is in specs/.
+-- What the scanners find in what is left of a text. No public contract cites it: it stands here since a contract may name
+-- only what is in specs/.
 use Rattle.std.specs.Prelude.{◌≡◌, ◌≢◌, ℕ, ◌<◌, ◌≤◌, Bool, true, false, if◌then◌else◌, Option, Some, None, List, [], ◌∷◌, length, map, take, slice_index}
 use Rattle.std.specs.Borrow.{Bor}
 use Rattle.std.specs.Str.{bytes_eq, str_eq_ignore_ascii_case}
 use Rattle.std.specs.Char.{is_ascii_digit}
 use Rattle.rp_lexer.specs.Spelling.{mark_spelling}
 use Rattle.rp_lexer.specs.Forms.{is_name_start, doubled, enclosed, single_quote, double_quote}
+use Rattle.rp_lexer.specs.Lexes.{is_separator, CommentBegins, IsGap}
 use Rattle.rp_lexer.specs.declared.kind.Keyword.{Keyword}
 use Rattle.rp_lexer.specs.declared.kind.Mark.{Mark}
+
+-- neither a separator nor a comment begins at the place
+pub record Stops (text : List ℕ) (at : ℕ) : Type 0 where
+  pub no_separator : is_separator (slice_index text at) ≡ false
+  pub no_comment : CommentBegins text at → ⊥
+
+-- a separator or a comment stands from one place up to another
+pub record IsStep (text : List ℕ) (at end : ℕ) : Type 0 where
+  pub order : at < end
+  pub within : end ≤ length text
+  pub gap : (last : ℕ) → IsGap text end last → IsGap text at last
 
 -- the bytes begin with so many that pass, and no more
 pub record IsRun (passes : ℕ → Bool) (rest : List ℕ) (len : ℕ) : Type 0 where

@@ -1,7 +1,8 @@
 //! What stands between tokens: separators and comments.
 
 ghost use Rattle.std.specs.Prelude.{◌≡◌, ℕ, ◌<◌, ◌≤◌, ◌↔◌, length, IsTrue, IfSome, IfNone};
-ghost use Rattle.rp_lexer.specs.Lexes.{is_separator, CommentBegins, IsComment, IsGap, Stops};
+ghost use Rattle.rp_lexer.specs.Lexes.{is_separator, CommentBegins, IsComment, IsGap};
+ghost use Rattle.rp_lexer.specs.Scan.{Stops, IsStep};
 
 /// Whether the byte is a space, a tab, a CR or an LF.
 fn is_separator(byte: u8) -> bool
@@ -33,7 +34,7 @@ fn begins_comment(text: &[u8], at: usize) -> bool
 /// Where the separator or comment at `at` ends, where one stands there.
 fn step_end(text: &[u8], at: usize) -> Option<usize>
     requires { at ≤ length text.now }
-    ensures some { IfSome result (λ end. (at < end) × (end ≤ length text.now) × ((last : ℕ) → IsGap text.now end last → IsGap text.now at last)) }
+    ensures some { IfSome result (IsStep text.now at) }
     ensures none { IfNone result (Stops text.now at) }
 {
     if at == text.len() {

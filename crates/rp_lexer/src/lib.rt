@@ -1,6 +1,20 @@
-//! Cuts a text into tokens, and says what names, texts and numbers mean.
+//! Tokens of a MATCH_RECOGNIZE clause: the names, reserved words, texts, numbers and signs that a parser reads.
+//!
+//! `lex` cuts a text into its one list of tokens, or gives the first fault with its byte. Each token tells its kind and where
+//! it stands; `name_of`, `text_of` and `number_of` say what it means. So of `b AS p < 5 -- falling` the tokens are the name
+//! B, AS, the name P, `<` and the number 5:
+//!
+//!     let tokens = lex(alloc, text)?;
+//!     if let Some((token, rest)) = next_if(&tokens, TokenKind::Name) {
+//!         let name = name_of(alloc, text, token)?;
+//!     }
+//!
+//! That a token stands in the text is a clause of `lex`, and `next` and `next_if` hand it on with the token and with the
+//! rest, so that a parser may ask for the meaning of each token that it comes to. What is a token, a fault and a meaning is
+//! said in `specs/`: Forms and Spelling, Lexes, Faults, Meanings.
 #![tactic(auto)]
 
+mod cursor;
 mod fault;
 mod gap;
 mod kind;
@@ -12,9 +26,10 @@ mod scan;
 mod tests;
 mod token;
 
+pub use cursor::{next, next_if, next_offset};
 pub use fault::LexFault;
 pub use kind::{Keyword, Mark, TokenKind};
 pub use laws::law_lexes;
 pub use lexer::lex;
-pub use meaning::{name_of, number_of, text_of};
+pub use meaning::{name_of, number_of, text_of, upper_case_name};
 pub use token::Token;

@@ -1,14 +1,14 @@
 //! Cuts the token that stands at a place of a text.
 
-ghost use Rattle.std.specs.Prelude.{◌≡◌, ◌≢◌, ℕ, ◌+◌, ◌<◌, ◌≤◌, true, false, length, slice_index, slice_range, drop, take, All, IfOk, IfErr, MatchOption};
+ghost use Rattle.std.specs.Prelude.{◌≡◌, ◌≢◌, ◌↔◌, IsTrue, ℕ, ◌+◌, ◌<◌, ◌≤◌, true, false, length, slice_index, slice_range, drop, take, All, IfOk, IfErr, MatchOption};
 ghost use Rattle.std.specs.Char.{is_ascii_digit};
 ghost use Rattle.std.specs.Str.{str_eq_ignore_ascii_case};
 ghost use Rattle.std.specs.Str.Parse.{digits_value};
 ghost use Rattle.rp_lexer.specs.Spelling.{keyword_spelling, mark_spelling};
-ghost use Rattle.rp_lexer.specs.Forms.{is_name_start, is_name_byte, SpellsAlike, single_quote, double_quote};
-ghost use Rattle.rp_lexer.specs.Lexes.{Stops, IsToken, IsInRange};
+ghost use Rattle.rp_lexer.specs.Forms.{is_name_start, is_name_byte, IsIdentifier, SpellsAlike, single_quote, double_quote};
+ghost use Rattle.rp_lexer.specs.Lexes.{IsToken, IsInRange};
 ghost use Rattle.rp_lexer.specs.Faults.{IsFault, offset};
-ghost use Rattle.rp_lexer.specs.Scan.{IsRun, entries, word_in, begins_with, mark_in, Closes, NeverCloses, IsLongestMark, BeginsNoMark, IsSign};
+ghost use Rattle.rp_lexer.specs.Scan.{Stops, IsRun, entries, word_in, begins_with, mark_in, Closes, NeverCloses, IsLongestMark, BeginsNoMark, IsSign};
 
 use crate::fault::LexFault;
 use crate::kind::{KEYWORDS, Keyword, MARKS, Mark, TokenKind};
@@ -19,6 +19,23 @@ fn is_name_byte(byte: u8) -> bool
     ensures { result ≡ is_name_byte byte }
 {
     byte.is_ascii_alphanumeric() || byte == b'_'
+}
+
+/// Whether a name may begin with the byte.
+fn is_name_start(byte: u8) -> bool
+    ensures { result ≡ is_name_start byte }
+{
+    byte.is_ascii_alphabetic() || byte == b'_'
+}
+
+/// Whether the bytes have the form of a name.
+pub(crate) fn is_identifier(bytes: &[u8]) -> bool
+    ensures { IsTrue result ↔ IsIdentifier bytes.now }
+{
+    match bytes.first() {
+        Some(first) => is_name_start(*first) && bytes.iter().all(|byte| is_name_byte(*byte)),
+        None => false,
+    }
 }
 
 /// How many letters, digits and `_` the bytes begin with.

@@ -1,7 +1,23 @@
-//! Values, truth values, exact sums, and the tables and rows that hold them.
+//! The values of SQL that a pattern's conditions and measures work on: null, whole numbers and texts, with their comparison,
+//! arithmetic, three truth values and exact sums; and the tables and rows that hold them.
+//!
+//! A table says which rows it takes, and a row that it has made stays one of it:
+//!
+//!     let price = (String::from_str(alloc, "price")?, Kind::Int);
+//!     let table = Table::new(alloc, vec![in alloc; price]?)?;
+//!     let row = table.row(alloc, vec![in alloc; Value::Int(17)]?)?;
+//!
+//! A comparison has one of three truth values, since with null nothing can be told; a condition over rows of which some
+//! haven't come yet is `Judged`, told or open:
+//!
+//!     Value::Int(17).judged(Comparison::Less, &Value::Int(18))    // Tri::True
+//!     Value::Null.judged(Comparison::Equal, &Value::Null)         // Tri::Unknown
+//!
+//! What these mean is said in `specs/`: Compared and Order, Arithmetic and Sums, Truth, Tables and Rows.
 #![tactic(auto)]
 
 mod cells;
+mod comparison;
 mod row;
 mod sum;
 mod table;
@@ -10,12 +26,13 @@ mod truth;
 mod value;
 
 pub use cells::{Cells, same_values};
-pub use row::{Row, RowFault};
-pub use sum::{RunningSum, total};
+pub use comparison::Comparison;
+pub use row::{Row, RowFault, check_cells};
+pub use sum::{RunningSum, law_sum, total};
 pub use table::{Column, MAX_NAME_LEN, Table, TableFault};
 pub use text::Text;
 pub use truth::{Judged, Tri, law_told_stays};
-pub use value::{Kind, Value, law_key_order};
+pub use value::{Kind, Value, law_value_order};
 
 #[cfg(test)]
 mod tests;

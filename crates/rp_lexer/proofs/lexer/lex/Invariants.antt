@@ -1,5 +1,6 @@
 use Rattle.std.proofs.Common.{◌-◌, ◌≤◌, length}
-use Rattle.rp_lexer.specs.Lexes.{Stops, LexesUpTo}
+use Rattle.rp_lexer.specs.Lexes.{LexesUpTo}
+use Rattle.rp_lexer.specs.Scan.{Stops}
 use Rattle.rp_lexer.proofs.lexer.lex.Given as goal
 
 abbrev pub invariant-loop-at : goal.invariant-loop-at
