@@ -4,6 +4,5 @@ pub mod Devices
 pub mod Lines
 pub mod Pending
 pub mod Telling
-
 -- the inside of a reader of lines
 pub mod Cuts
