@@ -18,7 +18,7 @@ const VERSION: &str = "0.1.0";
 /// What help of `trace` tells of its input and output.
 const ABOUT_LINES: &str = "\
 Each line of standard input is a partition with a row for each letter, in lower
-case. Variable Z maps every row, any other its own letter. For each line the
+case. Variable Z admits every row, any other its own letter. For each line the
 program prints the variables of its match at row 1, or one of these:
   empty    that match has no row
   none     there is no match
