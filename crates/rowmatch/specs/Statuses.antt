@@ -10,7 +10,7 @@ use Rattle.rowmatch.specs.declared.fault.ProgramFault.TheVariants.{Line, Pattern
 abbrev pub IsAskedFor : Error → Type 0
 IsAskedFor error = (kind_of error ≡ DisplayHelp) ⊎ (kind_of error ≡ DisplayVersion)
 
--- 0 for help, 1 for refused input, 2 for the command line, 3 for a device, memory or turns
+-- 0 for help and the version, 1 for refused input, 2 for the command line, 3 for a device, memory or turns
 abbrev pub IsStatus : ProgramFault → Option ℕ → Type 0
 IsStatus (Line error) status = (IsAskedFor error → status ≡ Some 0) × ((IsAskedFor error → ⊥) → status ≡ Some 2)
 IsStatus (Pattern offset) status = status ≡ Some 1

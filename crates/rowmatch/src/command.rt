@@ -9,7 +9,20 @@ ghost use Rattle.rowmatch.specs.Jobs.{IsFaultless, IsRead, NamesJob, name_of};
 
 use clap::error::ErrorKind;
 use clap::{Arg, ArgAction, ArgMatches, Command, Error};
-use std::alloc::{AllocError, Global};
+use std::alloc::{AllocError, AllocFailed, Global};
+use thiserror::Error as Fault;
+
+/// What `--version` tells.
+const VERSION: &str = "0.1.0";
+
+/// What help of `trace` tells of its input and output.
+const ABOUT_LINES: &str = "\
+Each line of standard input is a partition with a row for each letter, in lower
+case. Variable Z admits every row, any other its own letter. For each line the
+program prints the variables of its match at row 1, or one of these:
+  empty    that match has no row
+  none     there is no match
+  refused  the line has another byte than a to z, or more than 4,096 bytes";
 
 /// What the program is asked to do.
 #[derive(Debug, Drop)]
@@ -19,11 +32,13 @@ pub enum Job {
 }
 
 /// Why the command line names no job.
-#[derive(Debug, Drop)]
+#[derive(Debug, Drop, Fault)]
 pub enum JobFault {
-    /// What the command line lacks, or the help that was asked for, as clap tells it.
+    /// What the command line lacks, or the help or version that was asked for, as clap tells it.
+    #[error("{0}")]
     Line(Error),
     /// Memory was refused.
+    #[error("out of memory")]
     OutOfMemory,
 }
 
@@ -33,7 +48,8 @@ pub fn read_command(alloc: Global, words: &[String]) -> Result<Job, JobFault>
     ensures named { IfOk result (λ job. slice_get (map string_bytes words.now) 0 ≡ Some (name_of job)) }
     ensures value { IfOk result (IsRead (map string_bytes words.now)) }
     ensures taken { IfOk result (IsFaultless (map string_bytes words.now)) }
-    ensures cause { (error : Error) → result ≡ Err (JobFault.Line error) → slice_get (map string_bytes words.now) 0 ≡ Some (codes "trace") →
+    ensures cause { (error : Error) → result ≡ Err (JobFault.Line error) →
+        slice_get (map string_bytes words.now) 0 ≡ Some (codes "trace") →
         IsAmong (kind_of error) (faults_by trace_app (map string_bytes words.now)) }
     ensures line { (error : Error) → result ≡ Err (JobFault.Line error) → NamesJob (map string_bytes words.now) → ⊥ }
 {
@@ -64,8 +80,10 @@ fn read_trace(alloc: Global, words: &[String]) -> Result<Job, JobFault>
     ensures named { IfOk result (λ job. name_of job ≡ codes "trace") }
     ensures value { IfOk result (IsRead (map string_bytes words.now)) }
     ensures taken { IfOk result (IsFaultless (map string_bytes words.now)) }
-    ensures cause { (error : Error) → result ≡ Err (JobFault.Line error) → IsAmong (kind_of error) (faults_by trace_app (map string_bytes words.now)) }
-    ensures line { (error : Error) → result ≡ Err (JobFault.Line error) → are_taken trace_app (map string_bytes words.now) ≡ true → ⊥ }
+    ensures cause { (error : Error) → result ≡ Err (JobFault.Line error) →
+        IsAmong (kind_of error) (faults_by trace_app (map string_bytes words.now)) }
+    ensures line { (error : Error) → result ≡ Err (JobFault.Line error) →
+        are_taken trace_app (map string_bytes words.now) ≡ true → ⊥ }
 {
     let command = trace_command(alloc)?;
     let matches = matched(command, words)?;
@@ -76,7 +94,8 @@ fn read_trace(alloc: Global, words: &[String]) -> Result<Job, JobFault>
 #[tactic(auto, unfolding(crate::specs::Commands::trace_app))]
 fn trace_command<'a>(alloc: Global) -> Result<Command<'a>, AllocError>
     ensures app { IfOk result (λ command. app_of command ≡ trace_app) }
-    ensures required { IfOk result (λ command. (matches : ArgMatches) → IsParsedFrom command matches → HasValue (codes "PATTERN") matches) }
+    ensures required { IfOk result (λ command. (matches : ArgMatches) →
+        IsParsedFrom command matches → HasValue (codes "PATTERN") matches) }
 {
     let pattern = Arg::new(alloc, "PATTERN")
         .help("Variables A to Z, `( )`, `|` and `*`, as \"(A B | A)* C\"")
@@ -85,18 +104,23 @@ fn trace_command<'a>(alloc: Global) -> Result<Command<'a>, AllocError>
     Command::new(alloc, "trace")
         .bin_name("rowmatch trace")?
         .about("Prints the variables of each line's match, a row for each letter")
+        .after_help(ABOUT_LINES)
         .arg(pattern)
 }
 
 /// What clap makes of the words, for a simple command.
 fn matched<'a>(command: Command<'a>, words: &'a [String]) -> Result<ArgMatches<'a>, JobFault>
     requires { is_simple (app_of command) ≡ true }
-    ensures rows { IfOk result (λ matches. rows_of (found_of matches) ≡ rows_by (app_of command.entry) (map string_bytes words.entry.now)) }
-    ensures faultless { is_ruled (app_of command.entry) ≡ true → OnOk result (faults_by (app_of command.entry) (map string_bytes words.entry.now) ≡ []) }
-    ensures cause { is_ruled (app_of command.entry) ≡ true → (error : Error) → result ≡ Err (JobFault.Line error) →
+    ensures rows { IfOk result (λ matches.
+        rows_of (found_of matches) ≡ rows_by (app_of command.entry) (map string_bytes words.entry.now)) }
+    ensures faultless { is_ruled (app_of command.entry) ≡ true →
+        OnOk result (faults_by (app_of command.entry) (map string_bytes words.entry.now) ≡ []) }
+    ensures cause { is_ruled (app_of command.entry) ≡ true →
+        (error : Error) → result ≡ Err (JobFault.Line error) →
         IsAmong (kind_of error) (faults_by (app_of command.entry) (map string_bytes words.entry.now)) }
     ensures parsed { IfOk result (λ matches. IsParsedFrom command.entry matches) }
-    ensures line { (error : Error) → result ≡ Err (JobFault.Line error) → are_taken (app_of command.entry) (map string_bytes words.entry.now) ≡ true → ⊥ }
+    ensures line { (error : Error) → result ≡ Err (JobFault.Line error) →
+        are_taken (app_of command.entry) (map string_bytes words.entry.now) ≡ true → ⊥ }
 {
     match command.try_get_matches_from(words) {
         Ok(matches) => Ok(matches),
@@ -128,6 +152,7 @@ fn no_job(alloc: Global, words: &[String]) -> JobFault {
 fn program<'a>(alloc: Global) -> Result<Command<'a>, AllocError> {
     Command::new(alloc, "rowmatch")
         .bin_name("rowmatch")?
+        .version(VERSION)
         .no_binary_name(true)
         .subcommand_required(true)
         .subcommand(trace_command(alloc)?)
@@ -159,6 +184,17 @@ impl From<AllocError> for JobFault {
     ghost from_gives = { λ _ fault. fault ≡ OutOfMemory };
 
     fn from(_: AllocError) -> JobFault {
+        JobFault::OutOfMemory
+    }
+}
+
+impl<T: Drop> From<AllocFailed<T>> for JobFault {
+    ghost use Rattle.std.specs.Prelude.{◌≡◌};
+    ghost use Rattle.rowmatch.specs.declared.command.JobFault.TheVariants.{OutOfMemory};
+
+    ghost from_gives = { λ _ fault. fault ≡ OutOfMemory };
+
+    fn from(_: AllocFailed<T>) -> JobFault {
         JobFault::OutOfMemory
     }
 }

@@ -7,7 +7,7 @@ mod fault;
 use crate::command::{Job, not_utf8, read_command};
 use crate::fault::ProgramFault;
 use rp_lines::Port;
-use rp_trace::{TURNS, run_trace, trace_pattern};
+use rp_trace::{READS, run_trace, trace_pattern};
 use std::process::ExitCode;
 use std::rt::Env;
 use std::{env, io};
@@ -48,7 +48,7 @@ fn run(rt: &HostRuntime) -> Result<(), ProgramFault> {
             let pattern = trace_pattern(rt.alloc(), pattern.as_str())?;
             let mut reader = Port::new(rt.stdin());
             let mut writer = Port::new(rt.stdout());
-            run_trace(rt.alloc(), &mut reader, &mut writer, &pattern, TURNS)?;
+            run_trace(rt.alloc(), &mut reader, &mut writer, &pattern, READS)?;
             Ok(())
         }
     }

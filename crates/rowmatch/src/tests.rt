@@ -57,7 +57,8 @@ Commands:
   help   Print this message or the help of the given subcommand(s)
 
 Options:
-  -h, --help  Print help
+  -h, --help     Print help
+  -V, --version  Print version
 ";
 
 const HELP_OF_TRACE: &str = "\
@@ -70,6 +71,13 @@ Arguments:
 
 Options:
   -h, --help  Print help
+
+Each line of standard input is a partition with a row for each letter, in lower
+case. Variable Z admits every row, any other its own letter. For each line the
+program prints the variables of its match at row 1, or one of these:
+  empty    that match has no row
+  none     there is no match
+  refused  the line has another byte than a to z, or more than 4,096 bytes
 ";
 
 const NO_PATTERN: &str = "\
@@ -81,13 +89,14 @@ Usage: rowmatch trace <PATTERN>
 For more information, try '--help'.
 ";
 
-/// Help is told on standard output, a mistake on standard error.
+/// Help and the version are told on standard output, a mistake on standard error.
 #[test]
 fn line_texts(rt: HostRuntime) -> Result<(), Fail> {
     for (words, text, is_error) in [
         (["--help"].as_slice(), HELP, false),
         (["trace", "--help"].as_slice(), HELP_OF_TRACE, false),
         (["help", "trace"].as_slice(), HELP_OF_TRACE, false),
+        (["--version"].as_slice(), "rowmatch 0.1.0\n", false),
         (["trace"].as_slice(), NO_PATTERN, true),
     ] {
         let (told, is_told_as_error) = line_told(rt.alloc(), words)?;
@@ -101,6 +110,7 @@ fn line_texts(rt: HostRuntime) -> Result<(), Fail> {
 fn line_statuses(rt: HostRuntime) -> Result<(), Fail> {
     assert_eq!(rt; line_status(rt.alloc(), &["trace", "--help"])?, Some(0));
     assert_eq!(rt; line_status(rt.alloc(), &["--help"])?, Some(0));
+    assert_eq!(rt; line_status(rt.alloc(), &["--version"])?, Some(0));
     assert_eq!(rt; line_status(rt.alloc(), &[])?, Some(2));
     assert_eq!(rt; line_status(rt.alloc(), &["trace"])?, Some(2));
     assert_eq!(rt; line_status(rt.alloc(), &["trace", "A", "B"])?, Some(2));

@@ -3,12 +3,12 @@ use Rattle.std.proofs.Common.{◌≡◌, ℕ, ◌+◌, ◌<◌, ◌≤◌, List,
 use Rattle.std.specs.Io.KnownBytes.{Consumes}
 use Rattle.rp_lines.specs.Devices.{GivesEach}
 
-pub GivesEach-start : (turns : ℕ) (old : Option (List ℕ)) → GivesEach turns turns old old
-GivesEach-start turns None = tt
-GivesEach-start turns (Some xs) = omega arith
+pub GivesEach-start : (reads : ℕ) (old : Option (List ℕ)) → GivesEach reads reads old old
+GivesEach-start reads None = tt
+GivesEach-start reads (Some xs) = omega arith
 
-pub GivesEach-same : (turns : ℕ) (old new : Option (List ℕ)) → new ≡ old → GivesEach turns turns old new
-GivesEach-same turns old new same = rw same (GivesEach-start turns old)
+pub GivesEach-same : (reads : ℕ) (old new : Option (List ℕ)) → new ≡ old → GivesEach reads reads old new
+GivesEach-same reads old new same = rw same (GivesEach-start reads old)
 
 pub GivesEach-trans : (a b c : ℕ) (old now new : Option (List ℕ)) → GivesEach a b old now → GivesEach b c now new → GivesEach a c old new
 GivesEach-trans a b c None now new first second = tt
@@ -23,7 +23,7 @@ GivesEach-read before after (Some xs) (Some ys) bytes one takes some =
     let all : length xs ≡ length bytes + length ys = ap length takes ∙ length-append bytes ys in
     omega arith
 
-pub GivesEach-all : (turns left : ℕ) (old new : Option (List ℕ)) → left ≡ 0 → GivesEach turns left old new → IfSome old (λ input. turns ≤ length input)
-GivesEach-all turns left None new none gives = tt
-GivesEach-all turns left (Some xs) None none gives = absurd gives
-GivesEach-all turns left (Some xs) (Some ys) none gives = omega arith
+pub GivesEach-all : (reads left : ℕ) (old new : Option (List ℕ)) → left ≡ 0 → GivesEach reads left old new → IfSome old (λ input. reads ≤ length input)
+GivesEach-all reads left None new none gives = tt
+GivesEach-all reads left (Some xs) None none gives = absurd gives
+GivesEach-all reads left (Some xs) (Some ys) none gives = omega arith

@@ -1,3 +1,4 @@
 pub mod Written
 pub mod Giving
 pub mod Cutting
+pub mod Told

@@ -11,5 +11,5 @@ abbrev pub coming : Lines → Option (List ℕ) → Option (List ℕ)
 coming lines remaining = prepend_known (pending_of lines) remaining
 
 -- at most so many lines are left, and more calls than that many chunks
-abbrev pub left_in : Lines → ℕ
-left_in lines = lines.turns * 65537 + (vec_len lines.chunk - lines.taken)
+abbrev pub most_lines_left : Lines → ℕ
+most_lines_left lines = lines.reads * 65537 + (vec_len lines.chunk - lines.taken)

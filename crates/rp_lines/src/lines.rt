@@ -1,23 +1,31 @@
 //! The lines of what is read.
-ghost use Rattle.std.specs.Prelude.{◌≡◌, ℕ, ◌+◌, ◌-◌, ◌<◌, ◌≤◌, [], ◌∷◌, ◌++◌, length, take, drop, vec_len, OnOk};
+ghost use Rattle.std.specs.Prelude.{◌≡◌, ◌+◌, ◌<◌, ◌≤◌, ◌∷◌, ◌++◌, length, take, drop, vec_len, OnOk};
 ghost use Rattle.rp_lines.specs.Lines.{IsLfFree};
+ghost use Rattle.rp_lines.specs.declared.lines.TheConstants.{CHUNK, LF};
 
 use crate::port::Intake;
-use std::alloc::{AllocError, Global};
+use std::alloc::{AllocError, AllocFailed, Global};
+use thiserror::Error;
 
 /// Why the next line is not there.
-#[derive(Clone, Copy, Debug, PartialEq, Eq)]
+#[derive(Clone, Copy, Debug, PartialEq, Eq, Error)]
 pub enum LineFault {
     /// The device failed.
+    #[error("device: read")]
     Read,
     /// No further read is allowed, and one is due.
+    #[error("too many turns")]
     Turns,
     /// Memory was refused.
+    #[error("out of memory")]
     OutOfMemory,
 }
 
 /// The most bytes that one call reads.
 const CHUNK: usize = 65_536;
+
+/// The byte that ends a line.
+const LF: u8 = b'\n';
 
 /// Cuts what is read into lines. Of a long line only the front is kept.
 #[derive(Drop)]
@@ -26,32 +34,33 @@ pub struct Lines {
     pub chunk: Vec<u8>,
     /// How many bytes of it were cut off.
     pub taken: usize,
-    /// How many more calls of `read` may be made.
-    pub turns: u64,
+    /// How many more calls of the reader may be made.
+    pub reads: u64,
     /// How many bytes of a line are kept.
     pub kept: usize,
     ghost within: { taken ≤ vec_len chunk },
-    ghost bounded: { vec_len chunk ≤ 65536 },
+    ghost bounded: { vec_len chunk ≤ CHUNK },
 }
 
 impl Lines {
-    ghost use Rattle.std.specs.Prelude.{List, ◌≡◌, ℕ, ◌+◌, ◌-◌, ◌*◌, ◌<◌, ◌≤◌, [], ◌∷◌, ◌++◌, length, take, drop, vec_len, IfOk, IfSome, OnOk, OnErr, Some, None, min, ◌^◌, MatchBool, MatchResult, ◌⊎◌, true, false};
+    ghost use Rattle.std.specs.Prelude.{◌≡◌, ◌<◌, ◌≤◌, ◌⊎◌, true, false, [], length, take, vec_len, IfOk, OnOk, OnErr};
     ghost use Rattle.std.specs.Io.KnownBytes.{Consumes, IsAtEnd};
-    ghost use Rattle.rp_lines.specs.Counts.{raised};
+    ghost use Rattle.rp_lines.specs.Cuts.{Advances, CutsOff};
     ghost use Rattle.rp_lines.specs.Devices.{GivesEach, after_calls};
-    ghost use Rattle.rp_lines.specs.Lines.{IsLfFree, TakesLast, TakesLine};
-    ghost use Rattle.rp_lines.specs.Pending.{pending_of, coming, left_in};
+    ghost use Rattle.rp_lines.specs.Lines.{TakesLast, TakesLine};
+    ghost use Rattle.rp_lines.specs.Pending.{pending_of, coming, most_lines_left};
+    ghost use Rattle.rp_lines.specs.Telling.{TellsEnd, TellsFailure};
 
-    /// Nothing is read yet, and at most `turns` calls of `read` will be made.
-    pub fn new(alloc: Global, turns: u64, kept: usize) -> Self
+    /// Nothing is read yet, and at most `reads` calls of `read` will be made.
+    pub fn new(alloc: Global, reads: u64, kept: usize) -> Self
         ensures pending { pending_of result ≡ [] }
-        ensures turns { result.turns ≡ turns }
+        ensures reads { result.reads ≡ reads }
         ensures kept { result.kept ≡ kept }
     {
         Lines {
             chunk: Vec::new(alloc),
             taken: 0,
-            turns,
+            reads,
             kept,
         }
     }
@@ -64,18 +73,15 @@ impl Lines {
         ensures last { result ≡ Ok false → TakesLast self.old.kept
             (coming self.old (R.remaining reader.old)) (coming self.new (R.remaining reader.new)) line.new.items }
         ensures end { result ≡ Ok false → IsAtEnd (R.remaining reader.new) }
-        ensures told { result ≡ Ok false → R.ended reader.new ≡ true }
-        ensures more { result ≡ Ok true → R.ended reader.new ≡ R.ended reader.old }
-        ensures stays { OnErr result (R.ended reader.new ≡ R.ended reader.old) }
+        ensures told { TellsEnd result (R.ended reader.old) (R.ended reader.new) }
+        ensures failures { TellsFailure result (R.failures reader.old) (R.failures reader.new) }
+        ensures calls { after_calls self.new.reads (R.calls reader.new) ≡ after_calls self.old.reads (R.calls reader.old) }
+        ensures reads { result ≡ Err LineFault.Turns → self.new.reads ≡ 0 }
+        ensures gives { (result ≡ Ok true) ⊎ (result ≡ Err LineFault.Turns) →
+            GivesEach self.old.reads self.new.reads (R.remaining reader.old) (R.remaining reader.new) }
+        ensures falls { result ≡ Ok true → most_lines_left self.new < most_lines_left self.old }
         ensures few { vec_len line.new ≤ self.old.kept }
         ensures kept { self.new.kept ≡ self.old.kept }
-        ensures read { result ≡ Err LineFault.Read → R.failures reader.new ≡ raised (R.failures reader.old) }
-        ensures goes { OnOk result (R.failures reader.new ≡ R.failures reader.old) }
-        ensures calls { after_calls self.new.turns (R.calls reader.new) ≡ after_calls self.old.turns (R.calls reader.old) }
-        ensures turns { result ≡ Err LineFault.Turns → self.new.turns ≡ 0 }
-        ensures gives { (result ≡ Ok true) ⊎ (result ≡ Err LineFault.Turns) →
-            GivesEach self.old.turns self.new.turns (R.remaining reader.old) (R.remaining reader.new) }
-        ensures falls { result ≡ Ok true → left_in self.new < left_in self.old }
     {
         line.clear();
         loop {
@@ -91,13 +97,11 @@ impl Lines {
     /// Moves what is left of the chunk to the line, up to a LF, and says whether there was one.
     fn cut(&mut self, line: &mut Vec<u8>) -> Result<bool, AllocError>
         requires { vec_len line.old ≤ self.old.kept }
-        ensures cut { IfOk result (λ is_whole. MatchBool is_whole
-            ((part : List ℕ) × IsLfFree part × (pending_of self.old ≡ part ++ 10 ∷ pending_of self.new) × (line.new.items ≡ take self.old.kept (line.old.items ++ part)))
-            (IsLfFree (pending_of self.old) × (pending_of self.new ≡ []) × (line.new.items ≡ take self.old.kept (line.old.items ++ pending_of self.old)))) }
+        ensures cut { IfOk result (λ is_whole. CutsOff is_whole self.old self.new line.old.items line.new.items) }
         ensures fits { vec_len line.new ≤ self.old.kept }
-        ensures falls { IfOk result (λ is_whole. MatchBool is_whole (self.old.taken < self.new.taken) (self.old.taken ≤ self.new.taken)) }
+        ensures falls { IfOk result (λ is_whole. Advances is_whole self.old self.new) }
         ensures chunk { self.new.chunk ≡ self.old.chunk }
-        ensures turns { self.new.turns ≡ self.old.turns }
+        ensures reads { self.new.reads ≡ self.old.reads }
         ensures kept { self.new.kept ≡ self.old.kept }
     {
         let rest = &self.chunk[self.taken..];
@@ -111,27 +115,26 @@ impl Lines {
     /// Reads the next chunk, if a further call may be made, and says whether there is any.
     fn fill<R: Intake>(&mut self, reader: &mut R) -> Result<bool, LineFault>
         requires { pending_of self.old ≡ [] }
-        ensures ok { IfOk result (λ is_some. Consumes (R.remaining reader.old) (R.remaining reader.new) (pending_of self.new)) }
-        ensures end { IfOk result (λ is_some. MatchBool is_some (Unit {0}) ((pending_of self.new ≡ []) × IsAtEnd (R.remaining reader.new))) }
-        ensures told { result ≡ Ok false → R.ended reader.new ≡ true }
-        ensures more { result ≡ Ok true → R.ended reader.new ≡ R.ended reader.old }
-        ensures stays { OnErr result (R.ended reader.new ≡ R.ended reader.old) }
-        ensures read { result ≡ Err LineFault.Read → R.failures reader.new ≡ raised (R.failures reader.old) }
-        ensures goes { OnOk result (R.failures reader.new ≡ R.failures reader.old) }
-        ensures calls { after_calls self.new.turns (R.calls reader.new) ≡ after_calls self.old.turns (R.calls reader.old) }
-        ensures turns { result ≡ Err LineFault.Turns → self.new.turns ≡ 0 }
-        ensures due { result ≡ Err LineFault.Turns → self.old.turns ≡ 0 }
+        ensures ok { OnOk result (Consumes (R.remaining reader.old) (R.remaining reader.new) (pending_of self.new)) }
+        ensures none { result ≡ Ok false → pending_of self.new ≡ [] }
+        ensures end { result ≡ Ok false → IsAtEnd (R.remaining reader.new) }
+        ensures told { TellsEnd result (R.ended reader.old) (R.ended reader.new) }
+        ensures failures { TellsFailure result (R.failures reader.old) (R.failures reader.new) }
+        ensures calls { after_calls self.new.reads (R.calls reader.new) ≡ after_calls self.old.reads (R.calls reader.old) }
+        ensures reads { result ≡ Err LineFault.Turns → self.new.reads ≡ 0 }
+        ensures due { result ≡ Err LineFault.Turns → self.old.reads ≡ 0 }
         ensures unread { result ≡ Err LineFault.Turns → R.remaining reader.new ≡ R.remaining reader.old }
-        ensures gives { result ≡ Ok true → GivesEach self.old.turns self.new.turns (R.remaining reader.old) (R.remaining reader.new) }
-        ensures fewer { OnOk result (self.new.turns < self.old.turns) }
+        ensures gives { result ≡ Ok true →
+            GivesEach self.old.reads self.new.reads (R.remaining reader.old) (R.remaining reader.new) }
+        ensures fewer { OnOk result (self.new.reads < self.old.reads) }
         ensures kept { self.new.kept ≡ self.old.kept }
     {
-        if self.turns == 0 {
+        if self.reads == 0 {
             return Err(LineFault::Turns);
         }
         self.taken = 0;
         self.chunk.resize(CHUNK, 0)?;
-        self.turns -= 1;
+        self.reads -= 1;
         match reader.read(self.chunk.as_mut_slice()) {
             Ok(count) => {
                 self.chunk.truncate(count);
@@ -156,14 +159,26 @@ impl From<AllocError> for LineFault {
     }
 }
 
+impl<T: Drop> From<AllocFailed<T>> for LineFault {
+    ghost use Rattle.std.specs.Prelude.{◌≡◌};
+    ghost use Rattle.rp_lines.specs.declared.lines.LineFault.TheVariants.{OutOfMemory};
+
+    ghost from_gives = { λ _ fault. fault ≡ OutOfMemory };
+
+    fn from(_: AllocFailed<T>) -> LineFault {
+        LineFault::OutOfMemory
+    }
+}
+
 /// How many bytes stand before the first LF, or in all.
 fn line_length(bytes: &[u8]) -> usize
     ensures within { result ≤ length bytes.now }
     ensures before { IsLfFree (take result bytes.now) }
-    ensures found { result < length bytes.now → bytes.now ≡ take result bytes.now ++ 10 ∷ drop (result + 1) bytes.now }
+    ensures found { result < length bytes.now →
+        bytes.now ≡ take result bytes.now ++ LF ∷ drop (result + 1) bytes.now }
 {
     for (index, byte) in bytes.iter().enumerate() {
-        if *byte == b'\n' {
+        if *byte == LF {
             return index;
         }
     }

@@ -5,16 +5,19 @@ ghost use Rattle.rp_lines.specs.Counts.{raised};
 ghost use Rattle.rp_lines.specs.Devices.{AppendsFront, MakesCalls, Moves};
 
 use std::io::{Read, Write};
+use thiserror::Error;
 
 /// From how many bytes on a gathered text is written.
 const BLOCK: usize = 65_536;
 
 /// A read failed.
-#[derive(Clone, Copy, Debug, PartialEq, Eq)]
+#[derive(Clone, Copy, Debug, PartialEq, Eq, Error)]
+#[error("device: read")]
 pub struct ReadFailed;
 
 /// A write failed, or took nothing of what was there.
-#[derive(Clone, Copy, Debug, PartialEq, Eq)]
+#[derive(Clone, Copy, Debug, PartialEq, Eq, Error)]
+#[error("device: write")]
 pub struct WriteFailed;
 
 /// Where bytes come from.
@@ -163,7 +166,7 @@ pub fn write_block<W: Outlet>(writer: &mut W, text: &mut Vec<u8>) -> Result<(), 
     ensures err { OnErr result (AppendsFront (W.contents writer.old) (W.contents writer.new) text.old.items) }
     ensures fails { OnErr result (W.failures writer.new ≡ raised (W.failures writer.old)) }
     ensures goes { OnOk result (W.failures writer.new ≡ W.failures writer.old) }
-    ensures few { OnOk result (vec_len text.new < 65536) }
+    ensures few { OnOk result (vec_len text.new < BLOCK) }
     ensures calls { OnOk result (MakesCalls 0 (length text.old.items) (W.calls writer.old) (W.calls writer.new)) }
     ensures tries { OnErr result (MakesCalls 1 (length text.old.items) (W.calls writer.old) (W.calls writer.new)) }
 {

@@ -1,6 +1,9 @@
 -- What is written for the lines of `trace`.
-use Rattle.std.specs.Prelude.{ℕ, ◌+◌, List, [], ◌∷◌, ◌++◌, length, map, Bool, ◌&&◌, nat_le, codes, if◌then◌else◌}
+use Rattle.std.specs.Prelude.{ℕ, ◌+◌, List, [], ◌∷◌, ◌++◌, length, map, Bool, ◌&&◌, nat_le, codes, if◌then◌else◌, Option, IfSome}
 use Rattle.std.specs.List.{list_all, flat_map}
+use Rattle.std.specs.Io.KnownBytes.{Appends}
+use Rattle.rp_lines.specs.Devices.{AppendsFront}
+use Rattle.rp_lines.specs.Lines.{lines_of}
 use Rattle.rp_pattern.specs.declared.word.Label.{Label}
 use Rattle.rp_pattern.specs.declared.word.End.TheVariants.{Closed}
 use Rattle.rp_pattern.specs.declared.form.Form.{Form}
@@ -43,3 +46,11 @@ last_reply form (byte ∷ part) = reply_to form (byte ∷ part)
 -- a reply for each line
 abbrev pub replies_to : Form → List (List ℕ) → List ℕ
 replies_to form lines = flat_map (reply_to form) lines
+
+-- all replies to the lines of an input are written, where its bytes are known
+abbrev pub WritesReplies : Form → Option (List ℕ) → Option (List ℕ) → Option (List ℕ) → Type 0
+WritesReplies form input old new = IfSome input (λ bytes. Appends old new (replies_to form (lines_of bytes)))
+
+-- a front of these replies is written
+abbrev pub WritesFront : Form → Option (List ℕ) → Option (List ℕ) → Option (List ℕ) → Type 0
+WritesFront form input old new = IfSome input (λ bytes. AppendsFront old new (replies_to form (lines_of bytes)))

@@ -5,15 +5,18 @@ ghost use Rattle.rp_trace.specs.Grammar.{Tree, Alternatives, Sequences, Factors,
 ghost use Rattle.rp_trace.specs.Reading.{LeavesSymbols, Lacks, Reads, ReadsNone, ReadsOnly, begins_primary};
 
 use rp_pattern::{Form, Pattern};
-use std::alloc::{AllocError, Global};
+use std::alloc::{AllocError, AllocFailed, Global};
 use std::rc::Rc;
+use thiserror::Error;
 
 /// Why a text is no pattern of `trace`.
-#[derive(Clone, Copy, Debug, PartialEq, Eq)]
+#[derive(Clone, Copy, Debug, PartialEq, Eq, Error)]
 pub enum TracePatternFault {
     /// The byte at this offset can't follow, or the text ends there too early.
+    #[error("pattern: Expected at byte {0}")]
     Expected(usize),
     /// Memory was refused.
+    #[error("out of memory")]
     OutOfMemory,
 }
 
@@ -21,9 +24,12 @@ pub enum TracePatternFault {
 pub fn trace_pattern(alloc: Global, text: &str) -> Result<Pattern, TracePatternFault>
     ensures lettered { IfOk result (λ pattern. IsLettered (form_of pattern)) }
     ensures derived { IfOk result (λ pattern. Derives Alternatives (symbols_of text.now) (tree_of (form_of pattern))) }
-    ensures only { IfOk result (λ pattern. (tree : Tree) → Derives Alternatives (symbols_of text.now) tree → tree_of (form_of pattern) ≡ tree) }
-    ensures place { (offset : ℕ) → result ≡ Err (TracePatternFault.Expected offset) → (left : ℕ) × LeavesSymbols text.now left offset }
-    ensures refused { (offset : ℕ) → result ≡ Err (TracePatternFault.Expected offset) → (tree : Tree) → Derives Alternatives (symbols_of text.now) tree → ⊥ }
+    ensures only { IfOk result (λ pattern. (tree : Tree) →
+        Derives Alternatives (symbols_of text.now) tree → tree_of (form_of pattern) ≡ tree) }
+    ensures place { (offset : ℕ) → result ≡ Err (TracePatternFault.Expected offset) →
+        (left : ℕ) × LeavesSymbols text.now left offset }
+    ensures refused { (offset : ℕ) → result ≡ Err (TracePatternFault.Expected offset) →
+        (tree : Tree) → Derives Alternatives (symbols_of text.now) tree → ⊥ }
 {
     let symbols = without_spaces(alloc, text.as_bytes())?;
     match alternatives(alloc, symbols.as_slice()) {
@@ -80,7 +86,7 @@ fn alternatives(alloc: Global, symbols: &[u8]) -> Result<(Form, &[u8]), Stop>
     ensures shorter { IfOk result (λ read. length read.1.now < length symbols.now) }
 {
     let (first, rest) = sequence(alloc, symbols)?;
-    match after(rest, b'|') {
+    match after_mark(rest, b'|') {
         Some(rest) => {
             let (second, rest) = alternatives(alloc, rest)?;
             Ok((alternation(alloc, first, second)?, rest))
@@ -120,7 +126,7 @@ fn factor(alloc: Global, symbols: &[u8]) -> Result<(Form, &[u8]), Stop>
     ensures shorter { IfOk result (λ read. length read.1.now < length symbols.now) }
 {
     let (body, rest) = primary(alloc, symbols)?;
-    match after(rest, b'*') {
+    match after_mark(rest, b'*') {
         Some(rest) => Ok((star(alloc, body)?, rest)),
         None => Ok((body, rest)),
     }
@@ -140,14 +146,14 @@ fn primary(alloc: Global, symbols: &[u8]) -> Result<(Form, &[u8]), Stop>
     if let Some((var, rest)) = letter(symbols) {
         return Ok((Form::Variable(var), rest));
     }
-    let Some(inner) = after(symbols, b'(') else {
+    let Some(inner) = after_mark(symbols, b'(') else {
         return Err(Stop::At(symbols.len()));
     };
-    if let Some(rest) = after(inner, b')') {
+    if let Some(rest) = after_mark(inner, b')') {
         return Ok((Form::Empty, rest));
     }
     let (form, rest) = alternatives(alloc, inner)?;
-    match after(rest, b')') {
+    match after_mark(rest, b')') {
         Some(rest) => Ok((form, rest)),
         None => Err(Stop::At(rest.len())),
     }
@@ -164,7 +170,7 @@ fn begins_primary(symbols: &[u8]) -> bool
 }
 
 /// What follows the mark, if the symbols begin with it.
-fn after(symbols: &[u8], mark: u8) -> Option<&[u8]>
+fn after_mark(symbols: &[u8], mark: u8) -> Option<&[u8]>
     ensures some { IfSome result (λ rest. symbols.now ≡ mark ∷ rest.now) }
     ensures none { IfNone result (Lacks mark symbols.now) }
 {
@@ -236,6 +242,17 @@ impl From<AllocError> for TracePatternFault {
     ghost from_gives = { λ _ fault. fault ≡ OutOfMemory };
 
     fn from(_: AllocError) -> TracePatternFault {
+        TracePatternFault::OutOfMemory
+    }
+}
+
+impl<T: Drop> From<AllocFailed<T>> for TracePatternFault {
+    ghost use Rattle.std.specs.Prelude.{◌≡◌};
+    ghost use Rattle.rp_trace.specs.declared.grammar.TracePatternFault.TheVariants.{OutOfMemory};
+
+    ghost from_gives = { λ _ fault. fault ≡ OutOfMemory };
+
+    fn from(_: AllocFailed<T>) -> TracePatternFault {
         TracePatternFault::OutOfMemory
     }
 }

@@ -5,10 +5,8 @@ mod grammar;
 mod letters;
 mod matching;
 #[cfg(test)]
-mod memory;
-#[cfg(test)]
 mod tests;
 mod trace;
 
 pub use grammar::{TracePatternFault, trace_pattern};
-pub use trace::{TURNS, TraceFault, run_trace};
+pub use trace::{READS, TraceFault, run_trace};

@@ -5,12 +5,14 @@ ghost use Rattle.rp_pattern.specs.Variables.{are_below};
 
 use crate::grammar::{TracePatternFault, trace_pattern};
 use crate::matching::BUDGET;
-use crate::memory::{Sink, Source};
-use crate::trace::{TURNS, TraceFault, run_trace};
+use crate::tests::memory::{Sink, Source};
+use crate::trace::{READS, TraceFault, run_trace};
 use rp_lines::Port;
 use rp_pattern::Pattern;
 use std::alloc::{AllocError, Global};
 use std::test::Fail;
+
+mod memory;
 
 /// No call has this number.
 const NEVER: u64 = 0;
@@ -34,13 +36,13 @@ struct Ran {
 struct Limits {
     read: u64,
     write: u64,
-    turns: u64,
+    reads: u64,
 }
 
 const ALL: Limits = Limits {
     read: NEVER,
     write: NEVER,
-    turns: 10_000,
+    reads: 10_000,
 };
 
 /// Three bytes are read at a call, and two written.
@@ -54,7 +56,7 @@ fn run_once(
 {
     let mut source = Source::new(lines, 3, limits.read);
     let mut sink = Sink::new(alloc, 10_000, 2, limits.write)?;
-    let result = run_trace(alloc, &mut source, &mut sink, pattern, limits.turns);
+    let result = run_trace(alloc, &mut source, &mut sink, pattern, limits.reads);
     let calls = source.calls();
     Ok(Ran {
         result,
@@ -134,13 +136,13 @@ fn longest_line(rt: HostRuntime) -> Result<(), Fail> {
     Ok(())
 }
 
-/// A run that reads and writes in large pieces, and may read so often.
-fn run_wide(alloc: Global, pattern: &Pattern, lines: &[u8], turns: u64) -> Result<Ran, AllocError>
+/// A run that reads and writes in large pieces, and at most `reads` times.
+fn run_wide(alloc: Global, pattern: &Pattern, lines: &[u8], reads: u64) -> Result<Ran, AllocError>
     requires { are_below 26 (form_of pattern.now) ≡ true }
 {
     let mut source = Source::new(lines, 100_000, NEVER);
     let mut sink = Sink::new(alloc, 100_000, 7_000, NEVER)?;
-    let result = run_trace(alloc, &mut source, &mut sink, pattern, turns);
+    let result = run_trace(alloc, &mut source, &mut sink, pattern, reads);
     let calls = source.calls();
     Ok(Ran {
         result,
@@ -238,7 +240,7 @@ fn failed_reads(rt: HostRuntime) -> Result<(), Fail> {
         let limits = Limits {
             read,
             write: NEVER,
-            turns: 100,
+            reads: 100,
         };
         let ran = run_lines(rt.alloc(), &pattern, LINES.as_bytes(), limits)?;
         assert_eq!(rt; ran.result, Err(TraceFault::Read));
@@ -254,7 +256,7 @@ fn failed_writes(rt: HostRuntime) -> Result<(), Fail> {
         let limits = Limits {
             read: NEVER,
             write,
-            turns: 100,
+            reads: 100,
         };
         let ran = run_lines(rt.alloc(), &pattern, LINES.as_bytes(), limits)?;
         assert_eq!(rt; ran.result, Err(TraceFault::Write));
@@ -264,31 +266,31 @@ fn failed_writes(rt: HostRuntime) -> Result<(), Fail> {
 }
 
 #[test]
-fn turns(rt: HostRuntime) -> Result<(), Fail> {
+fn reads_allowed(rt: HostRuntime) -> Result<(), Fail> {
     let pattern = pattern_of(rt.alloc(), PATTERN)?;
-    for turns in 0..8 {
+    for reads in 0..8 {
         let limits = Limits {
             read: NEVER,
             write: NEVER,
-            turns,
+            reads,
         };
         let ran = run_lines(rt.alloc(), &pattern, LINES.as_bytes(), limits)?;
-        let wanted = if turns < 7 {
+        let wanted = if reads < 7 {
             Err(TraceFault::Turns)
         } else {
             Ok(())
         };
         assert_eq!(rt; ran.result, wanted);
-        assert_eq!(rt; ran.calls, turns);
+        assert_eq!(rt; ran.calls, reads);
     }
     Ok(())
 }
 
 /// Of a last part without LF nothing is read once the end was told.
 #[test]
-fn turns_of_last_part(rt: HostRuntime) -> Result<(), Fail> {
+fn reads_of_last_part(rt: HostRuntime) -> Result<(), Fail> {
     let pattern = pattern_of(rt.alloc(), PATTERN)?;
-    for (lines, turns, wanted) in [
+    for (lines, reads, wanted) in [
         ("", 0, Err(TraceFault::Turns)),
         ("", 1, Ok(())),
         ("abac", 2, Err(TraceFault::Turns)),
@@ -297,11 +299,11 @@ fn turns_of_last_part(rt: HostRuntime) -> Result<(), Fail> {
         let limits = Limits {
             read: NEVER,
             write: NEVER,
-            turns,
+            reads,
         };
         let ran = run_lines(rt.alloc(), &pattern, lines.as_bytes(), limits)?;
-        assert_eq!(rt; ran.result, wanted, "{lines} in {turns}");
-        assert_eq!(rt; ran.calls, turns);
+        assert_eq!(rt; ran.result, wanted, "{lines} in {reads}");
+        assert_eq!(rt; ran.calls, reads);
     }
     Ok(())
 }
@@ -391,9 +393,9 @@ fn accepted(rt: HostRuntime) -> Result<(), Fail> {
     Ok(())
 }
 
-/// What the program passes for turns and budget.
+/// How often the program reads, and the turns of one run of a search.
 #[test]
 fn numbers_of_the_program(rt: HostRuntime) {
-    assert_eq!(rt; TURNS, 1_000_000_000);
+    assert_eq!(rt; READS, 1_000_000_000);
     assert_eq!(rt; BUDGET, 100_000);
 }

@@ -1,37 +1,42 @@
 //! The matches of lines of letters.
 ghost use Rattle.std.specs.Prelude.{◌≡◌, ℕ, ◌<◌, ◌≤◌, ◌++◌, true, length, IfOk, IfSome, OnOk, OnErr, All};
-ghost use Rattle.std.specs.Io.KnownBytes.{Appends, IsAtEnd};
+ghost use Rattle.std.specs.Io.KnownBytes.{IsAtEnd};
 ghost use Rattle.rp_pattern.specs.PatternForm.{form_of};
 ghost use Rattle.rp_pattern.specs.Variables.{are_below};
 ghost use Rattle.rp_lines.specs.Counts.{raised};
-ghost use Rattle.rp_lines.specs.Devices.{AppendsFront, after_calls};
-ghost use Rattle.rp_lines.specs.Lines.{lines_of};
-ghost use Rattle.rp_trace.specs.Replies.{is_letter, is_looked_at, last_reply, match_text, reply_text, reply_to, replies_to, search_text};
+ghost use Rattle.rp_lines.specs.Devices.{after_calls};
+ghost use Rattle.rp_trace.specs.Replies.{WritesFront, WritesReplies};
+ghost use Rattle.rp_trace.specs.Replies.{is_letter, is_looked_at, last_reply, match_text, reply_text, reply_to, search_text};
 
 use crate::letters::Letters;
 use crate::matching::find;
 use rp_lines::{Intake, LineFault, Lines, Outlet, WriteFailed, write_all, write_block};
 use rp_pattern::{Label, Pattern, law_labels};
 use rp_search::{Search, Steps};
-use std::alloc::{AllocError, Global};
+use std::alloc::{AllocError, AllocFailed, Global};
 use std::marker::Brand;
 use std::sync::ledger::{Blank, Ledger};
+use thiserror::Error;
 
 /// Why a run of `trace` ended before its input did.
-#[derive(Clone, Copy, Debug, PartialEq, Eq)]
+#[derive(Clone, Copy, Debug, PartialEq, Eq, Error)]
 pub enum TraceFault {
     /// A call of the reader failed.
+    #[error("device: read")]
     Read,
     /// A call of the writer failed.
+    #[error("device: write")]
     Write,
     /// All calls of the reader that are allowed were made, none of them told the end, and another is due.
+    #[error("too many turns")]
     Turns,
     /// Memory was refused.
+    #[error("out of memory")]
     OutOfMemory,
 }
 
 /// How often the program reads its input at most.
-pub const TURNS: u64 = 1_000_000_000;
+pub const READS: u64 = 1_000_000_000;
 
 /// The longest line that is looked at.
 const MAX_LINE: usize = 4096;
@@ -40,32 +45,32 @@ const MAX_LINE: usize = 4096;
 ///
 /// Of a line `abac` and the pattern `(A B | A)* C` the line is `ABAC`. A match without rows is told as `empty`, and no
 /// match as `none`. A line that has another byte than `a` to `z`, or more than 4,096 bytes, is `refused`. The reader is
-/// called at most `turns` times. Bytes are written in blocks, so after a fault the replies to some lines that were read
+/// called at most `reads` times. Bytes are written in blocks, so after a fault the replies to some lines that were read
 /// may be missing.
 pub fn run_trace<R: Intake, W: Outlet>(
     alloc: Global,
     reader: &mut R,
     writer: &mut W,
     pattern: &Pattern,
-    turns: u64,
+    reads: u64,
 ) -> Result<(), TraceFault>
     requires { are_below 26 (form_of pattern.now) ≡ true }
-    ensures written { OnOk result (IfSome (R.remaining reader.old) (λ input.
-        Appends (W.contents writer.old) (W.contents writer.new) (replies_to (form_of pattern.now) (lines_of input)))) }
-    ensures front { OnErr result (IfSome (R.remaining reader.old) (λ input.
-        AppendsFront (W.contents writer.old) (W.contents writer.new) (replies_to (form_of pattern.now) (lines_of input)))) }
+    ensures written { OnOk result (WritesReplies
+        (form_of pattern.now) (R.remaining reader.old) (W.contents writer.old) (W.contents writer.new)) }
+    ensures front { OnErr result (WritesFront
+        (form_of pattern.now) (R.remaining reader.old) (W.contents writer.old) (W.contents writer.new)) }
     ensures end { OnOk result (IsAtEnd (R.remaining reader.new)) }
     ensures told { OnOk result (R.ended reader.new ≡ true) }
     ensures reads_go { OnOk result (R.failures reader.new ≡ R.failures reader.old) }
     ensures writes_go { OnOk result (W.failures writer.new ≡ W.failures writer.old) }
     ensures read { result ≡ Err TraceFault.Read → R.failures reader.new ≡ raised (R.failures reader.old) }
     ensures write { result ≡ Err TraceFault.Write → W.failures writer.new ≡ raised (W.failures writer.old) }
-    ensures turns { result ≡ Err TraceFault.Turns → R.calls reader.new ≡ after_calls turns (R.calls reader.old) }
+    ensures reads { result ≡ Err TraceFault.Turns → R.calls reader.new ≡ after_calls reads (R.calls reader.old) }
     ensures due { result ≡ Err TraceFault.Turns → R.ended reader.new ≡ R.ended reader.old }
-    ensures gave { result ≡ Err TraceFault.Turns → IfSome (R.remaining reader.old) (λ input. turns ≤ length input) }
-    ensures within { (left : ℕ) × (after_calls left (R.calls reader.new) ≡ after_calls turns (R.calls reader.old)) }
+    ensures gave { result ≡ Err TraceFault.Turns → IfSome (R.remaining reader.old) (λ input. reads ≤ length input) }
+    ensures within { (left : ℕ) × (after_calls left (R.calls reader.new) ≡ after_calls reads (R.calls reader.old)) }
 {
-    let mut lines = Lines::new(alloc, turns, MAX_LINE + 1);
+    let mut lines = Lines::new(alloc, reads, MAX_LINE + 1);
     let mut line = Vec::new(alloc);
     let mut text = Vec::new(alloc);
     while lines.next(reader, &mut line)? {
@@ -186,6 +191,17 @@ impl From<AllocError> for TraceFault {
     ghost from_gives = { λ _ fault. fault ≡ OutOfMemory };
 
     fn from(_: AllocError) -> TraceFault {
+        TraceFault::OutOfMemory
+    }
+}
+
+impl<T: Drop> From<AllocFailed<T>> for TraceFault {
+    ghost use Rattle.std.specs.Prelude.{◌≡◌};
+    ghost use Rattle.rp_trace.specs.declared.trace.TraceFault.TheVariants.{OutOfMemory};
+
+    ghost from_gives = { λ _ fault. fault ≡ OutOfMemory };
+
+    fn from(_: AllocFailed<T>) -> TraceFault {
         TraceFault::OutOfMemory
     }
 }

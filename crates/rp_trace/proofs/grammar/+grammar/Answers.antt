@@ -29,21 +29,21 @@ factor-returns-in_ok-star-in-Some-clause-reads t c = rw c.in_ok-star-in-Some.ens
 pub primary-returns-in-Some-clause-reads : goal.primary-returns-in-Some-clause-reads
 primary-returns-in-Some-clause-reads t c = rw (tree_variable c.in-Some.var) (reads_letter c.args.symbols.now c.in-Some.rest.now c.in-Some.var c.in-Some.ensures.range c.in-Some.ensures.some)
 
-pub primary-returns-in-Some-after-2-clause-reads : goal.primary-returns-in-Some-after-2-clause-reads
-primary-returns-in-Some-after-2-clause-reads t c = rw tree_empty
-    (reads_nothing c.args.symbols.now c.in-Some-after.inner.now c.in-Some-after-2.rest.now c.in-Some-after.ensures.some c.in-Some-after-2.ensures.some)
+pub primary-returns-in-Some-after_mark-2-clause-reads : goal.primary-returns-in-Some-after_mark-2-clause-reads
+primary-returns-in-Some-after_mark-2-clause-reads t c = rw tree_empty
+    (reads_nothing c.args.symbols.now c.in-Some-after_mark.inner.now c.in-Some-after_mark-2.rest.now c.in-Some-after_mark.ensures.some c.in-Some-after_mark-2.ensures.some)
 
-pub primary-returns-in-Some-after-2-clause-only : goal.primary-returns-in-Some-after-2-clause-only
-primary-returns-in-Some-after-2-clause-only t c = rw tree_empty
-    (primaries-nothing c.args.symbols.now c.in-Some-after.inner.now c.in-Some-after-2.rest.now c.in-Some-after.ensures.some c.in-Some-after-2.ensures.some)
+pub primary-returns-in-Some-after_mark-2-clause-only : goal.primary-returns-in-Some-after_mark-2-clause-only
+primary-returns-in-Some-after_mark-2-clause-only t c = rw tree_empty
+    (primaries-nothing c.args.symbols.now c.in-Some-after_mark.inner.now c.in-Some-after_mark-2.rest.now c.in-Some-after_mark.ensures.some c.in-Some-after_mark-2.ensures.some)
 
-pub primary-returns-in-Some-after-3-clause-reads : goal.primary-returns-in-Some-after-3-clause-reads
-primary-returns-in-Some-after-3-clause-reads t c =
-    reads_group c.args.symbols.now c.in-Some-after.inner.now c.in_ok-form.rest.now c.in-Some-after-3.rest.now (tree_of c.in_ok-form.form) c.in-Some-after.ensures.some c.in_ok-form.ensures.reads c.in-Some-after-3.ensures.some
+pub primary-returns-in-Some-after_mark-3-clause-reads : goal.primary-returns-in-Some-after_mark-3-clause-reads
+primary-returns-in-Some-after_mark-3-clause-reads t c =
+    reads_group c.args.symbols.now c.in-Some-after_mark.inner.now c.in_ok-form.rest.now c.in-Some-after_mark-3.rest.now (tree_of c.in_ok-form.form) c.in-Some-after_mark.ensures.some c.in_ok-form.ensures.reads c.in-Some-after_mark-3.ensures.some
 
 pub primary-returns-in-None-clause-none : goal.primary-returns-in-None-clause-none
 primary-returns-in-None-clause-none t c = λ left is.
-    primaries-unclosed c.args.symbols.now c.in-Some-after.inner.now c.in_ok-form.rest.now (tree_of c.in_ok-form.form) c.in-Some-after.ensures.some (search rules) c.in_ok-form.ensures.only c.in-None.ensures.none
+    primaries-unclosed c.args.symbols.now c.in-Some-after_mark.inner.now c.in_ok-form.rest.now (tree_of c.in_ok-form.form) c.in-Some-after_mark.ensures.some (search rules) c.in_ok-form.ensures.only c.in-None.ensures.none
 
 pub sequence-returns-in_err-first-clause-none : goal.sequence-returns-in_err-first-clause-none
 sequence-returns-in_err-first-clause-none t c = λ left is. sequences-none c.args.symbols.now (c.in_err-first.ensures.none left (search rules))

@@ -6,6 +6,7 @@ use Rattle.rp_trace.specs.Replies.{last_reply, reply_to}
 use Rattle.rp_lines.proofs.Cutting.{on_err_from}
 use Rattle.rp_trace.proofs.Replied.{AppendsFront-none, Replied-start, Replied-more, Replied-moved, Replied-last, Replied-end, Replied-fault}
 use Rattle.rp_lines.proofs.Giving.{GivesEach-start, GivesEach-trans}
+use Rattle.rp_lines.proofs.Told.{told_more}
 use Rattle.rp_trace.proofs.trace.run_trace.Goals as goal
 
 pub loop-text-init : goal.loop-text-init
@@ -15,8 +16,8 @@ loop-text-init g c = record {
   read = refl;
   write = refl;
   ended = refl;
-  gives = rw c.new-lines.ensures.turns (GivesEach-start c.args.turns (g.R.Intake.remaining c.args.reader.now));
-  calls = ap (λ turns. after_calls turns (g.R.Intake.calls c.args.reader.now)) c.new-lines.ensures.turns;
+  gives = rw c.new-lines.ensures.reads (GivesEach-start c.args.reads (g.R.Intake.remaining c.args.reader.now));
+  calls = ap (λ reads. after_calls reads (g.R.Intake.calls c.args.reader.now)) c.new-lines.ensures.reads;
 }
 
 pub returns-in_err-next-clause-front : goal.returns-in_err-next-clause-front
@@ -42,9 +43,9 @@ loop-text-preserved g c =
     record {
       replied = Replied-moved form input next contents now (g.W.Outlet.contents c.write_block.new.writer) c.push_reply.new.text.items c.write_block.new.text.items more c.in_ok-write_block.ensures.ok;
       kept = c.in_ok-next.ensures.kept ∙ c.loop-text.invariant.kept;
-      read = c.in_ok-next.ensures.goes ∙ c.loop-text.invariant.read;
+      read = c.in_ok-next.ensures.failures ∙ c.loop-text.invariant.read;
       write = c.in_ok-write_block.ensures.goes ∙ c.loop-text.invariant.write;
-      ended = c.in_ok-next.ensures.more (search rules) ∙ c.loop-text.invariant.ended;
+      ended = told_more _ _ _ (search rules) c.in_ok-next.ensures.told ∙ c.loop-text.invariant.ended;
       gives = GivesEach-trans _ _ _ _ _ _ c.loop-text.invariant.gives (c.in_ok-next.ensures.gives (search rules));
       calls = c.in_ok-next.ensures.calls ∙ c.loop-text.invariant.calls;
     }

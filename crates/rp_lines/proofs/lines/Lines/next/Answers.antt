@@ -19,8 +19,8 @@ returns-then-not-branch-clause-last g c = λ is.
     c.loop-self.invariant.read part.0 part.1 (part.2 ∙ ap (λ k. take k (c.loop-self.line.items ++ pending_of c.loop-self.self)) c.loop-self.invariant.kept) in
     let more = fill-more kept old (pending_of c.cut.new.self) (pending_of c.fill.new.self) c.cut.new.line.items (g.R.Intake.remaining c.loop-self.reader) (g.R.Intake.remaining c.fill.new.reader)
     first part.1 c.in_ok-fill.ensures.ok in
-    let ended = when_false _ _ c.in_ok-fill.field-0 c.if-not-branch.true c.in_ok-fill.ensures.end in
-    end-part kept old (pending_of c.fill.new.self) c.cut.new.line.items (g.R.Intake.remaining c.fill.new.reader) more ended.0 ended.1
+    end-part kept old (pending_of c.fill.new.self) c.cut.new.line.items (g.R.Intake.remaining c.fill.new.reader) more
+    (c.in_ok-fill.ensures.none (search rules)) (c.in_ok-fill.ensures.end (search rules))
 
 pub loop-self-preserved : goal.loop-self-preserved
 loop-self-preserved g c =
@@ -37,6 +37,6 @@ loop-self-preserved g c =
       goes = search rules;
       calls = search rules;
       ended = search rules;
-      gives = GivesEach-trans _ _ _ _ _ _ c.loop-self.invariant.gives (rw c.in_ok-cut.ensures.turns at c.in_ok-fill.ensures.gives (search rules));
+      gives = GivesEach-trans _ _ _ _ _ _ c.loop-self.invariant.gives (rw c.in_ok-cut.ensures.reads at c.in_ok-fill.ensures.gives (search rules));
       left = search rules;
     }

@@ -1,6 +1,6 @@
 use Rattle.std.proofs.Common.{◌≡◌, ◌≤◌, vec_len}
 use Rattle.rp_lines.specs.Devices.{GivesEach, after_calls}
-use Rattle.rp_lines.specs.Pending.{coming, left_in}
+use Rattle.rp_lines.specs.Pending.{coming, most_lines_left}
 use Rattle.rp_lines.proofs.Cutting.{ReadFront}
 use Rattle.rp_lines.proofs.lines.Lines.next.Given as goal
 
@@ -10,11 +10,11 @@ invariant-loop-self g l = record {
   fits : vec_len l.line ≤ l.self.kept;
   kept : l.self.kept ≡ l.fn.self.kept;
   goes : g.R.Intake.failures l.reader ≡ g.R.Intake.failures l.fn.reader;
-  calls : after_calls l.self.turns (g.R.Intake.calls l.reader) ≡ after_calls l.fn.self.turns (g.R.Intake.calls l.fn.reader);
+  calls : after_calls l.self.reads (g.R.Intake.calls l.reader) ≡ after_calls l.fn.self.reads (g.R.Intake.calls l.fn.reader);
   ended : g.R.Intake.ended l.reader ≡ g.R.Intake.ended l.fn.reader;
-  gives : GivesEach l.fn.self.turns l.self.turns (g.R.Intake.remaining l.fn.reader) (g.R.Intake.remaining l.reader);
-  left : left_in l.self ≤ left_in l.fn.self;
+  gives : GivesEach l.fn.self.reads l.self.reads (g.R.Intake.remaining l.fn.reader) (g.R.Intake.remaining l.reader);
+  left : most_lines_left l.self ≤ most_lines_left l.fn.self;
 }
 
 abbrev pub decreases-loop-self : goal.decreases-loop-self
-decreases-loop-self g l = l.self.turns
+decreases-loop-self g l = l.self.reads

@@ -1,0 +1,22 @@
+-- What is cut off the bytes that were read last.
+use Rattle.std.specs.Prelude.{◌≡◌, ◌<◌, ◌≤◌, List, ℕ, [], ◌∷◌, ◌++◌, take, Bool, MatchBool}
+use Rattle.rp_lines.specs.Lines.{IsLfFree}
+use Rattle.rp_lines.specs.Pending.{pending_of}
+use Rattle.rp_lines.specs.declared.lines.Lines.{Lines}
+use Rattle.rp_lines.specs.declared.lines.TheConstants.{LF}
+
+-- the bytes up to a LF are put behind those of the line, and the LF is passed over
+abbrev pub CutsLine : Lines → Lines → List ℕ → List ℕ → Type 0
+CutsLine old new line line' =
+    (part : List ℕ) × IsLfFree part × (pending_of old ≡ part ++ LF ∷ pending_of new) × (line' ≡ take old.kept (line ++ part))
+
+-- all bytes are put behind those of the line, and none is a LF
+abbrev pub CutsRest : Lines → Lines → List ℕ → List ℕ → Type 0
+CutsRest old new line line' = IsLfFree (pending_of old) × (pending_of new ≡ []) × (line' ≡ take old.kept (line ++ pending_of old))
+
+abbrev pub CutsOff : Bool → Lines → Lines → List ℕ → List ℕ → Type 0
+CutsOff is_whole old new line line' = MatchBool is_whole (CutsLine old new line line') (CutsRest old new line line')
+
+-- a LF is passed over, if there was one, and what stood before it
+abbrev pub Advances : Bool → Lines → Lines → Type 0
+Advances is_whole old new = MatchBool is_whole (old.taken < new.taken) (old.taken ≤ new.taken)
