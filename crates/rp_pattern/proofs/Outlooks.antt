@@ -8,9 +8,8 @@ use Rattle.rp_pattern.specs.declared.rests.Rests.{Rests}
 use Rattle.rp_pattern.specs.declared.rests.Choice.{Choice}
 use Rattle.rp_pattern.specs.declared.turn.Split.{Split}
 use Rattle.rp_pattern.specs.declared.outlook.Outlook.{Outlook}
-use Rattle.rp_pattern.specs.Mapping.{Mapping}
+use Rattle.rp_pattern.specs.Mapping.{Mapping, preceded}
 use Rattle.rp_pattern.specs.WordLaws.{IsLater}
-use Rattle.rp_pattern.specs.Words.{preceded}
 use Rattle.rp_pattern.specs.Turns.{chain_turns}
 use Rattle.rp_pattern.specs.Rests.{rests_parts, later_parts, chain_words, stack_left, rises, pushed}
 use Rattle.rp_pattern.specs.Splits.{StandsFor, option_words, option_turns, Splits, TakesRow}

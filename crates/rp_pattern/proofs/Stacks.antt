@@ -15,8 +15,8 @@ use Rattle.rp_pattern.specs.declared.rests.Rests.TheVariants.{Done, Then, Row, R
 use Rattle.rp_pattern.specs.declared.rests.Choice.{Choice}
 use Rattle.rp_pattern.specs.declared.turn.Split.{Split}
 use Rattle.rp_pattern.specs.declared.choices.Choices.{Choices}
-use Rattle.rp_pattern.specs.Mapping.{Mapping, Full, Open}
-use Rattle.rp_pattern.specs.Words.{preceded, words}
+use Rattle.rp_pattern.specs.Mapping.{Mapping, Full, Open, preceded}
+use Rattle.rp_pattern.specs.Words.{words}
 use Rattle.rp_pattern.specs.Turns.{turns, turns_after, chain_turns, within}
 use Rattle.rp_pattern.specs.WordLaws.{IsLater}
 use Rattle.rp_pattern.specs.Rests.{links_from, reached_parts, tail_links, links_parts, tail_parts, rests_parts, later_parts, chain_words, chain_left, choice_words, stack_words, stack_left, rises, pushed}

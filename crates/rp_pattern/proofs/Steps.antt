@@ -19,7 +19,7 @@ use Rattle.rp_pattern.specs.Movement.{always_moves}
 use Rattle.rp_pattern.proofs.Moves.{form_moves, again_words, again_turns}
 use Rattle.rp_pattern.specs.Turns.{WordsAndTurns, chain_turns, iterations, past}
 use Rattle.rp_pattern.specs.WordLaws.{IsLater}
-use Rattle.rp_pattern.specs.Words.{preceded}
+use Rattle.rp_pattern.specs.Mapping.{preceded}
 use Rattle.rp_pattern.specs.Rests.{part_as, form_part, node_part, iterations_part, still, tail_links, tail_parts, links_parts, guarded, rests_parts, chain_words, IsNodeOf, AreIterationsOf, IsOneLess}
 use Rattle.rp_pattern.specs.Splits.{StandsFor, Replaces, SplitsAt, AlwaysSplits, Splits, TakesRow, Waits, ComesAgain, repeated, TakenUp, option_words, split_turns}
 use Rattle.rp_pattern.proofs.TurnsTaken.{same_first}

@@ -7,8 +7,7 @@ use Rattle.rp_pattern.specs.declared.rests.Choice.{Choice}
 use Rattle.rp_pattern.specs.declared.choices.Choices.{Choices}
 use Rattle.rp_pattern.specs.declared.choices.Taken.{Taken}
 use Rattle.rp_pattern.specs.declared.choices.Taken.TheVariants.{Row, Split, Full as FullTaken, Open as OpenTaken, Nothing}
-use Rattle.rp_pattern.specs.Mapping.{Mapping, Full, Open}
-use Rattle.rp_pattern.specs.Words.{preceded}
+use Rattle.rp_pattern.specs.Mapping.{Mapping, Full, Open, preceded}
 use Rattle.rp_pattern.specs.Turns.{WordsAndTurns}
 use Rattle.rp_pattern.specs.WordLaws.{IsLater}
 use Rattle.rp_pattern.specs.Rests.{tail_parts, later_parts, chain_words, chain_left, stack_words, stack_left}

@@ -17,10 +17,10 @@ use Rattle.rp_pattern.specs.declared.rests.Link.TheViews.{out-Link}
 use Rattle.rp_pattern.specs.declared.rests.Rests.{Rests}
 use Rattle.rp_pattern.specs.declared.rests.Rests.TheVariants.{Done, Then, Row, Reached}
 use Rattle.rp_pattern.specs.declared.rests.Choice.{Choice}
-use Rattle.rp_pattern.specs.Mapping.{Mapping}
+use Rattle.rp_pattern.specs.Mapping.{Mapping, preceded}
 use Rattle.rp_pattern.specs.Movement.{always_moves}
 use Rattle.rp_pattern.specs.PermutedParts.{permuted_parts}
-use Rattle.rp_pattern.specs.Words.{Mappings, words, nothing_mapped, sequence, preceded}
+use Rattle.rp_pattern.specs.Words.{Mappings, words, nothing_mapped, sequence}
 use Rattle.rp_pattern.specs.Turns.{WordsAndTurns, turns, one_turn, chain_turns, past, within, iterations, orders_from, words_of}
 
 -- a part of a pattern

@@ -7,8 +7,7 @@ use Rattle.rp_pattern.specs.declared.rests.Rests.{Rests}
 use Rattle.rp_pattern.specs.declared.turn.Split.{Split}
 use Rattle.rp_pattern.specs.declared.turn.Turn.{Turn}
 use Rattle.rp_pattern.specs.declared.turn.Turn.TheVariants.{Full as FullTurn, Row as RowTurn, Open as OpenTurn, Split as SplitTurn}
-use Rattle.rp_pattern.specs.Mapping.{Mapping, Full, Open}
-use Rattle.rp_pattern.specs.Words.{preceded}
+use Rattle.rp_pattern.specs.Mapping.{Mapping, Full, Open, preceded}
 use Rattle.rp_pattern.specs.Turns.{WordsAndTurns, chain_turns, iterations, past}
 use Rattle.rp_pattern.specs.declared.rests.Iterations.{Iterations}
 use Rattle.rp_pattern.specs.WordLaws.{IsLater}

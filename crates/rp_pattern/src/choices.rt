@@ -44,7 +44,8 @@ pub struct Choices {
 impl Choices {
     ghost use Rattle.std.specs.Prelude.{OnOk, IfOk, take, ◌∷◌, ◌++◌, map};
     ghost use Rattle.rp_pattern.specs.declared.word.End.{End};
-    ghost use Rattle.rp_pattern.specs.Words.{words, preceded};
+    ghost use Rattle.rp_pattern.specs.Words.{words};
+    ghost use Rattle.rp_pattern.specs.Mapping.{preceded};
     ghost use Rattle.rp_pattern.specs.Turns.{turns};
     ghost use Rattle.rp_pattern.specs.PatternForm.{form_of};
     ghost use Rattle.rp_pattern.specs.Rests.{tail_links, BeginsWithRow};
