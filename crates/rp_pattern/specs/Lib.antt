@@ -19,3 +19,4 @@ pub mod Choices
 pub mod Outlooks
 pub mod LabelLaws
 pub mod Listing
+pub mod Builders

@@ -1,6 +1,7 @@
 //! Row patterns, and the words that a pattern lists: the ways to map rows to it, in preferment order.
 #![tactic(auto)]
 
+mod builders;
 mod choices;
 mod form;
 mod label_list;
