@@ -13,20 +13,12 @@ use Rattle.rp_pattern.specs.WordLaws.{IsLater}
 use Rattle.rp_pattern.specs.Turns.{chain_turns}
 use Rattle.rp_pattern.specs.Rests.{rests_parts, later_parts, chain_words, stack_left, rises, pushed}
 use Rattle.rp_pattern.specs.Splits.{StandsFor, option_words, option_turns, Splits, TakesRow}
-use Rattle.rp_pattern.specs.Outlooks.{stack_count, words_ahead, turns_ahead, held_by, LooksFurther}
+use Rattle.rp_pattern.specs.Outlooks.{stack_count, words_ahead, turns_ahead, LooksFurther}
 use Rattle.rp_pattern.proofs.Stacks.{pushed_left, later_is, rises_first, rises_more}
 
 pub pushed_count : (n : ℕ) (e : End) (s d : ℕ) (r : Option Rests) (cs : List Choice) → stack_count n e s (pushed d r cs) ≡ length (option_words n e r (s + d)) + stack_count n e s cs
 pushed_count n e s d None cs = omega arith
 pushed_count n e s d (Some r) cs = refl
-
-pub pushed_long : (d : ℕ) (r : Option Rests) (cs : List Choice) → length (pushed d r cs) ≤ length cs + 1
-pushed_long d None cs = omega arith
-pushed_long d (Some r) cs = omega arith
-
-pub pushed_keeps : (d : ℕ) (r : Option Rests) (cs : List Choice) → length cs ≤ length (pushed d r cs)
-pushed_keeps d None cs = omega arith
-pushed_keeps d (Some r) cs = omega arith
 
 -- its choices, the preferred one first
 pub words_ahead_is : (o : Outlook) (s : ℕ) (cs : List Choice) (n : ℕ) (e : End) → o.start ≡ s → o.stack ≡ cs → words_ahead o n e ≡ stack_count n e s cs
@@ -36,10 +28,6 @@ words_ahead_is o s cs n e h k = ap (λ z. stack_count n e z o.stack) h ∙ ap (s
 pub turns_ahead_is : (o : Outlook) (s : ℕ) (cs : List Choice) (n : ℕ) (e : End) → o.start ≡ s → o.stack ≡ cs → turns_ahead o n e ≡ stack_left n e s cs
 unfolding turns_ahead
 turns_ahead_is o s cs n e h k = ap (λ z. stack_left n e z o.stack) h ∙ ap (stack_left n e s) k
-
-pub held_is : (o : Outlook) (cs : List Choice) → o.stack ≡ cs → held_by o ≡ length cs
-unfolding held_by
-held_is o cs h = ap length h
 
 module _ (old new : Outlook) (t : Choice) (cs : List Choice) (n : ℕ) (e : End) (on : old.stack ≡ t ∷ cs) (start : new.start ≡ old.start) where
   pub further_split : (x : Split) → new.stack ≡ pushed t.depth x.preferred (pushed t.depth x.other cs) → Splits n e (old.start + t.depth) (λ n e. rests_parts n e t.rests) x → LooksFurther old new n e
@@ -52,8 +40,6 @@ module _ (old new : Outlook) (t : Choice) (cs : List Choice) (n : ℕ) (e : End)
       record {
         same = λ n' e' h. omega (arith, words_ahead_is new s (pushed t.depth x.preferred ds) n' e' start now, words_ahead_is old s (t ∷ cs) n' e' refl on, pushed_count n' e' s t.depth x.preferred ds, pushed_count n' e' s t.depth x.other cs, long n' e' h);
         less = λ n' e' h. omega (arith, turns_ahead_is new s (pushed t.depth x.preferred ds) n' e' start now, turns_ahead_is old s (t ∷ cs) n' e' refl on, pushed_left n' e' s t.depth x.preferred ds, pushed_left n' e' s t.depth x.other cs, long n' e' h, w.turns n' e' h);
-        gains = omega (arith, held_is new (pushed t.depth x.preferred ds) now, held_is old (t ∷ cs) on, pushed_long t.depth x.preferred ds, pushed_long t.depth x.other cs);
-        drops = omega (arith, held_is new (pushed t.depth x.preferred ds) now, held_is old (t ∷ cs) on, pushed_keeps t.depth x.preferred ds, pushed_keeps t.depth x.other cs);
       }
 
   pub further_row : (l : Label) (r : Option Rests) → new.stack ≡ pushed (t.depth + 1) r cs → TakesRow n e (old.start + t.depth) (λ n e. rests_parts n e t.rests) l →
@@ -73,8 +59,6 @@ module _ (old new : Outlook) (t : Choice) (cs : List Choice) (n : ℕ) (e : End)
       record {
         same = λ n' e' h. omega (arith, words_ahead_is new s (pushed (t.depth + 1) r cs) n' e' start now, words_ahead_is old s (t ∷ cs) n' e' refl on, pushed_count n' e' s (t.depth + 1) r cs, count n' e' h);
         less = λ n' e' h. omega (arith, turns_ahead_is new s (pushed (t.depth + 1) r cs) n' e' start now, turns_ahead_is old s (t ∷ cs) n' e' refl on, pushed_left n' e' s (t.depth + 1) r cs, count n' e' h, turns n' e' h);
-        gains = omega (arith, held_is new (pushed (t.depth + 1) r cs) now, held_is old (t ∷ cs) on, pushed_long (t.depth + 1) r cs);
-        drops = omega (arith, held_is new (pushed (t.depth + 1) r cs) now, held_is old (t ∷ cs) on, pushed_keeps (t.depth + 1) r cs);
       }
 
 module _ (o : Outlook) (t : Choice) (cs : List Choice) (on : o.stack ≡ t ∷ cs) where
@@ -101,22 +85,6 @@ module _ (o : Outlook) (r : Option Rests) (n : ℕ) (e : End) (on : o.stack ≡ 
   pub turns_at : turns_ahead o n e ≡ option_turns n e r o.start + length (option_words n e r o.start)
   turns_at = omega (arith, turns_ahead_is o o.start (pushed 0 r []) n e refl on, pushed_left n e o.start 0 r [], ap (λ i. length (option_words n e r i)) at_row, ap (option_turns n e r) at_row)
 
-pub held_at : (o : Outlook) (r : Option Rests) → o.stack ≡ pushed 0 r [] → held_by o ≤ 1
-held_at o r on = omega (arith, held_is o (pushed 0 r []) on, pushed_long 0 r [])
-
-pub shorter : (cs : List Choice) → length (drop 1 cs) ≡ length cs - 1
-shorter [] = refl
-shorter (c ∷ cs) = omega arith
-
--- one is dropped
-pub held_without : (old new : Outlook) → new.stack ≡ drop 1 old.stack → held_by new ≡ held_by old - 1
-held_without old new h = omega (arith, held_is new (drop 1 old.stack) h, held_is old old.stack refl, shorter old.stack)
-
 -- choices at rows that have numbers
 pub all_within : (start deepest : ℕ) (cs : List Choice) → start + deepest < 2 ^ 64 → IsTrue (rises deepest cs) → IsTrue (rises (2 ^ 64 - 1 - start) cs)
 all_within start deepest cs h r = rises_more deepest (2 ^ 64 - 1 - start) cs (omega (arith, h)) r
-
--- one is left where they aren't none
-pub some_left : (b : Bool) (m : ℕ) → b ≡ (m == 0) → IsTrue (not b) ↔ (0 < m)
-some_left true m h = (λ t. absurd cc, λ p. absurd (grind (arith, nat_tests)))
-some_left false m h = (λ t. grind (arith, nat_tests), λ p. refl)

@@ -51,7 +51,7 @@ impl Choices {
     ghost use Rattle.rp_pattern.specs.Rests.{tail_links, BeginsWithRow};
     ghost use Rattle.rp_pattern.specs.Splits.{StandsFor};
     ghost use Rattle.rp_pattern.specs.Choices.{start_of, entered, first_later, whole, whole_left, remaining, left, below, below_left, after, after_left, OfFirst, HasTop, AtRow, IsFront, IsShorterFront, IsSameWhole, TakenAs, HasBegun};
-    ghost use Rattle.rp_pattern.specs.Outlooks.{words_ahead, turns_ahead, held_by};
+    ghost use Rattle.rp_pattern.specs.Outlooks.{words_ahead, turns_ahead};
 
     /// The words of the pattern from the start row on.
     pub fn new(alloc: Global, pattern: &Pattern, start: u64) -> Result<Choices, AllocError>
@@ -248,7 +248,6 @@ impl Choices {
         requires { AtRow self.now }
         ensures words { IfOk result (λ o. (n : ℕ) (e : End) → words_ahead o n e ≡ length (after self.now n e)) }
         ensures turns { IfOk result (λ o. (n : ℕ) (e : End) → turns_ahead o n e ≡ after_left self.now n e) }
-        ensures held { IfOk result (λ o. held_by o ≤ 1) }
     {
         let row = self.start + self.labels.len() as u64;
         Outlook::at(self.alloc, row, self.follow_first(row)?)

@@ -1,5 +1,5 @@
 //! What would follow a row: whether any word does. Which rows it would map is not kept.
-ghost use Rattle.std.specs.Prelude.{◌≡◌, ℕ, ◌+◌, ◌-◌, ◌^◌, ◌<◌, ◌≤◌, IfOk, IsTrue, ◌↔◌, length};
+ghost use Rattle.std.specs.Prelude.{◌≡◌, ℕ, ◌+◌, ◌-◌, ◌^◌, ◌<◌, ◌≤◌, IfOk, IsTrue, length};
 ghost use Rattle.rp_pattern.specs.declared.word.End.{End};
 ghost use Rattle.rp_pattern.specs.Rests.{rises};
 ghost use Rattle.rp_pattern.specs.Splits.{option_words, option_turns};
@@ -33,13 +33,12 @@ pub struct Outlook {
 }
 
 impl Outlook {
-    ghost use Rattle.rp_pattern.specs.Outlooks.{words_ahead, turns_ahead, held_by, SeenAs};
+    ghost use Rattle.rp_pattern.specs.Outlooks.{words_ahead, turns_ahead, SeenAs};
 
     /// What is left at a row, if anything is.
     pub(crate) fn at(alloc: Global, row: u64, rests: Option<Rests>) -> Result<Outlook, AllocError>
         ensures words { IfOk result (λ o. (n : ℕ) (e : End) → words_ahead o n e ≡ length (option_words n e rests row)) }
         ensures turns { IfOk result (λ o. (n : ℕ) (e : End) → turns_ahead o n e ≡ option_turns n e rests row + length (option_words n e rests row)) }
-        ensures held { IfOk result (λ o. held_by o ≤ 1) }
     {
         let mut stack = Stack::new(alloc);
         push(&mut stack, 0, rests)?;
@@ -78,15 +77,5 @@ impl Outlook {
                 Ok(Sight::Further)
             }
         }
-    }
-
-    /// Drops the preferred choice, if there is one, and says whether others are left. So an outlook that isn't needed any
-    /// more can be dropped a choice at a time.
-    pub fn drop_one(&mut self) -> bool
-        ensures held { held_by self.new ≡ held_by self.old - 1 }
-        ensures more { IsTrue result ↔ (0 < held_by self.new) }
-    {
-        self.stack.drop_top();
-        !self.stack.is_empty()
     }
 }

@@ -5,7 +5,6 @@ use crate::{
     Choices, End, Form, Outlook, Pattern, Sight, Taken, law_labels, law_words, permutations,
 };
 use std::alloc::{AllocError, Global};
-use std::rc::Rc;
 use std::test::Fail;
 
 /// All permutations, asked for again where memory is refused once.
@@ -60,19 +59,14 @@ fn orders_of_eight(rt: HostRuntime) -> Result<(), Fail> {
 fn permuted(alloc: Global, count: usize) -> Result<Form, AllocError> {
     let mut parts = Vec::new(alloc);
     for _ in 0..count {
-        parts.push(Rc::new(alloc, Form::Variable(0))?)?;
+        parts.push(Form::variable(0))?;
     }
-    Ok(Form::Permute(parts))
+    Form::permute(alloc, parts)
 }
 
 /// `A` with these bounds.
 fn quantified(alloc: Global, lower: u32, upper: Option<u32>) -> Result<Form, AllocError> {
-    Ok(Form::Quantified {
-        body: Rc::new(alloc, Form::Variable(0))?,
-        lower,
-        upper,
-        reluctant: false,
-    })
+    Form::quantified(alloc, Form::variable(0), lower, upper, false)
 }
 
 #[test]
@@ -97,9 +91,8 @@ fn bounds_in_order_are_allowed(rt: HostRuntime) -> Result<(), Fail> {
 
 #[test]
 fn variables_are_below(rt: HostRuntime) -> Result<(), Fail> {
-    let first = Rc::new(rt.alloc(), permuted(rt.alloc(), 2)?)?;
-    let second = Rc::new(rt.alloc(), Form::Variable(2))?;
-    let form = Form::Concatenation(first, second);
+    let first = permuted(rt.alloc(), 2)?;
+    let form = Form::concatenation(rt.alloc(), first, Form::variable(2))?;
     assert!(rt; form.are_below(3));
     assert!(rt; !form.are_below(2));
     Ok(())
@@ -134,9 +127,11 @@ fn pattern_keeps_its_tree(rt: HostRuntime) -> Result<(), Fail> {
 
 /// What follows the row of A in `A B`, at row 2.
 fn behind_first(alloc: Global) -> Result<Option<Outlook>, AllocError> {
-    let first = Rc::new(alloc, Form::Variable(0))?;
-    let second = Rc::new(alloc, Form::Variable(1))?;
-    let pattern = Pattern::new(Form::Concatenation(first, second));
+    let form = Form::concatenation(alloc, Form::Variable(0), Form::Variable(1))?;
+    if !form.is_allowed() {
+        return Ok(None);
+    }
+    let pattern = Pattern::new(form);
     let mut choices = Choices::new(alloc, &pattern, 1)?;
     let _split = choices.take_up(1, End::Open)?;
     match choices.take_up(1, End::Open)? {
@@ -145,12 +140,12 @@ fn behind_first(alloc: Global) -> Result<Option<Outlook>, AllocError> {
     }
 }
 
-/// Two turns of an outlook, and what dropping its choices tells.
+/// What two turns of an outlook come to.
 fn looked_ahead(
     alloc: Global,
     rows: u64,
     end: End,
-) -> Result<Option<(Sight, Sight, bool, bool)>, AllocError>
+) -> Result<Option<(Sight, Sight)>, AllocError>
     requires { rows ≤ 2 }
 {
     let Some(mut outlook) = behind_first(alloc)? else {
@@ -158,7 +153,7 @@ fn looked_ahead(
     };
     let first = outlook.take_up(rows, end)?;
     let second = outlook.take_up(rows, end)?;
-    Ok(Some((first, second, outlook.drop_one(), outlook.drop_one())))
+    Ok(Some((first, second)))
 }
 
 /// The row of B is passed over where it is known, and waited for where it may come.
@@ -174,29 +169,7 @@ fn refused_outlook(rt: HostRuntime) -> Result<(), Fail> {
             Ok(sights) => sights,
             Err(_) => looked_ahead(rt.alloc(), rows, end)?,
         };
-        assert_eq!(rt; sights, Some((first, second, false, false)));
-    }
-    Ok(())
-}
-
-/// Of both choices of `A (B | C)` behind A, one is left when the other is dropped.
-#[test]
-fn outlook_of_two(rt: HostRuntime) -> Result<(), Fail> {
-    let second = Rc::new(rt.alloc(), Form::Variable(1))?;
-    let third = Rc::new(rt.alloc(), Form::Variable(2))?;
-    let either = Rc::new(rt.alloc(), Form::Alternation(second, third))?;
-    let first = Rc::new(rt.alloc(), Form::Variable(0))?;
-    let pattern = Pattern::new(Form::Concatenation(first, either));
-    let mut choices = Choices::new(rt.alloc(), &pattern, 1)?;
-    let _split = choices.take_up(2, End::Open)?;
-    match choices.take_up(2, End::Open)? {
-        Taken::Row => {
-            let mut outlook = choices.after_row()?;
-            assert_eq!(rt; outlook.take_up(2, End::Open)?, Sight::Further);
-            assert!(rt; outlook.drop_one());
-            assert!(rt; !outlook.drop_one());
-        }
-        _ => panic!(rt; "no row"),
+        assert_eq!(rt; sights, Some((first, second)));
     }
     Ok(())
 }

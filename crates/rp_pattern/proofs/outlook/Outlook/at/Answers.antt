@@ -1,7 +1,7 @@
 use Rattle.std.proofs.Common.{List, IsTrue, subst, refl, sym, ap, ◌∙◌, arith}
 use Rattle.rp_pattern.specs.declared.rests.Choice.{Choice}
 use Rattle.rp_pattern.specs.Rests.{pushed, rises}
-use Rattle.rp_pattern.proofs.Outlooks.{words_at, turns_at, held_at, all_within}
+use Rattle.rp_pattern.proofs.Outlooks.{words_at, turns_at, all_within}
 use Rattle.rp_pattern.proofs.outlook.Outlook.at.Goals as goal
 
 pub invariant_of-result : goal.invariant_of-result
@@ -12,6 +12,3 @@ returns-clause-words c = λ n e. words_at _ c.args.rests n e (c.in_ok-push.ensur
 
 pub returns-clause-turns : goal.returns-clause-turns
 returns-clause-turns c = λ n e. turns_at _ c.args.rests n e (c.in_ok-push.ensures.pushed ∙ ap (pushed 0 c.args.rests) c.new-stack.ensures)
-
-pub returns-clause-held : goal.returns-clause-held
-returns-clause-held c = held_at _ c.args.rests (c.in_ok-push.ensures.pushed ∙ ap (pushed 0 c.args.rests) c.new-stack.ensures)

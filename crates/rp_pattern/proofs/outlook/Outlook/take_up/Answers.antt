@@ -4,13 +4,13 @@ use Rattle.rp_pattern.specs.Mapping.{Full, Open}
 use Rattle.rp_pattern.specs.Rests.{pushed, rises, rests_parts}
 use Rattle.rp_pattern.specs.Splits.{TakenUp}
 use Rattle.rp_pattern.proofs.Stacks.{rises_more}
-use Rattle.rp_pattern.proofs.Outlooks.{held_is, preferred_within, word_ahead, nothing_ahead, all_within, further_split, further_row}
+use Rattle.rp_pattern.proofs.Outlooks.{preferred_within, word_ahead, nothing_ahead, all_within, further_split, further_row}
 use Rattle.rp_pattern.proofs.outlook.Outlook.take_up.Goals as goal
 
 pub returns-in_default : goal.returns-in_default
 returns-in_default c =
     let none = c.in_default.ensures in
-    (refl, held_is c.args.self.now [] none, nothing_ahead c.args.self.now none)
+    (refl, nothing_ahead c.args.self.now none)
 
 pub overflow_add-row : goal.overflow_add-row
 overflow_add-row c =
