@@ -83,7 +83,7 @@ pushed_left n e s d (Some r) cs = refl
 pub record Stack (c : Choices) (s : ℕ) (ls : List Label) (cs : List Choice) : Type 0 where
   pub begun : c.begun ≡ true
   pub start : c.start ≡ s
-  pub labels : c.labels ≡ ls
+  pub labels : c.labels.items ≡ ls
   pub choices : c.stack ≡ cs
 
 module _ (c : Choices) (s : ℕ) (ls : List Label) (cs : List Choice) (k : Stack c s ls cs) where
@@ -95,15 +95,15 @@ module _ (c : Choices) (s : ℕ) (ls : List Label) (cs : List Choice) (k : Stack
   unfolding start_of
   start_is = k.start
 
-  same_words : (n : ℕ) (e : End) → stack_words n e c.start c.labels c.stack ≡ stack_words n e s ls cs
+  same_words : (n : ℕ) (e : End) → stack_words n e c.start c.labels.items c.stack ≡ stack_words n e s ls cs
   same_words n e =
-      ap (λ z. stack_words n e z c.labels c.stack) k.start
+      ap (λ z. stack_words n e z c.labels.items c.stack) k.start
       ∙ ap (λ z. stack_words n e s z c.stack) k.labels
       ∙ ap (stack_words n e s ls) k.choices
 
   pub remaining_is : (n : ℕ) (e : End) → remaining c n e ≡ stack_words n e s ls cs
   unfolding remaining
-  remaining_is n e = ap (λ b. cond b (stack_words n e c.start c.labels c.stack) (chain_words (tail_parts n e c.origin) c.start)) k.begun ∙ same_words n e
+  remaining_is n e = ap (λ b. cond b (stack_words n e c.start c.labels.items c.stack) (chain_words (tail_parts n e c.origin) c.start)) k.begun ∙ same_words n e
 
   pub left_is : (n : ℕ) (e : End) → left c n e ≡ stack_left n e s cs
   unfolding left
@@ -114,7 +114,7 @@ module _ (c : Choices) (s : ℕ) (ls : List Label) (cs : List Choice) (k : Stack
   pub below_is : (n : ℕ) (e : End) → below c n e ≡ stack_words n e s ls (drop 1 cs)
   unfolding below
   below_is n e =
-      ap (λ z. stack_words n e z c.labels (drop 1 c.stack)) k.start
+      ap (λ z. stack_words n e z c.labels.items (drop 1 c.stack)) k.start
       ∙ ap (λ z. stack_words n e s z (drop 1 c.stack)) k.labels
       ∙ ap (λ z. stack_words n e s ls (drop 1 z)) k.choices
 
@@ -125,14 +125,14 @@ module _ (c : Choices) (s : ℕ) (ls : List Label) (cs : List Choice) (k : Stack
   pub after_is : (n : ℕ) (e : End) → after c n e ≡ chain_words (first_later n e cs) (s + length ls)
   unfolding after
   after_is n e =
-      ap (λ z. chain_words (first_later n e c.stack) (z + length c.labels)) k.start
+      ap (λ z. chain_words (first_later n e c.stack) (z + length c.labels.items)) k.start
       ∙ ap (λ z. chain_words (first_later n e c.stack) (s + length z)) k.labels
       ∙ ap (λ z. chain_words (first_later n e z) (s + length ls)) k.choices
 
   pub after_left_is : (n : ℕ) (e : End) → after_left c n e ≡ chain_left (first_later n e cs) (s + length ls)
   unfolding after_left
   after_left_is n e =
-      ap (λ z. chain_left (first_later n e c.stack) (z + length c.labels)) k.start
+      ap (λ z. chain_left (first_later n e c.stack) (z + length c.labels.items)) k.start
       ∙ ap (λ z. chain_left (first_later n e c.stack) (s + length z)) k.labels
       ∙ ap (λ z. chain_left (first_later n e z) (s + length ls)) k.choices
 
@@ -142,7 +142,7 @@ has_top c s ls t cs k = (k.begun, subst (OfFirst (λ t. Unit {0})) (sym k.choice
 
 pub at_row : (c : Choices) (s : ℕ) (ls : List Label) (t : Choice) (cs : List Choice) → Stack c s ls (t ∷ cs) → t.depth + 1 ≡ length ls → AtRow c
 unfolding AtRow
-at_row c s ls t cs k h = (k.begun, subst (OfFirst (λ t. t.depth + 1 ≡ length c.labels)) (sym k.choices) (h ∙ sym (ap length k.labels)))
+at_row c s ls t cs k h = (k.begun, subst (OfFirst (λ t. t.depth + 1 ≡ length c.labels.items)) (sym k.choices) (h ∙ sym (ap length k.labels)))
 
 -- ---- what the preferred choice came to
 
@@ -322,7 +322,7 @@ row_begun c h = h.0
 
 pub row_top : (c : Choices) → c.stack ≡ [] → AtRow c → ⊥
 unfolding AtRow
-row_top c h r = subst (OfFirst (λ t. t.depth + 1 ≡ length c.labels)) h r.1
+row_top c h r = subst (OfFirst (λ t. t.depth + 1 ≡ length c.labels.items)) h r.1
 
 -- the whole is put on the stack as one choice, or as none
 module _ (old new : Choices) (r : Option Rests) (n : ℕ) (e : End) (not : old.begun ≡ false) (m : Stack new old.start [] (pushed 0 r [])) (h : StandsFor n e old.start (tail_parts n e old.origin) r) where
@@ -337,7 +337,7 @@ module _ (old new : Choices) (r : Option Rests) (n : ℕ) (e : End) (not : old.b
       ∙ append_nil (map (preceded []) (option_words n e r (old.start + 0)))
       ∙ map_preceded_nothing (option_words n e r (old.start + 0))
       ∙ ap (option_words n e r) at_start ∙ h.words
-      ∙ sym (ap (λ b. cond b (stack_words n e old.start old.labels old.stack) (chain_words (tail_parts n e old.origin) old.start)) not)
+      ∙ sym (ap (λ b. cond b (stack_words n e old.start old.labels.items old.stack) (chain_words (tail_parts n e old.origin) old.start)) not)
 
   pub begun_left : left new n e ≡ left old n e
   unfolding left
@@ -349,45 +349,45 @@ module _ (old new : Choices) (r : Option Rests) (n : ℕ) (e : End) (not : old.b
       ∙ sym (ap (λ b. cond b (stack_left n e old.start old.stack) (chain_left (tail_parts n e old.origin) old.start)) not)
 
 -- the first choice is given up, and the labels are cut to those before it
-module _ (old new : Choices) (t : Choice) (cs : List Choice) (n : ℕ) (e : End) (k : Stack old old.start old.labels (t ∷ cs)) (m : Stack new old.start (take t.depth old.labels) cs) where
+module _ (old new : Choices) (t : Choice) (cs : List Choice) (n : ℕ) (e : End) (k : Stack old old.start old.labels.items (t ∷ cs)) (m : Stack new old.start (take t.depth old.labels.items) cs) where
   pub given_up_remaining : remaining new n e ≡ below old n e
   given_up_remaining =
-      let r : IsTrue (rises (length old.labels) (t ∷ cs)) = subst (λ z. IsTrue (rises (length old.labels) z)) k.choices old.rises in
-      remaining_is new old.start (take t.depth old.labels) cs m n e
-      ∙ sym (below_cut old new old.start old.labels t cs n e k r n e)
-      ∙ sym (below_is old old.start old.labels (t ∷ cs) k n e)
+      let r : IsTrue (rises (length old.labels.items) (t ∷ cs)) = subst (λ z. IsTrue (rises (length old.labels.items) z)) k.choices old.rises in
+      remaining_is new old.start (take t.depth old.labels.items) cs m n e
+      ∙ sym (below_cut old new old.start old.labels.items t cs n e k r n e)
+      ∙ sym (below_is old old.start old.labels.items (t ∷ cs) k n e)
 
   pub given_up_left : left new n e ≡ below_left old n e
-  given_up_left = left_is new old.start (take t.depth old.labels) cs m n e ∙ sym (below_left_is old old.start old.labels (t ∷ cs) k n e)
+  given_up_left = left_is new old.start (take t.depth old.labels.items) cs m n e ∙ sym (below_left_is old old.start old.labels.items (t ∷ cs) k n e)
 
-pub cut_front : (old new : Choices) (depth : ℕ) → new.labels ≡ take depth old.labels → IsFront (entered new) (entered old)
+pub cut_front : (old new : Choices) (depth : ℕ) → new.labels.items ≡ take depth old.labels.items → IsFront (entered new) (entered old)
 unfolding entered
 cut_front old new depth h = (depth, h)
 
-pub cut_off : (old new : Choices) (t : Choice) (cs : List Choice) → old.stack ≡ t ∷ cs → new.labels ≡ take t.depth old.labels → AtRow old → IsShorterFront (entered new) (entered old)
+pub cut_off : (old new : Choices) (t : Choice) (cs : List Choice) → old.stack ≡ t ∷ cs → new.labels.items ≡ take t.depth old.labels.items → AtRow old → IsShorterFront (entered new) (entered old)
 unfolding entered AtRow
 cut_off old new t cs k h r =
-    let row : t.depth + 1 ≡ length old.labels = subst (OfFirst (λ c. c.depth + 1 ≡ length old.labels)) k r.1 in
+    let row : t.depth + 1 ≡ length old.labels.items = subst (OfFirst (λ c. c.depth + 1 ≡ length old.labels.items)) k r.1 in
     (t.depth, omega (arith, row), h)
 
 -- the row is admitted: what comes after it takes the choice's place
-module _ (old new : Choices) (r : Option Rests) (n : ℕ) (e : End) (k : Stack old old.start old.labels old.stack)
-    (m : Stack new old.start old.labels (pushed (length old.labels) r (drop 1 old.stack)))
-    (h : StandsFor n e (old.start + length old.labels) (first_later n e old.stack) r) where
+module _ (old new : Choices) (r : Option Rests) (n : ℕ) (e : End) (k : Stack old old.start old.labels.items old.stack)
+    (m : Stack new old.start old.labels.items (pushed (length old.labels.items) r (drop 1 old.stack)))
+    (h : StandsFor n e (old.start + length old.labels.items) (first_later n e old.stack) r) where
   pub admitted_remaining : remaining new n e ≡ map (preceded (entered old)) (after old n e) ++ below old n e
   admitted_remaining =
-      remaining_is new old.start old.labels (pushed (length old.labels) r (drop 1 old.stack)) m n e
-      ∙ pushed_words n e old.start (length old.labels) old.labels r (drop 1 old.stack)
-      ∙ ap (λ z. map (preceded z) (option_words n e r (old.start + length old.labels)) ++ stack_words n e old.start old.labels (drop 1 old.stack)) (take-all old.labels ∙ sym (entered_is old old.start old.labels old.stack k))
-      ∙ ap (λ z. map (preceded (entered old)) z ++ stack_words n e old.start old.labels (drop 1 old.stack)) (h.words ∙ sym (after_is old old.start old.labels old.stack k n e))
-      ∙ ap (λ z. map (preceded (entered old)) (after old n e) ++ z) (sym (below_is old old.start old.labels old.stack k n e))
+      remaining_is new old.start old.labels.items (pushed (length old.labels.items) r (drop 1 old.stack)) m n e
+      ∙ pushed_words n e old.start (length old.labels.items) old.labels.items r (drop 1 old.stack)
+      ∙ ap (λ z. map (preceded z) (option_words n e r (old.start + length old.labels.items)) ++ stack_words n e old.start old.labels.items (drop 1 old.stack)) (take-all old.labels.items ∙ sym (entered_is old old.start old.labels.items old.stack k))
+      ∙ ap (λ z. map (preceded (entered old)) z ++ stack_words n e old.start old.labels.items (drop 1 old.stack)) (h.words ∙ sym (after_is old old.start old.labels.items old.stack k n e))
+      ∙ ap (λ z. map (preceded (entered old)) (after old n e) ++ z) (sym (below_is old old.start old.labels.items old.stack k n e))
 
   pub admitted_left : left new n e ≡ after_left old n e + below_left old n e
   admitted_left =
-      let a = left_is new old.start old.labels (pushed (length old.labels) r (drop 1 old.stack)) m n e in
-      let b = pushed_left n e old.start (length old.labels) r (drop 1 old.stack) in
-      let c = after_left_is old old.start old.labels old.stack k n e in
-      let d = below_left_is old old.start old.labels old.stack k n e in
+      let a = left_is new old.start old.labels.items (pushed (length old.labels.items) r (drop 1 old.stack)) m n e in
+      let b = pushed_left n e old.start (length old.labels.items) r (drop 1 old.stack) in
+      let c = after_left_is old old.start old.labels.items old.stack k n e in
+      let d = below_left_is old old.start old.labels.items old.stack k n e in
       omega (arith, a, b, c, d, h.turns, ap length h.words)
 
 -- ---- values that have not begun
@@ -395,14 +395,14 @@ module _ (old new : Choices) (r : Option Rests) (n : ℕ) (e : End) (k : Stack o
 module _ (c : Choices) (not : c.begun ≡ false) (n : ℕ) (e : End) where
   pub fresh_remaining : remaining c n e ≡ whole c n e
   unfolding remaining whole
-  fresh_remaining = ap (λ b. cond b (stack_words n e c.start c.labels c.stack) (chain_words (tail_parts n e c.origin) c.start)) not
+  fresh_remaining = ap (λ b. cond b (stack_words n e c.start c.labels.items c.stack) (chain_words (tail_parts n e c.origin) c.start)) not
 
   pub fresh_left : left c n e ≡ whole_left c n e
   unfolding left whole_left
   fresh_left = ap (λ b. cond b (stack_left n e c.start c.stack) (chain_left (tail_parts n e c.origin) c.start)) not
 
 -- what follows a row, at that row
-module _ (c : Choices) (r : Option Rests) (n : ℕ) (e : End) (row : ℕ) (at : row ≡ c.start + length c.labels) (h : StandsFor n e row (first_later n e c.stack) r) where
+module _ (c : Choices) (r : Option Rests) (n : ℕ) (e : End) (row : ℕ) (at : row ≡ c.start + length c.labels.items) (h : StandsFor n e row (first_later n e c.stack) r) where
   pub followed_words : length (option_words n e r row) ≡ length (after c n e)
   unfolding after
   followed_words = ap length (h.words ∙ ap (chain_words (first_later n e c.stack)) at)

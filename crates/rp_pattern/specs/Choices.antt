@@ -18,7 +18,7 @@ start_of c = c.start
 
 -- the labels now
 unfoldable pub entered : Choices → List Label
-entered c = c.labels
+entered c = c.labels.items
 
 -- the choices that are not taken up, the preferred one first
 unfoldable pub standing : Choices → List Choice
@@ -41,7 +41,7 @@ whole_left c n e = chain_left (tail_parts n e c.origin) c.start
 
 -- the words of the choices that are not given up, in preferment order. Before the first one is taken up, it is the whole.
 unfoldable pub remaining : Choices → ℕ → End → List Mapping
-remaining c n e = cond c.begun (stack_words n e c.start c.labels c.stack) (chain_words (tail_parts n e c.origin) c.start)
+remaining c n e = cond c.begun (stack_words n e c.start c.labels.items c.stack) (chain_words (tail_parts n e c.origin) c.start)
 
 -- turns of the choices, and one more for each word
 unfoldable pub left : Choices → ℕ → End → ℕ
@@ -49,7 +49,7 @@ left c n e = cond c.begun (stack_left n e c.start c.stack) (chain_left (tail_par
 
 -- the same without the preferred choice
 unfoldable pub below : Choices → ℕ → End → List Mapping
-below c n e = stack_words n e c.start c.labels (drop 1 c.stack)
+below c n e = stack_words n e c.start c.labels.items (drop 1 c.stack)
 
 unfoldable pub below_left : Choices → ℕ → End → ℕ
 below_left c n e = stack_left n e c.start (drop 1 c.stack)
@@ -61,10 +61,10 @@ first_later n e (c ∷ cs) = later_parts n e c.rests
 
 -- the words that may follow the row that the preferred choice maps
 unfoldable pub after : Choices → ℕ → End → List Mapping
-after c n e = chain_words (first_later n e c.stack) (c.start + length c.labels)
+after c n e = chain_words (first_later n e c.stack) (c.start + length c.labels.items)
 
 unfoldable pub after_left : Choices → ℕ → End → ℕ
-after_left c n e = chain_left (first_later n e c.stack) (c.start + length c.labels)
+after_left c n e = chain_left (first_later n e c.stack) (c.start + length c.labels.items)
 
 -- there is a first choice, and so is it
 abbrev pub OfFirst : (Choice → Type 0) → List Choice → Type 0
@@ -77,7 +77,7 @@ HasTop c = (c.begun ≡ true) × OfFirst (λ t. Unit {0}) c.stack
 
 -- The preferred choice maps a row, whose label is the last one.
 unfoldable pub AtRow : Choices → Type 0
-AtRow c = (c.begun ≡ true) × OfFirst (λ t. t.depth + 1 ≡ length c.labels) c.stack
+AtRow c = (c.begun ≡ true) × OfFirst (λ t. t.depth + 1 ≡ length c.labels.items) c.stack
 
 -- ---- what an operation does
 

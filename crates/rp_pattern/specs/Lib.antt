@@ -11,8 +11,6 @@ pub mod PatternForm
 pub mod SameTree
 pub mod Permutations
 pub mod PermutedParts
-pub mod Stacked
-pub mod Widening
 pub mod Rests
 pub mod Splits
 pub mod Choices

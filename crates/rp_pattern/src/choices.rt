@@ -3,7 +3,6 @@ ghost use Rattle.std.specs.Prelude.{◌≡◌, ℕ, ◌∷◌, ◌++◌, ◌+◌
 ghost use Rattle.rp_pattern.specs.Rests.{rises, pushed};
 
 use crate::form::{Form, Pattern};
-use crate::label_list::LabelList;
 use crate::outlook::Outlook;
 use crate::rests::{Choice, Node, Part, Rests, Tail};
 use crate::stack::Stack;
@@ -35,10 +34,10 @@ pub struct Choices {
     start: u64,
     origin: Tail,
     begun: bool,
-    labels: LabelList,
+    labels: Vec<Label>,
     stack: Stack<Choice>,
-    ghost rises: { IsTrue (rises (length labels) stack) },
-    ghost ends: { start + length labels < 2 ^ 64 },
+    ghost rises: { IsTrue (rises (length labels.items) stack) },
+    ghost ends: { start + length labels.items < 2 ^ 64 },
 }
 
 impl Choices {
@@ -78,7 +77,7 @@ impl Choices {
             start,
             origin: linked(alloc, None, part, None)?,
             begun: false,
-            labels: LabelList::new(alloc),
+            labels: Vec::new(alloc),
             stack: Stack::new(alloc),
         })
     }
@@ -88,7 +87,7 @@ impl Choices {
     pub fn labels(&self) -> &[Label]
         ensures { result.now ≡ entered self.now }
     {
-        self.labels.as_slice()
+        &self.labels
     }
 
     /// The start row.
@@ -122,7 +121,7 @@ impl Choices {
         if self.begun {
             return Ok(());
         }
-        drop_all(&mut self.stack);
+        self.stack.clear();
         self.labels.clear();
         let first = follow(&self.origin, self.start)?;
         push(&mut self.stack, 0, first)?;
@@ -288,20 +287,11 @@ impl Choices {
         ensures begun { self.new.begun ≡ false }
         ensures start { self.new.start ≡ self.old.start }
         ensures origin { self.new.origin ≡ self.old.origin }
-        ensures labels { self.new.labels ≡ [] }
+        ensures labels { self.new.labels.items ≡ [] }
     {
         self.begun = false;
-        drop_all(&mut self.stack);
+        self.stack.clear();
         self.labels.clear();
-    }
-}
-
-/// Drops all choices, and keeps the room of the lowest ones.
-fn drop_all(stack: &mut Stack<Choice>)
-    ensures { stack.new ≡ [] }
-{
-    while !stack.is_empty() {
-        stack.drop_top();
     }
 }
 

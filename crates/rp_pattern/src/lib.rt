@@ -4,7 +4,6 @@
 mod builders;
 mod choices;
 mod form;
-mod label_list;
 mod laws;
 mod list;
 mod orders;
@@ -21,7 +20,6 @@ pub use laws::{law_labels, law_words};
 pub use list::{ListFault, list_words};
 pub use orders::permutations;
 pub use outlook::{Outlook, Sight};
-pub use stack::Stack;
 pub use word::{End, Label, Mark, Seen, Word};
 
 #[cfg(test)]

@@ -16,7 +16,7 @@ returns-clause-start c = refl
 
 pub returns-clause-labels : goal.returns-clause-labels
 unfolding entered
-returns-clause-labels c = c.new-2.ensures
+returns-clause-labels c = c.new-2.ensures.items
 
 pub returns-clause-from : goal.returns-clause-from
 returns-clause-from c = λ n e row.
