@@ -15,7 +15,7 @@ use Rattle.rp_pattern.specs.declared.word.Label.{Label}
 use Rattle.rp_pattern.specs.Words.{Mappings, words, words_step, one_row, followed, concatenation, exclusion, moves, moved_past, optional, required, further, may_go_on}
 use Rattle.rp_pattern.specs.Turns.{WordsAndTurns, turns_after, chain_turns, past}
 use Rattle.rp_pattern.specs.Movement.{always_moves, movement_step}
-use Rattle.rp_pattern.specs.Rests.{chain_words, form_part}
+use Rattle.rp_pattern.specs.Continuations.{chain_words, form_part}
 use Rattle.rp_pattern.proofs.Lists.{All-append, All-map, All-flat_map}
 use Rattle.rp_pattern.proofs.Algebra.{preceded_nothing, concatenation_assoc, concatenation_same, moving_is}
 use Rattle.rp_pattern.proofs.TurnsTaken.{past_reached}

@@ -3,14 +3,14 @@ use Rattle.std.specs.Prelude.{◌≡◌, ℕ, ◌+◌, ◌<◌, ◌≤◌, true,
 use Rattle.rp_pattern.specs.declared.word.End.{End}
 use Rattle.rp_pattern.specs.declared.word.End.TheVariants.{Open as OpenEnd}
 use Rattle.rp_pattern.specs.declared.word.Label.{Label}
-use Rattle.rp_pattern.specs.declared.rests.Choice.{Choice}
+use Rattle.rp_pattern.specs.declared.machine.continuation.Choice.{Choice}
 use Rattle.rp_pattern.specs.declared.choices.Choices.{Choices}
 use Rattle.rp_pattern.specs.declared.choices.Taken.{Taken}
 use Rattle.rp_pattern.specs.declared.choices.Taken.TheVariants.{Row, Split, Full as FullTaken, Open as OpenTaken, Nothing}
 use Rattle.rp_pattern.specs.Mapping.{Mapping, Full, Open, preceded}
 use Rattle.rp_pattern.specs.Turns.{WordsAndTurns}
 use Rattle.rp_pattern.specs.WordLaws.{IsLater}
-use Rattle.rp_pattern.specs.Rests.{tail_parts, later_parts, chain_words, chain_left, stack_words, stack_left}
+use Rattle.rp_pattern.specs.Continuations.{tail_parts, later_parts, chain_words, chain_left, stack_words, stack_left}
 
 -- the start row
 unfoldable pub start_of : Choices → ℕ
@@ -57,7 +57,7 @@ below_left c n e = stack_left n e c.start (drop 1 c.stack)
 -- what comes after the first part of the preferred choice
 abbrev pub first_later : ℕ → End → List Choice → List WordsAndTurns
 first_later n e [] = []
-first_later n e (c ∷ cs) = later_parts n e c.rests
+first_later n e (c ∷ cs) = later_parts n e c.continuation
 
 -- the words that may follow the row that the preferred choice maps
 unfoldable pub after : Choices → ℕ → End → List Mapping

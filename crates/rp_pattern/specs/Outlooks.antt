@@ -1,17 +1,17 @@
 -- What would follow a row, by the number of its words.
 use Rattle.std.specs.Prelude.{◌≡◌, ℕ, ◌+◌, ◌<◌, List, [], ◌∷◌, length}
 use Rattle.rp_pattern.specs.declared.word.End.{End}
-use Rattle.rp_pattern.specs.declared.rests.Choice.{Choice}
+use Rattle.rp_pattern.specs.declared.machine.continuation.Choice.{Choice}
 use Rattle.rp_pattern.specs.declared.outlook.Outlook.{Outlook}
 use Rattle.rp_pattern.specs.declared.outlook.Sight.{Sight}
 use Rattle.rp_pattern.specs.declared.outlook.Sight.TheVariants.{Further, Word, Nothing}
 use Rattle.rp_pattern.specs.WordLaws.{IsLater}
-use Rattle.rp_pattern.specs.Rests.{rests_parts, chain_words, stack_left}
+use Rattle.rp_pattern.specs.Continuations.{continuation_parts, chain_words, stack_left}
 
 -- so many words have the choices together
 abbrev pub stack_count : ℕ → End → ℕ → List Choice → ℕ
 stack_count n e start [] = 0
-stack_count n e start (c ∷ cs) = length (chain_words (rests_parts n e c.rests) (start + c.depth)) + stack_count n e start cs
+stack_count n e start (c ∷ cs) = length (chain_words (continuation_parts n e c.continuation) (start + c.depth)) + stack_count n e start cs
 
 -- so many words would follow
 unfoldable pub words_ahead : Outlook → ℕ → End → ℕ

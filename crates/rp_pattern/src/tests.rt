@@ -1,8 +1,10 @@
 //! Tests of patterns and permutations.
-ghost use Rattle.std.specs.Prelude.{◌≤◌};
+ghost use Rattle.std.specs.Prelude.{◌≡◌, ◌≤◌, ◌<◌, length, IfOk, IfSome};
+ghost use Rattle.rp_pattern.specs.Words.{words};
 
 use crate::{
-    Choices, End, Form, Outlook, Pattern, Sight, Taken, law_labels, law_words, permutations,
+    Choices, End, Form, ListFault, Outlook, Pattern, Sight, Taken, law_labels, law_words, list_words,
+    permutations,
 };
 use std::alloc::{AllocError, Global};
 use std::test::Fail;
@@ -171,5 +173,95 @@ fn refused_outlook(rt: HostRuntime) -> Result<(), Fail> {
         };
         assert_eq!(rt; sights, Some((first, second)));
     }
+    Ok(())
+}
+
+/// How many ways there are to map the rows of a closed partition to a form from row 1 on, as a caller asks for it. None
+/// where the form isn't allowed, or there are more than 100.
+fn count_ways(alloc: Global, form: Form, rows: u64) -> Result<Option<usize>, AllocError>
+    requires { rows < 1000 }
+    ensures { IfOk result (λ count. IfSome count (λ k. k ≡ length (words rows End.Closed form 1))) }
+{
+    if !form.is_allowed() {
+        return Ok(None);
+    }
+    let pattern = Pattern::new(form);
+    match list_words(alloc, &pattern, 1, rows, End::Closed, 100) {
+        Ok(list) => Ok(Some(list.len())),
+        Err(ListFault::TooMany) => Ok(None),
+        Err(ListFault::OutOfMemory) => Err(AllocError),
+    }
+}
+
+/// `A*` maps the first three, two or one of three rows, or none.
+#[test]
+fn ways_of_a_loop(rt: HostRuntime) -> Result<(), Fail> {
+    let form = quantified(rt.alloc(), 0, None)?;
+    assert_eq!(rt; count_ways(rt.alloc(), form, 3)?, Some(4));
+    let form = quantified(rt.alloc(), 2, Some(1))?;
+    assert_eq!(rt; count_ways(rt.alloc(), form, 3)?, None);
+    Ok(())
+}
+
+/// Whether a row's letter is the one of its variable.
+fn is_admitted(var: usize, letter: Option<u8>) -> bool {
+    matches!((var, letter), (0, Some(b'a')) | (1, Some(b'b')) | (2, Some(b'c')))
+}
+
+/// One turn over the letters of a closed partition, as a sign: `s` for a split, `.` for a word, `-` where nothing is left,
+/// and the variable of a row, small where its letter refuses it.
+fn turn(choices: &mut Choices, letters: &[u8]) -> Result<char, AllocError>
+    requires { length letters.now < 100 }
+{
+    match choices.take_up(letters.len() as u64, End::Closed)? {
+        Taken::Row => {
+            let place = choices.labels().len();
+            let letter = if place == 0 { None } else { letters.get(place - 1).copied() };
+            let var = choices.labels().last().map_or(3, |label| label.var);
+            if !is_admitted(var, letter) {
+                choices.give_up();
+                return Ok(small(var));
+            }
+            choices.admit()?;
+            Ok(capital(var))
+        }
+        Taken::Split => Ok('s'),
+        Taken::Full => Ok('.'),
+        _ => Ok('-'),
+    }
+}
+
+fn capital(var: usize) -> char {
+    match var {
+        0 => 'A',
+        1 => 'B',
+        _ => 'C',
+    }
+}
+
+fn small(var: usize) -> char {
+    match var {
+        0 => 'a',
+        1 => 'b',
+        _ => 'c',
+    }
+}
+
+/// The turns that docs/WALK.md tells of.
+#[test]
+fn walked_turns(rt: HostRuntime) -> Result<(), Fail> {
+    let alloc = rt.alloc();
+    let pair = Form::concatenation(alloc, Form::variable(0), Form::variable(1))?;
+    let body = Form::alternation(alloc, pair, Form::variable(0))?;
+    let repeated = Form::quantified(alloc, body, 0, None, false)?;
+    let form = Form::concatenation(alloc, repeated, Form::variable(2))?;
+    assert!(rt; form.is_allowed());
+    let pattern = Pattern::new(form);
+    let mut choices = Choices::new(alloc, &pattern, 1)?;
+    let mut signs = String::new(alloc);
+    for _ in 0..16 {
+        signs.push(turn(&mut choices, b"abac")?)?;
+    }
+    assert_eq!(rt; signs.as_str(), "sssABssAbAssaaC.");
     Ok(())
 }

@@ -3,7 +3,7 @@ use Rattle.rp_pattern.specs.declared.word.End.{End}
 use Rattle.rp_pattern.specs.Choices.{after, after_left}
 use Rattle.rp_pattern.specs.Outlooks.{words_ahead, turns_ahead}
 use Rattle.rp_pattern.proofs.OrderRests.{IfOk-map}
-use Rattle.rp_pattern.proofs.Stacks.{followed_words, followed_left}
+use Rattle.rp_pattern.proofs.ChoiceStacks.{followed_words, followed_left}
 use Rattle.rp_pattern.proofs.choices.Choices.after_row.Goals as goal
 
 pub returns-clause-words : goal.returns-clause-words

@@ -1,7 +1,7 @@
 use Rattle.std.proofs.Common.{refl, sym, ap, ◌∙◌, subst, length, IsTrue, arith}
 use Rattle.rp_pattern.specs.Choices.{entered}
-use Rattle.rp_pattern.specs.Rests.{rises, pushed}
-use Rattle.rp_pattern.proofs.Stacks.{same_whole, all_front, none_front, rises_more, begun_remaining, begun_left}
+use Rattle.rp_pattern.specs.Continuations.{rises, pushed}
+use Rattle.rp_pattern.proofs.ChoiceStacks.{same_whole, all_front, none_front, rises_more, begun_remaining, begun_left}
 use Rattle.rp_pattern.proofs.choices.Choices.begin.Goals as goal
 
 pub returns-then-self-clause-cut : goal.returns-then-self-clause-cut

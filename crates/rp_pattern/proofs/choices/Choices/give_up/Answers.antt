@@ -1,5 +1,5 @@
 use Rattle.std.proofs.Common.{◌∷◌, refl, drop}
-use Rattle.rp_pattern.proofs.Stacks.{Stack, same_whole, top_begun, no_top, given_up_remaining, given_up_left, cut_front, cut_off}
+use Rattle.rp_pattern.proofs.ChoiceStacks.{Stack, same_whole, top_begun, no_top, given_up_remaining, given_up_left, cut_front, cut_off}
 use Rattle.rp_pattern.proofs.choices.Choices.give_up.Goals as goal
 
 pub returns-in-Some-clause-whole : goal.returns-in-Some-clause-whole

@@ -1,6 +1,6 @@
 use Rattle.std.proofs.Common.{◌∙◌}
 use Rattle.rp_pattern.specs.Choices.{IsSameWhole, entered}
-use Rattle.rp_pattern.proofs.Stacks.{same_whole, fresh_remaining, fresh_left}
+use Rattle.rp_pattern.proofs.ChoiceStacks.{same_whole, fresh_remaining, fresh_left}
 use Rattle.rp_pattern.proofs.choices.Choices.reset.Goals as goal
 
 pub returns-clause-whole : goal.returns-clause-whole

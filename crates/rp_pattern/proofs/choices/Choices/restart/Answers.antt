@@ -1,7 +1,7 @@
 use Rattle.std.proofs.Common.{refl, ap}
-use Rattle.rp_pattern.specs.Rests.{tail_parts, chain_words, chain_left}
+use Rattle.rp_pattern.specs.Continuations.{tail_parts, chain_words, chain_left}
 use Rattle.rp_pattern.specs.Choices.{start_of, entered, whole, whole_left, whole_from, whole_left_from}
-use Rattle.rp_pattern.proofs.Stacks.{same_pattern, fresh_remaining, fresh_left}
+use Rattle.rp_pattern.proofs.ChoiceStacks.{same_pattern, fresh_remaining, fresh_left}
 use Rattle.rp_pattern.proofs.choices.Choices.restart.Goals as goal
 
 pub returns-clause-pattern : goal.returns-clause-pattern

@@ -1,5 +1,5 @@
 use Rattle.std.proofs.Common.{refl}
-use Rattle.rp_pattern.proofs.Stacks.{same_whole, is_nothing}
+use Rattle.rp_pattern.proofs.ChoiceStacks.{same_whole, is_nothing}
 use Rattle.rp_pattern.proofs.choices.Choices.take_up_top.Goals as goal
 
 pub returns-in_default-clause-whole : goal.returns-in_default-clause-whole
