@@ -1,13 +1,13 @@
 -- Parts one after another: a monoid, over which alternatives distribute.
 use Rattle.std.proofs.Common.{◌≡◌, ℕ, ◌+◌, List, [], ◌∷◌, ◌++◌, map, length, Bool, true, false, cond, refl, sym, ap, ◌∙◌, append_assoc, arith, length-append}
-use Rattle.rp_pattern.specs.Mapping.{Mapping, Full, Open}
+use Rattle.rp_pattern.specs.Mapping.{Mapping, Full, Open, preceded}
 use Rattle.std.specs.Prelude.{nat_lt}
 use Rattle.std.specs.List.{flat_map, filter}
 use Rattle.std.proofs.lemmas.List.{map-append}
 use Rattle.std.proofs.lemmas.Grind.{flat_map-append}
 use Rattle.std.proofs.lemmas.Bool.Decides.{nat_tests}
 use Rattle.rp_pattern.specs.declared.word.Label.{Label}
-use Rattle.rp_pattern.specs.Words.{Mappings, preceded, followed, concatenation, alternation, moves, moving, nothing_mapped, moved_past}
+use Rattle.rp_pattern.specs.Words.{Mappings, followed, concatenation, alternation, moves, moving, nothing_mapped, moved_past}
 use Rattle.rp_pattern.proofs.Lists.{map-map}
 
 pub append_nil : {A : Type 0} (xs : List A) → xs ++ [] ≡ xs

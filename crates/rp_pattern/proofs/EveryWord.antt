@@ -1,6 +1,6 @@
 -- What holds of every word of every pattern: a fact that the words of one row have, and that later words and exclusion keep.
 use Rattle.std.proofs.Common.{◌≡◌, ℕ, zero, suc, ◌+◌, ◌≤◌, ◌<◌, List, [], ◌∷◌, map, length, Bool, true, false, cond, refl, sym, subst, arith}
-use Rattle.rp_pattern.specs.Mapping.{Mapping, Full, Open}
+use Rattle.rp_pattern.specs.Mapping.{Mapping, Full, Open, preceded, excluded_mapping}
 use Rattle.std.specs.Prelude.{nat_le, nat_eq}
 use Rattle.std.specs.List.{flat_map, filter, AllByRecursion}
 use Rattle.std.proofs.lemmas.Bool.Decides.{nat_tests}
@@ -11,7 +11,7 @@ use Rattle.rp_pattern.specs.declared.form.Form.TheFolds.{map-Form, fold-roll-For
 use Rattle.rp_pattern.specs.declared.word.End.{End}
 use Rattle.rp_pattern.specs.declared.word.End.TheVariants.{Open as OpenEnd, Closed as ClosedEnd}
 use Rattle.rp_pattern.specs.declared.word.Label.{Label}
-use Rattle.rp_pattern.specs.Words.{Mappings, words, words_step, one_row, at_start, at_end, followed, preceded, concatenation, exclusion, excluded_mapping, moves, moving, optional, required, further, sequence, permuted, orders, may_end, may_go_on}
+use Rattle.rp_pattern.specs.Words.{Mappings, words, words_step, one_row, at_start, at_end, followed, concatenation, exclusion, moves, moving, optional, required, further, sequence, permuted, orders, may_end, may_go_on}
 use Rattle.rp_pattern.proofs.Lists.{All-append, All-map, All-flat_map, map-map}
 use Rattle.rp_pattern.proofs.Arrangements.{permuted-map}
 

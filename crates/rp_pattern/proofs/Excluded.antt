@@ -1,10 +1,10 @@
 -- Exclusion goes inwards.
 use Rattle.std.proofs.Common.{◌≡◌, ℕ, zero, suc, ◌+◌, List, [], ◌∷◌, ◌++◌, map, length, Bool, true, false, refl, sym, ap, ◌∙◌}
-use Rattle.rp_pattern.specs.Mapping.{Mapping, Full, Open}
+use Rattle.rp_pattern.specs.Mapping.{Mapping, Full, Open, preceded, excluded_label, excluded_mapping}
 use Rattle.std.specs.List.{flat_map, filter}
 use Rattle.std.proofs.lemmas.List.{map-append, length-map}
 use Rattle.rp_pattern.specs.declared.word.Label.{Label}
-use Rattle.rp_pattern.specs.Words.{Mappings, preceded, followed, concatenation, alternation, excluded_label, excluded_mapping, exclusion, moves, moving, preferred, optional, required}
+use Rattle.rp_pattern.specs.Words.{Mappings, followed, concatenation, alternation, exclusion, moves, moving, preferred, optional, required}
 use Rattle.rp_pattern.proofs.Lists.{map-map}
 use Rattle.rp_pattern.proofs.Algebra.{concatenation_same, map_same}
 

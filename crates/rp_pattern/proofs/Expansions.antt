@@ -11,10 +11,10 @@ use Rattle.rp_pattern.specs.declared.form.Form.TheVariants as V
 use Rattle.rp_pattern.specs.declared.word.End.{End}
 use Rattle.rp_pattern.specs.declared.word.End.TheVariants.{Open as OpenEnd, Closed as ClosedEnd}
 use Rattle.rp_pattern.specs.declared.word.Label.{Label}
-use Rattle.rp_pattern.specs.Mapping.{Mapping, Full, Open}
-use Rattle.rp_pattern.specs.Words.{Mappings, may_go_on, may_end, nothing_mapped, preceded, followed, concatenation, alternation, excluded_label, excluded_mapping, exclusion, within_exclusion, moving, moved_past, optional, further, words}
+use Rattle.rp_pattern.specs.Mapping.{Mapping, Full, Open, preceded, excluded_label, excluded_mapping}
+use Rattle.rp_pattern.specs.Words.{Mappings, may_go_on, may_end, nothing_mapped, followed, concatenation, alternation, exclusion, within_exclusion, moving, moved_past, optional, further, words}
 use Rattle.rp_pattern.specs.Turns.{WordsAndTurns, turns, one_turn, concatenation_turns, chain_turns, within, iterations}
-use Rattle.rp_pattern.specs.Rests.{chain_words, form_part}
+use Rattle.rp_pattern.specs.Continuations.{chain_words, form_part}
 use Rattle.rp_pattern.specs.Splits.{repeated}
 use Rattle.rp_pattern.proofs.Lists.{map-map}
 use Rattle.rp_pattern.proofs.Algebra.{append_nil, concatenation_assoc, concatenation_alternation, concatenation_nothing_first, moving_is}

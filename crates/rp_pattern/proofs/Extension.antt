@@ -1,10 +1,10 @@
 -- Each way to make words keeps `Extends`.
 use Rattle.std.proofs.Common.{◌≡◌, ℕ, zero, suc, ◌+◌, List, [], ◌∷◌, ◌++◌, map, length, Bool, true, false, sym, ap, ◌∙◌, append_assoc}
-use Rattle.rp_pattern.specs.Mapping.{Mapping, Full, Open}
+use Rattle.rp_pattern.specs.Mapping.{Mapping, Full, Open, preceded, excluded_label, excluded_mapping}
 use Rattle.std.specs.List.{flat_map, filter, AllByRecursion}
 use Rattle.std.proofs.lemmas.List.{map-append}
 use Rattle.rp_pattern.specs.declared.word.Label.{Label}
-use Rattle.rp_pattern.specs.Words.{Mappings, preceded, followed, concatenation, excluded_label, excluded_mapping, moves, moving, preferred, optional, required}
+use Rattle.rp_pattern.specs.Words.{Mappings, followed, concatenation, moves, moving, preferred, optional, required}
 use Rattle.rp_pattern.specs.WordLaws.{BeginsWith, Extends, done, stays, gone, grows}
 
 pub Extends-append : {a a' b b' : List Mapping} → Extends a a' → Extends b b' → Extends (a ++ b) (a' ++ b')

@@ -3,7 +3,7 @@ use Rattle.std.proofs.Common.{◌≡◌, ℕ, ◌+◌, ◌<◌, List, [], ◌∷
 use Rattle.std.specs.Prelude.{nat_le, nat_lt, nat_eq}
 use Rattle.std.specs.List.{AllByRecursion}
 use Rattle.std.proofs.lemmas.Bool.Decides.{nat_tests}
-use Rattle.rp_pattern.specs.Mapping.{Mapping, Full, Open}
+use Rattle.rp_pattern.specs.Mapping.{Mapping, Full, Open, preceded, excluded_mapping, excluded_label}
 use Rattle.rp_pattern.specs.declared.form.Form.{Form}
 use Rattle.rp_pattern.specs.declared.form.Form.TheOpen.{Form-F, Variable, Empty, Concatenation, Alternation, PartitionStart, PartitionEnd, Permute, Exclusion, Quantified}
 use Rattle.rp_pattern.specs.declared.form.Form.TheViews.{roll-Form}
@@ -13,7 +13,7 @@ use Rattle.rp_pattern.specs.declared.word.End.TheVariants.{Open as OpenEnd, Clos
 use Rattle.rp_pattern.specs.declared.word.Label.{Label}
 use Rattle.rp_pattern.specs.LabelLaws.{IsBelow, LabelsBelow}
 use Rattle.rp_pattern.specs.Variables.{all_true, are_below, below_step}
-use Rattle.rp_pattern.specs.Words.{Mappings, words, words_step, one_row, at_start, at_end, preceded, excluded_mapping, excluded_label, optional, further, may_end, may_go_on}
+use Rattle.rp_pattern.specs.Words.{Mappings, words, words_step, one_row, at_start, at_end, optional, further, may_end, may_go_on}
 use Rattle.rp_pattern.proofs.Lists.{All-append, All-map, map-map}
 use Rattle.rp_pattern.proofs.EveryWord.{Each, each_concatenation, each_exclusion, each_optional, each_required, each_permuted}
 

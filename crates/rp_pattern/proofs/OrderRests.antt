@@ -10,17 +10,17 @@ use Rattle.rp_pattern.specs.declared.form.Form.TheOpen as F
 use Rattle.rp_pattern.specs.declared.form.Form.TheVariants as V
 use Rattle.rp_pattern.specs.declared.form.Form.TheViews.{out-roll-Form}
 use Rattle.rp_pattern.specs.declared.word.End.{End}
-use Rattle.rp_pattern.specs.declared.turn.Split.{Split}
-use Rattle.rp_pattern.specs.declared.rests.Node.{Node}
-use Rattle.rp_pattern.specs.declared.rests.Link.{Link}
-use Rattle.rp_pattern.specs.declared.rests.Part.TheVariants.{Whole}
+use Rattle.rp_pattern.specs.declared.machine.split.Split.{Split}
+use Rattle.rp_pattern.specs.declared.machine.node.Node.{Node}
+use Rattle.rp_pattern.specs.declared.machine.link.Link.{Link}
+use Rattle.rp_pattern.specs.declared.machine.link.Part.TheVariants.{Whole}
 use Rattle.rp_pattern.specs.Bounds.{is_allowed}
 use Rattle.rp_pattern.specs.Variables.{all_true}
 use Rattle.rp_pattern.specs.Permutations.{upto, factorial}
 use Rattle.rp_pattern.specs.PermutedParts.{layer_parts, permuted_parts}
 use Rattle.rp_pattern.specs.Words.{nothing_mapped, followed, concatenation, sequence, orders, picks, led, arrangements, permuted, words}
 use Rattle.rp_pattern.specs.Turns.{WordsAndTurns, one_turn, turns, words_of, orders_from, within, permuted_turns}
-use Rattle.rp_pattern.specs.Rests.{form_part, chain_words, in_order, permuted_form_parts, IsNodeOf, tail_links, tail_parts, links_parts}
+use Rattle.rp_pattern.specs.Continuations.{form_part, chain_words, in_order, permuted_form_parts, IsNodeOf, tail_links, tail_parts, links_parts}
 use Rattle.rp_pattern.specs.Splits.{StandsFor, SplitsAt}
 use Rattle.rp_pattern.proofs.Lists.{All-map, All-flat_map, map-map}
 use Rattle.rp_pattern.proofs.FormEquations.{words_permute}

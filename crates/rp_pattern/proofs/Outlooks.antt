@@ -4,30 +4,21 @@ use Rattle.std.proofs.lemmas.List.{length-map}
 use Rattle.std.proofs.lemmas.Bool.Decides.{nat_tests}
 use Rattle.rp_pattern.specs.declared.word.End.{End}
 use Rattle.rp_pattern.specs.declared.word.Label.{Label}
-use Rattle.rp_pattern.specs.declared.rests.Rests.{Rests}
-use Rattle.rp_pattern.specs.declared.rests.Choice.{Choice}
-use Rattle.rp_pattern.specs.declared.turn.Split.{Split}
+use Rattle.rp_pattern.specs.declared.machine.continuation.Continuation.{Continuation}
+use Rattle.rp_pattern.specs.declared.machine.continuation.Choice.{Choice}
+use Rattle.rp_pattern.specs.declared.machine.split.Split.{Split}
 use Rattle.rp_pattern.specs.declared.outlook.Outlook.{Outlook}
-use Rattle.rp_pattern.specs.Mapping.{Mapping}
+use Rattle.rp_pattern.specs.Mapping.{Mapping, preceded}
 use Rattle.rp_pattern.specs.WordLaws.{IsLater}
-use Rattle.rp_pattern.specs.Words.{preceded}
 use Rattle.rp_pattern.specs.Turns.{chain_turns}
-use Rattle.rp_pattern.specs.Rests.{rests_parts, later_parts, chain_words, stack_left, rises, pushed}
+use Rattle.rp_pattern.specs.Continuations.{continuation_parts, later_parts, chain_words, stack_left, rises, pushed}
 use Rattle.rp_pattern.specs.Splits.{StandsFor, option_words, option_turns, Splits, TakesRow}
-use Rattle.rp_pattern.specs.Outlooks.{stack_count, words_ahead, turns_ahead, held_by, LooksFurther}
-use Rattle.rp_pattern.proofs.Stacks.{pushed_left, later_is, rises_first, rises_more}
+use Rattle.rp_pattern.specs.Outlooks.{stack_count, words_ahead, turns_ahead, LooksFurther}
+use Rattle.rp_pattern.proofs.ChoiceStacks.{pushed_left, later_is, rises_first, rises_more}
 
-pub pushed_count : (n : ℕ) (e : End) (s d : ℕ) (r : Option Rests) (cs : List Choice) → stack_count n e s (pushed d r cs) ≡ length (option_words n e r (s + d)) + stack_count n e s cs
+pub pushed_count : (n : ℕ) (e : End) (s d : ℕ) (r : Option Continuation) (cs : List Choice) → stack_count n e s (pushed d r cs) ≡ length (option_words n e r (s + d)) + stack_count n e s cs
 pushed_count n e s d None cs = omega arith
 pushed_count n e s d (Some r) cs = refl
-
-pub pushed_long : (d : ℕ) (r : Option Rests) (cs : List Choice) → length (pushed d r cs) ≤ length cs + 1
-pushed_long d None cs = omega arith
-pushed_long d (Some r) cs = omega arith
-
-pub pushed_keeps : (d : ℕ) (r : Option Rests) (cs : List Choice) → length cs ≤ length (pushed d r cs)
-pushed_keeps d None cs = omega arith
-pushed_keeps d (Some r) cs = omega arith
 
 -- its choices, the preferred one first
 pub words_ahead_is : (o : Outlook) (s : ℕ) (cs : List Choice) (n : ℕ) (e : End) → o.start ≡ s → o.stack ≡ cs → words_ahead o n e ≡ stack_count n e s cs
@@ -38,44 +29,36 @@ pub turns_ahead_is : (o : Outlook) (s : ℕ) (cs : List Choice) (n : ℕ) (e : E
 unfolding turns_ahead
 turns_ahead_is o s cs n e h k = ap (λ z. stack_left n e z o.stack) h ∙ ap (stack_left n e s) k
 
-pub held_is : (o : Outlook) (cs : List Choice) → o.stack ≡ cs → held_by o ≡ length cs
-unfolding held_by
-held_is o cs h = ap length h
-
 module _ (old new : Outlook) (t : Choice) (cs : List Choice) (n : ℕ) (e : End) (on : old.stack ≡ t ∷ cs) (start : new.start ≡ old.start) where
-  pub further_split : (x : Split) → new.stack ≡ pushed t.depth x.preferred (pushed t.depth x.other cs) → Splits n e (old.start + t.depth) (λ n e. rests_parts n e t.rests) x → LooksFurther old new n e
+  pub further_split : (x : Split) → new.stack ≡ pushed t.depth x.preferred (pushed t.depth x.other cs) → Splits n e (old.start + t.depth) (λ n e. continuation_parts n e t.continuation) x → LooksFurther old new n e
   further_split x now w =
       let s = old.start in
       let i : ℕ = s + t.depth in
       let ds : List Choice = pushed t.depth x.other cs in
-      let long : (n' : ℕ) (e' : End) → IsLater n e n' e' → length (option_words n' e' x.preferred i) + length (option_words n' e' x.other i) ≡ length (chain_words (rests_parts n' e' t.rests) i) = λ n' e' h.
+      let long : (n' : ℕ) (e' : End) → IsLater n e n' e' → length (option_words n' e' x.preferred i) + length (option_words n' e' x.other i) ≡ length (chain_words (continuation_parts n' e' t.continuation) i) = λ n' e' h.
       sym (length-append (option_words n' e' x.preferred i) (option_words n' e' x.other i)) ∙ ap length (w.words n' e' h) in
       record {
         same = λ n' e' h. omega (arith, words_ahead_is new s (pushed t.depth x.preferred ds) n' e' start now, words_ahead_is old s (t ∷ cs) n' e' refl on, pushed_count n' e' s t.depth x.preferred ds, pushed_count n' e' s t.depth x.other cs, long n' e' h);
         less = λ n' e' h. omega (arith, turns_ahead_is new s (pushed t.depth x.preferred ds) n' e' start now, turns_ahead_is old s (t ∷ cs) n' e' refl on, pushed_left n' e' s t.depth x.preferred ds, pushed_left n' e' s t.depth x.other cs, long n' e' h, w.turns n' e' h);
-        gains = omega (arith, held_is new (pushed t.depth x.preferred ds) now, held_is old (t ∷ cs) on, pushed_long t.depth x.preferred ds, pushed_long t.depth x.other cs);
-        drops = omega (arith, held_is new (pushed t.depth x.preferred ds) now, held_is old (t ∷ cs) on, pushed_keeps t.depth x.preferred ds, pushed_keeps t.depth x.other cs);
       }
 
-  pub further_row : (l : Label) (r : Option Rests) → new.stack ≡ pushed (t.depth + 1) r cs → TakesRow n e (old.start + t.depth) (λ n e. rests_parts n e t.rests) l →
-      ((n' : ℕ) (e' : End) → StandsFor n' e' (old.start + t.depth + 1) (later_parts n' e' t.rests) r) → LooksFurther old new n e
+  pub further_row : (l : Label) (r : Option Continuation) → new.stack ≡ pushed (t.depth + 1) r cs → TakesRow n e (old.start + t.depth) (λ n e. continuation_parts n e t.continuation) l →
+      ((n' : ℕ) (e' : End) → StandsFor n' e' (old.start + t.depth + 1) (later_parts n' e' t.continuation) r) → LooksFurther old new n e
   further_row l r now w stands =
       let s = old.start in
       let i : ℕ = s + t.depth in
       let at : s + (t.depth + 1) ≡ i + 1 = omega arith in
-      let count : (n' : ℕ) (e' : End) → IsLater n e n' e' → length (option_words n' e' r (s + (t.depth + 1))) ≡ length (chain_words (rests_parts n' e' t.rests) i) = λ n' e' h.
+      let count : (n' : ℕ) (e' : End) → IsLater n e n' e' → length (option_words n' e' r (s + (t.depth + 1))) ≡ length (chain_words (continuation_parts n' e' t.continuation) i) = λ n' e' h.
       ap (λ j. length (option_words n' e' r j)) at ∙ ap length ((stands n' e').words)
-      ∙ ap (λ ps. length (chain_words ps (i + 1))) (sym (later_is n' e' t.rests))
-      ∙ sym (ap length (w.words n' e' h.0) ∙ length-map (chain_words (drop 1 (rests_parts n' e' t.rests)) (i + 1)) (preceded (l ∷ []))) in
-      let turns : (n' : ℕ) (e' : End) → IsLater n e n' e' → 1 + option_turns n' e' r (s + (t.depth + 1)) ≡ chain_turns (rests_parts n' e' t.rests) i = λ n' e' h.
+      ∙ ap (λ ps. length (chain_words ps (i + 1))) (sym (later_is n' e' t.continuation))
+      ∙ sym (ap length (w.words n' e' h.0) ∙ length-map (chain_words (drop 1 (continuation_parts n' e' t.continuation)) (i + 1)) (preceded (l ∷ []))) in
+      let turns : (n' : ℕ) (e' : End) → IsLater n e n' e' → 1 + option_turns n' e' r (s + (t.depth + 1)) ≡ chain_turns (continuation_parts n' e' t.continuation) i = λ n' e' h.
       ap (λ j. 1 + option_turns n' e' r j) at ∙ ap (λ k. 1 + k) ((stands n' e').turns)
-      ∙ ap (λ ps. 1 + chain_turns ps (i + 1)) (sym (later_is n' e' t.rests))
+      ∙ ap (λ ps. 1 + chain_turns ps (i + 1)) (sym (later_is n' e' t.continuation))
       ∙ sym (w.turns n' e' h.0) in
       record {
         same = λ n' e' h. omega (arith, words_ahead_is new s (pushed (t.depth + 1) r cs) n' e' start now, words_ahead_is old s (t ∷ cs) n' e' refl on, pushed_count n' e' s (t.depth + 1) r cs, count n' e' h);
         less = λ n' e' h. omega (arith, turns_ahead_is new s (pushed (t.depth + 1) r cs) n' e' start now, turns_ahead_is old s (t ∷ cs) n' e' refl on, pushed_left n' e' s (t.depth + 1) r cs, count n' e' h, turns n' e' h);
-        gains = omega (arith, held_is new (pushed (t.depth + 1) r cs) now, held_is old (t ∷ cs) on, pushed_long (t.depth + 1) r cs);
-        drops = omega (arith, held_is new (pushed (t.depth + 1) r cs) now, held_is old (t ∷ cs) on, pushed_keeps (t.depth + 1) r cs);
       }
 
 module _ (o : Outlook) (t : Choice) (cs : List Choice) (on : o.stack ≡ t ∷ cs) where
@@ -85,14 +68,14 @@ module _ (o : Outlook) (t : Choice) (cs : List Choice) (on : o.stack ≡ t ∷ c
       let first = rises_first (2 ^ 64 - 1 - o.start) t cs (subst (λ z. IsTrue (rises (2 ^ 64 - 1 - o.start) z)) on o.within) in
       (omega (arith, first.0, o.starts), first.1)
 
-  pub word_ahead : (n : ℕ) (e : End) (w : Mapping) → chain_words (rests_parts n e t.rests) (o.start + t.depth) ≡ w ∷ [] → 0 < words_ahead o n e
+  pub word_ahead : (n : ℕ) (e : End) (w : Mapping) → chain_words (continuation_parts n e t.continuation) (o.start + t.depth) ≡ w ∷ [] → 0 < words_ahead o n e
   word_ahead n e w h = omega (arith, words_ahead_is o o.start (t ∷ cs) n e refl on, ap length h)
 
 pub nothing_ahead : (o : Outlook) → o.stack ≡ [] → (n : ℕ) (e : End) → words_ahead o n e ≡ 0
 nothing_ahead o on n e = words_ahead_is o o.start [] n e refl on
 
 -- what is left at a row
-module _ (o : Outlook) (r : Option Rests) (n : ℕ) (e : End) (on : o.stack ≡ pushed 0 r []) where
+module _ (o : Outlook) (r : Option Continuation) (n : ℕ) (e : End) (on : o.stack ≡ pushed 0 r []) where
   at_row : o.start + 0 ≡ o.start
   at_row = omega arith
 
@@ -102,22 +85,6 @@ module _ (o : Outlook) (r : Option Rests) (n : ℕ) (e : End) (on : o.stack ≡ 
   pub turns_at : turns_ahead o n e ≡ option_turns n e r o.start + length (option_words n e r o.start)
   turns_at = omega (arith, turns_ahead_is o o.start (pushed 0 r []) n e refl on, pushed_left n e o.start 0 r [], ap (λ i. length (option_words n e r i)) at_row, ap (option_turns n e r) at_row)
 
-pub held_at : (o : Outlook) (r : Option Rests) → o.stack ≡ pushed 0 r [] → held_by o ≤ 1
-held_at o r on = omega (arith, held_is o (pushed 0 r []) on, pushed_long 0 r [])
-
-pub shorter : (cs : List Choice) → length (drop 1 cs) ≡ length cs - 1
-shorter [] = refl
-shorter (c ∷ cs) = omega arith
-
--- one is dropped
-pub held_without : (old new : Outlook) → new.stack ≡ drop 1 old.stack → held_by new ≡ held_by old - 1
-held_without old new h = omega (arith, held_is new (drop 1 old.stack) h, held_is old old.stack refl, shorter old.stack)
-
 -- choices at rows that have numbers
 pub all_within : (start deepest : ℕ) (cs : List Choice) → start + deepest < 2 ^ 64 → IsTrue (rises deepest cs) → IsTrue (rises (2 ^ 64 - 1 - start) cs)
 all_within start deepest cs h r = rises_more deepest (2 ^ 64 - 1 - start) cs (omega (arith, h)) r
-
--- one is left where they aren't none
-pub some_left : (b : Bool) (m : ℕ) → b ≡ (m == 0) → IsTrue (not b) ↔ (0 < m)
-some_left true m h = (λ t. absurd cc, λ p. absurd (grind (arith, nat_tests)))
-some_left false m h = (λ t. grind (arith, nat_tests), λ p. refl)

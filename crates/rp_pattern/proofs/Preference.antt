@@ -18,7 +18,7 @@ use Rattle.rp_pattern.specs.declared.word.End.{End}
 use Rattle.rp_pattern.specs.declared.word.End.TheVariants.{Open as OpenEnd, Closed as ClosedEnd}
 use Rattle.rp_pattern.specs.Mapping.{Mapping, Full, Open}
 use Rattle.rp_pattern.specs.Words as W
-use Rattle.rp_pattern.specs.Words.{Mappings, preceded, excluded_mapping, moves, further, orders, may_go_on, may_end}
+use Rattle.rp_pattern.specs.Words.{Mappings, moves, further, orders, may_go_on, may_end}
 use Rattle.rp_pattern.specs.Permutations.{upto}
 use Rattle.rp_pattern.specs.Readings.{to_go_on, IsPreferred, here, later}
 use Rattle.rp_pattern.proofs.Lists.{map-map, All-append, All-map, All-flat_map, All-weaker}

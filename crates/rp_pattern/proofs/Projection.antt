@@ -8,8 +8,8 @@ use Rattle.rp_pattern.specs.declared.form.Form.TheOpen.{Form-F, Variable, Empty,
 use Rattle.rp_pattern.specs.declared.form.Form.TheViews.{roll-Form}
 use Rattle.rp_pattern.specs.declared.form.Form.TheFolds.{map-Form, fold-roll-Form, ind-Form}
 use Rattle.rp_pattern.specs.declared.word.End.{End}
-use Rattle.rp_pattern.specs.Mapping.{Mapping, Full, Open}
-use Rattle.rp_pattern.specs.Words.{Mappings, words, words_step, preceded, followed, concatenation, excluded_mapping, moves, optional, required, preferred, further, orders, sequence, permuted, nothing_mapped}
+use Rattle.rp_pattern.specs.Mapping.{Mapping, Full, Open, preceded, excluded_mapping}
+use Rattle.rp_pattern.specs.Words.{Mappings, words, words_step, followed, concatenation, moves, optional, required, preferred, further, orders, sequence, permuted, nothing_mapped}
 use Rattle.rp_pattern.specs.Permutations.{upto}
 use Rattle.rp_pattern.specs.Readings.{to_go_on}
 use Rattle.rp_pattern.proofs.Lists.{map-map}

@@ -11,9 +11,9 @@ use Rattle.rp_pattern.specs.declared.form.Form.TheVariants as V
 use Rattle.rp_pattern.specs.declared.form.Form.TheFolds.{fold-Form, fold-roll-Form}
 use Rattle.rp_pattern.specs.declared.word.Label.{Label}
 use Rattle.rp_pattern.specs.declared.word.End.{End}
-use Rattle.rp_pattern.specs.Mapping.{Mapping, Full, Open}
+use Rattle.rp_pattern.specs.Mapping.{Mapping, Full, Open, preceded, excluded_mapping}
 use Rattle.rp_pattern.specs.Words as W
-use Rattle.rp_pattern.specs.Words.{Mappings, words, preceded, excluded_mapping, moves, further, orders, may_go_on, may_end}
+use Rattle.rp_pattern.specs.Words.{Mappings, words, moves, further, orders, may_go_on, may_end}
 use Rattle.rp_pattern.specs.Permutations.{upto}
 use Rattle.rp_pattern.specs.Readings.{to_go_on, to_stop}
 use Rattle.rp_pattern.proofs.Lists.{map-map}

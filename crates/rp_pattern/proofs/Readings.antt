@@ -16,9 +16,9 @@ use Rattle.rp_pattern.specs.declared.form.Form.TheFolds.{map-Form, ind-Form}
 use Rattle.rp_pattern.specs.declared.word.Label.{Label}
 use Rattle.rp_pattern.specs.declared.word.End.{End}
 use Rattle.rp_pattern.specs.declared.word.End.TheVariants.{Open as OpenEnd, Closed as ClosedEnd}
-use Rattle.rp_pattern.specs.Mapping.{Mapping, Full, Open}
+use Rattle.rp_pattern.specs.Mapping.{Mapping, Full, Open, preceded}
 use Rattle.rp_pattern.specs.Words as W
-use Rattle.rp_pattern.specs.Words.{words, preceded, excluded_mapping, moves, further, orders}
+use Rattle.rp_pattern.specs.Words.{words, moves, further, orders}
 use Rattle.rp_pattern.specs.WordLaws.{IsWithin}
 use Rattle.rp_pattern.specs.Permutations.{upto}
 use Rattle.rp_pattern.specs.Maps.{MayFollow}

@@ -6,21 +6,21 @@ use Rattle.rp_pattern.specs.declared.form.Form.{Form}
 use Rattle.rp_pattern.specs.declared.word.End.{End}
 use Rattle.rp_pattern.specs.declared.word.End.TheVariants.{Open as OpenEnd, Closed as ClosedEnd}
 use Rattle.rp_pattern.specs.declared.form.Form.TheVariants.{Variable}
-use Rattle.rp_pattern.specs.declared.rests.Node.{Node}
-use Rattle.rp_pattern.specs.declared.rests.Iterations.{Iterations}
-use Rattle.rp_pattern.specs.declared.rests.Part.{Part}
-use Rattle.rp_pattern.specs.declared.rests.Link.{Link}
-use Rattle.rp_pattern.specs.declared.rests.Rests.{Rests}
-use Rattle.rp_pattern.specs.declared.rests.Rests.TheVariants.{Then}
-use Rattle.rp_pattern.specs.declared.turn.Split.{Split}
-use Rattle.rp_pattern.specs.declared.turn.Turn.{Turn}
-use Rattle.rp_pattern.specs.declared.turn.Turn.TheVariants.{Full as FullTurn, Row as RowTurn, Open as OpenTurn, Split as SplitTurn}
+use Rattle.rp_pattern.specs.declared.machine.node.Node.{Node}
+use Rattle.rp_pattern.specs.declared.machine.iterations.Iterations.{Iterations}
+use Rattle.rp_pattern.specs.declared.machine.link.Part.{Part}
+use Rattle.rp_pattern.specs.declared.machine.link.Link.{Link}
+use Rattle.rp_pattern.specs.declared.machine.continuation.Continuation.{Continuation}
+use Rattle.rp_pattern.specs.declared.machine.continuation.Continuation.TheVariants.{Then}
+use Rattle.rp_pattern.specs.declared.machine.split.Split.{Split}
+use Rattle.rp_pattern.specs.declared.machine.split.Expansion.{Expansion}
+use Rattle.rp_pattern.specs.declared.machine.split.Expansion.TheVariants.{Full as FullExpansion, Row as RowExpansion, Open as OpenExpansion, Split as SplitExpansion}
 use Rattle.rp_pattern.specs.Movement.{always_moves}
 use Rattle.rp_pattern.proofs.Moves.{form_moves, again_words, again_turns}
 use Rattle.rp_pattern.specs.Turns.{WordsAndTurns, chain_turns, iterations, past}
 use Rattle.rp_pattern.specs.WordLaws.{IsLater}
-use Rattle.rp_pattern.specs.Words.{preceded}
-use Rattle.rp_pattern.specs.Rests.{part_as, form_part, node_part, iterations_part, still, tail_links, tail_parts, links_parts, guarded, rests_parts, chain_words, IsNodeOf, AreIterationsOf, IsOneLess}
+use Rattle.rp_pattern.specs.Mapping.{preceded}
+use Rattle.rp_pattern.specs.Continuations.{part_as, form_part, node_part, iterations_part, still, tail_links, tail_parts, links_parts, guarded, continuation_parts, chain_words, IsNodeOf, AreIterationsOf, IsOneLess}
 use Rattle.rp_pattern.specs.Splits.{StandsFor, Replaces, SplitsAt, AlwaysSplits, Splits, TakesRow, Waits, ComesAgain, repeated, TakenUp, option_words, split_turns}
 use Rattle.rp_pattern.proofs.TurnsTaken.{same_first}
 use Rattle.rp_pattern.proofs.Expansions.{no_words, some_turns, open_words, row_words, row_turns, variable_row, variable_open, variable_closed, variable_turns, Leaves, LeavesTwo, same_first_words, greedy_leaves, lazy_leaves, greedy_unbounded, lazy_unbounded, none_left_leaves, form_within}
@@ -41,38 +41,38 @@ pub linked_parts : (n : ℕ) (e : End) (later shared then : Option (Rc Link Glob
     tail_links later ≡ (since, part) ∷ tail_links shared → tail_links shared ≡ tail_links then → tail_parts n e later ≡ guarded since (part_as n e part) ∷ tail_parts n e then
 linked_parts n e later shared then since part a b = ap (links_parts n e) a ∙ ap (λ ls. guarded since (part_as n e part) ∷ links_parts n e ls) b
 
-pub then_parts : (n : ℕ) (e : End) (node : Node) (copy then : Option (Rc Link Global)) (p : WordsAndTurns) → node_part n e node ≡ p → tail_links copy ≡ tail_links then → rests_parts n e (Then node copy) ≡ p ∷ tail_parts n e then
+pub then_parts : (n : ℕ) (e : End) (node : Node) (copy then : Option (Rc Link Global)) (p : WordsAndTurns) → node_part n e node ≡ p → tail_links copy ≡ tail_links then → continuation_parts n e (Then node copy) ≡ p ∷ tail_parts n e then
 then_parts n e node copy then p a b = ap (λ z. z ∷ links_parts n e (tail_links copy)) a ∙ ap (λ ls. p ∷ links_parts n e ls) b
 
 -- ---- what stands for parts
 
-pub stands_as : (n : ℕ) (e : End) (i : ℕ) (r : Rests) (qs : List WordsAndTurns) → rests_parts n e r ≡ qs → StandsFor n e i qs (Some r)
+pub stands_as : (n : ℕ) (e : End) (i : ℕ) (r : Continuation) (qs : List WordsAndTurns) → continuation_parts n e r ≡ qs → StandsFor n e i qs (Some r)
 stands_as n e i r qs h = record { words = ap (λ ps. chain_words ps i) h; turns = ap (λ ps. chain_turns ps i) h }
 
-pub replaces : (n : ℕ) (e : End) (i : ℕ) (ps : List WordsAndTurns) (r : Option Rests) → StandsFor n e i ps r → Replaces n e i ps r
+pub replaces : (n : ℕ) (e : End) (i : ℕ) (ps : List WordsAndTurns) (r : Option Continuation) → StandsFor n e i ps r → Replaces n e i ps r
 replaces n e i ps r h = record { words = h.words; turns = omega (arith, h.turns) }
 
 -- what parts leave replaces them
-pub leaves_replaces : (n : ℕ) (e : End) (i : ℕ) (ps qs : List WordsAndTurns) (r : Option Rests) → StandsFor n e i qs r → Leaves i ps qs → Replaces n e i ps r
+pub leaves_replaces : (n : ℕ) (e : End) (i : ℕ) (ps qs : List WordsAndTurns) (r : Option Continuation) → StandsFor n e i qs r → Leaves i ps qs → Replaces n e i ps r
 leaves_replaces n e i ps qs r h k = record { words = h.words ∙ k.words; turns = omega (arith, h.turns, k.turns) }
 
-pub replaces_as : (n : ℕ) (e : End) (i : ℕ) (ps qs : List WordsAndTurns) (r : Option Rests) → ps ≡ qs → Replaces n e i ps r → Replaces n e i qs r
+pub replaces_as : (n : ℕ) (e : End) (i : ℕ) (ps qs : List WordsAndTurns) (r : Option Continuation) → ps ≡ qs → Replaces n e i ps r → Replaces n e i qs r
 replaces_as n e i ps qs r h k = subst (λ z. Replaces n e i z r) h k
 
-pub before_shared : (n : ℕ) (e : End) (i : ℕ) (p : WordsAndTurns) (shared then : Option (Rc Link Global)) (r : Option Rests) → tail_links shared ≡ tail_links then →
+pub before_shared : (n : ℕ) (e : End) (i : ℕ) (p : WordsAndTurns) (shared then : Option (Rc Link Global)) (r : Option Continuation) → tail_links shared ≡ tail_links then →
     Replaces n e i (p ∷ tail_parts n e shared) r → Replaces n e i (p ∷ tail_parts n e then) r
 before_shared n e i p shared then r h k = replaces_as n e i _ _ r (ap (λ ls. p ∷ links_parts n e ls) h) k
 
 pub none_splits : (n : ℕ) (e : End) (i : ℕ) (ps : List WordsAndTurns) (s : Split) → s ≡ record { preferred = None; other = None } → [] ≡ chain_words ps i → 0 < chain_turns ps i → SplitsAt n e i ps s
 none_splits n e i ps s is w t = subst (SplitsAt n e i ps) (sym is) (record { words = w; turns = t })
 
-pub one_splits : (n : ℕ) (e : End) (i : ℕ) (ps qs : List WordsAndTurns) (r : Option Rests) (s : Split) → s ≡ record { preferred = None; other = r } → Replaces n e i qs r → Leaves i ps qs → SplitsAt n e i ps s
+pub one_splits : (n : ℕ) (e : End) (i : ℕ) (ps qs : List WordsAndTurns) (r : Option Continuation) (s : Split) → s ≡ record { preferred = None; other = r } → Replaces n e i qs r → Leaves i ps qs → SplitsAt n e i ps s
 one_splits n e i ps qs r s is h k = subst (SplitsAt n e i ps) (sym is) (record {
   words = h.words ∙ k.words;
   turns = omega (arith, h.turns, k.turns);
 })
 
-pub two_splits : (n : ℕ) (e : End) (i : ℕ) (ps qs rs : List WordsAndTurns) (r r' : Option Rests) → Replaces n e i qs r → Replaces n e i rs r' → LeavesTwo i ps qs rs →
+pub two_splits : (n : ℕ) (e : End) (i : ℕ) (ps qs rs : List WordsAndTurns) (r r' : Option Continuation) → Replaces n e i qs r → Replaces n e i rs r' → LeavesTwo i ps qs rs →
     SplitsAt n e i ps (record { preferred = r; other = r' })
 two_splits n e i ps qs rs r r' a b k = record {
   words = ap (λ z. z ++ option_words n e r' i) a.words ∙ ap (λ z. chain_words qs i ++ z) b.words ∙ k.words;
@@ -100,19 +100,19 @@ OnOk-map P Q f (Ok v) h = f h
 OnOk-map P Q f (Err e) h = h
 
 -- what parts came to, others that are as they came to
-pub taken_as : (n : ℕ) (e : End) (i : ℕ) (ps qs : ℕ → End → List WordsAndTurns) → ((n' : ℕ) (e' : End) → ps n' e' ≡ qs n' e') → (s : Split) (t : Turn) → TakenUp n e i ps s t → TakenUp n e i qs s t
-taken_as n e i ps qs h s FullTurn k = λ n' e'. ap (λ z. chain_words z i) (sym (h n' e')) ∙ k n' e'
-taken_as n e i ps qs h s (RowTurn l) k = record {
+pub taken_as : (n : ℕ) (e : End) (i : ℕ) (ps qs : ℕ → End → List WordsAndTurns) → ((n' : ℕ) (e' : End) → ps n' e' ≡ qs n' e') → (s : Split) (t : Expansion) → TakenUp n e i ps s t → TakenUp n e i qs s t
+taken_as n e i ps qs h s FullExpansion k = λ n' e'. ap (λ z. chain_words z i) (sym (h n' e')) ∙ k n' e'
+taken_as n e i ps qs h s (RowExpansion l) k = record {
   known = k.known;
   words = λ n' e' more. subst (λ z. chain_words z i ≡ map (preceded (l ∷ [])) (chain_words (drop 1 z) (i + 1))) (h n' e') (k.words n' e' more);
   turns = λ n' e' more. subst (λ z. chain_turns z i ≡ 1 + chain_turns (drop 1 z) (i + 1)) (h n' e') (k.turns n' e' more);
 }
-taken_as n e i ps qs h s OpenTurn k = record {
+taken_as n e i ps qs h s OpenExpansion k = record {
   end = k.end;
   words = ap (λ z. chain_words z i) (sym (h n e)) ∙ k.words;
   turns = λ n' e'. subst (λ z. 0 < chain_turns z i) (h n' e') (k.turns n' e');
 }
-taken_as n e i ps qs h s SplitTurn k = record {
+taken_as n e i ps qs h s SplitExpansion k = record {
   words = λ n' e' more. k.words n' e' more ∙ ap (λ z. chain_words z i) (h n' e');
   turns = λ n' e' more. subst (λ z. split_turns n' e' s i < chain_turns z i) (h n' e') (k.turns n' e' more);
 }
@@ -169,7 +169,7 @@ module _ (n : ℕ) (e : End) (row : ℕ) (it : Iterations) (less : Option ℕ) (
   pub comes_past : again ≡ past row more ∷ ts → ComesAgain n e row it less ts again
   comes_past is = record { words = ap (λ z. chain_words (p ∷ z) row) is; turns = ap (λ z. chain_turns (p ∷ z) row) is }
 
-  module _ (another : Rests) (stop : Option Rests) (fewer : IsOneLess it.further less) (comes : ComesAgain n e row it less ts again) (is_another : Replaces n e row (p ∷ again) (Some another)) (stops : Replaces n e row ts stop) where
+  module _ (another : Continuation) (stop : Option Continuation) (fewer : IsOneLess it.further less) (comes : ComesAgain n e row it less ts again) (is_another : Replaces n e row (p ∷ again) (Some another)) (stops : Replaces n e row ts stop) where
     stands : Replaces n e row (repeated (still n less) it.reluctant p ts row) (Some another)
     stands = record {
       words = is_another.words ∙ comes.words;

@@ -3,15 +3,15 @@ use Rattle.std.proofs.Common.{◌≡◌, ℕ, ◌<◌, List, ◌∷◌, drop, Op
 use Rattle.std.specs.List.{flat_map}
 use Rattle.std.specs.declared.rc.Rc.{Rc}
 use Rattle.std.specs.declared.alloc.Global.{Global}
-use Rattle.rp_pattern.specs.declared.rests.Part.{Part}
-use Rattle.rp_pattern.specs.declared.rests.Link.{Link}
-use Rattle.rp_pattern.specs.declared.rests.Link.TheViews.{out-Link}
-use Rattle.rp_pattern.specs.declared.rests.Link.TheFolds.{map-Link, fold_out-Link}
-use Rattle.rp_pattern.specs.declared.rests.Rests.TheVariants.{Reached}
+use Rattle.rp_pattern.specs.declared.machine.link.Part.{Part}
+use Rattle.rp_pattern.specs.declared.machine.link.Link.{Link}
+use Rattle.rp_pattern.specs.declared.machine.link.Link.TheViews.{out-Link}
+use Rattle.rp_pattern.specs.declared.machine.link.Link.TheFolds.{map-Link, fold_out-Link}
+use Rattle.rp_pattern.specs.declared.machine.continuation.Continuation.TheVariants.{Reached}
 use Rattle.rp_pattern.specs.declared.word.End.{End}
 use Rattle.rp_pattern.specs.Words.{followed}
 use Rattle.rp_pattern.specs.Turns.{WordsAndTurns, chain_turns}
-use Rattle.rp_pattern.specs.Rests.{part_as, link_step, links_from, reached_parts, tail_links, tail_parts, links_parts, guarded, chain_words}
+use Rattle.rp_pattern.specs.Continuations.{part_as, link_step, links_from, reached_parts, tail_links, tail_parts, links_parts, guarded, chain_words}
 use Rattle.rp_pattern.specs.Splits.{StandsFor}
 use Rattle.rp_pattern.proofs.TurnsTaken.{past_reached, past_there}
 

@@ -1,11 +1,11 @@
 -- How turns add up along a concatenation, and what bounds change.
 use Rattle.std.proofs.Common.{◌≡◌, ℕ, zero, suc, ◌+◌, ◌-◌, ◌<◌, ◌≤◌, List, [], ◌∷◌, ◌++◌, map, length, Bool, true, false, refl, sym, ap, ◌∙◌, arith, length-append}
-use Rattle.rp_pattern.specs.Mapping.{Mapping, Full, Open}
+use Rattle.rp_pattern.specs.Mapping.{Mapping, Full, Open, preceded}
 use Rattle.std.specs.Prelude.{sum_by}
 use Rattle.std.proofs.lemmas.List.Sums.{sum_by-append, sum_by-cons}
 use Rattle.std.specs.List.{flat_map, filter, AllByRecursion}
 use Rattle.rp_pattern.specs.declared.word.Label.{Label}
-use Rattle.rp_pattern.specs.Words.{Mappings, preceded, followed, concatenation, moves, moving}
+use Rattle.rp_pattern.specs.Words.{Mappings, followed, concatenation, moves, moving}
 use Rattle.rp_pattern.specs.WordLaws.{IsWithin}
 use Rattle.rp_pattern.specs.Words.{alternation, optional, preferred, moved_past}
 use Rattle.rp_pattern.proofs.Algebra.{moving_is}

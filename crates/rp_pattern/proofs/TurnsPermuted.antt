@@ -5,8 +5,8 @@ use Rattle.std.specs.List.{flat_map, AllByRecursion}
 use Rattle.std.proofs.lemmas.List.{map-append, drop_all}
 use Rattle.std.proofs.lemmas.List.Sums.{sum_by-append, sum_by-cons}
 use Rattle.std.proofs.lemmas.Grind.{flat_map-append}
-use Rattle.rp_pattern.specs.Mapping.{Mapping, Full, Open}
-use Rattle.rp_pattern.specs.Words.{Mappings, followed, concatenation, excluded_mapping, exclusion, within_exclusion, picks, led, arrangements, orders, sequence, permuted}
+use Rattle.rp_pattern.specs.Mapping.{Mapping, Full, Open, excluded_mapping}
+use Rattle.rp_pattern.specs.Words.{Mappings, followed, concatenation, exclusion, within_exclusion, picks, led, arrangements, orders, sequence, permuted}
 use Rattle.rp_pattern.specs.Turns.{TurnCounts, WordsAndTurns, turns_after, sequence_turns, permuted_turns, chain_turns, within, words_of, orders_from}
 use Rattle.rp_pattern.proofs.Lists.{All-append, All-map, map-map}
 use Rattle.rp_pattern.proofs.Algebra.{concatenation_same, concatenation_assoc, concatenation_nothing_first}

@@ -5,10 +5,10 @@ use Rattle.std.specs.List.{flat_map}
 use Rattle.std.proofs.lemmas.List.{length-map}
 use Rattle.std.proofs.lemmas.List.Sums.{sum_by-cons}
 use Rattle.std.proofs.lemmas.Bool.Decides.{nat_tests}
-use Rattle.rp_pattern.specs.Mapping.{Mapping, Full, Open}
+use Rattle.rp_pattern.specs.Mapping.{Mapping, Full, Open, excluded_label, excluded_mapping}
 use Rattle.rp_pattern.specs.declared.word.End.{End}
 use Rattle.rp_pattern.specs.declared.word.End.TheVariants.{Open as OpenEnd, Closed as ClosedEnd}
-use Rattle.rp_pattern.specs.Words.{Mappings, nothing_mapped, one_row, at_start, at_end, may_go_on, may_end, followed, concatenation, alternation, excluded_label, excluded_mapping, exclusion, within_exclusion, moving, optional}
+use Rattle.rp_pattern.specs.Words.{Mappings, nothing_mapped, one_row, at_start, at_end, may_go_on, may_end, followed, concatenation, alternation, exclusion, within_exclusion, moving, optional}
 use Rattle.rp_pattern.specs.Turns.{TurnCounts, WordsAndTurns, turns_after, one_turn, concatenation_turns, optional_turns, required_turns, chain_turns, moved_part, within, iterations, past}
 use Rattle.rp_pattern.proofs.Algebra.{concatenation_nothing_first}
 use Rattle.rp_pattern.proofs.Excluded.{exclusion_moving, exclusion_optional, exclusion_required}

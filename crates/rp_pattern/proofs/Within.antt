@@ -1,12 +1,12 @@
 -- Facts of every word: its labels are of known rows, an open one runs up to the last of them, and over a closed end it is full.
 use Rattle.std.proofs.Common.{ℕ, suc, ◌+◌, ◌-◌, ◌≤◌, List, length, arith, length-append}
-use Rattle.rp_pattern.specs.Mapping.{Mapping, Full, Open}
+use Rattle.rp_pattern.specs.Mapping.{Mapping, Full, Open, preceded, excluded_label, excluded_mapping}
 use Rattle.std.proofs.lemmas.List.{length-map}
 use Rattle.rp_pattern.specs.declared.form.Form.{Form}
 use Rattle.rp_pattern.specs.declared.word.End.{End}
 use Rattle.rp_pattern.specs.declared.word.End.TheVariants.{Closed as ClosedEnd}
 use Rattle.rp_pattern.specs.declared.word.Label.{Label}
-use Rattle.rp_pattern.specs.Words.{Mappings, words, exclusion, preceded, excluded_label, excluded_mapping}
+use Rattle.rp_pattern.specs.Words.{Mappings, words, exclusion}
 use Rattle.rp_pattern.specs.WordLaws.{IsWithin, RunsToEnd, IsFull}
 use Rattle.rp_pattern.proofs.Lists.{All-weaker}
 use Rattle.rp_pattern.proofs.EveryWord.{Each, each_exclusion, every_word}

@@ -3,15 +3,14 @@ use Rattle.std.specs.Prelude.{◌≡◌, ℕ, ◌+◌, ◌<◌, ◌≤◌, true,
 use Rattle.rp_pattern.specs.declared.word.End.{End}
 use Rattle.rp_pattern.specs.declared.word.End.TheVariants.{Open as OpenEnd}
 use Rattle.rp_pattern.specs.declared.word.Label.{Label}
-use Rattle.rp_pattern.specs.declared.rests.Choice.{Choice}
+use Rattle.rp_pattern.specs.declared.machine.continuation.Choice.{Choice}
 use Rattle.rp_pattern.specs.declared.choices.Choices.{Choices}
 use Rattle.rp_pattern.specs.declared.choices.Taken.{Taken}
 use Rattle.rp_pattern.specs.declared.choices.Taken.TheVariants.{Row, Split, Full as FullTaken, Open as OpenTaken, Nothing}
-use Rattle.rp_pattern.specs.Mapping.{Mapping, Full, Open}
-use Rattle.rp_pattern.specs.Words.{preceded}
+use Rattle.rp_pattern.specs.Mapping.{Mapping, Full, Open, preceded}
 use Rattle.rp_pattern.specs.Turns.{WordsAndTurns}
 use Rattle.rp_pattern.specs.WordLaws.{IsLater}
-use Rattle.rp_pattern.specs.Rests.{tail_parts, later_parts, chain_words, chain_left, stack_words, stack_left}
+use Rattle.rp_pattern.specs.Continuations.{tail_parts, later_parts, chain_words, chain_left, stack_words, stack_left}
 
 -- the start row
 unfoldable pub start_of : Choices → ℕ
@@ -19,11 +18,19 @@ start_of c = c.start
 
 -- the labels now
 unfoldable pub entered : Choices → List Label
-entered c = c.labels
+entered c = c.labels.items
 
 -- the choices that are not taken up, the preferred one first
 unfoldable pub standing : Choices → List Choice
 standing c = c.stack
+
+-- the words of its pattern from any row
+unfoldable pub whole_from : Choices → ℕ → End → ℕ → List Mapping
+whole_from c n e row = chain_words (tail_parts n e c.origin) row
+
+-- their turns, and one more for each of them
+unfoldable pub whole_left_from : Choices → ℕ → End → ℕ → ℕ
+whole_left_from c n e row = chain_left (tail_parts n e c.origin) row
 
 -- the words that it stood for when it was made
 unfoldable pub whole : Choices → ℕ → End → List Mapping
@@ -34,7 +41,7 @@ whole_left c n e = chain_left (tail_parts n e c.origin) c.start
 
 -- the words of the choices that are not given up, in preferment order. Before the first one is taken up, it is the whole.
 unfoldable pub remaining : Choices → ℕ → End → List Mapping
-remaining c n e = cond c.begun (stack_words n e c.start c.labels c.stack) (chain_words (tail_parts n e c.origin) c.start)
+remaining c n e = cond c.begun (stack_words n e c.start c.labels.items c.stack) (chain_words (tail_parts n e c.origin) c.start)
 
 -- turns of the choices, and one more for each word
 unfoldable pub left : Choices → ℕ → End → ℕ
@@ -42,7 +49,7 @@ left c n e = cond c.begun (stack_left n e c.start c.stack) (chain_left (tail_par
 
 -- the same without the preferred choice
 unfoldable pub below : Choices → ℕ → End → List Mapping
-below c n e = stack_words n e c.start c.labels (drop 1 c.stack)
+below c n e = stack_words n e c.start c.labels.items (drop 1 c.stack)
 
 unfoldable pub below_left : Choices → ℕ → End → ℕ
 below_left c n e = stack_left n e c.start (drop 1 c.stack)
@@ -50,14 +57,14 @@ below_left c n e = stack_left n e c.start (drop 1 c.stack)
 -- what comes after the first part of the preferred choice
 abbrev pub first_later : ℕ → End → List Choice → List WordsAndTurns
 first_later n e [] = []
-first_later n e (c ∷ cs) = later_parts n e c.rests
+first_later n e (c ∷ cs) = later_parts n e c.continuation
 
 -- the words that may follow the row that the preferred choice maps
 unfoldable pub after : Choices → ℕ → End → List Mapping
-after c n e = chain_words (first_later n e c.stack) (c.start + length c.labels)
+after c n e = chain_words (first_later n e c.stack) (c.start + length c.labels.items)
 
 unfoldable pub after_left : Choices → ℕ → End → ℕ
-after_left c n e = chain_left (first_later n e c.stack) (c.start + length c.labels)
+after_left c n e = chain_left (first_later n e c.stack) (c.start + length c.labels.items)
 
 -- there is a first choice, and so is it
 abbrev pub OfFirst : (Choice → Type 0) → List Choice → Type 0
@@ -70,7 +77,7 @@ HasTop c = (c.begun ≡ true) × OfFirst (λ t. Unit {0}) c.stack
 
 -- The preferred choice maps a row, whose label is the last one.
 unfoldable pub AtRow : Choices → Type 0
-AtRow c = (c.begun ≡ true) × OfFirst (λ t. t.depth + 1 ≡ length c.labels) c.stack
+AtRow c = (c.begun ≡ true) × OfFirst (λ t. t.depth + 1 ≡ length c.labels.items) c.stack
 
 -- ---- what an operation does
 
@@ -85,11 +92,17 @@ IsFront ls of = (k : ℕ) × (ls ≡ take k of)
 abbrev pub IsShorterFront : List Label → List Label → Type 0
 IsShorterFront ls of = (k : ℕ) × (k < length of) × (ls ≡ take k of)
 
+-- The pattern stays, by its words from every row.
+pub record IsSamePattern (old new : Choices) : Type 0 where
+  pub words : (n : ℕ) (e : End) (row : ℕ) → whole_from new n e row ≡ whole_from old n e row
+  pub left : (n : ℕ) (e : End) (row : ℕ) → whole_left_from new n e row ≡ whole_left_from old n e row
+
 -- The start row and the whole stay.
 pub record IsSameWhole (old new : Choices) : Type 0 where
   pub start : start_of new ≡ start_of old
   pub words : (n : ℕ) (e : End) → whole new n e ≡ whole old n e
   pub left : (n : ℕ) (e : End) → whole_left new n e ≡ whole_left old n e
+  pub pattern : IsSamePattern old new
 
 -- The preferred choice was replaced by those that it stands for.
 pub record IsSplit (old new : Choices) (n : ℕ) (e : End) : Type 0 where

@@ -1,5 +1,5 @@
 -- What a contract sees of a word: the labels of consecutive rows, and whether they are a whole mapping.
-use Rattle.std.specs.Prelude.{List}
+use Rattle.std.specs.Prelude.{true, List, ◌++◌, map}
 use Rattle.rp_pattern.specs.declared.word.Label.{Label}
 use Rattle.rp_pattern.specs.declared.word.Mark.{Mark}
 use Rattle.rp_pattern.specs.declared.word.Mark.TheVariants.{Full as FullMark, Open as OpenMark}
@@ -17,3 +17,16 @@ marked OpenMark ls = Open ls
 abbrev pub labels_of : Mapping → List Label
 labels_of (Full ls) = ls
 labels_of (Open ls) = ls
+
+-- a mapping with these labels before its own
+abbrev pub preceded : List Label → Mapping → Mapping
+preceded ls (Full ms) = Full (ls ++ ms)
+preceded ls (Open ms) = Open (ls ++ ms)
+
+-- each label excluded
+abbrev pub excluded_label : Label → Label
+excluded_label l = record l { excluded = true }
+
+abbrev pub excluded_mapping : Mapping → Mapping
+excluded_mapping (Full ls) = Full (map excluded_label ls)
+excluded_mapping (Open ls) = Open (map excluded_label ls)

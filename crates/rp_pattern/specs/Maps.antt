@@ -10,8 +10,8 @@ use Rattle.rp_pattern.specs.declared.form.Form.TheVariants.{Variable, Empty, Con
 use Rattle.rp_pattern.specs.declared.word.Label.{Label}
 use Rattle.rp_pattern.specs.declared.word.End.{End}
 use Rattle.rp_pattern.specs.declared.word.End.TheVariants.{Open as OpenEnd, Closed as ClosedEnd}
-use Rattle.rp_pattern.specs.Mapping.{Mapping, Full, Open}
-use Rattle.rp_pattern.specs.Words.{words, preceded, excluded_mapping}
+use Rattle.rp_pattern.specs.Mapping.{Mapping, Full, Open, preceded, excluded_mapping}
+use Rattle.rp_pattern.specs.Words.{words}
 
 -- at most so many iterations beyond the required ones: upper - lower of them, or any number
 abbrev pub MayFollow : ℕ → Option ℕ → ℕ → Type 0

@@ -1,17 +1,17 @@
 -- What would follow a row, by the number of its words.
-use Rattle.std.specs.Prelude.{◌≡◌, ℕ, ◌+◌, ◌<◌, ◌≤◌, List, [], ◌∷◌, length}
+use Rattle.std.specs.Prelude.{◌≡◌, ℕ, ◌+◌, ◌<◌, List, [], ◌∷◌, length}
 use Rattle.rp_pattern.specs.declared.word.End.{End}
-use Rattle.rp_pattern.specs.declared.rests.Choice.{Choice}
+use Rattle.rp_pattern.specs.declared.machine.continuation.Choice.{Choice}
 use Rattle.rp_pattern.specs.declared.outlook.Outlook.{Outlook}
 use Rattle.rp_pattern.specs.declared.outlook.Sight.{Sight}
 use Rattle.rp_pattern.specs.declared.outlook.Sight.TheVariants.{Further, Word, Nothing}
 use Rattle.rp_pattern.specs.WordLaws.{IsLater}
-use Rattle.rp_pattern.specs.Rests.{rests_parts, chain_words, stack_left}
+use Rattle.rp_pattern.specs.Continuations.{continuation_parts, chain_words, stack_left}
 
 -- so many words have the choices together
 abbrev pub stack_count : ℕ → End → ℕ → List Choice → ℕ
 stack_count n e start [] = 0
-stack_count n e start (c ∷ cs) = length (chain_words (rests_parts n e c.rests) (start + c.depth)) + stack_count n e start cs
+stack_count n e start (c ∷ cs) = length (chain_words (continuation_parts n e c.continuation) (start + c.depth)) + stack_count n e start cs
 
 -- so many words would follow
 unfoldable pub words_ahead : Outlook → ℕ → End → ℕ
@@ -21,19 +21,13 @@ words_ahead o n e = stack_count n e o.start o.stack
 unfoldable pub turns_ahead : Outlook → ℕ → End → ℕ
 turns_ahead o n e = stack_left n e o.start o.stack
 
--- so many choices are kept
-unfoldable pub held_by : Outlook → ℕ
-held_by o = length o.stack
-
--- The preferred choice gave way to two others at most, with as many words and fewer turns.
+-- The preferred choice gave way to others, with as many words and fewer turns.
 pub record LooksFurther (old new : Outlook) (n : ℕ) (e : End) : Type 0 where
   pub same : (n' : ℕ) (e' : End) → IsLater n e n' e' → words_ahead new n' e' ≡ words_ahead old n' e'
   pub less : (n' : ℕ) (e' : End) → IsLater n e n' e' → turns_ahead new n' e' < turns_ahead old n' e'
-  pub gains : held_by new ≤ held_by old + 1
-  pub drops : held_by old ≤ held_by new + 1
 
 -- what an outlook came to, over the rows 1 to n and that end
 abbrev pub SeenAs : Outlook → Outlook → ℕ → End → Sight → Type 0
 SeenAs old new n e Further = LooksFurther old new n e
 SeenAs old new n e Word = (new ≡ old) × (0 < words_ahead old n e)
-SeenAs old new n e Nothing = (new ≡ old) × (held_by old ≡ 0) × ((n' : ℕ) (e' : End) → words_ahead old n' e' ≡ 0)
+SeenAs old new n e Nothing = (new ≡ old) × ((n' : ℕ) (e' : End) → words_ahead old n' e' ≡ 0)

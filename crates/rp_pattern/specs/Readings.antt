@@ -10,8 +10,8 @@ use Rattle.rp_pattern.specs.declared.form.Form.TheVariants.{Variable, Empty, Con
 use Rattle.rp_pattern.specs.declared.word.Label.{Label}
 use Rattle.rp_pattern.specs.declared.word.End.{End}
 use Rattle.rp_pattern.specs.declared.word.End.TheVariants.{Open as OpenEnd, Closed as ClosedEnd}
-use Rattle.rp_pattern.specs.Mapping.{Mapping, Full, Open}
-use Rattle.rp_pattern.specs.Words.{words, preceded, excluded_mapping}
+use Rattle.rp_pattern.specs.Mapping.{Mapping, Full, Open, preceded, excluded_mapping}
+use Rattle.rp_pattern.specs.Words.{words}
 use Rattle.rp_pattern.specs.Permutations.{upto}
 use Rattle.rp_pattern.specs.Maps.{MayFollow}
 
@@ -74,6 +74,10 @@ pub record AreReadings (n : ℕ) (e : End) (f : Form) (i : ℕ) (readings : List
 -- The list of words is that of the mappings of all readings, in the order of preferment.
 abbrev pub WordsAreReadings : Type 0
 WordsAreReadings = (f : Form) (n : ℕ) (e : End) (i : ℕ) → (readings : List (List ℕ × Mapping)) × AreReadings n e f i readings × (words n e f i ≡ map (λ r. r.1) readings)
+
+-- No other list has the readings so.
+abbrev pub ReadingsAreOne : Type 0
+ReadingsAreOne = (f : Form) (n : ℕ) (e : End) (i : ℕ) (readings others : List (List ℕ × Mapping)) → AreReadings n e f i readings → AreReadings n e f i others → readings ≡ others
 
 -- The choices decide the mapping.
 abbrev pub ChoicesDecide : Type 0

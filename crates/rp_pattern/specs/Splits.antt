@@ -3,25 +3,24 @@ use Rattle.std.specs.Prelude.{◌≡◌, ℕ, Bool, ◌+◌, ◌<◌, ◌≤◌,
 use Rattle.rp_pattern.specs.declared.word.End.{End}
 use Rattle.rp_pattern.specs.declared.word.End.TheVariants.{Open as OpenEnd}
 use Rattle.rp_pattern.specs.declared.word.Label.{Label}
-use Rattle.rp_pattern.specs.declared.rests.Rests.{Rests}
-use Rattle.rp_pattern.specs.declared.turn.Split.{Split}
-use Rattle.rp_pattern.specs.declared.turn.Turn.{Turn}
-use Rattle.rp_pattern.specs.declared.turn.Turn.TheVariants.{Full as FullTurn, Row as RowTurn, Open as OpenTurn, Split as SplitTurn}
-use Rattle.rp_pattern.specs.Mapping.{Mapping, Full, Open}
-use Rattle.rp_pattern.specs.Words.{preceded}
+use Rattle.rp_pattern.specs.declared.machine.continuation.Continuation.{Continuation}
+use Rattle.rp_pattern.specs.declared.machine.split.Split.{Split}
+use Rattle.rp_pattern.specs.declared.machine.split.Expansion.{Expansion}
+use Rattle.rp_pattern.specs.declared.machine.split.Expansion.TheVariants.{Full as FullExpansion, Row as RowExpansion, Open as OpenExpansion, Split as SplitExpansion}
+use Rattle.rp_pattern.specs.Mapping.{Mapping, Full, Open, preceded}
 use Rattle.rp_pattern.specs.Turns.{WordsAndTurns, chain_turns, iterations, past}
-use Rattle.rp_pattern.specs.declared.rests.Iterations.{Iterations}
+use Rattle.rp_pattern.specs.declared.machine.iterations.Iterations.{Iterations}
 use Rattle.rp_pattern.specs.WordLaws.{IsLater}
-use Rattle.rp_pattern.specs.Rests.{rests_parts, chain_words, node_part, still}
+use Rattle.rp_pattern.specs.Continuations.{continuation_parts, chain_words, node_part, still}
 
 -- what may be left, as words and turns
-abbrev pub option_words : ℕ → End → Option Rests → ℕ → List Mapping
+abbrev pub option_words : ℕ → End → Option Continuation → ℕ → List Mapping
 option_words n e None i = []
-option_words n e (Some r) i = chain_words (rests_parts n e r) i
+option_words n e (Some r) i = chain_words (continuation_parts n e r) i
 
-abbrev pub option_turns : ℕ → End → Option Rests → ℕ → ℕ
+abbrev pub option_turns : ℕ → End → Option Continuation → ℕ → ℕ
 option_turns n e None i = 0
-option_turns n e (Some r) i = chain_turns (rests_parts n e r) i
+option_turns n e (Some r) i = chain_turns (continuation_parts n e r) i
 
 abbrev pub split_words : ℕ → End → Split → ℕ → List Mapping
 split_words n e s i = option_words n e s.preferred i ++ option_words n e s.other i
@@ -34,12 +33,12 @@ abbrev pub repeated : ℕ → Bool → WordsAndTurns → List WordsAndTurns → 
 repeated h reluctant p later i = p ∷ past i (iterations 0 h reluctant p) ∷ later
 
 -- it stands for these parts
-pub record StandsFor (n : ℕ) (e : End) (i : ℕ) (ps : List WordsAndTurns) (r : Option Rests) : Type 0 where
+pub record StandsFor (n : ℕ) (e : End) (i : ℕ) (ps : List WordsAndTurns) (r : Option Continuation) : Type 0 where
   pub words : option_words n e r i ≡ chain_words ps i
   pub turns : option_turns n e r i ≡ chain_turns ps i
 
 -- It has the words of these parts, and takes no more turns.
-pub record Replaces (n : ℕ) (e : End) (i : ℕ) (ps : List WordsAndTurns) (r : Option Rests) : Type 0 where
+pub record Replaces (n : ℕ) (e : End) (i : ℕ) (ps : List WordsAndTurns) (r : Option Continuation) : Type 0 where
   pub words : option_words n e r i ≡ chain_words ps i
   pub turns : option_turns n e r i ≤ chain_turns ps i
 
@@ -74,8 +73,8 @@ pub record Waits (n : ℕ) (e : End) (i : ℕ) (ps : ℕ → End → List WordsA
   pub turns : (n' : ℕ) (e' : End) → 0 < chain_turns (ps n' e') i
 
 -- What parts came to at a row, by their words and turns over the rows that are known and over later ones.
-abbrev pub TakenUp : ℕ → End → ℕ → (ℕ → End → List WordsAndTurns) → Split → Turn → Type 0
-TakenUp n e i ps s FullTurn = (n' : ℕ) (e' : End) → chain_words (ps n' e') i ≡ Full [] ∷ []
-TakenUp n e i ps s (RowTurn l) = TakesRow n e i ps l
-TakenUp n e i ps s OpenTurn = Waits n e i ps
-TakenUp n e i ps s SplitTurn = Splits n e i ps s
+abbrev pub TakenUp : ℕ → End → ℕ → (ℕ → End → List WordsAndTurns) → Split → Expansion → Type 0
+TakenUp n e i ps s FullExpansion = (n' : ℕ) (e' : End) → chain_words (ps n' e') i ≡ Full [] ∷ []
+TakenUp n e i ps s (RowExpansion l) = TakesRow n e i ps l
+TakenUp n e i ps s OpenExpansion = Waits n e i ps
+TakenUp n e i ps s SplitExpansion = Splits n e i ps s

@@ -6,9 +6,8 @@ use Rattle.std.specs.List.{flat_map, filter}
 use Rattle.rp_pattern.specs.declared.form.Form.{Form}
 use Rattle.rp_pattern.specs.declared.form.Form.TheOpen.{Form-F, Variable, Empty, Concatenation, Alternation, PartitionStart, PartitionEnd, Permute, Exclusion, Quantified}
 use Rattle.rp_pattern.specs.declared.form.Form.TheFolds.{fold-Form}
-use Rattle.rp_pattern.specs.declared.word.Label.{Label}
 use Rattle.rp_pattern.specs.declared.word.End.{End}
-use Rattle.rp_pattern.specs.Mapping.{Mapping, Full, Open}
+use Rattle.rp_pattern.specs.Mapping.{Mapping, Full, Open, preceded, excluded_mapping}
 use Rattle.rp_pattern.specs.declared.word.End.TheVariants.{Open as OpenEnd, Closed as ClosedEnd}
 
 -- from each row, the words in preferment order
@@ -41,11 +40,6 @@ at_start i = if nat_eq i 1 then Full [] ∷ [] else []
 abbrev pub at_end : ℕ → End → Mappings
 at_end n e i = if nat_le i n then [] else may_end e
 
--- a word with these labels before its own
-abbrev pub preceded : List Label → Mapping → Mapping
-preceded ls (Full ms) = Full (ls ++ ms)
-preceded ls (Open ms) = Open (ls ++ ms)
-
 -- A full word from row i is followed by each word of the later part from where it ends. An open one stays.
 abbrev pub followed : Mappings → ℕ → Mapping → List Mapping
 followed q i (Full ls) = map (preceded ls) (q (i + length ls))
@@ -58,13 +52,6 @@ concatenation p q i = flat_map (followed q i) (p i)
 -- either of two, the first one preferred
 abbrev pub alternation : Mappings → Mappings → Mappings
 alternation p q i = p i ++ q i
-
-abbrev pub excluded_label : Label → Label
-excluded_label l = record l { excluded = true }
-
-abbrev pub excluded_mapping : Mapping → Mapping
-excluded_mapping (Full ls) = Full (map excluded_label ls)
-excluded_mapping (Open ls) = Open (map excluded_label ls)
 
 -- all labels excluded
 abbrev pub exclusion : Mappings → Mappings

@@ -1,14 +1,14 @@
 //! The words of a pattern listed lazily, by a stack of choices.
-ghost use Rattle.std.specs.Prelude.{◌≡◌, ℕ, ◌∷◌, ◌++◌, ◌+◌, ◌-◌, ◌^◌, ◌<◌, ◌≤◌, IfOk, OnOk, IsTrue, List, [], map, length, drop};
-ghost use Rattle.rp_pattern.specs.Rests.{rises, pushed};
+ghost use Rattle.std.specs.Prelude.{◌≡◌, ℕ, ◌∷◌, ◌++◌, ◌+◌, ◌-◌, ◌^◌, ◌<◌, ◌≤◌, IfOk, OnOk, IsTrue, false, List, [], map, length, drop};
+ghost use Rattle.rp_pattern.specs.Continuations.{rises, pushed};
 
 use crate::form::{Form, Pattern};
-use crate::label_list::LabelList;
+use crate::machine::continuation::{Choice, Continuation};
+use crate::machine::link::{Part, Tail, follow, linked};
+use crate::machine::node::Node;
+use crate::machine::split::{Split, Expansion};
 use crate::outlook::Outlook;
-use crate::rests::{Choice, Node, Part, Rests, Tail};
 use crate::stack::Stack;
-use crate::tail::{follow, linked};
-use crate::turn::{Split, Turn};
 use crate::word::{End, Label};
 use std::alloc::{AllocError, Global};
 use std::rc::Rc;
@@ -35,30 +35,36 @@ pub struct Choices {
     start: u64,
     origin: Tail,
     begun: bool,
-    labels: LabelList,
+    labels: Vec<Label>,
     stack: Stack<Choice>,
-    ghost rises: { IsTrue (rises (length labels) stack) },
-    ghost ends: { start + length labels < 2 ^ 64 },
+    ghost rises: { IsTrue (rises (length labels.items) stack) },
+    ghost ends: { start + length labels.items < 2 ^ 64 },
 }
 
 impl Choices {
     ghost use Rattle.std.specs.Prelude.{OnOk, IfOk, take, ◌∷◌, ◌++◌, map};
     ghost use Rattle.rp_pattern.specs.declared.word.End.{End};
-    ghost use Rattle.rp_pattern.specs.Words.{words, preceded};
+    ghost use Rattle.rp_pattern.specs.Words.{words};
+    ghost use Rattle.rp_pattern.specs.Mapping.{preceded};
     ghost use Rattle.rp_pattern.specs.Turns.{turns};
     ghost use Rattle.rp_pattern.specs.PatternForm.{form_of};
-    ghost use Rattle.rp_pattern.specs.Rests.{tail_links, BeginsWithRow};
+    ghost use Rattle.rp_pattern.specs.Continuations.{tail_links, BeginsWithRow};
     ghost use Rattle.rp_pattern.specs.Splits.{StandsFor};
-    ghost use Rattle.rp_pattern.specs.Choices.{start_of, entered, first_later, whole, whole_left, remaining, left, below, below_left, after, after_left, OfFirst, HasTop, AtRow, IsFront, IsShorterFront, IsSameWhole, TakenAs, HasBegun};
-    ghost use Rattle.rp_pattern.specs.Outlooks.{words_ahead, turns_ahead, held_by};
+    ghost use Rattle.rp_pattern.specs.Choices.{start_of, entered, first_later, whole, whole_left, whole_from, whole_left_from, remaining, left, below, below_left, after, after_left, OfFirst, HasTop, AtRow, IsFront, IsShorterFront, IsSameWhole, IsSamePattern, TakenAs, HasBegun};
+    ghost use Rattle.rp_pattern.specs.Outlooks.{words_ahead, turns_ahead};
 
     /// The words of the pattern from the start row on.
     pub fn new(alloc: Global, pattern: &Pattern, start: u64) -> Result<Choices, AllocError>
         requires { 1 ≤ start }
         ensures start { IfOk result (λ c. start_of c ≡ start) }
         ensures labels { IfOk result (λ c. entered c ≡ []) }
+        ensures from { IfOk result (λ c. (n : ℕ) (e : End) (row : ℕ) →
+            whole_from c n e row ≡ words n e (form_of pattern.now) row) }
+        ensures left_from { IfOk result (λ c. (n : ℕ) (e : End) (row : ℕ) →
+            whole_left_from c n e row ≡ turns n e (form_of pattern.now) row + length (words n e (form_of pattern.now) row)) }
         ensures whole { IfOk result (λ c. (n : ℕ) (e : End) → whole c n e ≡ words n e (form_of pattern.now) start) }
-        ensures whole_left { IfOk result (λ c. (n : ℕ) (e : End) → whole_left c n e ≡ turns n e (form_of pattern.now) start + length (words n e (form_of pattern.now) start)) }
+        ensures whole_left { IfOk result (λ c. (n : ℕ) (e : End) →
+            whole_left c n e ≡ turns n e (form_of pattern.now) start + length (words n e (form_of pattern.now) start)) }
         ensures remaining { IfOk result (λ c. (n : ℕ) (e : End) → remaining c n e ≡ whole c n e) }
         ensures left { IfOk result (λ c. (n : ℕ) (e : End) → left c n e ≡ whole_left c n e) }
     {
@@ -72,7 +78,7 @@ impl Choices {
             start,
             origin: linked(alloc, None, part, None)?,
             begun: false,
-            labels: LabelList::new(alloc),
+            labels: Vec::new(alloc),
             stack: Stack::new(alloc),
         })
     }
@@ -82,7 +88,7 @@ impl Choices {
     pub fn labels(&self) -> &[Label]
         ensures { result.now ≡ entered self.now }
     {
-        self.labels.as_slice()
+        &self.labels
     }
 
     /// The start row.
@@ -135,7 +141,7 @@ impl Choices {
         let Some(choice) = self.stack.top() else {
             return Ok(Taken::Nothing);
         };
-        match choice.rests.label() {
+        match choice.continuation.label() {
             Some(label) => self.take_top_row(label, n, end),
             None => self.take_top(n, end),
         }
@@ -146,7 +152,7 @@ impl Choices {
     fn take_top_row(&mut self, label: Label, n: u64, end: End) -> Result<Taken, AllocError>
         requires rows { n < 2 ^ 64 - 1 }
         requires begun { HasBegun self.old }
-        requires first { OfFirst (λ t. BeginsWithRow label t.rests) self.old.stack }
+        requires first { OfFirst (λ t. BeginsWithRow label t.continuation) self.old.stack }
         ensures whole { IsSameWhole self.old self.new }
         ensures taken { IfOk result (TakenAs self.old self.new n end) }
     {
@@ -183,14 +189,14 @@ impl Choices {
         self.labels.truncate(depth);
         let row = self.start + depth as u64;
         let mut split = Split::none();
-        match choice.rests.take_up(self.alloc, row, n, end, &mut split)? {
-            Turn::Full => Ok(Taken::Full),
-            Turn::Row(label) => {
+        match choice.continuation.take_up(self.alloc, row, n, end, &mut split)? {
+            Expansion::Full => Ok(Taken::Full),
+            Expansion::Row(label) => {
                 self.labels.push(label)?;
                 Ok(Taken::Row)
             }
-            Turn::Open => Ok(Taken::Open),
-            Turn::Split => {
+            Expansion::Open => Ok(Taken::Open),
+            Expansion::Split => {
                 set_top(&mut self.stack, depth, split.other);
                 push(&mut self.stack, depth, split.preferred)?;
                 Ok(Taken::Split)
@@ -203,26 +209,29 @@ impl Choices {
     pub fn admit(&mut self) -> Result<(), AllocError>
         requires { AtRow self.old }
         ensures whole { IsSameWhole self.old self.new }
-        ensures remaining { OnOk result ((n : ℕ) (e : End) → remaining self.new n e ≡ map (preceded (entered self.old)) (after self.old n e) ++ below self.old n e) }
-        ensures left { OnOk result ((n : ℕ) (e : End) → left self.new n e ≡ after_left self.old n e + below_left self.old n e) }
+        ensures remaining { OnOk result ((n : ℕ) (e : End) →
+            remaining self.new n e ≡ map (preceded (entered self.old)) (after self.old n e) ++ below self.old n e) }
+        ensures left { OnOk result ((n : ℕ) (e : End) →
+            left self.new n e ≡ after_left self.old n e + below_left self.old n e) }
         ensures labels { OnOk result (entered self.new ≡ entered self.old) }
     {
         let depth = self.labels.len();
         let Some(choice) = self.stack.pop() else {
             unreachable!();
         };
-        let rests = choice.rests.into_later(self.start + depth as u64)?;
-        push(&mut self.stack, depth, rests)?;
+        let continuation = choice.continuation.into_later(self.start + depth as u64)?;
+        push(&mut self.stack, depth, continuation)?;
         Ok(())
     }
 
     /// What is left at a row when the first part of the preferred choice is mapped before it.
-    fn follow_first(&self, row: u64) -> Result<Option<Rests>, AllocError>
-        ensures { IfOk result (λ rests. (n : ℕ) (e : End) → StandsFor n e row (first_later n e self.now.stack) rests) }
+    fn follow_first(&self, row: u64) -> Result<Option<Continuation>, AllocError>
+        ensures { IfOk result (λ continuation. (n : ℕ) (e : End) →
+            StandsFor n e row (first_later n e self.now.stack) continuation) }
     {
         match self.stack.top() {
-            None => Ok(Some(Rests::Done)),
-            Some(choice) => choice.rests.after_first(row),
+            None => Ok(Some(Continuation::Done)),
+            Some(choice) => choice.continuation.after_first(row),
         }
     }
 
@@ -247,18 +256,42 @@ impl Choices {
         requires { AtRow self.now }
         ensures words { IfOk result (λ o. (n : ℕ) (e : End) → words_ahead o n e ≡ length (after self.now n e)) }
         ensures turns { IfOk result (λ o. (n : ℕ) (e : End) → turns_ahead o n e ≡ after_left self.now n e) }
-        ensures held { IfOk result (λ o. held_by o ≤ 1) }
     {
         let row = self.start + self.labels.len() as u64;
         Outlook::at(self.alloc, row, self.follow_first(row)?)
     }
 
-    /// Begins again. It takes no memory.
+    /// Begins again. It takes no memory, and keeps its room.
     pub fn reset(&mut self)
         ensures whole { IsSameWhole self.old self.new }
         ensures remaining { (n : ℕ) (e : End) → remaining self.new n e ≡ whole self.old n e }
         ensures left { (n : ℕ) (e : End) → left self.new n e ≡ whole_left self.old n e }
         ensures labels { entered self.new ≡ [] }
+    {
+        self.empty();
+    }
+
+    /// Begins at another row. It takes no memory, and keeps its room.
+    pub fn restart(&mut self, start: u64)
+        requires { 1 ≤ start }
+        ensures pattern { IsSamePattern self.old self.new }
+        ensures start { start_of self.new ≡ start }
+        ensures labels { entered self.new ≡ [] }
+        ensures whole { (n : ℕ) (e : End) → whole self.new n e ≡ whole_from self.old n e start }
+        ensures whole_left { (n : ℕ) (e : End) → whole_left self.new n e ≡ whole_left_from self.old n e start }
+        ensures remaining { (n : ℕ) (e : End) → remaining self.new n e ≡ whole self.new n e }
+        ensures left { (n : ℕ) (e : End) → left self.new n e ≡ whole_left self.new n e }
+    {
+        self.empty();
+        self.start = start;
+    }
+
+    /// No choice is taken up, and none is left of those that were.
+    fn empty(&mut self)
+        ensures begun { self.new.begun ≡ false }
+        ensures start { self.new.start ≡ self.old.start }
+        ensures origin { self.new.origin ≡ self.old.origin }
+        ensures labels { self.new.labels.items ≡ [] }
     {
         self.begun = false;
         self.stack.clear();
@@ -268,14 +301,14 @@ impl Choices {
 
 /// Puts another choice, if there is one, in the top one's place.
 #[inline(always)]
-fn set_top(stack: &mut Stack<Choice>, depth: usize, rests: Option<Rests>)
+fn set_top(stack: &mut Stack<Choice>, depth: usize, continuation: Option<Continuation>)
     requires { 0 < length stack.old }
-    ensures set { stack.new ≡ pushed depth rests (drop 1 stack.old) }
+    ensures set { stack.new ≡ pushed depth continuation (drop 1 stack.old) }
     ensures rises { IsTrue (rises depth (drop 1 stack.old)) → IsTrue (rises depth stack.new) }
 {
-    match rests {
+    match continuation {
         None => stack.drop_top(),
-        Some(rests) => stack.set_top(Choice { depth, rests }),
+        Some(continuation) => stack.set_top(Choice { depth, continuation }),
     }
 }
 
@@ -284,13 +317,13 @@ fn set_top(stack: &mut Stack<Choice>, depth: usize, rests: Option<Rests>)
 pub(crate) fn push(
     stack: &mut Stack<Choice>,
     depth: usize,
-    rests: Option<Rests>,
+    continuation: Option<Continuation>,
 ) -> Result<(), AllocError>
-    ensures pushed { OnOk result (stack.new ≡ pushed depth rests stack.old) }
+    ensures pushed { OnOk result (stack.new ≡ pushed depth continuation stack.old) }
     ensures rises { IsTrue (rises depth stack.old) → IsTrue (rises depth stack.new) }
 {
-    if let Some(rests) = rests {
-        stack.push(Choice { depth, rests })?;
+    if let Some(continuation) = continuation {
+        stack.push(Choice { depth, continuation })?;
     }
     Ok(())
 }

@@ -2,7 +2,7 @@
 ghost use Rattle.rp_pattern.specs.LabelLaws.{LabelsBelow};
 ghost use Rattle.rp_pattern.specs.WordLaws.{WordsExtend, NoBoundStays, GreatBoundsAgree, GreatBoundsTakeAsMany, WordsEnd, WordsWait, WordsClose};
 ghost use Rattle.rp_pattern.specs.Maps.{WordsAreMappings};
-ghost use Rattle.rp_pattern.specs.Readings.{WordsAreReadings, ChoicesDecide};
+ghost use Rattle.rp_pattern.specs.Readings.{WordsAreReadings, ReadingsAreOne, ChoicesDecide};
 
 /// The laws of the word list. It has the mappings that the rules of a row pattern allow, and no others: one for each
 /// reading, in the order of preferment, and the choices of a reading decide its mapping. More rows, or the close, leave
@@ -12,6 +12,7 @@ ghost use Rattle.rp_pattern.specs.Readings.{WordsAreReadings, ChoicesDecide};
 pub fn law_words()
     ensures mappings { WordsAreMappings }
     ensures readings { WordsAreReadings }
+    ensures one_list { ReadingsAreOne }
     ensures choices { ChoicesDecide }
     ensures extend { WordsExtend }
     ensures no_bound { NoBoundStays }

@@ -1,13 +1,13 @@
 //! What would follow a row: whether any word does. Which rows it would map is not kept.
-ghost use Rattle.std.specs.Prelude.{◌≡◌, ℕ, ◌+◌, ◌-◌, ◌^◌, ◌<◌, ◌≤◌, IfOk, IsTrue, ◌↔◌, length};
+ghost use Rattle.std.specs.Prelude.{◌≡◌, ℕ, ◌+◌, ◌-◌, ◌^◌, ◌<◌, ◌≤◌, IfOk, IsTrue, length};
 ghost use Rattle.rp_pattern.specs.declared.word.End.{End};
-ghost use Rattle.rp_pattern.specs.Rests.{rises};
+ghost use Rattle.rp_pattern.specs.Continuations.{rises};
 ghost use Rattle.rp_pattern.specs.Splits.{option_words, option_turns};
 
 use crate::choices::push;
-use crate::rests::{Choice, Rests};
+use crate::machine::continuation::{Choice, Continuation};
+use crate::machine::split::{Split, Expansion};
 use crate::stack::Stack;
-use crate::turn::{Split, Turn};
 use crate::word::End;
 use std::alloc::{AllocError, Global};
 
@@ -33,16 +33,17 @@ pub struct Outlook {
 }
 
 impl Outlook {
-    ghost use Rattle.rp_pattern.specs.Outlooks.{words_ahead, turns_ahead, held_by, SeenAs};
+    ghost use Rattle.rp_pattern.specs.Outlooks.{words_ahead, turns_ahead, SeenAs};
 
     /// What is left at a row, if anything is.
-    pub(crate) fn at(alloc: Global, row: u64, rests: Option<Rests>) -> Result<Outlook, AllocError>
-        ensures words { IfOk result (λ o. (n : ℕ) (e : End) → words_ahead o n e ≡ length (option_words n e rests row)) }
-        ensures turns { IfOk result (λ o. (n : ℕ) (e : End) → turns_ahead o n e ≡ option_turns n e rests row + length (option_words n e rests row)) }
-        ensures held { IfOk result (λ o. held_by o ≤ 1) }
+    pub(crate) fn at(alloc: Global, row: u64, continuation: Option<Continuation>) -> Result<Outlook, AllocError>
+        ensures words { IfOk result (λ o. (n : ℕ) (e : End) →
+            words_ahead o n e ≡ length (option_words n e continuation row)) }
+        ensures turns { IfOk result (λ o. (n : ℕ) (e : End) →
+            turns_ahead o n e ≡ option_turns n e continuation row + length (option_words n e continuation row)) }
     {
         let mut stack = Stack::new(alloc);
-        push(&mut stack, 0, rests)?;
+        push(&mut stack, 0, continuation)?;
         Ok(Outlook {
             alloc,
             start: row,
@@ -62,31 +63,21 @@ impl Outlook {
         let depth = choice.depth;
         let row = self.start + depth as u64;
         let mut split = Split::none();
-        match choice.rests.take_up(self.alloc, row, n, end, &mut split)? {
-            Turn::Full => Ok(Sight::Word),
-            Turn::Open => Ok(Sight::Word),
-            Turn::Row(_) => {
-                let later = choice.rests.after_first(row + 1)?;
+        match choice.continuation.take_up(self.alloc, row, n, end, &mut split)? {
+            Expansion::Full => Ok(Sight::Word),
+            Expansion::Open => Ok(Sight::Word),
+            Expansion::Row(_) => {
+                let later = choice.continuation.after_first(row + 1)?;
                 self.stack.drop_top();
                 push(&mut self.stack, depth + 1, later)?;
                 Ok(Sight::Further)
             }
-            Turn::Split => {
+            Expansion::Split => {
                 self.stack.drop_top();
                 push(&mut self.stack, depth, split.other)?;
                 push(&mut self.stack, depth, split.preferred)?;
                 Ok(Sight::Further)
             }
         }
-    }
-
-    /// Drops the preferred choice, if there is one, and says whether others are left. So an outlook that isn't needed any
-    /// more can be dropped a choice at a time.
-    pub fn drop_one(&mut self) -> bool
-        ensures held { held_by self.new ≡ held_by self.old - 1 }
-        ensures more { IsTrue result ↔ (0 < held_by self.new) }
-    {
-        self.stack.drop_top();
-        !self.stack.is_empty()
     }
 }

@@ -1,11 +1,12 @@
 //! Tests of patterns and permutations.
-ghost use Rattle.std.specs.Prelude.{◌≤◌};
+ghost use Rattle.std.specs.Prelude.{◌≡◌, ◌≤◌, ◌<◌, length, IfOk, IfSome};
+ghost use Rattle.rp_pattern.specs.Words.{words};
 
 use crate::{
-    Choices, End, Form, Outlook, Pattern, Sight, Taken, law_labels, law_words, permutations,
+    Choices, End, Form, ListFault, Outlook, Pattern, Sight, Taken, law_labels, law_words, list_words,
+    permutations,
 };
 use std::alloc::{AllocError, Global};
-use std::rc::Rc;
 use std::test::Fail;
 
 /// All permutations, asked for again where memory is refused once.
@@ -60,19 +61,14 @@ fn orders_of_eight(rt: HostRuntime) -> Result<(), Fail> {
 fn permuted(alloc: Global, count: usize) -> Result<Form, AllocError> {
     let mut parts = Vec::new(alloc);
     for _ in 0..count {
-        parts.push(Rc::new(alloc, Form::Variable(0))?)?;
+        parts.push(Form::variable(0))?;
     }
-    Ok(Form::Permute(parts))
+    Form::permute(alloc, parts)
 }
 
 /// `A` with these bounds.
 fn quantified(alloc: Global, lower: u32, upper: Option<u32>) -> Result<Form, AllocError> {
-    Ok(Form::Quantified {
-        body: Rc::new(alloc, Form::Variable(0))?,
-        lower,
-        upper,
-        reluctant: false,
-    })
+    Form::quantified(alloc, Form::variable(0), lower, upper, false)
 }
 
 #[test]
@@ -97,9 +93,8 @@ fn bounds_in_order_are_allowed(rt: HostRuntime) -> Result<(), Fail> {
 
 #[test]
 fn variables_are_below(rt: HostRuntime) -> Result<(), Fail> {
-    let first = Rc::new(rt.alloc(), permuted(rt.alloc(), 2)?)?;
-    let second = Rc::new(rt.alloc(), Form::Variable(2))?;
-    let form = Form::Concatenation(first, second);
+    let first = permuted(rt.alloc(), 2)?;
+    let form = Form::concatenation(rt.alloc(), first, Form::variable(2))?;
     assert!(rt; form.are_below(3));
     assert!(rt; !form.are_below(2));
     Ok(())
@@ -134,9 +129,11 @@ fn pattern_keeps_its_tree(rt: HostRuntime) -> Result<(), Fail> {
 
 /// What follows the row of A in `A B`, at row 2.
 fn behind_first(alloc: Global) -> Result<Option<Outlook>, AllocError> {
-    let first = Rc::new(alloc, Form::Variable(0))?;
-    let second = Rc::new(alloc, Form::Variable(1))?;
-    let pattern = Pattern::new(Form::Concatenation(first, second));
+    let form = Form::concatenation(alloc, Form::Variable(0), Form::Variable(1))?;
+    if !form.is_allowed() {
+        return Ok(None);
+    }
+    let pattern = Pattern::new(form);
     let mut choices = Choices::new(alloc, &pattern, 1)?;
     let _split = choices.take_up(1, End::Open)?;
     match choices.take_up(1, End::Open)? {
@@ -145,12 +142,12 @@ fn behind_first(alloc: Global) -> Result<Option<Outlook>, AllocError> {
     }
 }
 
-/// Two turns of an outlook, and what dropping its choices tells.
+/// What two turns of an outlook come to.
 fn looked_ahead(
     alloc: Global,
     rows: u64,
     end: End,
-) -> Result<Option<(Sight, Sight, bool, bool)>, AllocError>
+) -> Result<Option<(Sight, Sight)>, AllocError>
     requires { rows ≤ 2 }
 {
     let Some(mut outlook) = behind_first(alloc)? else {
@@ -158,7 +155,7 @@ fn looked_ahead(
     };
     let first = outlook.take_up(rows, end)?;
     let second = outlook.take_up(rows, end)?;
-    Ok(Some((first, second, outlook.drop_one(), outlook.drop_one())))
+    Ok(Some((first, second)))
 }
 
 /// The row of B is passed over where it is known, and waited for where it may come.
@@ -174,29 +171,97 @@ fn refused_outlook(rt: HostRuntime) -> Result<(), Fail> {
             Ok(sights) => sights,
             Err(_) => looked_ahead(rt.alloc(), rows, end)?,
         };
-        assert_eq!(rt; sights, Some((first, second, false, false)));
+        assert_eq!(rt; sights, Some((first, second)));
     }
     Ok(())
 }
 
-/// Of both choices of `A (B | C)` behind A, one is left when the other is dropped.
-#[test]
-fn outlook_of_two(rt: HostRuntime) -> Result<(), Fail> {
-    let second = Rc::new(rt.alloc(), Form::Variable(1))?;
-    let third = Rc::new(rt.alloc(), Form::Variable(2))?;
-    let either = Rc::new(rt.alloc(), Form::Alternation(second, third))?;
-    let first = Rc::new(rt.alloc(), Form::Variable(0))?;
-    let pattern = Pattern::new(Form::Concatenation(first, either));
-    let mut choices = Choices::new(rt.alloc(), &pattern, 1)?;
-    let _split = choices.take_up(2, End::Open)?;
-    match choices.take_up(2, End::Open)? {
-        Taken::Row => {
-            let mut outlook = choices.after_row()?;
-            assert_eq!(rt; outlook.take_up(2, End::Open)?, Sight::Further);
-            assert!(rt; outlook.drop_one());
-            assert!(rt; !outlook.drop_one());
-        }
-        _ => panic!(rt; "no row"),
+/// How many ways there are to map the rows of a closed partition to a form from row 1 on, as a caller asks for it. None
+/// where the form isn't allowed, or there are more than 100.
+fn count_ways(alloc: Global, form: Form, rows: u64) -> Result<Option<usize>, AllocError>
+    requires { rows < 1000 }
+    ensures { IfOk result (λ count. IfSome count (λ k. k ≡ length (words rows End.Closed form 1))) }
+{
+    if !form.is_allowed() {
+        return Ok(None);
     }
+    let pattern = Pattern::new(form);
+    match list_words(alloc, &pattern, 1, rows, End::Closed, 100) {
+        Ok(list) => Ok(Some(list.len())),
+        Err(ListFault::TooMany) => Ok(None),
+        Err(ListFault::OutOfMemory) => Err(AllocError),
+    }
+}
+
+/// `A*` maps the first three, two or one of three rows, or none.
+#[test]
+fn ways_of_a_loop(rt: HostRuntime) -> Result<(), Fail> {
+    let form = quantified(rt.alloc(), 0, None)?;
+    assert_eq!(rt; count_ways(rt.alloc(), form, 3)?, Some(4));
+    let form = quantified(rt.alloc(), 2, Some(1))?;
+    assert_eq!(rt; count_ways(rt.alloc(), form, 3)?, None);
+    Ok(())
+}
+
+/// Whether a row's letter is the one of its variable.
+fn is_admitted(var: usize, letter: Option<u8>) -> bool {
+    matches!((var, letter), (0, Some(b'a')) | (1, Some(b'b')) | (2, Some(b'c')))
+}
+
+/// One turn over the letters of a closed partition, as a sign: `s` for a split, `.` for a word, `-` where nothing is left,
+/// and the variable of a row, small where its letter refuses it.
+fn turn(choices: &mut Choices, letters: &[u8]) -> Result<char, AllocError>
+    requires { length letters.now < 100 }
+{
+    match choices.take_up(letters.len() as u64, End::Closed)? {
+        Taken::Row => {
+            let place = choices.labels().len();
+            let letter = if place == 0 { None } else { letters.get(place - 1).copied() };
+            let var = choices.labels().last().map_or(3, |label| label.var);
+            if !is_admitted(var, letter) {
+                choices.give_up();
+                return Ok(small(var));
+            }
+            choices.admit()?;
+            Ok(capital(var))
+        }
+        Taken::Split => Ok('s'),
+        Taken::Full => Ok('.'),
+        _ => Ok('-'),
+    }
+}
+
+fn capital(var: usize) -> char {
+    match var {
+        0 => 'A',
+        1 => 'B',
+        _ => 'C',
+    }
+}
+
+fn small(var: usize) -> char {
+    match var {
+        0 => 'a',
+        1 => 'b',
+        _ => 'c',
+    }
+}
+
+/// The turns that docs/WALK.md tells of.
+#[test]
+fn walked_turns(rt: HostRuntime) -> Result<(), Fail> {
+    let alloc = rt.alloc();
+    let pair = Form::concatenation(alloc, Form::variable(0), Form::variable(1))?;
+    let body = Form::alternation(alloc, pair, Form::variable(0))?;
+    let repeated = Form::quantified(alloc, body, 0, None, false)?;
+    let form = Form::concatenation(alloc, repeated, Form::variable(2))?;
+    assert!(rt; form.is_allowed());
+    let pattern = Pattern::new(form);
+    let mut choices = Choices::new(alloc, &pattern, 1)?;
+    let mut signs = String::new(alloc);
+    for _ in 0..16 {
+        signs.push(turn(&mut choices, b"abac")?)?;
+    }
+    assert_eq!(rt; signs.as_str(), "sssABssAbAssaaC.");
     Ok(())
 }

@@ -4,8 +4,7 @@ use Rattle.std.proofs.lemmas.List.{length-take}
 use Rattle.rp_pattern.specs.declared.word.Label.{Label}
 use Rattle.rp_pattern.specs.declared.word.End.{End}
 use Rattle.rp_pattern.specs.declared.word.Seen.TheVariants.{True, NotTrue, Open as OpenTest}
-use Rattle.rp_pattern.specs.Mapping.{Mapping}
-use Rattle.rp_pattern.specs.Words.{preceded}
+use Rattle.rp_pattern.specs.Mapping.{Mapping, preceded}
 use Rattle.rp_pattern.specs.declared.choices.Choices.{Choices}
 use Rattle.rp_pattern.specs.declared.outlook.Outlook.{Outlook}
 use Rattle.rp_pattern.specs.WordLaws.{IsLater}

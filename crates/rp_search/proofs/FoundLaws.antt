@@ -5,8 +5,7 @@ use Rattle.std.specs.Prelude.{◌≢◌}
 use Rattle.rp_pattern.specs.declared.word.Label.{Label}
 use Rattle.rp_pattern.specs.declared.word.Seen.{Seen}
 use Rattle.rp_pattern.specs.declared.word.Seen.TheVariants.{True, NotTrue, Open as OpenTest}
-use Rattle.rp_pattern.specs.Mapping.{Mapping, Full, Open, labels_of}
-use Rattle.rp_pattern.specs.Words.{preceded}
+use Rattle.rp_pattern.specs.Mapping.{Mapping, Full, Open, labels_of, preceded}
 use Rattle.rp_pattern.specs.WordLaws.{IsFull, BeginsWith, Extends, done, stays, gone, grows}
 use Rattle.rp_search.specs.Found.{Test, first_not_true, tested, status_from, Found, Waits, unless_refused, found, Stays, TestsStay, AreShort, from_status, unrefused, Resumes}
 

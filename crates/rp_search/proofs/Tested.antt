@@ -6,8 +6,7 @@ use Rattle.std.proofs.Math.Seq.{take-append_seam}
 use Rattle.rp_pattern.specs.declared.word.Label.{Label}
 use Rattle.rp_pattern.specs.declared.word.Seen.{Seen}
 use Rattle.rp_pattern.specs.declared.word.Seen.TheVariants.{True, NotTrue, Open as OpenTest}
-use Rattle.rp_pattern.specs.Mapping.{Mapping, Full, Open, labels_of}
-use Rattle.rp_pattern.specs.Words.{preceded}
+use Rattle.rp_pattern.specs.Mapping.{Mapping, Full, Open, labels_of, preceded}
 use Rattle.rp_search.specs.Found.{Test, first_not_true, tested, status_from, Match, Waits, unless_refused, found, TestsStay}
 use Rattle.rp_search.specs.Fits.{IsRefusedWithin, RefusedBefore}
 use Rattle.rp_search.proofs.FoundLaws.{first_refused, tested_refused, itself_stays, refused_passed}

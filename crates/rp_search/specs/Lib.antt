@@ -4,4 +4,3 @@ pub mod Turned
 pub mod Counts
 pub mod Grid
 pub mod GridDecides
-pub mod Spent

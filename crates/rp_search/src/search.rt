@@ -13,8 +13,7 @@ mod explore;
 use crate::asking::{enter_row, follow, settle};
 use crate::conditions::Tests;
 use crate::steps::Steps;
-use explore::shed;
-use rp_pattern::{Choices, Label, Outlook, Pattern, Seen, Stack, Taken};
+use rp_pattern::{Choices, Label, Outlook, Pattern, Seen, Taken};
 use std::alloc::{AllocError, Global};
 use std::sync::ledger::Ledger;
 
@@ -41,15 +40,12 @@ pub struct Search {
     /// Where the test of the row that the preferred choice maps is open: what would follow that row. Only if there is
     /// such a word is the search undecided.
     outlook: Option<Outlook>,
-    /// Outlooks that a decided test has made needless. Each turn drops one of their choices.
-    spent: Stack<Outlook>,
 }
 
-#[tactic(auto, unfolding(crate::specs::Fits::start_of_search, crate::specs::Fits::labels_of_search, crate::specs::Fits::pattern_words, crate::specs::Fits::most_turns, crate::specs::Fits::left_of, crate::specs::Fits::ChoicesStand, crate::specs::Fits::LabelsStand, crate::specs::Spent::kept_by, crate::specs::Spent::spent_of, crate::specs::Spent::in_use))]
+#[tactic(auto, unfolding(crate::specs::Fits::start_of_search, crate::specs::Fits::labels_of_search, crate::specs::Fits::pattern_words, crate::specs::Fits::most_turns, crate::specs::Fits::left_of, crate::specs::Fits::ChoicesStand, crate::specs::Fits::LabelsStand))]
 impl Search {
     ghost use Rattle.rp_search.specs.Found.{Test, found, Match, NoMatch, Waits};
     ghost use Rattle.rp_search.specs.Fits.{Fits, IsSameSearch, start_of_search, labels_of_search, pattern_words, most_turns, left_of, Stands, StandsAtRow};
-    ghost use Rattle.rp_search.specs.Spent.{kept_by, spent_of, in_use, held_in};
     ghost use Rattle.rp_search.specs.Turned.{AsksTheSame, AddsLabel, Searches, Turned};
 
     /// A search from the row `start`, which is at least 1.
@@ -64,7 +60,6 @@ impl Search {
         Ok(Search {
             choices: Choices::new(alloc, pattern, start)?,
             outlook: None,
-            spent: Stack::new(alloc),
         })
     }
 
@@ -105,16 +100,9 @@ impl Search {
         ensures counted { T.entries tests.new + steps.old ≤ T.entries tests.old + steps.new }
         ensures enters { T.entries tests.new ≤ T.entries tests.old + budget }
 
-        // Of the choices of outlooks a turn adds at most one, and drops at most two: the one it takes up, and one that a
-        // decided test has made needless. Those fall with each turn, until none is left.
-        ensures gains { OnOk result (kept_by self.new + steps.old ≤ kept_by self.old + steps.new) }
-        ensures drops { OnOk result (kept_by self.old + 2 * steps.old ≤ kept_by self.new + 2 * steps.new) }
-        ensures spent_falls { OnOk result (spent_of self.new ≤ spent_of self.old + in_use self.old - (steps.new - steps.old)) }
-
         ensures nothing { budget ≡ 0 → (result ≡ Ok Outcome.Paused) × (self.new ≡ self.old) × (tests.new ≡ tests.old) × (steps.new ≡ steps.old) }
         ensures begins_again { OnErr result (labels_of_search self.new ≡ []) }
         ensures fits_all { OnErr result ((n : ℕ) (e : End) (test : Test) → Fits self.new n e test) }
-        ensures kept_none { OnErr result (kept_by self.new ≡ 0) }
         ensures nothing_given_up { OnErr result ((n : ℕ) (e : End) (test : Test) → left_of self.new n e test ≡ most_turns self.new n e) }
     {
         if budget == 0 {
@@ -151,11 +139,9 @@ impl Search {
         ensures labels { labels_of_search self.new ≡ [] }
         ensures left { (n : ℕ) (e : End) (test : Test) → left_of self.new n e test ≡ most_turns self.new n e }
         ensures fits { 1 ≤ start_of_search self.old → (n : ℕ) (e : End) (test : Test) → Fits self.new n e test }
-        ensures kept { kept_by self.new ≡ 0 }
     {
         self.choices.reset();
         self.outlook = None;
-        self.spent.clear();
         tests.cut(0);
     }
 
@@ -180,9 +166,6 @@ impl Search {
         ensures entered { OnOk result (T.entered tests.new (start_of_search self.new) (labels_of_search self.new)) }
         ensures fits { OnOk result (Fits self.new (T.rows tests.old) (T.ending tests.old) (T.outcome tests.old (start_of_search self.old))) }
         ensures turned { IfOk result (Turned budget (pattern_words self.old (T.rows tests.old) (T.ending tests.old)) (labels_of_search self.new) (T.ending tests.old) (T.outcome tests.old (start_of_search self.old)) (left_of self.old (T.rows tests.old) (T.ending tests.old) (T.outcome tests.old (start_of_search self.old))) (left_of self.new (T.rows tests.old) (T.ending tests.old) (T.outcome tests.old (start_of_search self.old)))) }
-        ensures gains { OnOk result (kept_by self.new + steps.old ≤ kept_by self.old + steps.new) }
-        ensures drops { OnOk result (kept_by self.old + 2 * steps.old ≤ kept_by self.new + 2 * steps.new) }
-        ensures spent_falls { OnOk result (spent_of self.new ≤ spent_of self.old + in_use self.old - (steps.new - steps.old)) }
     {
         self.resume(tests)?;
         for _turn in 0..budget {
@@ -207,15 +190,13 @@ impl Search {
         ensures entered { OnOk result (T.entered tests.new (start_of_search self.new) (labels_of_search self.new)) }
         ensures searches { OnOk result (Searches self.new (T.rows tests.old) (T.ending tests.old) (T.outcome tests.old (start_of_search self.old))) }
         ensures left { OnOk result (left_of self.new (T.rows tests.old) (T.ending tests.old) (T.outcome tests.old (start_of_search self.old)) ≤ left_of self.old (T.rows tests.old) (T.ending tests.old) (T.outcome tests.old (start_of_search self.old))) }
-        ensures kept { OnOk result (kept_by self.new ≡ kept_by self.old) }
-        ensures spent { OnOk result (spent_of self.new ≤ spent_of self.old + in_use self.old) }
     {
         let Some(outlook) = self.outlook.take() else {
             return Ok(());
         };
         match settle(&mut self.choices, tests)? {
             Seen::Open => self.outlook = Some(outlook),
-            Seen::True | Seen::NotTrue => self.spent.push(outlook)?,
+            Seen::True | Seen::NotTrue => {}
         }
         Ok(())
     }
@@ -232,11 +213,7 @@ impl Search {
         ensures entered { OnOk result (T.entered tests.new (start_of_search self.new) (labels_of_search self.new)) }
         ensures searches { OnOk result (Searches self.new (T.rows tests.old) (T.ending tests.old) (T.outcome tests.old (start_of_search self.old))) }
         ensures turned { IfOk result (Turned 1 (pattern_words self.old (T.rows tests.old) (T.ending tests.old)) (labels_of_search self.new) (T.ending tests.old) (T.outcome tests.old (start_of_search self.old)) (left_of self.old (T.rows tests.old) (T.ending tests.old) (T.outcome tests.old (start_of_search self.old))) (left_of self.new (T.rows tests.old) (T.ending tests.old) (T.outcome tests.old (start_of_search self.old)))) }
-        ensures gains { OnOk result (kept_by self.new ≤ kept_by self.old + 1) }
-        ensures drops { OnOk result (kept_by self.old ≤ kept_by self.new + 2) }
-        ensures spent { OnOk result (spent_of self.new ≤ spent_of self.old - 1) }
     {
-        shed(&mut self.spent)?;
         // To take an outlook out moves it, so most turns only look whether there is one.
         if self.outlook.is_none() {
             return self.take_up(tests);
@@ -260,8 +237,6 @@ impl Search {
         ensures entered { OnOk result (T.entered tests.new (start_of_search self.new) (labels_of_search self.new)) }
         ensures searches { OnOk result (Searches self.new (T.rows tests.old) (T.ending tests.old) (T.outcome tests.old (start_of_search self.old))) }
         ensures turned { IfOk result (Turned 1 (pattern_words self.old (T.rows tests.old) (T.ending tests.old)) (labels_of_search self.new) (T.ending tests.old) (T.outcome tests.old (start_of_search self.old)) (left_of self.old (T.rows tests.old) (T.ending tests.old) (T.outcome tests.old (start_of_search self.old))) (left_of self.new (T.rows tests.old) (T.ending tests.old) (T.outcome tests.old (start_of_search self.old)))) }
-        ensures spent { self.new.spent ≡ self.old.spent }
-        ensures outlook { OnOk result (held_in self.new.outlook ≤ 1) }
     {
         match self.choices.take_up(tests.known(), tests.end())? {
             Taken::Row => {
@@ -301,8 +276,6 @@ impl Search {
         ensures entered { OnOk result (T.entered tests.new (start_of_search self.new) (labels_of_search self.new)) }
         ensures searches { OnOk result (Searches self.new (T.rows tests.old) (T.ending tests.old) (T.outcome tests.old (start_of_search self.old))) }
         ensures turned { OnOk result (left_of self.new (T.rows tests.old) (T.ending tests.old) (T.outcome tests.old (start_of_search self.old)) + 1 ≤ left_of self.old (T.rows tests.old) (T.ending tests.old) (T.outcome tests.old (start_of_search self.old))) }
-        ensures spent { self.new.spent ≡ self.old.spent }
-        ensures outlook { OnOk result (held_in self.new.outlook ≤ 1) }
     {
         enter_row(&self.choices, tests)?;
         match settle(&mut self.choices, tests)? {

@@ -1,12 +1,11 @@
 //! The patterns of `trace`, as its command line gives them.
 ghost use Rattle.std.specs.Prelude.{◌≡◌, ℕ, ◌+◌, ◌<◌, ◌≤◌, List, [], ◌∷◌, length, IfOk, IfSome, IfNone};
 ghost use Rattle.rp_pattern.specs.PatternForm.{form_of};
-ghost use Rattle.rp_trace.specs.Grammar.{Tree, Alternatives, Sequences, Factors, Primaries, Derives, Both, Either, Star, IsLettered, symbols_of, tree_of};
+ghost use Rattle.rp_trace.specs.Grammar.{Tree, Alternatives, Sequences, Factors, Primaries, Derives, IsLettered, symbols_of, tree_of};
 ghost use Rattle.rp_trace.specs.Reading.{LeavesSymbols, Lacks, Reads, ReadsNone, ReadsOnly, begins_primary};
 
 use rp_pattern::{Form, Pattern};
 use std::alloc::{AllocError, AllocFailed, Global};
-use std::rc::Rc;
 use thiserror::Error;
 
 /// Why a text is no pattern of `trace`.
@@ -76,7 +75,7 @@ fn expected(text: &[u8], left: usize) -> TracePatternFault
 
 /// Sequences with `|` between them, and what follows.
 #[cycle(grammar)]
-#[tactic(auto, using(crate::proofs::Derivations::reads, crate::proofs::Choices::alternatives_read))]
+#[tactic(auto, using(crate::proofs::Derivations::reads, crate::proofs::Choices::alternatives_read, crate::proofs::Trees::made))]
 fn alternatives(alloc: Global, symbols: &[u8]) -> Result<(Form, &[u8]), Stop>
     ensures form { IfOk result (λ read. IsLettered read.0) }
     ensures reads { IfOk result (λ read. Reads Alternatives symbols.now (tree_of read.0) read.1.now) }
@@ -89,7 +88,7 @@ fn alternatives(alloc: Global, symbols: &[u8]) -> Result<(Form, &[u8]), Stop>
     match after_mark(rest, b'|') {
         Some(rest) => {
             let (second, rest) = alternatives(alloc, rest)?;
-            Ok((alternation(alloc, first, second)?, rest))
+            Ok((Form::alternation(alloc, first, second)?, rest))
         }
         None => Ok((first, rest)),
     }
@@ -97,7 +96,7 @@ fn alternatives(alloc: Global, symbols: &[u8]) -> Result<(Form, &[u8]), Stop>
 
 /// One or more factors, and what follows.
 #[cycle(grammar)]
-#[tactic(auto, using(crate::proofs::Derivations::reads, crate::proofs::Choices::sequences_read))]
+#[tactic(auto, using(crate::proofs::Derivations::reads, crate::proofs::Choices::sequences_read, crate::proofs::Trees::made))]
 fn sequence(alloc: Global, symbols: &[u8]) -> Result<(Form, &[u8]), Stop>
     ensures form { IfOk result (λ read. IsLettered read.0) }
     ensures reads { IfOk result (λ read. Reads Sequences symbols.now (tree_of read.0) read.1.now) }
@@ -111,12 +110,12 @@ fn sequence(alloc: Global, symbols: &[u8]) -> Result<(Form, &[u8]), Stop>
         return Ok((first, rest));
     }
     let (second, rest) = sequence(alloc, rest)?;
-    Ok((concatenation(alloc, first, second)?, rest))
+    Ok((Form::concatenation(alloc, first, second)?, rest))
 }
 
 /// A primary, perhaps with `*`, and what follows.
 #[cycle(grammar)]
-#[tactic(auto, using(crate::proofs::Derivations::reads, crate::proofs::Choices::factors_read))]
+#[tactic(auto, using(crate::proofs::Derivations::reads, crate::proofs::Choices::factors_read, crate::proofs::Trees::made))]
 fn factor(alloc: Global, symbols: &[u8]) -> Result<(Form, &[u8]), Stop>
     ensures form { IfOk result (λ read. IsLettered read.0) }
     ensures reads { IfOk result (λ read. Reads Factors symbols.now (tree_of read.0) read.1.now) }
@@ -127,14 +126,17 @@ fn factor(alloc: Global, symbols: &[u8]) -> Result<(Form, &[u8]), Stop>
 {
     let (body, rest) = primary(alloc, symbols)?;
     match after_mark(rest, b'*') {
-        Some(rest) => Ok((star(alloc, body)?, rest)),
+        Some(rest) => Ok((
+            Form::quantified(alloc, body, 0, None, false)?,
+            rest,
+        )),
         None => Ok((body, rest)),
     }
 }
 
 /// A variable or a group, and what follows.
 #[cycle(grammar)]
-#[tactic(auto, using(crate::proofs::Derivations::reads, crate::proofs::Choices::primaries_read))]
+#[tactic(auto, using(crate::proofs::Derivations::reads, crate::proofs::Choices::primaries_read, crate::proofs::Trees::made))]
 fn primary(alloc: Global, symbols: &[u8]) -> Result<(Form, &[u8]), Stop>
     ensures form { IfOk result (λ read. IsLettered read.0) }
     ensures reads { IfOk result (λ read. Reads Primaries symbols.now (tree_of read.0) read.1.now) }
@@ -191,37 +193,6 @@ fn letter(symbols: &[u8]) -> Option<(usize, &[u8])>
         return None;
     }
     Some((usize::from(*first - b'A'), rest))
-}
-
-fn star(alloc: Global, body: Form) -> Result<Form, AllocError>
-    requires { IsLettered body }
-    ensures lettered { IfOk result IsLettered }
-    ensures tree { IfOk result (λ form. tree_of form ≡ Star (tree_of body)) }
-{
-    Ok(Form::Quantified {
-        body: Rc::new(alloc, body)?,
-        lower: 0,
-        upper: None,
-        reluctant: false,
-    })
-}
-
-fn alternation(alloc: Global, first: Form, second: Form) -> Result<Form, AllocError>
-    requires first { IsLettered first }
-    requires second { IsLettered second }
-    ensures lettered { IfOk result IsLettered }
-    ensures tree { IfOk result (λ form. tree_of form ≡ Either (tree_of first) (tree_of second)) }
-{
-    Ok(Form::Alternation(Rc::new(alloc, first)?, Rc::new(alloc, second)?))
-}
-
-fn concatenation(alloc: Global, first: Form, second: Form) -> Result<Form, AllocError>
-    requires first { IsLettered first }
-    requires second { IsLettered second }
-    ensures lettered { IfOk result IsLettered }
-    ensures tree { IfOk result (λ form. tree_of form ≡ Both (tree_of first) (tree_of second)) }
-{
-    Ok(Form::Concatenation(Rc::new(alloc, first)?, Rc::new(alloc, second)?))
 }
 
 impl From<AllocError> for Stop {

@@ -3,39 +3,18 @@ use super::*;
 use crate::form::Form;
 use crate::word::Label;
 use std::process::Abort;
-use std::rc::Rc;
 use std::test::Fail;
-
-fn quantified(
-    alloc: Global,
-    body: Form,
-    lower: u32,
-    upper: Option<u32>,
-    reluctant: bool,
-) -> Result<Form, AllocError> {
-    Ok(Form::Quantified {
-        body: Rc::new(alloc, body)?,
-        lower,
-        upper,
-        reluctant,
-    })
-}
-
-fn then(alloc: Global, first: Form, second: Form) -> Result<Form, AllocError> {
-    let first = Rc::new(alloc, first)?;
-    Ok(Form::Concatenation(first, Rc::new(alloc, second)?))
-}
 
 /// `(A*)*`
 fn nested(alloc: Global) -> Result<Form, AllocError> {
-    let body = quantified(alloc, Form::Variable(0), 0, None, false)?;
-    quantified(alloc, body, 0, None, false)
+    let body = Form::quantified(alloc, Form::variable(0), 0, None, false)?;
+    Form::quantified(alloc, body, 0, None, false)
 }
 
 /// `(A??)*`
 fn nested_lazy(alloc: Global) -> Result<Form, AllocError> {
-    let body = quantified(alloc, Form::Variable(0), 0, Some(1), true)?;
-    quantified(alloc, body, 0, None, false)
+    let body = Form::quantified(alloc, Form::variable(0), 0, Some(1), true)?;
+    Form::quantified(alloc, body, 0, None, false)
 }
 
 fn pattern(rt: &impl Abort, form: Form) -> Pattern {
@@ -112,7 +91,7 @@ fn reluctant_iterations(rt: HostRuntime) -> Result<(), Fail> {
 
 #[test]
 fn iterations_to_the_end(rt: HostRuntime) -> Result<(), Fail> {
-    let form = then(rt.alloc(), nested(rt.alloc())?, Form::PartitionEnd)?;
+    let form = Form::concatenation(rt.alloc(), nested(rt.alloc())?, Form::PartitionEnd)?;
     let text = shown(&rt, rt.alloc(), form, 3, End::Closed)?;
     assert_eq!(rt; text.as_str(), "AAA AAA AAA AAA ");
     Ok(())
@@ -120,7 +99,7 @@ fn iterations_to_the_end(rt: HostRuntime) -> Result<(), Fail> {
 
 #[test]
 fn reluctant_iterations_to_the_end(rt: HostRuntime) -> Result<(), Fail> {
-    let form = then(rt.alloc(), nested_lazy(rt.alloc())?, Form::PartitionEnd)?;
+    let form = Form::concatenation(rt.alloc(), nested_lazy(rt.alloc())?, Form::PartitionEnd)?;
     let text = shown(&rt, rt.alloc(), form, 3, End::Closed)?;
     assert_eq!(rt; text.as_str(), "AAA ");
     Ok(())
@@ -140,14 +119,14 @@ fn one_more_than_the_cap(rt: HostRuntime) -> Result<(), Fail> {
 
 #[test]
 fn many_rows(rt: HostRuntime) -> Result<(), Fail> {
-    let form = quantified(rt.alloc(), Form::Variable(0), 0, None, true)?;
+    let form = Form::quantified(rt.alloc(), Form::variable(0), 0, None, true)?;
     assert!(rt; is_too_many(&rt, rt.alloc(), form, 1 << 40, 10)?);
     Ok(())
 }
 
 #[test]
 fn greedy_bounds(rt: HostRuntime) -> Result<(), Fail> {
-    let form = quantified(rt.alloc(), Form::Variable(0), 1, Some(2), false)?;
+    let form = Form::quantified(rt.alloc(), Form::variable(0), 1, Some(2), false)?;
     let text = shown(&rt, rt.alloc(), form, 2, End::Closed)?;
     assert_eq!(rt; text.as_str(), "AA A ");
     Ok(())
@@ -155,7 +134,7 @@ fn greedy_bounds(rt: HostRuntime) -> Result<(), Fail> {
 
 #[test]
 fn reluctant_bounds(rt: HostRuntime) -> Result<(), Fail> {
-    let form = quantified(rt.alloc(), Form::Variable(0), 1, Some(2), true)?;
+    let form = Form::quantified(rt.alloc(), Form::variable(0), 1, Some(2), true)?;
     let text = shown(&rt, rt.alloc(), form, 2, End::Closed)?;
     assert_eq!(rt; text.as_str(), "A AA ");
     Ok(())
@@ -163,7 +142,7 @@ fn reluctant_bounds(rt: HostRuntime) -> Result<(), Fail> {
 
 #[test]
 fn no_iteration(rt: HostRuntime) -> Result<(), Fail> {
-    let form = quantified(rt.alloc(), Form::Variable(0), 0, Some(0), false)?;
+    let form = Form::quantified(rt.alloc(), Form::variable(0), 0, Some(0), false)?;
     let text = shown(&rt, rt.alloc(), form, 2, End::Closed)?;
     assert_eq!(rt; text.as_str(), " ");
     Ok(())
@@ -171,8 +150,8 @@ fn no_iteration(rt: HostRuntime) -> Result<(), Fail> {
 
 #[test]
 fn excluded_rows(rt: HostRuntime) -> Result<(), Fail> {
-    let hidden = Form::Exclusion(Rc::new(rt.alloc(), Form::Variable(0))?);
-    let form = then(rt.alloc(), hidden, Form::Variable(1))?;
+    let hidden = Form::exclusion(rt.alloc(), Form::variable(0))?;
+    let form = Form::concatenation(rt.alloc(), hidden, Form::variable(1))?;
     let text = shown(&rt, rt.alloc(), form, 2, End::Closed)?;
     assert_eq!(rt; text.as_str(), "aB ");
     Ok(())
@@ -180,8 +159,8 @@ fn excluded_rows(rt: HostRuntime) -> Result<(), Fail> {
 
 #[test]
 fn one_row_of_two(rt: HostRuntime) -> Result<(), Fail> {
-    let form = then(rt.alloc(), Form::Variable(0), Form::PartitionEnd)?;
-    let form = then(rt.alloc(), Form::PartitionStart, form)?;
+    let form = Form::concatenation(rt.alloc(), Form::variable(0), Form::PartitionEnd)?;
+    let form = Form::concatenation(rt.alloc(), Form::PartitionStart, form)?;
     let text = shown(&rt, rt.alloc(), form, 2, End::Closed)?;
     assert_eq!(rt; text.as_str(), "");
     Ok(())
@@ -189,7 +168,7 @@ fn one_row_of_two(rt: HostRuntime) -> Result<(), Fail> {
 
 #[test]
 fn start_after_a_row(rt: HostRuntime) -> Result<(), Fail> {
-    let form = then(rt.alloc(), Form::Variable(0), Form::PartitionStart)?;
+    let form = Form::concatenation(rt.alloc(), Form::variable(0), Form::PartitionStart)?;
     let text = shown(&rt, rt.alloc(), form, 2, End::Closed)?;
     assert_eq!(rt; text.as_str(), "");
     Ok(())
@@ -197,7 +176,7 @@ fn start_after_a_row(rt: HostRuntime) -> Result<(), Fail> {
 
 #[test]
 fn open_end(rt: HostRuntime) -> Result<(), Fail> {
-    let form = quantified(rt.alloc(), Form::Variable(0), 0, None, false)?;
+    let form = Form::quantified(rt.alloc(), Form::variable(0), 0, None, false)?;
     let text = shown(&rt, rt.alloc(), form, 1, End::Open)?;
     assert_eq!(rt; text.as_str(), "A?A  ");
     Ok(())
@@ -207,9 +186,9 @@ fn open_end(rt: HostRuntime) -> Result<(), Fail> {
 fn permuted(alloc: Global) -> Result<Form, AllocError> {
     let mut parts = Vec::new(alloc);
     for v in 0..3 {
-        parts.push(Rc::new(alloc, Form::Variable(v))?)?;
+        parts.push(Form::variable(v))?;
     }
-    Ok(Form::Permute(parts))
+    Form::permute(alloc, parts)
 }
 
 #[test]

@@ -1,12 +1,11 @@
 //! What would follow a row whose test is open: it decides whether there is anything to wait for.
 ghost use Rattle.std.specs.Prelude.{◌≡◌, ℕ, ◌+◌, ◌-◌, ◌≤◌, None, IfOk, OnOk};
 ghost use Rattle.rp_pattern.specs.declared.word.Seen.TheVariants.{Open as OpenTest};
-ghost use Rattle.rp_search.specs.Spent.{held_in, held_together, weight};
 
 use super::{Outcome, Search};
 use crate::asking::follow;
 use crate::conditions::Tests;
-use rp_pattern::{Outlook, Sight, Stack};
+use rp_pattern::{Outlook, Sight};
 use std::alloc::AllocError;
 
 #[tactic(auto, unfolding(crate::specs::Fits::start_of_search, crate::specs::Fits::labels_of_search, crate::specs::Fits::pattern_words, crate::specs::Fits::most_turns, crate::specs::Fits::left_of, crate::specs::Fits::ChoicesStand, crate::specs::Fits::LabelsStand))]
@@ -14,7 +13,7 @@ impl Search {
     ghost use Rattle.rp_search.specs.Fits.{IsSameSearch, start_of_search, labels_of_search, pattern_words, left_of, Stands, Explores};
     ghost use Rattle.rp_search.specs.Turned.{AsksTheSame, Searches, Turned};
     ghost use Rattle.rp_pattern.specs.Choices.{below_left};
-    ghost use Rattle.rp_pattern.specs.Outlooks.{turns_ahead, held_by};
+    ghost use Rattle.rp_pattern.specs.Outlooks.{turns_ahead};
 
     /// Takes up what would follow a row whose test is open. There each row is taken without a test. Where nothing would
     /// follow it, the choice that maps it is given up, and the next one is taken up.
@@ -36,9 +35,6 @@ impl Search {
         ensures entered { OnOk result (T.entered tests.new (start_of_search self.new) (labels_of_search self.new)) }
         ensures searches { OnOk result (Searches self.new (T.rows tests.old) (T.ending tests.old) (T.outcome tests.old (start_of_search self.old))) }
         ensures turned { IfOk result (Turned 1 (pattern_words self.old (T.rows tests.old) (T.ending tests.old)) (labels_of_search self.new) (T.ending tests.old) (T.outcome tests.old (start_of_search self.old)) (below_left self.old.choices (T.rows tests.old) (T.ending tests.old) + turns_ahead outlook (T.rows tests.old) (T.ending tests.old)) (left_of self.new (T.rows tests.old) (T.ending tests.old) (T.outcome tests.old (start_of_search self.old)))) }
-        ensures spent { self.new.spent ≡ self.old.spent }
-        ensures gains { OnOk result (held_in self.new.outlook ≤ held_by outlook + 1) }
-        ensures drops { OnOk result (held_by outlook ≤ held_in self.new.outlook + 1) }
     {
         match outlook.take_up(tests.known(), tests.end())? {
             Sight::Further => {
@@ -56,21 +52,4 @@ impl Search {
             }
         }
     }
-}
-
-/// Drops one choice of the outlooks that aren't needed any more. So no turn drops all that was explored.
-pub(super) fn shed(spent: &mut Stack<Outlook>) -> Result<(), AllocError>
-    ensures one { OnOk result (held_together spent.old ≤ held_together spent.new + 1) }
-    ensures none { OnOk result (held_together spent.new ≤ held_together spent.old) }
-    ensures less { OnOk result (weight spent.new ≤ weight spent.old - 1) }
-{
-    if spent.is_empty() {
-        return Ok(());
-    }
-    if let Some(mut last) = spent.pop() {
-        if last.drop_one() {
-            spent.push(last)?;
-        }
-    }
-    Ok(())
 }

@@ -7,6 +7,7 @@ use Rattle.rp_pattern.proofs.Within.{words_within, words_wait, words_full}
 use Rattle.rp_pattern.proofs.Bounds.{unbounded, optional_enough}
 use Rattle.rp_pattern.proofs.Maps.{words_are_mappings}
 use Rattle.rp_pattern.proofs.Readings.{words_are_readings, choices_decide}
+use Rattle.rp_pattern.proofs.OneList.{readings_are_one}
 use Rattle.rp_pattern.proofs.laws.law_words.Goals as goal
 
 pub returns-clause-mappings : goal.returns-clause-mappings
@@ -14,6 +15,9 @@ returns-clause-mappings c = words_are_mappings
 
 pub returns-clause-readings : goal.returns-clause-readings
 returns-clause-readings c = words_are_readings
+
+pub returns-clause-one_list : goal.returns-clause-one_list
+returns-clause-one_list c = readings_are_one
 
 pub returns-clause-choices : goal.returns-clause-choices
 returns-clause-choices c = choices_decide

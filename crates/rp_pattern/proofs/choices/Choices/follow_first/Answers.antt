@@ -1,10 +1,10 @@
 use Rattle.std.proofs.Common.{ℕ, Some, refl, sym, ap, subst}
 use Rattle.rp_pattern.specs.declared.word.End.{End}
-use Rattle.rp_pattern.specs.declared.rests.Rests.TheVariants.{Done}
+use Rattle.rp_pattern.specs.declared.machine.continuation.Continuation.TheVariants.{Done}
 use Rattle.rp_pattern.specs.Choices.{first_later}
 use Rattle.rp_pattern.specs.Splits.{StandsFor}
 use Rattle.rp_pattern.proofs.OrderRests.{IfOk-map}
-use Rattle.rp_pattern.proofs.Stacks.{}
+use Rattle.rp_pattern.proofs.ChoiceStacks.{}
 use Rattle.rp_pattern.proofs.choices.Choices.follow_first.Goals as goal
 
 pub returns-in-None : goal.returns-in-None

@@ -3,4 +3,4 @@ use Rattle.rp_pattern.proofs.choices.Choices.labels.Goals as goal
 
 pub returns : goal.returns
 unfolding entered
-returns c = c.as_slice.ensures
+returns c = c.deref.ensures.value

@@ -1,9 +1,9 @@
 use Rattle.std.proofs.Common.{◌≡◌, ◌∷◌, ◌++◌, ◌+◌, [], refl, subst, ap, ◌∙◌, length, IsTrue, arith, drop}
 use Rattle.std.proofs.lemmas.List.{length-take-le}
-use Rattle.rp_pattern.specs.declared.turn.Turn.{Turn}
-use Rattle.rp_pattern.specs.Rests.{pushed, rises, rests_parts}
+use Rattle.rp_pattern.specs.declared.machine.split.Expansion.{Expansion}
+use Rattle.rp_pattern.specs.Continuations.{pushed, rises, continuation_parts}
 use Rattle.rp_pattern.specs.Splits.{TakenUp}
-use Rattle.rp_pattern.proofs.Stacks.{Stack, same_whole, rises_first, rises_more, is_full, is_open, is_split, maps_row, is_nothing}
+use Rattle.rp_pattern.proofs.ChoiceStacks.{Stack, same_whole, rises_first, rises_more, is_full, is_open, is_split, maps_row, is_nothing}
 use Rattle.rp_pattern.proofs.choices.Choices.take_top.Goals as goal
 
 pub returns-in_default-clause-whole : goal.returns-in_default-clause-whole
@@ -14,7 +14,7 @@ returns-in_default-clause-taken c =
     let a = c.args in
     let old = a.self.now in
     let none = c.in_default.ensures in
-    is_nothing old _ old.start old.labels a.n a.end
+    is_nothing old _ old.start old.labels.items a.n a.end
     (record { begun = c.requires.begun; start = refl; labels = refl; choices = none })
     (record { begun = c.requires.begun; start = refl; labels = refl; choices = none })
 
@@ -30,10 +30,10 @@ invariant_of-self-in-Split c =
     let t = c.in-Some.choice.now in
     let cs = drop 1 old.stack in
     let on = c.in-Some.ensures in
-    let first = rises_first (length old.labels) t cs (subst (λ z. IsTrue (rises (length old.labels) z)) on old.rises) in
-    let long : length c.truncate.new.self ≡ t.depth = ap length c.truncate.ensures ∙ length-take-le t.depth old.labels first.0 in
+    let first = rises_first (length old.labels.items) t cs (subst (λ z. IsTrue (rises (length old.labels.items) z)) on old.rises) in
+    let long : length c.truncate.new.self.items ≡ t.depth = ap length c.truncate.ensures.items ∙ length-take-le t.depth old.labels.items first.0 in
     record {
-      rises = rises_more t.depth (length c.truncate.new.self) (c.push-in-Split.new.stack) (omega (arith, long)) (c.push-in-Split.ensures.rises (c.set_top.ensures.rises first.1));
+      rises = rises_more t.depth (length c.truncate.new.self.items) (c.push-in-Split.new.stack) (omega (arith, long)) (c.push-in-Split.ensures.rises (c.set_top.ensures.rises first.1));
       ends = omega (arith, long, first.0, old.ends);
     }
 
@@ -50,11 +50,11 @@ returns-in-Full-clause-taken c =
     let t = c.in-Some.choice.now in
     let cs = drop 1 old.stack in
     let on = c.in-Some.ensures in
-    let k : Stack old old.start old.labels (t ∷ cs) = record { begun = c.requires.begun; start = refl; labels = refl; choices = on } in
-    let r : IsTrue (rises (length old.labels) (t ∷ cs)) = subst (λ z. IsTrue (rises (length old.labels) z)) on old.rises in
+    let k : Stack old old.start old.labels.items (t ∷ cs) = record { begun = c.requires.begun; start = refl; labels = refl; choices = on } in
+    let r : IsTrue (rises (length old.labels.items) (t ∷ cs)) = subst (λ z. IsTrue (rises (length old.labels.items) z)) on old.rises in
     let split = c.take_up.new.split in
-    let turn = λ (z : Turn). TakenUp a.n a.end (old.start + t.depth) (λ n e. rests_parts n e t.rests) split z in
-    is_full old _ old.start old.labels t cs a.n a.end k r (record { begun = c.requires.begun; start = refl; labels = c.truncate.ensures; choices = on }) (subst turn c.in-Full.is c.in_ok-take_up.ensures)
+    let came = λ (z : Expansion). TakenUp a.n a.end (old.start + t.depth) (λ n e. continuation_parts n e t.continuation) split z in
+    is_full old _ old.start old.labels.items t cs a.n a.end k r (record { begun = c.requires.begun; start = refl; labels = c.truncate.ensures.items; choices = on }) (subst came c.in-Full.is c.in_ok-take_up.ensures)
 
 pub returns-in_ok-push-in-Row-clause-whole : goal.returns-in_ok-push-in-Row-clause-whole
 returns-in_ok-push-in-Row-clause-whole c = same_whole _ _ refl refl
@@ -66,11 +66,11 @@ returns-in_ok-push-in-Row-clause-taken c =
     let t = c.in-Some.choice.now in
     let cs = drop 1 old.stack in
     let on = c.in-Some.ensures in
-    let k : Stack old old.start old.labels (t ∷ cs) = record { begun = c.requires.begun; start = refl; labels = refl; choices = on } in
-    let r : IsTrue (rises (length old.labels) (t ∷ cs)) = subst (λ z. IsTrue (rises (length old.labels) z)) on old.rises in
+    let k : Stack old old.start old.labels.items (t ∷ cs) = record { begun = c.requires.begun; start = refl; labels = refl; choices = on } in
+    let r : IsTrue (rises (length old.labels.items) (t ∷ cs)) = subst (λ z. IsTrue (rises (length old.labels.items) z)) on old.rises in
     let split = c.take_up.new.split in
-    let turn = λ (z : Turn). TakenUp a.n a.end (old.start + t.depth) (λ n e. rests_parts n e t.rests) split z in
-    maps_row old _ old.start old.labels t cs a.n a.end k r c.in-Row.label (record { begun = c.requires.begun; start = refl; labels = c.in_ok-push-in-Row.ensures.ok ∙ ap (λ z. z ++ c.in-Row.label ∷ []) c.truncate.ensures; choices = on }) (subst turn c.in-Row.is c.in_ok-take_up.ensures)
+    let came = λ (z : Expansion). TakenUp a.n a.end (old.start + t.depth) (λ n e. continuation_parts n e t.continuation) split z in
+    maps_row old _ old.start old.labels.items t cs a.n a.end k r c.in-Row.label (record { begun = c.requires.begun; start = refl; labels = c.in_ok-push-in-Row.ensures.items ∙ ap (λ z. z ++ c.in-Row.label ∷ []) c.truncate.ensures.items; choices = on }) (subst came c.in-Row.is c.in_ok-take_up.ensures)
 
 pub returns-in-Open-clause-whole : goal.returns-in-Open-clause-whole
 returns-in-Open-clause-whole c = same_whole _ _ refl refl
@@ -82,11 +82,11 @@ returns-in-Open-clause-taken c =
     let t = c.in-Some.choice.now in
     let cs = drop 1 old.stack in
     let on = c.in-Some.ensures in
-    let k : Stack old old.start old.labels (t ∷ cs) = record { begun = c.requires.begun; start = refl; labels = refl; choices = on } in
-    let r : IsTrue (rises (length old.labels) (t ∷ cs)) = subst (λ z. IsTrue (rises (length old.labels) z)) on old.rises in
+    let k : Stack old old.start old.labels.items (t ∷ cs) = record { begun = c.requires.begun; start = refl; labels = refl; choices = on } in
+    let r : IsTrue (rises (length old.labels.items) (t ∷ cs)) = subst (λ z. IsTrue (rises (length old.labels.items) z)) on old.rises in
     let split = c.take_up.new.split in
-    let turn = λ (z : Turn). TakenUp a.n a.end (old.start + t.depth) (λ n e. rests_parts n e t.rests) split z in
-    is_open old _ old.start old.labels t cs a.n a.end k r (record { begun = c.requires.begun; start = refl; labels = c.truncate.ensures; choices = on }) (subst turn c.in-Open.is c.in_ok-take_up.ensures)
+    let came = λ (z : Expansion). TakenUp a.n a.end (old.start + t.depth) (λ n e. continuation_parts n e t.continuation) split z in
+    is_open old _ old.start old.labels.items t cs a.n a.end k r (record { begun = c.requires.begun; start = refl; labels = c.truncate.ensures.items; choices = on }) (subst came c.in-Open.is c.in_ok-take_up.ensures)
 
 pub returns-in_ok-push-in-Split-clause-whole : goal.returns-in_ok-push-in-Split-clause-whole
 returns-in_ok-push-in-Split-clause-whole c = same_whole _ _ refl refl
@@ -98,8 +98,8 @@ returns-in_ok-push-in-Split-clause-taken c =
     let t = c.in-Some.choice.now in
     let cs = drop 1 old.stack in
     let on = c.in-Some.ensures in
-    let k : Stack old old.start old.labels (t ∷ cs) = record { begun = c.requires.begun; start = refl; labels = refl; choices = on } in
-    let r : IsTrue (rises (length old.labels) (t ∷ cs)) = subst (λ z. IsTrue (rises (length old.labels) z)) on old.rises in
+    let k : Stack old old.start old.labels.items (t ∷ cs) = record { begun = c.requires.begun; start = refl; labels = refl; choices = on } in
+    let r : IsTrue (rises (length old.labels.items) (t ∷ cs)) = subst (λ z. IsTrue (rises (length old.labels.items) z)) on old.rises in
     let split = c.take_up.new.split in
-    let turn = λ (z : Turn). TakenUp a.n a.end (old.start + t.depth) (λ n e. rests_parts n e t.rests) split z in
-    is_split old _ old.start old.labels t cs a.n a.end k r split (record { begun = c.requires.begun; start = refl; labels = c.truncate.ensures; choices = c.in_ok-push-in-Split.ensures.pushed ∙ ap (pushed t.depth split.preferred) c.set_top.ensures.set }) (subst turn c.in-Split.is c.in_ok-take_up.ensures)
+    let came = λ (z : Expansion). TakenUp a.n a.end (old.start + t.depth) (λ n e. continuation_parts n e t.continuation) split z in
+    is_split old _ old.start old.labels.items t cs a.n a.end k r split (record { begun = c.requires.begun; start = refl; labels = c.truncate.ensures.items; choices = c.in_ok-push-in-Split.ensures.pushed ∙ ap (pushed t.depth split.preferred) c.set_top.ensures.set }) (subst came c.in-Split.is c.in_ok-take_up.ensures)

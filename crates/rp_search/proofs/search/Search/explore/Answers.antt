@@ -24,6 +24,6 @@ unfolding start_of_search ChoicesStand LabelsStand
 take_up-requires-in-Nothing-clause-searches g c =
     let read : SeenAs c.args.outlook c.take_up.new.self c.known.result c.end.result Nothing = rw c.in-Nothing.is at c.in_ok-take_up.ensures in
     let goes : Goes c.args.self.now.choices c.give_up.new.self (g.T.Tests.rows c.args.tests.now) (g.T.Tests.ending c.args.tests.now) (g.T.Tests.outcome c.args.tests.now (start_of c.args.self.now.choices)) =
-    explored_nothing c.args.self.now.choices c.give_up.new.self c.args.outlook _ _ _ c.requires.stands c.requires.explores read.2 c.give_up.ensures.whole (record { cut = c.give_up.ensures.labels; cut_off = c.give_up.ensures.cut_off; words = c.give_up.ensures.remaining; turns = c.give_up.ensures.left }) in
+    explored_nothing c.args.self.now.choices c.give_up.new.self c.args.outlook _ _ _ c.requires.stands c.requires.explores read.1 c.give_up.ensures.whole (record { cut = c.give_up.ensures.labels; cut_off = c.give_up.ensures.cut_off; words = c.give_up.ensures.remaining; turns = c.give_up.ensures.left }) in
     searches_asked _ _ _ _ _ (g.T.Tests.outcome c.args.tests.now) (g.T.Tests.outcome c.follow.new.tests) (start_of c.args.self.now.choices) (start_of c.give_up.new.self) c.follow.ensures.asks c.give_up.ensures.whole.start
     (searches_plainly _ _ _ _ c.requires.none goes.stands goes.admitted)

@@ -1,6 +1,5 @@
 use Rattle.std.proofs.Common.{◌≡◌, ◌+◌, ◌-◌, ◌*◌, ◌≤◌}
 use Rattle.rp_search.specs.Fits.{start_of_search, labels_of_search}
-use Rattle.rp_search.specs.Spent.{kept_by, spent_of, in_use}
 use Rattle.rp_search.specs.Turned.{AsksTheSame}
 use Rattle.rp_search.proofs.Running.{RunsFor}
 use Rattle.rp_search.proofs.search.Search.go_on.Given as goal
@@ -12,6 +11,3 @@ invariant-loop-turn g l =
     × g.T.Tests.entered l.tests (start_of_search l.self) (labels_of_search l.self)
     × (g.T.Tests.entries l.tests ≤ g.T.Tests.entries l.fn.tests + l._turn)
     × (l.steps ≡ l.fn.steps + l._turn)
-    × (kept_by l.self ≤ kept_by l.fn.self + l._turn)
-    × (kept_by l.fn.self ≤ kept_by l.self + 2 * l._turn)
-    × (spent_of l.self ≤ spent_of l.fn.self + in_use l.fn.self - l._turn)

@@ -1,0 +1,297 @@
+//! A part of a pattern, and what it gives way to: an arm for each form.
+ghost use Rattle.std.specs.Prelude.{◌≡◌, IsTrue};
+ghost use Rattle.rp_pattern.specs.Bounds.{is_allowed};
+
+use crate::form::Form;
+use crate::machine::continuation::{Continuation, before};
+use crate::machine::iterations::Iterations;
+use crate::machine::link::{Part, Tail, follow, linked, share};
+use crate::machine::orders::Orders;
+use crate::machine::split::{Split, Expansion, take_row};
+use crate::word::End;
+use std::alloc::{AllocError, Global};
+use std::rc::Rc;
+
+/// A part of a pattern, and whether it stands inside `{- .. -}`.
+#[derive(Drop)]
+pub(crate) struct Node {
+    pub form: Rc<Form>,
+    /// Whether its labels are excluded.
+    pub excluded: bool,
+    ghost allowed: { IsTrue (is_allowed form.value) },
+}
+
+impl Node {
+    ghost use Rattle.std.specs.Prelude.{◌≡◌, ℕ, ◌∷◌, ◌<◌, ◌≤◌, ◌++◌, IfOk, OnOk, IsTrue, List, Option, map, length};
+    ghost use Rattle.std.specs.List.{AllByRecursion};
+    ghost use Rattle.std.specs.declared.vec.Vec.{Vec};
+    ghost use Rattle.std.specs.declared.rc.Rc.{Rc};
+    ghost use Rattle.std.specs.declared.alloc.Global.{Global};
+    ghost use Rattle.rp_pattern.specs.declared.word.End.{End};
+    ghost use Rattle.rp_pattern.specs.declared.form.Form.{Form};
+    ghost use Rattle.rp_pattern.specs.Bounds.{is_allowed};
+    ghost use Rattle.rp_pattern.specs.PermutedParts.{permuted_parts};
+    ghost use Rattle.rp_pattern.specs.Variables.{all_true};
+    ghost use Rattle.rp_pattern.specs.Continuations.{IsNodeOf, IsSamePart, tail_parts, node_part, iterations_part, permuted_form_parts, in_order};
+    ghost use Rattle.rp_pattern.specs.Splits.{TakenUp, AlwaysSplits};
+
+    /// A part, inside an exclusion or outside of one.
+    #[inline(always)]
+    pub(crate) fn of(form: &Rc<Form>, excluded: bool) -> Result<Node, AllocError>
+        requires { IsTrue (is_allowed form.now.value) }
+        ensures { IfOk result (IsNodeOf form.now.value excluded) }
+    {
+        Ok(Node {
+            form: form.clone()?,
+            excluded,
+        })
+    }
+
+    /// A further owner.
+    #[inline(always)]
+    pub(crate) fn share(&self) -> Result<Node, AllocError>
+        ensures { IfOk result (IsNodeOf self.now.form.value self.now.excluded) }
+    {
+        Node::of(&self.form, self.excluded)
+    }
+
+    /// Taken up at a row, before later parts. `form` is its own, as it stands in memory.
+    #[inline(always)]
+    pub(crate) fn take_up(
+        &self,
+        alloc: Global,
+        form: &Form,
+        then: &Tail,
+        row: u64,
+        n: u64,
+        end: End,
+        split: &mut Split,
+    ) -> Result<Expansion, AllocError>
+        requires { form.now ≡ self.now.form.value }
+        ensures { IfOk result (TakenUp n end row (λ n e. node_part n e self.now
+            ∷ tail_parts n e then.now) split.new) }
+    {
+        match form {
+            Form::Variable(var) => Ok(take_row(*var, self.excluded, row, n, end, split)),
+            Form::Empty => {
+                self.take_empty(then, row, split)?;
+                Ok(Expansion::Split)
+            }
+            Form::PartitionStart => {
+                self.take_start(then, row, split)?;
+                Ok(Expansion::Split)
+            }
+            Form::PartitionEnd => self.take_end(then, row, n, end, split),
+            Form::Concatenation(first, second) => {
+                self.take_concatenation(alloc, first, second, then, split)?;
+                Ok(Expansion::Split)
+            }
+            Form::Alternation(first, second) => {
+                self.take_alternation(first, second, then, split)?;
+                Ok(Expansion::Split)
+            }
+            Form::Permute(_) => {
+                self.take_permute(alloc, then, row, split)?;
+                Ok(Expansion::Split)
+            }
+            Form::Exclusion(body) => {
+                self.take_exclusion(body, then, split)?;
+                Ok(Expansion::Split)
+            }
+            Form::Quantified {
+                body,
+                lower,
+                upper,
+                reluctant,
+            } => {
+                let iterations = self.iterations(body, *lower, *upper, *reluctant)?;
+                *split = iterations.take_apart(alloc, *lower, then, row)?;
+                Ok(Expansion::Split)
+            }
+        }
+    }
+
+    /// The two parts, one after the other.
+    #[inline(always)]
+    fn take_concatenation(
+        &self,
+        alloc: Global,
+        first: &Rc<Form>,
+        second: &Rc<Form>,
+        then: &Tail,
+        split: &mut Split,
+    ) -> Result<(), AllocError>
+        requires { self.now.form.value ≡ Form.Concatenation first.now second.now }
+        ensures { OnOk result ((row : ℕ) →
+            AlwaysSplits row (λ n e. node_part n e self.now ∷ tail_parts n e then.now) split.new) }
+    {
+        let next = Node::of(second, self.excluded)?;
+        let then = share(then)?;
+        if let Form::Variable(var) = &**first {
+            *split = Split::one(Some(Continuation::Row {
+                var: *var,
+                next,
+                then,
+            }));
+            return Ok(());
+        }
+        let later = linked(alloc, None, Part::Whole(next), then)?;
+        *split = Split::one(Some(before(first, self.excluded, later)?));
+        Ok(())
+    }
+
+    /// Either part.
+    #[inline(always)]
+    fn take_alternation(
+        &self,
+        first: &Rc<Form>,
+        second: &Rc<Form>,
+        then: &Tail,
+        split: &mut Split,
+    ) -> Result<(), AllocError>
+        requires { self.now.form.value ≡ Form.Alternation first.now second.now }
+        ensures { OnOk result ((row : ℕ) →
+            AlwaysSplits row (λ n e. node_part n e self.now ∷ tail_parts n e then.now) split.new) }
+    {
+        let preferred = before(first, self.excluded, share(then)?)?;
+        let other = before(second, self.excluded, share(then)?)?;
+        *split = Split {
+            preferred: Some(preferred),
+            other: Some(other),
+        };
+        Ok(())
+    }
+
+    /// No row.
+    #[inline(always)]
+    fn take_empty(&self, then: &Tail, row: u64, split: &mut Split) -> Result<(), AllocError>
+        requires { self.now.form.value ≡ Form.Empty }
+        ensures { OnOk result (AlwaysSplits row (λ n e. node_part n e self.now ∷ tail_parts n e then.now) split.new) }
+    {
+        *split = Split::one(follow(then, row)?);
+        Ok(())
+    }
+
+    /// No row, before row 1.
+    #[inline(always)]
+    fn take_start(&self, then: &Tail, row: u64, split: &mut Split) -> Result<(), AllocError>
+        requires { self.now.form.value ≡ Form.PartitionStart }
+        ensures { OnOk result (AlwaysSplits row (λ n e. node_part n e self.now ∷ tail_parts n e then.now) split.new) }
+    {
+        if row != 1 {
+            *split = Split::none();
+            return Ok(());
+        }
+        *split = Split::one(follow(then, row)?);
+        Ok(())
+    }
+
+    /// No row, after the last one.
+    #[inline(always)]
+    fn take_end(
+        &self,
+        then: &Tail,
+        row: u64,
+        n: u64,
+        end: End,
+        split: &mut Split,
+    ) -> Result<Expansion, AllocError>
+        requires { self.now.form.value ≡ Form.PartitionEnd }
+        ensures { IfOk result (TakenUp n end row (λ n e. node_part n e self.now
+            ∷ tail_parts n e then.now) split.new) }
+    {
+        if row <= n {
+            *split = Split::none();
+            return Ok(Expansion::Split);
+        }
+        match end {
+            End::Open => Ok(Expansion::Open),
+            End::Closed => {
+                *split = Split::one(follow(then, row)?);
+                Ok(Expansion::Split)
+            }
+        }
+    }
+
+    /// The part, whose labels are excluded.
+    #[inline(always)]
+    fn take_exclusion(
+        &self,
+        body: &Rc<Form>,
+        then: &Tail,
+        split: &mut Split,
+    ) -> Result<(), AllocError>
+        requires { self.now.form.value ≡ Form.Exclusion body.now }
+        ensures { OnOk result ((row : ℕ) →
+            AlwaysSplits row (λ n e. node_part n e self.now ∷ tail_parts n e then.now) split.new) }
+    {
+        *split = Split::one(Some(before(body, true, share(then)?)?));
+        Ok(())
+    }
+
+    /// The iterations of a quantified part.
+    #[inline(always)]
+    fn iterations(
+        &self,
+        body: &Rc<Form>,
+        lower: u32,
+        upper: Option<u32>,
+        reluctant: bool,
+    ) -> Result<Iterations, AllocError>
+        requires { self.now.form.value ≡ Form.Quantified body.now lower upper reluctant }
+        ensures { IfOk result (λ it. (n : ℕ) (e : End) →
+            IsSamePart (iterations_part n e lower it) (node_part n e self.now)) }
+    {
+        Ok(Iterations {
+            body: Node::of(body, self.excluded)?,
+            further: Iterations::further_after(lower, upper),
+            reluctant,
+            moving: body.always_moves(),
+        })
+    }
+
+    /// The orders of the parts.
+    #[inline(always)]
+    fn take_permute(
+        &self,
+        alloc: Global,
+        then: &Tail,
+        row: u64,
+        split: &mut Split,
+    ) -> Result<(), AllocError>
+        requires { (parts : Vec (Rc Form Global) Global) × (self.now.form.value ≡ Form.Permute parts) }
+        ensures { OnOk result (AlwaysSplits row (λ n e. node_part n e self.now ∷ tail_parts n e then.now) split.new) }
+    {
+        let orders = Orders {
+            permute: self.share()?,
+            from: 0,
+        };
+        *split = orders.take_apart(alloc, then, row)?;
+        Ok(())
+    }
+
+    /// The parts of a PERMUTE.
+    pub(crate) fn parts(&self) -> &[Rc<Form>]
+        ensures parts { map (λ f. f.value) result.now ≡ permuted_parts self.now.form.value }
+        ensures few { length result.now ≤ 8 }
+        ensures allowed { IsTrue (all_true (map (λ f. is_allowed f.value) result.now)) }
+    {
+        match &*self.form {
+            Form::Permute(parts) => parts,
+            _ => &[],
+        }
+    }
+
+    /// The parts in an order, before later ones.
+    pub(crate) fn in_order(&self, alloc: Global, order: &[usize], then: &Tail) -> Result<Tail, AllocError>
+        requires { AllByRecursion (λ k. k < length (permuted_parts self.now.form.value)) order.now }
+        ensures { IfOk result (λ tail. (n : ℕ) (e : End) →
+            tail_parts n e tail ≡ in_order (permuted_form_parts n e self.now) order.now ++ tail_parts n e then.now) }
+    {
+        let Some((place, places)) = order.split_first() else {
+            return share(then);
+        };
+        let part = Part::Whole(Node::of(&self.parts()[*place], self.excluded)?);
+        linked(alloc, None, part, self.in_order(alloc, places, then)?)
+    }
+}
