@@ -32,8 +32,8 @@ module _ {X : Type 0} (R : X → X → Type 0) (not_both : (x y : X) → R x y �
       let b = from y (Contains-head y ys) in
       let same : x ≡ y = same_head x y xs ys up up' a.0 a.1 a.2 b.0 b.1 b.2 in
       let rest : xs ≡ ys = same_list xs ys (tail_up x xs up) (tail_up y ys up')
-          (λ z c. let d = to z (Contains-tail x xs z c) in in_tail x y xs ys up same z c d.0 d.1 d.2)
-          (λ z c. let d = from z (Contains-tail y ys z c) in in_tail y x ys xs up' (sym same) z c d.0 d.1 d.2) in
+      (λ z c. let d = to z (Contains-tail x xs z c) in in_tail x y xs ys up same z c d.0 d.1 d.2)
+      (λ z c. let d = from z (Contains-tail y ys z c) in in_tail y x ys xs up' (sym same) z c d.0 d.1 d.2) in
       cc
 
 -- of two lists of choices one at most is preferred to the other

@@ -63,7 +63,7 @@ turns_step n e (Quantified p lower upper reluctant) = required_turns lower (part
 abbrev pub turns : ℕ → End → Form → TurnCounts
 turns n e = para-Form TurnCounts (turns_step n e)
 
--- the turns of a choice whose continuation are these parts: those of each, without the ones for joining them
+-- the turns of a choice whose continuation has these parts: those of each, without the ones for joining them
 abbrev pub chain_turns : List WordsAndTurns → TurnCounts
 chain_turns [] i = 0
 chain_turns (p ∷ ps) i = p.1 i + sum_by (turns_after (chain_turns ps) i) (p.0 i)

@@ -27,7 +27,7 @@ pub data Extends : List Mapping → List Mapping → Type 0 where
 abbrev pub IsLater : ℕ → End → ℕ → End → Type 0
 IsLater n e n' e' = (n ≤ n') × (e ≡ ClosedEnd → (n' ≡ n) × (e' ≡ ClosedEnd))
 
--- Over every continuation the words of every pattern from every row are extended.
+-- More rows, or the close, extend the words of every pattern from every row.
 abbrev pub WordsExtend : Type 0
 WordsExtend = (f : Form) (n n' : ℕ) (e e' : End) (i : ℕ) → IsLater n e n' e' → Extends (words n e f i) (words n' e' f i)
 

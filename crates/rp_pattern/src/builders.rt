@@ -19,10 +19,7 @@ impl Form {
     pub fn concatenation(alloc: Global, first: Form, second: Form) -> Result<Form, AllocError>
         ensures { IfOk result (IsConcatenation first second) }
     {
-        Ok(Form::Concatenation(
-            Rc::new(alloc, first)?,
-            Rc::new(alloc, second)?,
-        ))
+        Ok(Form::Concatenation(Rc::new(alloc, first)?, Rc::new(alloc, second)?))
     }
 
     /// `A | B`: either part, the first preferred.

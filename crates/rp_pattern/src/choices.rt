@@ -6,7 +6,7 @@ use crate::form::{Form, Pattern};
 use crate::machine::continuation::{Choice, Continuation};
 use crate::machine::link::{Part, Tail, follow, linked};
 use crate::machine::node::Node;
-use crate::machine::split::{Split, Expansion};
+use crate::machine::split::{Expansion, Split};
 use crate::outlook::Outlook;
 use crate::stack::Stack;
 use crate::word::{End, Label};
@@ -189,7 +189,10 @@ impl Choices {
         self.labels.truncate(depth);
         let row = self.start + depth as u64;
         let mut split = Split::none();
-        match choice.continuation.take_up(self.alloc, row, n, end, &mut split)? {
+        match choice
+            .continuation
+            .take_up(self.alloc, row, n, end, &mut split)?
+        {
             Expansion::Full => Ok(Taken::Full),
             Expansion::Row(label) => {
                 self.labels.push(label)?;
@@ -308,7 +311,10 @@ fn set_top(stack: &mut Stack<Choice>, depth: usize, continuation: Option<Continu
 {
     match continuation {
         None => stack.drop_top(),
-        Some(continuation) => stack.set_top(Choice { depth, continuation }),
+        Some(continuation) => stack.set_top(Choice {
+            depth,
+            continuation,
+        }),
     }
 }
 
@@ -323,7 +329,10 @@ pub(crate) fn push(
     ensures rises { IsTrue (rises depth stack.old) → IsTrue (rises depth stack.new) }
 {
     if let Some(continuation) = continuation {
-        stack.push(Choice { depth, continuation })?;
+        stack.push(Choice {
+            depth,
+            continuation,
+        })?;
     }
     Ok(())
 }

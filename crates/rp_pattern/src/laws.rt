@@ -6,9 +6,9 @@ ghost use Rattle.rp_pattern.specs.Readings.{WordsAreReadings, ReadingsAreOne, Ch
 
 /// The laws of the word list. It has the mappings that the rules of a row pattern allow, and no others: one for each
 /// reading, in the order of preferment, and the choices of a reading decide its mapping. More rows, or the close, leave
-/// a full word, and replace an open one in its own place by words that begin with its labels. Without an upper bound the
-/// rows are bound enough, for words and for turns. Words end within the known rows, an open one at the last of them, and
-/// over a closed end each is full.
+/// a full word, and replace an open one in its own place by words that begin with its labels. Over n rows a quantifier
+/// without an upper bound has the words and turns that it has with a bound of n + 2 or more. Words end within the known
+/// rows, an open one at the last of them, and over a closed end each is full.
 pub fn law_words()
     ensures mappings { WordsAreMappings }
     ensures readings { WordsAreReadings }

@@ -27,9 +27,9 @@ mod word;
 pub use choices::{Choices, Taken};
 pub use form::{Form, Pattern};
 pub use laws::{law_labels, law_words};
+pub use lexicographic::permutations;
 pub use list::{ListFault, list_words};
 pub use outlook::{Outlook, Sight};
-pub use lexicographic::permutations;
 pub use word::{End, Label, Mark, Seen, Word};
 
 #[cfg(test)]

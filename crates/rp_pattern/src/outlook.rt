@@ -6,7 +6,7 @@ ghost use Rattle.rp_pattern.specs.Splits.{option_words, option_turns};
 
 use crate::choices::push;
 use crate::machine::continuation::{Choice, Continuation};
-use crate::machine::split::{Split, Expansion};
+use crate::machine::split::{Expansion, Split};
 use crate::stack::Stack;
 use crate::word::End;
 use std::alloc::{AllocError, Global};
@@ -36,7 +36,11 @@ impl Outlook {
     ghost use Rattle.rp_pattern.specs.Outlooks.{words_ahead, turns_ahead, SeenAs};
 
     /// What is left at a row, if anything is.
-    pub(crate) fn at(alloc: Global, row: u64, continuation: Option<Continuation>) -> Result<Outlook, AllocError>
+    pub(crate) fn at(
+        alloc: Global,
+        row: u64,
+        continuation: Option<Continuation>,
+    ) -> Result<Outlook, AllocError>
         ensures words { IfOk result (λ o. (n : ℕ) (e : End) →
             words_ahead o n e ≡ length (option_words n e continuation row)) }
         ensures turns { IfOk result (λ o. (n : ℕ) (e : End) →
@@ -63,7 +67,10 @@ impl Outlook {
         let depth = choice.depth;
         let row = self.start + depth as u64;
         let mut split = Split::none();
-        match choice.continuation.take_up(self.alloc, row, n, end, &mut split)? {
+        match choice
+            .continuation
+            .take_up(self.alloc, row, n, end, &mut split)?
+        {
             Expansion::Full => Ok(Sight::Word),
             Expansion::Open => Ok(Sight::Word),
             Expansion::Row(_) => {

@@ -3,8 +3,8 @@ ghost use Rattle.std.specs.Prelude.{◌≡◌, ◌≤◌, ◌<◌, length, IfOk,
 ghost use Rattle.rp_pattern.specs.Words.{words};
 
 use crate::{
-    Choices, End, Form, ListFault, Outlook, Pattern, Sight, Taken, law_labels, law_words, list_words,
-    permutations,
+    Choices, End, Form, ListFault, Outlook, Pattern, Sight, Taken, law_labels, law_words,
+    list_words, permutations,
 };
 use std::alloc::{AllocError, Global};
 use std::test::Fail;
@@ -143,11 +143,7 @@ fn behind_first(alloc: Global) -> Result<Option<Outlook>, AllocError> {
 }
 
 /// What two turns of an outlook come to.
-fn looked_ahead(
-    alloc: Global,
-    rows: u64,
-    end: End,
-) -> Result<Option<(Sight, Sight)>, AllocError>
+fn looked_ahead(alloc: Global, rows: u64, end: End) -> Result<Option<(Sight, Sight)>, AllocError>
     requires { rows ≤ 2 }
 {
     let Some(mut outlook) = behind_first(alloc)? else {
@@ -205,7 +201,10 @@ fn ways_of_a_loop(rt: HostRuntime) -> Result<(), Fail> {
 
 /// Whether a row's letter is the one of its variable.
 fn is_admitted(var: usize, letter: Option<u8>) -> bool {
-    matches!((var, letter), (0, Some(b'a')) | (1, Some(b'b')) | (2, Some(b'c')))
+    matches!(
+        (var, letter),
+        (0, Some(b'a')) | (1, Some(b'b')) | (2, Some(b'c'))
+    )
 }
 
 /// One turn over the letters of a closed partition, as a sign: `s` for a split, `.` for a word, `-` where nothing is left,
@@ -216,7 +215,11 @@ fn turn(choices: &mut Choices, letters: &[u8]) -> Result<char, AllocError>
     match choices.take_up(letters.len() as u64, End::Closed)? {
         Taken::Row => {
             let place = choices.labels().len();
-            let letter = if place == 0 { None } else { letters.get(place - 1).copied() };
+            let letter = if place == 0 {
+                None
+            } else {
+                letters.get(place - 1).copied()
+            };
             let var = choices.labels().last().map_or(3, |label| label.var);
             if !is_admitted(var, letter) {
                 choices.give_up();

@@ -8,7 +8,7 @@ ghost use Rattle.rp_pattern.specs.Splits.{Replaces, StandsFor, TakenUp};
 use crate::form::Form;
 use crate::machine::link::{Link, Tail, follow, reach, share, take_reached};
 use crate::machine::node::Node;
-use crate::machine::split::{Split, Expansion, take_row};
+use crate::machine::split::{Expansion, Split, take_row};
 use crate::word::{End, Label};
 use std::alloc::{AllocError, Global};
 use std::rc::Rc;
@@ -83,7 +83,10 @@ impl Continuation {
         match self {
             Continuation::Done => Ok(Some(Continuation::Done)),
             Continuation::Then { node: _, then } => Ok(reach(then, row)),
-            Continuation::Row { var: _, next, then } => Ok(Some(Continuation::Then { node: next, then })),
+            Continuation::Row { var: _, next, then } => Ok(Some(Continuation::Then {
+                node: next,
+                then,
+            })),
             Continuation::Reached(link) => follow(&link.then, row),
         }
     }
@@ -108,7 +111,11 @@ impl Continuation {
 /// A part before later ones. Where it begins with a variable, it is that row before the rest of the part, so that no turn
 /// is spent on coming to the row.
 #[inline(always)]
-pub(crate) fn before(form: &Rc<Form>, excluded: bool, then: Tail) -> Result<Continuation, AllocError>
+pub(crate) fn before(
+    form: &Rc<Form>,
+    excluded: bool,
+    then: Tail,
+) -> Result<Continuation, AllocError>
     requires { IsTrue (is_allowed form.now.value) }
     ensures { IfOk result (λ continuation. (n : ℕ) (e : End) (i : ℕ) →
         Replaces n e i (form_part n e form.now.value excluded ∷ tail_parts n e then) (Some continuation)) }

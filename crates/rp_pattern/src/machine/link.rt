@@ -8,7 +8,7 @@ use crate::machine::continuation::Continuation;
 use crate::machine::iterations::Iterations;
 use crate::machine::node::Node;
 use crate::machine::orders::Orders;
-use crate::machine::split::{Split, Expansion};
+use crate::machine::split::{Expansion, Split};
 use crate::word::End;
 use std::alloc::{AllocError, Global};
 use std::rc::Rc;

@@ -7,7 +7,7 @@ use crate::machine::continuation::{Continuation, before};
 use crate::machine::iterations::Iterations;
 use crate::machine::link::{Part, Tail, follow, linked, share};
 use crate::machine::orders::Orders;
-use crate::machine::split::{Split, Expansion, take_row};
+use crate::machine::split::{Expansion, Split, take_row};
 use crate::word::End;
 use std::alloc::{AllocError, Global};
 use std::rc::Rc;
@@ -283,7 +283,12 @@ impl Node {
     }
 
     /// The parts in an order, before later ones.
-    pub(crate) fn in_order(&self, alloc: Global, order: &[usize], then: &Tail) -> Result<Tail, AllocError>
+    pub(crate) fn in_order(
+        &self,
+        alloc: Global,
+        order: &[usize],
+        then: &Tail,
+    ) -> Result<Tail, AllocError>
         requires { AllByRecursion (λ k. k < length (permuted_parts self.now.form.value)) order.now }
         ensures { IfOk result (λ tail. (n : ℕ) (e : End) →
             tail_parts n e tail ≡ in_order (permuted_form_parts n e self.now) order.now ++ tail_parts n e then.now) }

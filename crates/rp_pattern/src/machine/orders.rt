@@ -3,11 +3,11 @@ ghost use Rattle.std.specs.Prelude.{◌<◌, length};
 ghost use Rattle.rp_pattern.specs.Permutations.{factorial};
 ghost use Rattle.rp_pattern.specs.PermutedParts.{permuted_parts};
 
+use crate::lexicographic::{factorial, permutation_at};
 use crate::machine::continuation::Continuation;
 use crate::machine::link::{Part, Tail, follow, link_of, share};
 use crate::machine::node::Node;
 use crate::machine::split::Split;
-use crate::lexicographic::{factorial, permutation_at};
 use std::alloc::{AllocError, Global};
 
 /// The orders of a PERMUTE from this number on. The first order has the number 0.

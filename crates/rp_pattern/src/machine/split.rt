@@ -57,7 +57,14 @@ impl Split {
 
 /// One row, taken up.
 #[inline(always)]
-pub(crate) fn take_row(var: usize, excluded: bool, row: u64, n: u64, end: End, split: &mut Split) -> Expansion
+pub(crate) fn take_row(
+    var: usize,
+    excluded: bool,
+    row: u64,
+    n: u64,
+    end: End,
+    split: &mut Split,
+) -> Expansion
     ensures { (later : ℕ → End → List WordsAndTurns) →
         TakenUp n end row (λ n e. form_part n e (Form.Variable var) excluded ∷ later n e) split.new result }
 {

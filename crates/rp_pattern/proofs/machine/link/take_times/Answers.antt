@@ -1,6 +1,5 @@
 use Rattle.std.proofs.Common.{refl}
 use Rattle.rp_pattern.specs.declared.machine.link.Part.TheVariants.{Times}
-use Rattle.rp_pattern.specs.declared.machine.link.Link.TheViews.{out-Link}
 use Rattle.rp_pattern.specs.Continuations.{links_from, reached_parts}
 use Rattle.rp_pattern.proofs.Steps.{splits_as}
 use Rattle.rp_pattern.proofs.Tails.{reached_as}
