@@ -2,12 +2,12 @@
 #![tactic(auto)]
 
 mod asking;
-#[cfg(test)]
-mod cases;
 mod conditions;
 mod laws;
 mod search;
 mod steps;
+#[cfg(test)]
+mod tests;
 
 pub use conditions::Tests;
 pub use laws::{law_found, law_search};

@@ -1,12 +1,13 @@
 //! The tests' own rows, with a written answer for each.
 ghost use Rattle.std.specs.Prelude.{◌≡◌, ℕ, ◌+◌, ◌-◌, ◌^◌, ◌<◌, ◌≤◌, [], IfOk, IsTrue, slice_get};
-ghost use Rattle.rp_search.specs.Grid.{grid_outcome, may_go_on, row_answer, written};
+ghost use Rattle.rp_search.specs.Grid.{grid_asked, may_go_on, row_answer, written};
 ghost use Rattle.rp_search.specs.GridDecides.{grid_decides};
-ghost use Rattle.rp_search.specs.Fits.{TestsExtend};
+ghost use Rattle.rp_search.specs.Asked.{AskedExtend};
 
 use crate::conditions::Tests;
 use rp_pattern::{End, Label, Seen};
 use std::alloc::{AllocError, Global};
+use std::cell::Cell;
 
 /// Rows with an answer for A and one for B. An answer that is open becomes true with the close. A's test is also open
 /// where it reaches past the known rows.
@@ -21,6 +22,8 @@ pub struct Grid {
     /// The labels at each call of `enter`, as letters and a space.
     pub calls: String,
     pub entries: u64,
+    /// How many calls of `test`.
+    pub asked: Cell<u64>,
     ghost few: { known < 2 ^ 64 - 1 },
 }
 
@@ -38,6 +41,7 @@ impl Grid {
             entered: Vec::new(alloc),
             calls: String::new(alloc),
             entries: 0,
+            asked: Cell::new(0),
         }
     }
 
@@ -70,7 +74,8 @@ impl Grid {
     pub fn advance(&mut self, known: u64, end: End) -> bool
         ensures none { self.new.entered ≡ self.old.entered }
         ensures some { IsTrue result → 1 ≤ self.new.known }
-        ensures extends { IsTrue result → TestsExtend 1 self.old.known self.old.end (grid_outcome self.old.first.items self.old.second.items self.old.reach self.old.known self.old.end 1) self.new.known self.new.end (grid_outcome self.new.first.items self.new.second.items self.new.reach self.new.known self.new.end 1) }
+        ensures extends { IsTrue result →
+            AskedExtend 1 (⟦<Grid as Tests>⟧.subject self.old) (⟦<Grid as Tests>⟧.subject self.new) }
     {
         if self.end == End::Closed || known < self.known || known == 0 || known == u64::MAX {
             return false;
@@ -82,11 +87,7 @@ impl Grid {
 
     /// The calls of `enter` are forgotten.
     pub fn forget(&mut self)
-        ensures first { self.new.first ≡ self.old.first }
-        ensures second { self.new.second ≡ self.old.second }
-        ensures reach { self.new.reach ≡ self.old.reach }
-        ensures known { self.new.known ≡ self.old.known }
-        ensures end { self.new.end ≡ self.old.end }
+        ensures subject { ⟦<Grid as Tests>⟧.subject self.new ≡ ⟦<Grid as Tests>⟧.subject self.old }
         ensures entered { self.new.entered ≡ self.old.entered }
     {
         self.calls.clear();
@@ -108,19 +109,17 @@ impl Grid {
 }
 
 impl Tests for Grid {
-    ghost rows = { λ t. t.known };
+    ghost use Rattle.rp_search.specs.Asked.{Asked};
 
-    ghost ending = { λ t. t.end };
+    ghost Subject = { Asked };
 
-    ghost outcome = { λ t start labels. grid_outcome t.first.items t.second.items t.reach t.known t.end start labels };
+    ghost subject = { λ t. grid_asked t.first.items t.second.items t.reach t.known t.end };
+
+    ghost asked = { λ asked. asked };
 
     ghost entered = { λ t start labels. t.entered.items ≡ labels };
 
     ghost entries = { λ t. t.entries };
-
-    ghost few = { λ t. t.few };
-
-    ghost decided = { λ t start labels. grid_decides t.first.items t.second.items t.reach t.known t.end start labels };
 
     fn known(&self) -> u64 {
         self.known
@@ -130,7 +129,12 @@ impl Tests for Grid {
         self.end
     }
 
+    fn variables(&self) -> usize {
+        2
+    }
+
     fn test(&self, start: u64, labels: &[Label]) -> Seen {
+        self.asked.set(self.asked.get().saturating_add(1));
         let Some(label) = labels.last() else {
             return Seen::NotTrue;
         };
@@ -149,6 +153,10 @@ impl Tests for Grid {
     fn cut(&mut self, depth: usize) {
         self.entered.truncate(depth);
     }
+
+    ghost few = { λ t. t.few };
+
+    ghost decided = { λ t start labels. grid_decides t.first.items t.second.items t.reach t.known t.end start labels };
 }
 
 /// The answer that is written down for a row.

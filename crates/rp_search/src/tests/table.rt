@@ -1,5 +1,7 @@
 //! A table of patterns: what a search finds beside the words that are listed.
-ghost use Rattle.std.specs.Prelude.{◌≡◌, ◌<◌};
+ghost use Rattle.std.specs.Prelude.{◌≡◌, ◌<◌, true};
+ghost use Rattle.rp_pattern.specs.PatternForm.{form_of};
+ghost use Rattle.rp_pattern.specs.Variables.{are_below};
 
 use super::grid::Grid;
 use super::script::{MANY, a, any, b, both, created, decide, either, excluded, many, permuted};
@@ -140,7 +142,7 @@ fn agreeing(alloc: Global, forms: Vec<Form>) -> Result<u64, ListFault> {
 
 /// Over 1 to 4 rows, open and closed.
 fn over_rows(alloc: Global, form: Form, grids: &mut [Grid]) -> Result<u64, ListFault> {
-    if !form.is_allowed() {
+    if !form.is_allowed() || !form.are_below(2) {
         return Ok(0);
     }
     let pattern = Pattern::new(form);
@@ -166,7 +168,9 @@ fn over_ways(
     grids: &mut [Grid],
     known: u64,
     end: End,
-) -> Result<u64, AllocError> {
+) -> Result<u64, AllocError>
+    requires { are_below 2 (form_of pattern.now) ≡ true }
+{
     let mut count: u64 = 0;
     for grid in grids {
         let at_once = agrees(alloc, pattern, words, grid, known, end, 100_000)?;
@@ -185,7 +189,9 @@ fn agrees(
     known: u64,
     end: End,
     budget: u32,
-) -> Result<bool, AllocError> {
+) -> Result<bool, AllocError>
+    requires { are_below 2 (form_of pattern.now) ≡ true }
+{
     counted::<Brand>(
         Blank::new(1),
         alloc,
@@ -208,6 +214,7 @@ fn counted<L: Ledger>(
     end: End,
     budget: u32,
 ) -> Result<bool, AllocError>
+    requires variables { are_below 2 (form_of pattern.now) ≡ true }
     requires name { blank.name ≡ L.name }
     requires parts { blank.parts ≡ L.parts }
     requires shared { 0 < blank.parts }

@@ -1,9 +1,12 @@
 //! Searches over stages, for the tests.
-ghost use Rattle.std.specs.Prelude.{◌≡◌, ℕ, ◌<◌, ◌≤◌, [], IfOk, OnOk};
-ghost use Rattle.rp_search.specs.Grid.{grid_outcome};
-ghost use Rattle.rp_search.specs.Fits.{Fits, start_of_search, labels_of_search};
+ghost use Rattle.std.specs.Prelude.{◌≡◌, ◌<◌, ◌≤◌, true, [], IfOk, OnOk};
+ghost use Rattle.rp_pattern.specs.PatternForm.{form_of};
+ghost use Rattle.rp_pattern.specs.Variables.{are_below};
+ghost use Rattle.rp_search.specs.Fits.{Fits};
+ghost use Rattle.rp_search.specs.Search.{HasVariablesBelow, IsAtStart, labels_of_search, start_of_search};
 
 use super::grid::{Grid, write_letters};
+use crate::conditions::Tests;
 use crate::laws::law_search;
 use crate::search::{Outcome, Search};
 use crate::steps::Steps;
@@ -74,6 +77,10 @@ pub struct Played {
     pub runs: u64,
     /// How many calls of `enter`.
     pub entries: u64,
+    /// How many calls of `test`.
+    pub asked: u64,
+    /// How many turns the last run took.
+    pub taken: u32,
 }
 
 /// A search from row 1 over stages, each a known last row and an end, at most so many runs a stage.
@@ -109,8 +116,10 @@ fn counted<L: Ledger>(
         calls: String::new(alloc),
         runs: 0,
         entries: 0,
+        asked: 0,
+        taken: 0,
     };
-    if !form.is_allowed() {
+    if !form.is_allowed() || !form.are_below(2) {
         return Ok(played);
     }
     let mut steps = Steps::<L>::new(blank);
@@ -122,6 +131,7 @@ fn counted<L: Ledger>(
         law_search();
         let decided = decide(&mut search, &mut grid, budget, most, &mut steps)?;
         tell(&decided, search.labels(), &grid, &mut played)?;
+        played.taken = search.turns_taken();
         grid.forget();
     }
     Ok(played)
@@ -129,10 +139,12 @@ fn counted<L: Ledger>(
 
 /// A search from row 1. A refused call is made again.
 pub fn created(alloc: Global, pattern: &Pattern) -> Result<Search, AllocError>
+    requires { are_below 2 (form_of pattern.now) ≡ true }
     ensures start { IfOk result (λ s. start_of_search s ≡ 1) }
-    ensures labels { IfOk result (λ s. labels_of_search s ≡ []) }
-    ensures fits { IfOk result (λ s. (n : ℕ) (e : _) (test : _) → Fits s n e test) }
+    ensures variables { IfOk result (HasVariablesBelow 2) }
+    ensures at_start { IfOk result IsAtStart }
 {
+    law_search();
     match Search::new(alloc, pattern, 1) {
         Ok(search) => Ok(search),
         Err(_) => Search::new(alloc, pattern, 1),
@@ -158,10 +170,12 @@ pub fn decide<L: Ledger>(
 ) -> Result<Decided, AllocError>
     requires start { start_of_search search.old ≡ 1 }
     requires known { 1 ≤ grid.old.known }
-    requires fits { Fits search.old grid.old.known grid.old.end (grid_outcome grid.old.first.items grid.old.second.items grid.old.reach grid.old.known grid.old.end 1) }
+    requires variables { HasVariablesBelow 2 search.old }
+    requires fits { Fits search.old (⟦<Grid as Tests>⟧.subject grid.old) }
     requires entered { grid.old.entered.items ≡ labels_of_search search.old }
     ensures start { OnOk result (start_of_search search.new ≡ 1) }
-    ensures fits { OnOk result (Fits search.new grid.new.known grid.new.end (grid_outcome grid.new.first.items grid.new.second.items grid.new.reach grid.new.known grid.new.end 1)) }
+    ensures variables { OnOk result (HasVariablesBelow 2 search.new) }
+    ensures fits { OnOk result (Fits search.new (⟦<Grid as Tests>⟧.subject grid.new)) }
     ensures entered { OnOk result (grid.new.entered.items ≡ labels_of_search search.new) }
 {
     let mut decided = Decided {
@@ -187,11 +201,13 @@ fn run_once<L: Ledger>(
 ) -> Result<(), AllocError>
     requires start { start_of_search search.old ≡ 1 }
     requires known { 1 ≤ grid.old.known }
-    requires fits { Fits search.old grid.old.known grid.old.end (grid_outcome grid.old.first.items grid.old.second.items grid.old.reach grid.old.known grid.old.end 1) }
+    requires variables { HasVariablesBelow 2 search.old }
+    requires fits { Fits search.old (⟦<Grid as Tests>⟧.subject grid.old) }
     requires entered { grid.old.entered.items ≡ labels_of_search search.old }
     ensures start { OnOk result (start_of_search search.new ≡ 1) }
     ensures known { OnOk result (1 ≤ grid.new.known) }
-    ensures fits { OnOk result (Fits search.new grid.new.known grid.new.end (grid_outcome grid.new.first.items grid.new.second.items grid.new.reach grid.new.known grid.new.end 1)) }
+    ensures variables { OnOk result (HasVariablesBelow 2 search.new) }
+    ensures fits { OnOk result (Fits search.new (⟦<Grid as Tests>⟧.subject grid.new)) }
     ensures entered { OnOk result (grid.new.entered.items ≡ labels_of_search search.new) }
 {
     match search.run(grid, budget, steps) {
@@ -231,5 +247,6 @@ fn tell(
     played.calls.push('|')?;
     played.runs = played.runs.saturating_add(decided.runs);
     played.entries = grid.entries;
+    played.asked = grid.asked.get();
     Ok(())
 }
