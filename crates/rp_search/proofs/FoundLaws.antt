@@ -7,7 +7,7 @@ use Rattle.rp_pattern.specs.declared.word.Seen.{Seen}
 use Rattle.rp_pattern.specs.declared.word.Seen.TheVariants.{True, NotTrue, Open as OpenTest}
 use Rattle.rp_pattern.specs.Mapping.{Mapping, Full, Open, labels_of}
 use Rattle.rp_pattern.specs.WordLaws.{IsFull, BeginsWith, Extends, done, stays, gone, grows}
-use Rattle.rp_search.specs.Found.{Test, first_not_true, tested, status, status_from, Status, Good, Refused, Found, Match, Waits, unless_refused, found, Stays, TestsStay, AreShort, from_status, unrefused, Resumes, IsFirstMatch}
+use Rattle.rp_search.specs.Found.{Test, first_not_true, tested, status, status_from, Good, Refused, Found, Match, Waits, unless_refused, found, Stays, TestsStay, AreShort, from_status, unrefused, Resumes, IsFirstMatch}
 
 first_stays : (a b x y : Seen) → Stays a b → Stays x y → Stays (first_not_true a x) (first_not_true b y)
 first_stays True b x y s t = subst (λ z. Stays x (first_not_true z y)) (sym s) t

@@ -1,5 +1,5 @@
 -- What a search asks of the rows of a partition.
-use Rattle.std.specs.Prelude.{◌≡◌, ℕ, suc, ◌-◌, ◌<◌, ◌≤◌, List, length, All}
+use Rattle.std.specs.Prelude.{◌≡◌, ℕ, suc, ◌-◌, ◌<◌, List, All}
 use Rattle.rp_pattern.specs.declared.word.Label.{Label}
 use Rattle.rp_pattern.specs.declared.word.End.{End}
 use Rattle.rp_pattern.specs.declared.word.Seen.{Seen}

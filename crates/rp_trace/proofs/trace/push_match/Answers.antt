@@ -1,4 +1,4 @@
-use Rattle.std.proofs.Common.{◌≡◌, ◌∙◌, ap, rules, length, subst, sym}
+use Rattle.std.proofs.Common.{◌∙◌, ap, rules, length, subst, sym}
 use Rattle.std.specs.List.{AllByRecursion}
 use Rattle.rp_pattern.specs.LabelLaws.{IsBelow}
 use Rattle.rp_pattern.specs.PatternForm.{form_of}

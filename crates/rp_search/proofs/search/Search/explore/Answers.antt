@@ -34,7 +34,7 @@ take_up-requires-in-Nothing-clause-searches g c =
     let fits = c.requires.before.fits in
     let gave = c.give_up.ensures in
     let goes : Goes choices c.give_up.new.self asked.known asked.end (asked.outcome (start_of choices)) =
-        explored_nothing choices c.give_up.new.self c.args.outlook _ _ _ fits.stands fits.labels read.2 gave.whole (record { cut = gave.labels; cut_off = gave.cut_off; words = gave.remaining; turns = gave.left }) in
+    explored_nothing choices c.give_up.new.self c.args.outlook _ _ _ fits.stands fits.labels read.2 gave.whole (record { cut = gave.labels; cut_off = gave.cut_off; words = gave.remaining; turns = gave.left }) in
     let after : Search = record { choices = c.give_up.new.self; outlook = c.args.self.now.outlook; taken = c.args.self.now.taken } in
     subst (λ s. Searches after (g.T.Tests.asked s)) (sym c.follow.ensures.subject)
     (searches_plainly after asked (start_of choices) gave.whole.start c.requires.none goes.stands goes.admitted (below_front asked.variables (entered c.give_up.new.self) (entered choices) gave.labels fits.below))

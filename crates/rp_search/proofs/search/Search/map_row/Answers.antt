@@ -18,9 +18,9 @@ returns-then-not-is_tested-clause-searches g c =
     let row = c.requires.row in
     let untested : c.is_tested.result ≡ false = search rules in
     let none = untested_none old _ _ _ asked.variables c.requires.stands row (λ n e. c.requires.variables n e (start_of old))
-        (none_untested asked.variables row.before row.last (entered old) c.is_tested.result row.labels (c.is_tested.ensures row.before row.last row.labels) untested) in
+    (none_untested asked.variables row.before row.last (entered old) c.is_tested.result row.labels (c.is_tested.ensures row.before row.last row.labels) untested) in
     let goes : Goes old c.give_up.new.self asked.known asked.end (asked.outcome (start_of old)) =
-        goes_wordless old c.give_up.new.self _ _ _ c.requires.stands row none gave.whole (record { cut = gave.labels; cut_off = gave.cut_off; words = gave.remaining; turns = gave.left }) in
+    goes_wordless old c.give_up.new.self _ _ _ c.requires.stands row none gave.whole (record { cut = gave.labels; cut_off = gave.cut_off; words = gave.remaining; turns = gave.left }) in
     searches_plainly _ asked (start_of old) gave.whole.start c.requires.none goes.stands goes.admitted
     (below_cut asked.variables (entered c.give_up.new.self) (cut_added (λ ms. AreBelow asked.variables ms) (entered c.give_up.new.self) (entered old) c.requires.below (gave.cut_off row.at_row)))
 

@@ -64,8 +64,7 @@ returns-in-Full-clause-turned g c =
     let new = c.take_up.new.self in
     let read : TakenAs old new c.known.result c.end.result FullTaken = rw c.in-Full.is at c.in_ok-take_up.ensures.taken in
     let taken : IsFullWord old new asked.known asked.end = at_known (λ n e. IsFullWord old new n e) _ _ _ _ c.known.ensures c.end.ensures read in
-    let admitted = admitted_plainly old c.args.self.now.outlook _ _ _ c.requires.none c.requires.searches.fits.labels in
-    (
+    let admitted = admitted_plainly old c.args.self.now.outlook _ _ _ c.requires.none c.requires.searches.fits.labels in (
       finds_match old new _ _ _ c.requires.searches.fits.stands admitted taken,
       fewer_plainly old new c.args.self.now.outlook _ _ _ _ c.requires.none (omega (arith, taken.same_left asked.known asked.end (now_later _ _))),
     )
@@ -92,8 +91,7 @@ returns-in-Open-clause-turned g c =
     let new = c.take_up.new.self in
     let read : TakenAs old new c.known.result c.end.result OpenTaken = rw c.in-Open.is at c.in_ok-take_up.ensures.taken in
     let taken : IsOpenWord old new asked.known asked.end = at_known (λ n e. IsOpenWord old new n e) _ _ _ _ c.known.ensures c.end.ensures read in
-    let admitted = admitted_plainly old c.args.self.now.outlook _ _ _ c.requires.none c.requires.searches.fits.labels in
-    (
+    let admitted = admitted_plainly old c.args.self.now.outlook _ _ _ c.requires.none c.requires.searches.fits.labels in (
       finds_wait old new _ _ _ c.requires.searches.fits.stands admitted taken,
       taken.end,
       fewer_plainly old new c.args.self.now.outlook _ _ _ _ c.requires.none (omega (arith, taken.same_left asked.known asked.end (now_later _ _))),
@@ -121,8 +119,7 @@ returns-in-Nothing-clause-turned g c =
     let new = c.take_up.new.self in
     let read : TakenAs old new c.known.result c.end.result NothingTaken = rw c.in-Nothing.is at c.in_ok-take_up.ensures.taken in
     let taken : IsNothing old new asked.known asked.end = at_known (λ n e. IsNothing old new n e) _ _ _ _ c.known.ensures c.end.ensures read in
-    let admitted = admitted_plainly old c.args.self.now.outlook _ _ _ c.requires.none c.requires.searches.fits.labels in
-    (
+    let admitted = admitted_plainly old c.args.self.now.outlook _ _ _ c.requires.none c.requires.searches.fits.labels in (
       finds_none old new _ _ _ c.requires.searches.fits.stands taken,
       fewer_plainly old new c.args.self.now.outlook _ _ _ _ c.requires.none (taken.less asked.known asked.end (now_later _ _)),
     )

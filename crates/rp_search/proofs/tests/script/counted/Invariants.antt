@@ -1,4 +1,4 @@
-use Rattle.std.proofs.Common.{◌≡◌, ◌≤◌}
+use Rattle.std.proofs.Common.{◌≡◌}
 use Rattle.rp_search.specs.Grid.{grid_asked}
 use Rattle.rp_search.specs.Fits.{Fits}
 use Rattle.rp_search.specs.Search.{HasVariablesBelow, start_of_search, labels_of_search}
