@@ -1,0 +1,3 @@
+pub mod FirstTokens
+pub mod Laws
+pub mod Loops
