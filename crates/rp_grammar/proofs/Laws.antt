@@ -34,10 +34,10 @@ bind_err (Err m) f n e = let same : m ≡ n = cc in inl (ap (λ k. Err k) same)
 pub ok_same : {A : Type 0} (x y : A) → ◌≡◌ {A = Result A ParseFault} (Ok x) (Ok y) → x ≡ y
 ok_same x y e = cc
 
-no_fault : {A : Type 0} {P : Type 0} (x : A) (n : ParseFault) → ◌≡◌ {A = Result A ParseFault} (Ok x) (Err n) → P
+pub no_fault : {A : Type 0} {P : Type 0} (x : A) (n : ParseFault) → ◌≡◌ {A = Result A ParseFault} (Ok x) (Err n) → P
 no_fault x n e = absurd (cc)
 
-err_same : {A : Type 0} (m n : ParseFault) → ◌≡◌ {A = Result A ParseFault} (Err m) (Err n) → m ≡ n
+pub err_same : {A : Type 0} (m n : ParseFault) → ◌≡◌ {A = Result A ParseFault} (Err m) (Err n) → m ≡ n
 err_same m n e = cc
 
 -- the next token, or the end of the text, is such a place
