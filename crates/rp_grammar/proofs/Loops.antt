@@ -1,0 +1,123 @@
+-- Reading one thing after the other, as a loop does.
+use Rattle.std.proofs.Common.{◌≡◌, ℕ, zero, suc, ◌+◌, ◌<◌, ◌≤◌, List, [], ◌∷◌, ◌++◌, length, Result, Ok, Err, Bool, true, false, refl, ap, sym, ◌∙◌, append_assoc, arith, if◌then◌else◌}
+use Rattle.std.proofs.lemmas.List.{append-nil}
+use Rattle.rp_lexer.specs.declared.token.Token.{Token}
+use Rattle.rp_lexer.specs.declared.kind.TokenKind.{TokenKind}
+use Rattle.rp_lexer.specs.declared.kind.TokenKind.TheVariants as kind
+use Rattle.rp_lexer.specs.declared.kind.Mark.TheVariants as mark
+use Rattle.rp_grammar.specs.declared.fault.ParseFault.{ParseFault}
+use Rattle.rp_grammar.specs.declared.fault.ParseFault.TheVariants as fault
+use Rattle.rp_grammar.specs.Reading.{◌>>=◌, Refuses, starts}
+use Rattle.rp_grammar.specs.Grammar.{Grammar, many_at, many, gives, ◌then◌, word, second, listed}
+
+-- What was read before, and what is still to be read, is the whole.
+pub record GoesOn {A B : Type 0} (kinds : List TokenKind) (read : List Token → Result (A × List Token) ParseFault) (k : List A → List Token → Result B ParseFault) (front : List A) (rest : List Token) (whole : Result B ParseFault) : Type 0 where
+  pub fuel : ℕ
+  pub enough : length rest ≤ fuel
+  pub reads : whole ≡ (many_at kinds read fuel rest >>= λ xs. k (front ++ xs.0) xs.1)
+
+none_starts : (kinds : List TokenKind) (rest : List Token) → starts kinds rest ≡ true → 1 ≤ length rest
+none_starts kinds [] e = cc
+none_starts kinds (t ∷ rest) e = omega arith
+
+regroup : {A B : Type 0} (k : List A → List Token → Result B ParseFault) (front : List A) (x : A) (read : Result (List A × List Token) ParseFault)
+    → (◌>>=◌ {A = List A × List Token} {B = List A × List Token} read (λ xs. Ok (x ∷ xs.0, xs.1)) >>= λ xs. k (front ++ xs.0) xs.1) ≡ (read >>= λ xs. k ((front ++ x ∷ []) ++ xs.0) xs.1)
+regroup k front x (Err n) = refl
+regroup k front x (Ok xs) = ap (λ ys. k ys xs.1) (sym (append_assoc front (x ∷ []) xs.0))
+
+pub goes_on : {A B : Type 0} (kinds : List TokenKind) (read : List Token → Result (A × List Token) ParseFault) (k : List A → List Token → Result B ParseFault) (front : List A) (rest : List Token) (whole : Result B ParseFault) (x : A) (behind : List Token)
+    → starts kinds rest ≡ true → read rest ≡ Ok (x, behind) → length behind < length rest → GoesOn kinds read k front rest whole → GoesOn kinds read k (front ++ x ∷ []) behind whole
+goes_on kinds read k front rest whole x behind some one shorter so_far = go so_far.fuel so_far.enough so_far.reads
+  where
+    go : (n : ℕ) → length rest ≤ n → whole ≡ (many_at kinds read n rest >>= λ xs. k (front ++ xs.0) xs.1) → GoesOn kinds read k (front ++ x ∷ []) behind whole
+    go zero enough reads = let l = none_starts kinds rest some in absurd (omega arith)
+    go (suc n) enough reads = record {
+      fuel = n;
+      enough = omega arith;
+      reads = reads ∙ rw (some, one) (regroup k front x (many_at kinds read n behind));
+    }
+
+pub ends : {A B : Type 0} (kinds : List TokenKind) (read : List Token → Result (A × List Token) ParseFault) (k : List A → List Token → Result B ParseFault) (front : List A) (rest : List Token) (whole : Result B ParseFault)
+    → starts kinds rest ≡ false → GoesOn kinds read k front rest whole → whole ≡ k front rest
+ends kinds read k front rest whole none so_far = go so_far.fuel so_far.reads
+  where
+    go : (n : ℕ) → whole ≡ (many_at kinds read n rest >>= λ xs. k (front ++ xs.0) xs.1) → whole ≡ k front rest
+    go zero reads = reads ∙ ap (λ ys. k ys rest) (append-nil front)
+    go (suc n) reads = reads ∙ rw none (ap (λ ys. k ys rest) (append-nil front))
+
+stopped : {A B : Type 0} (e : ParseFault) (kinds : List TokenKind) (read : List Token → Result (A × List Token) ParseFault) (k : List A → List Token → Result B ParseFault) (front : List A) (rest : List Token) (whole : Result B ParseFault)
+    → starts kinds rest ≡ true → read rest ≡ Err e → GoesOn kinds read k front rest whole → whole ≡ Err e
+stopped e kinds read k front rest whole some none so_far = go so_far.fuel so_far.enough so_far.reads
+  where
+    go : (n : ℕ) → length rest ≤ n → whole ≡ (many_at kinds read n rest >>= λ xs. k (front ++ xs.0) xs.1) → whole ≡ Err e
+    go zero enough reads = let l = none_starts kinds rest some in absurd (omega arith)
+    go (suc n) enough reads = reads ∙ rw (some, none) refl
+
+pub refused : {A B : Type 0} (e : ParseFault) (kinds : List TokenKind) (read : List Token → Result (A × List Token) ParseFault) (k : List A → List Token → Result B ParseFault) (front : List A) (rest : List Token) (whole : Result B ParseFault)
+    → starts kinds rest ≡ true → Refuses e (read rest) → GoesOn kinds read k front rest whole → Refuses e whole
+refused fault.OutOfMemory kinds read k front rest whole some none so_far = tt
+refused (fault.Expected at) kinds read k front rest whole some none so_far = stopped (fault.Expected at) kinds read k front rest whole some none so_far
+refused (fault.Deep at) kinds read k front rest whole some none so_far = stopped (fault.Deep at) kinds read k front rest whole some none so_far
+
+-- The front is a first one and those after it.
+pub begins : {A B : Type 0} (text : List ℕ) (c : A → List A → List Token → Result B ParseFault) (k : List A → List Token → Result B ParseFault) (g h : Grammar A) (s r : List Token) (x : A) (whole : Result B ParseFault)
+    → ((xs : List A) (t : List Token) → c x xs t ≡ k (x ∷ xs) t) → g.read text s ≡ Ok (x, r) → whole ≡ ((many h).read text r >>= λ xs. c x xs.0 xs.1) → GoesOn h.first (h.read text) k (x ∷ []) r whole
+begins {A = A} {B = B} text c k g h s r x whole same first is = record { fuel = length r; enough = omega arith; reads = is ∙ each ((many h).read text r) }
+  where
+    each : (read : Result (List A × List Token) ParseFault) → (read >>= λ xs. c x xs.0 xs.1) ≡ (read >>= λ xs. k (x ∷ xs.0) xs.1)
+    each (Err n) = refl
+    each (Ok xs) = same xs.0 xs.1
+
+join : {A B : Type 0} (f : A → List A → B) (x : A) (read : Result (List A × List Token) ParseFault)
+    → (◌>>=◌ {A = (A × List A) × List Token} {B = B × List Token} (◌>>=◌ {A = List A × List Token} {B = (A × List A) × List Token} read (λ y. Ok ((x, y.0), y.1))) (λ z. Ok (f z.0.0 z.0.1, z.1)))
+    ≡ (◌>>=◌ {A = List A × List Token} {B = B × List Token} read (λ xs. Ok (f x xs.0, xs.1)))
+join f x (Err n) = refl
+join f x (Ok xs) = refl
+
+-- The first of a chain is read, and the others may follow.
+pub chain_begins : {A : Type 0} (text : List ℕ) (f : A → List A → A) (all : List A → A) (g h : Grammar A) (s r : List Token) (x : A) → ((xs : List A) → f x xs ≡ all (x ∷ xs)) → g.read text s ≡ Ok (x, r)
+    → GoesOn h.first (h.read text) (λ xs t. Ok (all xs, t)) (x ∷ []) r ((gives (λ y. f y.0 y.1) (g then many h)).read text s)
+chain_begins text f all g h s r x same first =
+    begins text (λ y ys t. Ok (f y ys, t)) (λ ys t. Ok (all ys, t)) g h s r x ((gives (λ y. f y.0 y.1) (g then many h)).read text s) (λ ys t. ap (λ z. Ok (z, t)) (same ys)) first (rw first (join f x ((many h).read text r)))
+
+-- what stands behind a mark
+pub behind : {A : Type 0} (text : List ℕ) (k : TokenKind) (g : Grammar A) (s m r : List Token) (at : ℕ) (x : A) → (word k).read text s ≡ Ok (at, m) → g.read text m ≡ Ok (x, r) → (gives second (word k then g)).read text s ≡ Ok (x, r)
+behind text k g s m r at x mark one = rw (mark, one) refl
+
+pub behind_refused : {A : Type 0} (text : List ℕ) (e : ParseFault) (k : TokenKind) (g : Grammar A) (s m : List Token) (at : ℕ) → (word k).read text s ≡ Ok (at, m) → Refuses e (g.read text m) → Refuses e ((gives second (word k then g)).read text s)
+behind_refused text fault.OutOfMemory k g s m at mark none = tt
+behind_refused text (fault.Expected n) k g s m at mark none = rw (mark, none) refl
+behind_refused text (fault.Deep n) k g s m at mark none = rw (mark, none) refl
+
+list_join : {A : Type 0} (x : A) (read : Result (List A × List Token) ParseFault)
+    → (◌>>=◌ {A = (A × List A) × List Token} {B = List A × List Token} (◌>>=◌ {A = List A × List Token} {B = (A × List A) × List Token} read (λ y. Ok ((x, y.0), y.1))) (λ z. Ok (z.0.0 ∷ z.0.1, z.1)))
+    ≡ (◌>>=◌ {A = List A × List Token} {B = List A × List Token} read (λ xs. Ok (x ∷ xs.0, xs.1)))
+list_join x (Err n) = refl
+list_join x (Ok xs) = refl
+
+-- The first of a list with commas is read, and the others may follow.
+pub list_begins : {A : Type 0} (text : List ℕ) (g : Grammar A) (s r : List Token) (x : A) → g.read text s ≡ Ok (x, r)
+    → GoesOn (kind.Mark mark.Comma ∷ []) ((gives second (word (kind.Mark mark.Comma) then g)).read text) (λ xs t. Ok (xs, t)) (x ∷ []) r ((listed g).read text s)
+list_begins text g s r x first =
+    let rest = gives second (word (kind.Mark mark.Comma) then g) in
+    begins text (λ y ys t. Ok (y ∷ ys, t)) (λ ys t. Ok (ys, t)) g rest s r x ((listed g).read text s) (λ ys t. refl) first (rw first (list_join x ((many rest).read text r)))
+
+chain_join : {A B C : Type 0} (f : A → List B → C) (x : A) (read : Result (List B × List Token) ParseFault)
+    → (◌>>=◌ {A = (A × List B) × List Token} {B = C × List Token} (◌>>=◌ {A = List B × List Token} {B = (A × List B) × List Token} read (λ y. Ok ((x, y.0), y.1))) (λ z. Ok (f z.0.0 z.0.1, z.1)))
+    ≡ (◌>>=◌ {A = List B × List Token} {B = C × List Token} read (λ xs. Ok (f x xs.0, xs.1)))
+chain_join f x (Err n) = refl
+chain_join f x (Ok xs) = refl
+
+-- The first of a chain is read, and operators with operands may follow.
+pub chain_starts : {A B C : Type 0} (text : List ℕ) (f : A → List B → C) (g : Grammar A) (h : Grammar B) (s r : List Token) (x : A) → g.read text s ≡ Ok (x, r)
+    → GoesOn h.first (h.read text) (λ xs t. Ok (f x xs, t)) [] r ((gives (λ y. f y.0 y.1) (g then many h)).read text s)
+chain_starts text f g h s r x first = record { fuel = length r; enough = omega arith; reads = rw first (chain_join f x ((many h).read text r)) }
+
+-- an operator and its operand
+pub operand : {A B : Type 0} (text : List ℕ) (g : Grammar A) (h : Grammar B) (s m r : List Token) (o : A) (x : B) → g.read text s ≡ Ok (o, m) → h.read text m ≡ Ok (x, r) → (g then h).read text s ≡ Ok ((o, x), r)
+operand text g h s m r o x one two = rw (one, two) refl
+
+pub operand_refused : {A B : Type 0} (text : List ℕ) (e : ParseFault) (g : Grammar A) (h : Grammar B) (s m : List Token) (o : A) → g.read text s ≡ Ok (o, m) → Refuses e (h.read text m) → Refuses e ((g then h).read text s)
+operand_refused text fault.OutOfMemory g h s m o one none = tt
+operand_refused text (fault.Expected n) g h s m o one none = rw (one, none) refl
+operand_refused text (fault.Deep n) g h s m o one none = rw (one, none) refl

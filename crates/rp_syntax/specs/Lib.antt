@@ -1,0 +1,11 @@
+pub mod Tree
+pub mod Paths
+pub mod Terms
+pub mod Clauses
+pub mod Names
+pub mod PatternGrammar
+pub mod NavigationGrammar
+pub mod ExprGrammar
+pub mod ClauseGrammar
+pub mod Derived
+pub mod TableGrammar

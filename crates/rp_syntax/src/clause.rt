@@ -1,0 +1,587 @@
+//! Clauses.
+
+ghost use Rattle.std.specs.Prelude.{◌≡◌, ◌≢◌, ◌<◌, ◌≤◌, length, map, All, IfOk, IfErr, List, []};
+ghost use Rattle.rp_lexer.specs.Lexes.{IsToken, Lexes};
+ghost use Rattle.rp_grammar.specs.Reading.{Gives, IsFaultIn};
+ghost use Rattle.rp_syntax.specs.Tree.{tree_of};
+ghost use Rattle.rp_grammar.specs.Grammar.{listed};
+ghost use Rattle.rp_syntax.specs.Names.{name};
+ghost use Rattle.rp_syntax.specs.Clauses.{clause_tree, definition_tree, measure_tree, union_tree};
+ghost use Rattle.rp_syntax.specs.Derived.{DerivesNone, DerivesOnly};
+ghost use Rattle.rp_syntax.specs.ClauseGrammar.{Derives, body, clause, define_part, definition, measure, measures_part, order, order_part, partition_part, pattern_part, rows, rows_part, skip_part, shown, skip, subset_part, target, union};
+
+use crate::expr::expr;
+use crate::name::name;
+use crate::pattern::inner as inner_pattern;
+use crate::tree::{Clause, Definition, Measure, Name, Order, Pattern, RowsPerMatch, Skip, Union};
+use rp_grammar::{ParseFault, begins, opening, place, word};
+use rp_lexer::{Keyword, Mark, Token, TokenKind};
+use rp_value::Text;
+use std::alloc::Global;
+
+/// The most brackets that may be open.
+const MAX_OPEN: usize = 100;
+
+/// A column to order by, and what follows.
+#[tactic(auto, unfolding(crate::specs::ClauseGrammar::order))]
+fn order<'a>(
+    alloc: Global,
+    text: &str,
+    tokens: &'a [Token],
+) -> Result<(Order, &'a [Token]), ParseFault>
+    requires stands { All (IsToken text.now) tokens.now }
+    ensures exact { Gives (λ x. (x.0, x.1.now)) result (order.read text.now tokens.now) }
+    ensures stands { IfOk result (λ x. All (IsToken text.now) x.1.now) }
+    ensures shorter { IfOk result (λ x. length x.1.now < length tokens.now) }
+{
+    let (name, rest) = name(alloc, text, tokens)?;
+    if begins(rest, TokenKind::Keyword(Keyword::Asc)) {
+        let (_, rest) = word(text, rest, TokenKind::Keyword(Keyword::Asc))?;
+        return Ok((
+            Order {
+                name,
+                descending: false,
+            },
+            rest,
+        ));
+    }
+    if begins(rest, TokenKind::Keyword(Keyword::Desc)) {
+        let (_, rest) = word(text, rest, TokenKind::Keyword(Keyword::Desc))?;
+        return Ok((
+            Order {
+                name,
+                descending: true,
+            },
+            rest,
+        ));
+    }
+    Ok((
+        Order {
+            name,
+            descending: false,
+        },
+        rest,
+    ))
+}
+
+/// A measure, and what follows.
+#[tactic(auto, unfolding(crate::specs::ClauseGrammar::measure))]
+fn measure<'a>(
+    alloc: Global,
+    text: &str,
+    tokens: &'a [Token],
+    room: usize,
+) -> Result<(Measure, &'a [Token]), ParseFault>
+    requires stands { All (IsToken text.now) tokens.now }
+    ensures exact { Gives (λ x. (measure_tree x.0, x.1.now)) result ((measure room).read text.now tokens.now) }
+    ensures stands { IfOk result (λ x. All (IsToken text.now) x.1.now) }
+    ensures shorter { IfOk result (λ x. length x.1.now < length tokens.now) }
+{
+    let at = place(text, tokens);
+    let (expr, rest) = expr(alloc, text, tokens, room)?;
+    let (_, rest) = word(text, rest, TokenKind::Keyword(Keyword::As))?;
+    let (name, rest) = name(alloc, text, rest)?;
+    Ok((Measure { at, expr, name }, rest))
+}
+
+/// A definition, and what follows.
+#[tactic(auto, unfolding(crate::specs::ClauseGrammar::definition))]
+fn definition<'a>(
+    alloc: Global,
+    text: &str,
+    tokens: &'a [Token],
+    room: usize,
+) -> Result<(Definition, &'a [Token]), ParseFault>
+    requires stands { All (IsToken text.now) tokens.now }
+    ensures exact { Gives (λ x. (definition_tree x.0, x.1.now)) result ((definition room).read text.now tokens.now) }
+    ensures stands { IfOk result (λ x. All (IsToken text.now) x.1.now) }
+    ensures shorter { IfOk result (λ x. length x.1.now < length tokens.now) }
+{
+    let (name, rest) = name(alloc, text, tokens)?;
+    let (_, rest) = word(text, rest, TokenKind::Keyword(Keyword::As))?;
+    let at = place(text, rest);
+    let (expr, rest) = expr(alloc, text, rest, room)?;
+    Ok((Definition { name, at, expr }, rest))
+}
+
+/// A union, and what follows.
+#[tactic(auto, unfolding(crate::specs::ClauseGrammar::union))]
+fn union<'a>(
+    alloc: Global,
+    text: &str,
+    tokens: &'a [Token],
+    room: usize,
+) -> Result<(Union, &'a [Token]), ParseFault>
+    requires stands { All (IsToken text.now) tokens.now }
+    ensures exact { Gives (λ x. (union_tree x.0, x.1.now)) result ((union room).read text.now tokens.now) }
+    ensures stands { IfOk result (λ x. All (IsToken text.now) x.1.now) }
+    ensures shorter { IfOk result (λ x. length x.1.now < length tokens.now) }
+{
+    let (name, rest) = name(alloc, text, tokens)?;
+    let (_, rest) = word(text, rest, TokenKind::Mark(Mark::Equals))?;
+    let (_, rest) = opening(text, rest, TokenKind::Mark(Mark::LeftParenthesis), room)?;
+    let (members, rest) = names(alloc, text, rest)?;
+    let (_, rest) = word(text, rest, TokenKind::Mark(Mark::RightParenthesis))?;
+    Ok((Union { name, members }, rest))
+}
+
+/// Names with commas between, and what follows.
+fn names<'a>(
+    alloc: Global,
+    text: &str,
+    tokens: &'a [Token],
+) -> Result<(Vec<Name>, &'a [Token]), ParseFault>
+    requires stands { All (IsToken text.now) tokens.now }
+    ensures exact { Gives (λ x. (x.0.items, x.1.now)) result ((listed name).read text.now tokens.now) }
+    ensures stands { IfOk result (λ x. All (IsToken text.now) x.1.now) }
+    ensures shorter { IfOk result (λ x. length x.1.now < length tokens.now) }
+{
+    let (first, mut rest) = name(alloc, text, tokens)?;
+    let mut items = Vec::new(alloc);
+    items.push(first)?;
+    'items: while begins(rest, TokenKind::Mark(Mark::Comma)) {
+        let (_, behind) = word(text, rest, TokenKind::Mark(Mark::Comma))?;
+        let (item, behind) = name(alloc, text, behind)?;
+        items.push(item)?;
+        rest = behind;
+    }
+    Ok((items, rest))
+}
+
+/// Columns to order by with commas between, and what follows.
+fn orders<'a>(
+    alloc: Global,
+    text: &str,
+    tokens: &'a [Token],
+) -> Result<(Vec<Order>, &'a [Token]), ParseFault>
+    requires stands { All (IsToken text.now) tokens.now }
+    ensures exact { Gives (λ x. (x.0.items, x.1.now)) result ((listed order).read text.now tokens.now) }
+    ensures stands { IfOk result (λ x. All (IsToken text.now) x.1.now) }
+    ensures shorter { IfOk result (λ x. length x.1.now < length tokens.now) }
+{
+    let (first, mut rest) = order(alloc, text, tokens)?;
+    let mut items = Vec::new(alloc);
+    items.push(first)?;
+    'items: while begins(rest, TokenKind::Mark(Mark::Comma)) {
+        let (_, behind) = word(text, rest, TokenKind::Mark(Mark::Comma))?;
+        let (item, behind) = order(alloc, text, behind)?;
+        items.push(item)?;
+        rest = behind;
+    }
+    Ok((items, rest))
+}
+
+/// Measures with commas between, and what follows.
+fn measures<'a>(
+    alloc: Global,
+    text: &str,
+    tokens: &'a [Token],
+    room: usize,
+) -> Result<(Vec<Measure>, &'a [Token]), ParseFault>
+    requires stands { All (IsToken text.now) tokens.now }
+    ensures exact { Gives (λ x. (map measure_tree x.0.items, x.1.now)) result
+        ((listed (measure room)).read text.now tokens.now) }
+    ensures stands { IfOk result (λ x. All (IsToken text.now) x.1.now) }
+    ensures shorter { IfOk result (λ x. length x.1.now < length tokens.now) }
+{
+    let (first, mut rest) = measure(alloc, text, tokens, room)?;
+    let mut items = Vec::new(alloc);
+    items.push(first)?;
+    'items: while begins(rest, TokenKind::Mark(Mark::Comma)) {
+        let (_, behind) = word(text, rest, TokenKind::Mark(Mark::Comma))?;
+        let (item, behind) = measure(alloc, text, behind, room)?;
+        items.push(item)?;
+        rest = behind;
+    }
+    Ok((items, rest))
+}
+
+/// Unions with commas between, and what follows.
+fn unions<'a>(
+    alloc: Global,
+    text: &str,
+    tokens: &'a [Token],
+    room: usize,
+) -> Result<(Vec<Union>, &'a [Token]), ParseFault>
+    requires stands { All (IsToken text.now) tokens.now }
+    ensures exact { Gives (λ x. (map union_tree x.0.items, x.1.now)) result
+        ((listed (union room)).read text.now tokens.now) }
+    ensures stands { IfOk result (λ x. All (IsToken text.now) x.1.now) }
+    ensures shorter { IfOk result (λ x. length x.1.now < length tokens.now) }
+{
+    let (first, mut rest) = union(alloc, text, tokens, room)?;
+    let mut items = Vec::new(alloc);
+    items.push(first)?;
+    'items: while begins(rest, TokenKind::Mark(Mark::Comma)) {
+        let (_, behind) = word(text, rest, TokenKind::Mark(Mark::Comma))?;
+        let (item, behind) = union(alloc, text, behind, room)?;
+        items.push(item)?;
+        rest = behind;
+    }
+    Ok((items, rest))
+}
+
+/// Definitions with commas between, and what follows.
+fn definitions<'a>(
+    alloc: Global,
+    text: &str,
+    tokens: &'a [Token],
+    room: usize,
+) -> Result<(Vec<Definition>, &'a [Token]), ParseFault>
+    requires stands { All (IsToken text.now) tokens.now }
+    ensures exact { Gives (λ x. (map definition_tree x.0.items, x.1.now)) result
+        ((listed (definition room)).read text.now tokens.now) }
+    ensures stands { IfOk result (λ x. All (IsToken text.now) x.1.now) }
+    ensures shorter { IfOk result (λ x. length x.1.now < length tokens.now) }
+{
+    let (first, mut rest) = definition(alloc, text, tokens, room)?;
+    let mut items = Vec::new(alloc);
+    items.push(first)?;
+    'items: while begins(rest, TokenKind::Mark(Mark::Comma)) {
+        let (_, behind) = word(text, rest, TokenKind::Mark(Mark::Comma))?;
+        let (item, behind) = definition(alloc, text, behind, room)?;
+        items.push(item)?;
+        rest = behind;
+    }
+    Ok((items, rest))
+}
+
+/// Which rows of a match and of no match are shown, and what follows.
+#[tactic(auto, unfolding(crate::specs::ClauseGrammar::shown))]
+fn shown<'a>(text: &str, tokens: &'a [Token]) -> Result<(RowsPerMatch, &'a [Token]), ParseFault>
+    requires stands { All (IsToken text.now) tokens.now }
+    ensures exact { Gives (λ x. (x.0, x.1.now)) result (shown.read text.now tokens.now) }
+    ensures stands { IfOk result (λ x. All (IsToken text.now) x.1.now) }
+    ensures no_longer { IfOk result (λ x. length x.1.now ≤ length tokens.now) }
+{
+    if begins(tokens, TokenKind::Keyword(Keyword::Show)) {
+        let (_, rest) = word(text, tokens, TokenKind::Keyword(Keyword::Show))?;
+        let (_, rest) = word(text, rest, TokenKind::Keyword(Keyword::Empty))?;
+        let (_, rest) = word(text, rest, TokenKind::Keyword(Keyword::Matches))?;
+        return Ok((RowsPerMatch::AllShowEmpty, rest));
+    }
+    if begins(tokens, TokenKind::Keyword(Keyword::Omit)) {
+        let (_, rest) = word(text, tokens, TokenKind::Keyword(Keyword::Omit))?;
+        let (_, rest) = word(text, rest, TokenKind::Keyword(Keyword::Empty))?;
+        let (_, rest) = word(text, rest, TokenKind::Keyword(Keyword::Matches))?;
+        return Ok((RowsPerMatch::AllOmitEmpty, rest));
+    }
+    if begins(tokens, TokenKind::Keyword(Keyword::With)) {
+        let (_, rest) = word(text, tokens, TokenKind::Keyword(Keyword::With))?;
+        let (_, rest) = word(text, rest, TokenKind::Keyword(Keyword::Unmatched))?;
+        let (_, rest) = word(text, rest, TokenKind::Keyword(Keyword::Rows))?;
+        return Ok((RowsPerMatch::AllWithUnmatched, rest));
+    }
+    Ok((RowsPerMatch::AllShowEmpty, tokens))
+}
+
+/// Rows per match, and what follows.
+#[tactic(auto, unfolding(crate::specs::ClauseGrammar::rows))]
+fn rows<'a>(text: &str, tokens: &'a [Token]) -> Result<(RowsPerMatch, &'a [Token]), ParseFault>
+    requires stands { All (IsToken text.now) tokens.now }
+    ensures exact { Gives (λ x. (x.0, x.1.now)) result (rows.read text.now tokens.now) }
+    ensures stands { IfOk result (λ x. All (IsToken text.now) x.1.now) }
+    ensures shorter { IfOk result (λ x. length x.1.now < length tokens.now) }
+{
+    if begins(tokens, TokenKind::Keyword(Keyword::One)) {
+        let (_, rest) = word(text, tokens, TokenKind::Keyword(Keyword::One))?;
+        let (_, rest) = word(text, rest, TokenKind::Keyword(Keyword::Row))?;
+        let (_, rest) = word(text, rest, TokenKind::Keyword(Keyword::Per))?;
+        let (_, rest) = word(text, rest, TokenKind::Keyword(Keyword::Match))?;
+        return Ok((RowsPerMatch::One, rest));
+    }
+    let (_, rest) = word(text, tokens, TokenKind::Keyword(Keyword::All))?;
+    let (_, rest) = word(text, rest, TokenKind::Keyword(Keyword::Rows))?;
+    let (_, rest) = word(text, rest, TokenKind::Keyword(Keyword::Per))?;
+    let (_, rest) = word(text, rest, TokenKind::Keyword(Keyword::Match))?;
+    shown(text, rest)
+}
+
+/// Where a skip goes to, and what follows.
+#[tactic(auto, unfolding(crate::specs::ClauseGrammar::target))]
+fn target<'a>(
+    alloc: Global,
+    text: &str,
+    tokens: &'a [Token],
+) -> Result<(Skip, &'a [Token]), ParseFault>
+    requires stands { All (IsToken text.now) tokens.now }
+    ensures exact { Gives (λ x. (x.0, x.1.now)) result (target.read text.now tokens.now) }
+    ensures stands { IfOk result (λ x. All (IsToken text.now) x.1.now) }
+    ensures shorter { IfOk result (λ x. length x.1.now < length tokens.now) }
+{
+    if begins(tokens, TokenKind::Keyword(Keyword::Next)) {
+        let (_, rest) = word(text, tokens, TokenKind::Keyword(Keyword::Next))?;
+        let (_, rest) = word(text, rest, TokenKind::Keyword(Keyword::Row))?;
+        return Ok((Skip::ToNextRow, rest));
+    }
+    if begins(tokens, TokenKind::Keyword(Keyword::First)) {
+        let (_, rest) = word(text, tokens, TokenKind::Keyword(Keyword::First))?;
+        let (variable, rest) = name(alloc, text, rest)?;
+        return Ok((Skip::ToFirst(variable), rest));
+    }
+    if begins(tokens, TokenKind::Keyword(Keyword::Last)) {
+        let (_, rest) = word(text, tokens, TokenKind::Keyword(Keyword::Last))?;
+        let (variable, rest) = name(alloc, text, rest)?;
+        return Ok((Skip::ToLast(variable), rest));
+    }
+    let (variable, rest) = name(alloc, text, tokens)?;
+    Ok((Skip::ToLast(variable), rest))
+}
+
+/// AFTER MATCH SKIP with where it goes to, and what follows.
+#[tactic(auto, unfolding(crate::specs::ClauseGrammar::skip))]
+fn skip<'a>(
+    alloc: Global,
+    text: &str,
+    tokens: &'a [Token],
+) -> Result<(Skip, &'a [Token]), ParseFault>
+    requires stands { All (IsToken text.now) tokens.now }
+    ensures exact { Gives (λ x. (x.0, x.1.now)) result (skip.read text.now tokens.now) }
+    ensures stands { IfOk result (λ x. All (IsToken text.now) x.1.now) }
+    ensures shorter { IfOk result (λ x. length x.1.now < length tokens.now) }
+{
+    let (_, rest) = word(text, tokens, TokenKind::Keyword(Keyword::After))?;
+    let (_, rest) = word(text, rest, TokenKind::Keyword(Keyword::Match))?;
+    let (_, rest) = word(text, rest, TokenKind::Keyword(Keyword::Skip))?;
+    if begins(rest, TokenKind::Keyword(Keyword::Past)) {
+        let (_, rest) = word(text, rest, TokenKind::Keyword(Keyword::Past))?;
+        let (_, rest) = word(text, rest, TokenKind::Keyword(Keyword::Last))?;
+        let (_, rest) = word(text, rest, TokenKind::Keyword(Keyword::Row))?;
+        return Ok((Skip::PastLastRow, rest));
+    }
+    let (_, rest) = word(text, rest, TokenKind::Keyword(Keyword::To))?;
+    target(alloc, text, rest)
+}
+
+/// Perhaps PARTITION BY, and what follows.
+#[tactic(auto, unfolding(crate::specs::ClauseGrammar::partition_part))]
+fn partition_part<'a>(
+    alloc: Global,
+    text: &str,
+    tokens: &'a [Token],
+) -> Result<(Vec<Name>, &'a [Token]), ParseFault>
+    requires stands { All (IsToken text.now) tokens.now }
+    ensures exact { Gives (λ x. (x.0.items, x.1.now)) result (partition_part.read text.now tokens.now) }
+    ensures stands { IfOk result (λ x. All (IsToken text.now) x.1.now) }
+    ensures no_longer { IfOk result (λ x. length x.1.now ≤ length tokens.now) }
+{
+    if !begins(tokens, TokenKind::Keyword(Keyword::Partition)) {
+        return Ok((Vec::new(alloc), tokens));
+    }
+    let (_, rest) = word(text, tokens, TokenKind::Keyword(Keyword::Partition))?;
+    let (_, rest) = word(text, rest, TokenKind::Keyword(Keyword::By))?;
+    names(alloc, text, rest)
+}
+
+/// Perhaps ORDER BY, and what follows.
+#[tactic(auto, unfolding(crate::specs::ClauseGrammar::order_part))]
+fn order_part<'a>(
+    alloc: Global,
+    text: &str,
+    tokens: &'a [Token],
+) -> Result<(Vec<Order>, &'a [Token]), ParseFault>
+    requires stands { All (IsToken text.now) tokens.now }
+    ensures exact { Gives (λ x. (x.0.items, x.1.now)) result (order_part.read text.now tokens.now) }
+    ensures stands { IfOk result (λ x. All (IsToken text.now) x.1.now) }
+    ensures no_longer { IfOk result (λ x. length x.1.now ≤ length tokens.now) }
+{
+    if !begins(tokens, TokenKind::Keyword(Keyword::Order)) {
+        return Ok((Vec::new(alloc), tokens));
+    }
+    let (_, rest) = word(text, tokens, TokenKind::Keyword(Keyword::Order))?;
+    let (_, rest) = word(text, rest, TokenKind::Keyword(Keyword::By))?;
+    orders(alloc, text, rest)
+}
+
+/// Perhaps MEASURES, and what follows.
+#[tactic(auto, unfolding(crate::specs::ClauseGrammar::measures_part))]
+fn measures_part<'a>(
+    alloc: Global,
+    text: &str,
+    tokens: &'a [Token],
+    room: usize,
+) -> Result<(Vec<Measure>, &'a [Token]), ParseFault>
+    requires stands { All (IsToken text.now) tokens.now }
+    ensures exact { Gives (λ x. (map measure_tree x.0.items, x.1.now)) result
+        ((measures_part room).read text.now tokens.now) }
+    ensures stands { IfOk result (λ x. All (IsToken text.now) x.1.now) }
+    ensures no_longer { IfOk result (λ x. length x.1.now ≤ length tokens.now) }
+{
+    if !begins(tokens, TokenKind::Keyword(Keyword::Measures)) {
+        return Ok((Vec::new(alloc), tokens));
+    }
+    let (_, rest) = word(text, tokens, TokenKind::Keyword(Keyword::Measures))?;
+    measures(alloc, text, rest, room)
+}
+
+/// Perhaps SUBSET, and what follows.
+#[tactic(auto, unfolding(crate::specs::ClauseGrammar::subset_part))]
+fn subset_part<'a>(
+    alloc: Global,
+    text: &str,
+    tokens: &'a [Token],
+    room: usize,
+) -> Result<(Vec<Union>, &'a [Token]), ParseFault>
+    requires stands { All (IsToken text.now) tokens.now }
+    ensures exact { Gives (λ x. (map union_tree x.0.items, x.1.now)) result
+        ((subset_part room).read text.now tokens.now) }
+    ensures stands { IfOk result (λ x. All (IsToken text.now) x.1.now) }
+    ensures no_longer { IfOk result (λ x. length x.1.now ≤ length tokens.now) }
+{
+    if !begins(tokens, TokenKind::Keyword(Keyword::Subset)) {
+        return Ok((Vec::new(alloc), tokens));
+    }
+    let (_, rest) = word(text, tokens, TokenKind::Keyword(Keyword::Subset))?;
+    unions(alloc, text, rest, room)
+}
+
+/// DEFINE, and what follows.
+#[tactic(auto, unfolding(crate::specs::ClauseGrammar::define_part))]
+fn define_part<'a>(
+    alloc: Global,
+    text: &str,
+    tokens: &'a [Token],
+    room: usize,
+) -> Result<(Vec<Definition>, &'a [Token]), ParseFault>
+    requires stands { All (IsToken text.now) tokens.now }
+    ensures exact { Gives (λ x. (map definition_tree x.0.items, x.1.now)) result
+        ((define_part room).read text.now tokens.now) }
+    ensures stands { IfOk result (λ x. All (IsToken text.now) x.1.now) }
+    ensures shorter { IfOk result (λ x. length x.1.now < length tokens.now) }
+{
+    let (_, rest) = word(text, tokens, TokenKind::Keyword(Keyword::Define))?;
+    definitions(alloc, text, rest, room)
+}
+
+/// PATTERN, and what follows.
+#[tactic(auto, unfolding(crate::specs::ClauseGrammar::pattern_part))]
+fn pattern_part<'a>(
+    alloc: Global,
+    text: &str,
+    tokens: &'a [Token],
+    room: usize,
+) -> Result<(Pattern, &'a [Token]), ParseFault>
+    requires stands { All (IsToken text.now) tokens.now }
+    ensures exact { Gives (λ x. (tree_of x.0, x.1.now)) result ((pattern_part room).read text.now tokens.now) }
+    ensures stands { IfOk result (λ x. All (IsToken text.now) x.1.now) }
+    ensures shorter { IfOk result (λ x. length x.1.now < length tokens.now) }
+{
+    let (_, rest) = word(text, tokens, TokenKind::Keyword(Keyword::Pattern))?;
+    let (_, rest) = opening(text, rest, TokenKind::Mark(Mark::LeftParenthesis), room)?;
+    let (pattern, rest) = inner_pattern(alloc, text, rest, room)?;
+    let (_, rest) = word(text, rest, TokenKind::Mark(Mark::RightParenthesis))?;
+    Ok((pattern, rest))
+}
+
+/// Perhaps the rows per match, and what follows.
+#[tactic(auto, unfolding(crate::specs::ClauseGrammar::rows_part, crate::specs::ClauseGrammar::rows))]
+fn rows_part<'a>(text: &str, tokens: &'a [Token]) -> Result<(RowsPerMatch, &'a [Token]), ParseFault>
+    requires stands { All (IsToken text.now) tokens.now }
+    ensures exact { Gives (λ x. (x.0, x.1.now)) result (rows_part.read text.now tokens.now) }
+    ensures stands { IfOk result (λ x. All (IsToken text.now) x.1.now) }
+    ensures no_longer { IfOk result (λ x. length x.1.now ≤ length tokens.now) }
+{
+    if !begins(tokens, TokenKind::Keyword(Keyword::One))
+        && !begins(tokens, TokenKind::Keyword(Keyword::All))
+    {
+        return Ok((RowsPerMatch::One, tokens));
+    }
+    rows(text, tokens)
+}
+
+/// Perhaps a skip, and what follows.
+#[tactic(auto, unfolding(crate::specs::ClauseGrammar::skip_part, crate::specs::ClauseGrammar::skip))]
+fn skip_part<'a>(
+    alloc: Global,
+    text: &str,
+    tokens: &'a [Token],
+) -> Result<(Skip, &'a [Token]), ParseFault>
+    requires stands { All (IsToken text.now) tokens.now }
+    ensures exact { Gives (λ x. (x.0, x.1.now)) result (skip_part.read text.now tokens.now) }
+    ensures stands { IfOk result (λ x. All (IsToken text.now) x.1.now) }
+    ensures no_longer { IfOk result (λ x. length x.1.now ≤ length tokens.now) }
+{
+    if !begins(tokens, TokenKind::Keyword(Keyword::After)) {
+        return Ok((Skip::PastLastRow, tokens));
+    }
+    skip(alloc, text, tokens)
+}
+
+/// The parts of a clause in their order, and what follows.
+#[tactic(auto, unfolding(crate::specs::ClauseGrammar::body))]
+fn body<'a>(
+    alloc: Global,
+    text: &str,
+    tokens: &'a [Token],
+    room: usize,
+) -> Result<(Clause, &'a [Token]), ParseFault>
+    requires stands { All (IsToken text.now) tokens.now }
+    ensures exact { Gives (λ x. (clause_tree x.0, x.1.now)) result ((body room).read text.now tokens.now) }
+    ensures text { IfOk result (λ x. x.0.text ≡ text.now) }
+    ensures stands { IfOk result (λ x. All (IsToken text.now) x.1.now) }
+{
+    let (partition, rest) = partition_part(alloc, text, tokens)?;
+    let (order, rest) = order_part(alloc, text, rest)?;
+    let (measures, rest) = measures_part(alloc, text, rest, room)?;
+    let (rows, rest) = rows_part(text, rest)?;
+    let (skip, rest) = skip_part(alloc, text, rest)?;
+    let (pattern, rest) = pattern_part(alloc, text, rest, room)?;
+    let (subsets, rest) = subset_part(alloc, text, rest, room)?;
+    let (definitions, rest) = define_part(alloc, text, rest, room)?;
+    let clause = Clause {
+        text: Text::new(String::from_str(alloc, text)?),
+        partition,
+        order,
+        measures,
+        rows,
+        skip,
+        pattern,
+        subsets,
+        definitions,
+    };
+    Ok((clause, rest))
+}
+
+/// A clause, and what follows.
+#[tactic(auto, unfolding(crate::specs::ClauseGrammar::clause))]
+fn clause<'a>(
+    alloc: Global,
+    text: &str,
+    tokens: &'a [Token],
+) -> Result<(Clause, &'a [Token]), ParseFault>
+    requires stands { All (IsToken text.now) tokens.now }
+    ensures exact { Gives (λ x. (clause_tree x.0, x.1.now)) result (clause.read text.now tokens.now) }
+    ensures text { IfOk result (λ x. x.0.text ≡ text.now) }
+    ensures stands { IfOk result (λ x. All (IsToken text.now) x.1.now) }
+{
+    if !begins(tokens, TokenKind::Keyword(Keyword::MatchRecognize)) {
+        return body(alloc, text, tokens, MAX_OPEN);
+    }
+    let (_, rest) = word(text, tokens, TokenKind::Keyword(Keyword::MatchRecognize))?;
+    let (_, rest) = opening(text, rest, TokenKind::Mark(Mark::LeftParenthesis), MAX_OPEN)?;
+    let (clause, rest) = body(alloc, text, rest, MAX_OPEN - 1)?;
+    let (_, rest) = word(text, rest, TokenKind::Mark(Mark::RightParenthesis))?;
+    Ok((clause, rest))
+}
+
+/// The clause that the tokens of the text derive.
+///
+/// `Expected` comes at the first token with which those before it begin no clause, or at the end of the text where it
+/// ends too early; `Deep` at a `(` or `{-` that would be the 101st open one. The first of the two in the text is told. So
+/// in `PATTERN (A)` a `DEFINE` is expected at 11. The text is copied into the clause.
+pub fn parse(alloc: Global, text: &str, tokens: &[Token]) -> Result<Clause, ParseFault>
+    requires stands { All (IsToken text.now) tokens.now }
+    ensures text { IfOk result (λ clause. clause.text ≡ text.now) }
+    ensures derived { IfOk result (λ clause. Derives text.now tokens.now (clause_tree clause)) }
+    ensures only { IfOk result (λ clause. DerivesOnly text.now tokens.now (clause_tree clause)) }
+    ensures refused { IfErr result
+        (λ fault. fault ≢ ParseFault.OutOfMemory → DerivesNone text.now tokens.now) }
+    // It is the start of one of the tokens, or the length of the text.
+    ensures offset { IfErr result (λ fault. IsFaultIn text.now tokens.now fault) }
+{
+    let (clause, rest) = clause(alloc, text, tokens)?;
+    if !rest.is_empty() {
+        return Err(ParseFault::Expected(place(text, rest)));
+    }
+    Ok(clause)
+}

@@ -1,0 +1,695 @@
+//! Expressions.
+
+ghost use Rattle.std.specs.Prelude.{◌≡◌, ◌<◌, ◌≤◌, length, map, All, IfOk, Option, List, [], ◌∷◌, Some, None, false};
+ghost use Rattle.rp_lexer.specs.Lexes.{IsToken};
+ghost use Rattle.rp_lexer.specs.Meanings.{bytes_of, number_of};
+ghost use Rattle.rp_grammar.specs.Reading.{Gives, starts};
+ghost use Rattle.rp_syntax.specs.Names.{unquoted, behind_first};
+ghost use Rattle.rp_grammar.specs.Grammar.{gives, one_of};
+ghost use Rattle.rp_syntax.specs.Terms.{IsNull, Negative, Not, Literal, Number, Operate, from_left, from_right, operand_of, term_of};
+ghost use Rattle.rp_syntax.specs.ExprGrammar.{aggregate, comparison, conjunction, counted, deeper_expr, expr, inside_expr, negation, nullness, operation, over_column, product, scoped, sign, sign_kinds, comparison_kinds, signed, sum, test, value};
+
+use crate::name::name;
+use crate::navigation::{begins_plain, column, edge, plain, scope};
+use crate::tree::{
+    Aggregate, AggregateFunction, Column, Counted, Expr, Operation, Operator, Scope,
+};
+use rp_grammar::{ParseFault, begins, opening, place, word};
+use rp_lexer::{Keyword, Mark, Token, TokenKind, number_of, text_of};
+use rp_value::Text;
+use std::alloc::{AllocError, Global};
+
+/// A number, and what follows it.
+fn number<'a>(text: &str, tokens: &'a [Token]) -> Result<(Expr, &'a [Token]), ParseFault>
+    requires stands { All (IsToken text.now) tokens.now }
+    ensures exact { Gives (λ x. (term_of x.0, x.1.now)) result
+        ((one_of (TokenKind.Number ∷ []) (λ text t. Number t.start (number_of text t))).read text.now tokens.now) }
+    ensures stands { IfOk result (λ x. All (IsToken text.now) x.1.now) }
+    ensures shorter { IfOk result (λ x. length x.1.now < length tokens.now) }
+{
+    match tokens.split_first() {
+        Some((first, rest)) if first.kind == TokenKind::Number => {
+            let number = Expr::Number {
+                at: first.start,
+                value: number_of(text, *first),
+            };
+            Ok((number, rest))
+        }
+        _ => Err(ParseFault::Expected(place(text, tokens))),
+    }
+}
+
+/// What a token means as a text.
+#[tactic(auto, using(crate::proofs::Names::texts))]
+fn text_at(alloc: Global, text: &str, token: Token) -> Result<Text, AllocError>
+    requires stands { IsToken text.now token }
+    requires literal { token.kind ≡ TokenKind.Text }
+    ensures { IfOk result (λ literal. literal ≡ unquoted false 39 (behind_first (bytes_of text.now token))) }
+{
+    let string = text_of(alloc, text, token)?;
+    Ok(Text::new(string))
+}
+
+/// A text, and what follows it.
+fn literal<'a>(
+    alloc: Global,
+    text: &str,
+    tokens: &'a [Token],
+) -> Result<(Expr, &'a [Token]), ParseFault>
+    requires stands { All (IsToken text.now) tokens.now }
+    ensures exact { Gives (λ x. (term_of x.0, x.1.now)) result
+        ((one_of (TokenKind.Text ∷ []) (λ text t. Literal t.start (unquoted false 39 (behind_first (bytes_of text t))))).read text.now tokens.now) }
+    ensures stands { IfOk result (λ x. All (IsToken text.now) x.1.now) }
+    ensures shorter { IfOk result (λ x. length x.1.now < length tokens.now) }
+{
+    match tokens.split_first() {
+        Some((first, rest)) if first.kind == TokenKind::Text => {
+            let literal = text_at(alloc, text, *first)?;
+            Ok((
+                Expr::Text {
+                    at: first.start,
+                    text: literal,
+                },
+                rest,
+            ))
+        }
+        _ => Err(ParseFault::Expected(place(text, tokens))),
+    }
+}
+
+/// What COUNT goes over, and what follows.
+#[tactic(auto, unfolding(crate::specs::ExprGrammar::counted))]
+fn counted<'a>(
+    alloc: Global,
+    text: &str,
+    tokens: &'a [Token],
+) -> Result<(Counted, &'a [Token]), ParseFault>
+    requires stands { All (IsToken text.now) tokens.now }
+    ensures exact { Gives (λ x. (x.0, x.1.now)) result (counted.read text.now tokens.now) }
+    ensures stands { IfOk result (λ x. All (IsToken text.now) x.1.now) }
+    ensures shorter { IfOk result (λ x. length x.1.now < length tokens.now) }
+{
+    if begins(tokens, TokenKind::Mark(Mark::Asterisk)) {
+        let (_, rest) = word(text, tokens, TokenKind::Mark(Mark::Asterisk))?;
+        return Ok((Counted::Rows, rest));
+    }
+    let (first, rest) = name(alloc, text, tokens)?;
+    if !begins(rest, TokenKind::Mark(Mark::Period)) {
+        let column = Column {
+            qualifier: None,
+            name: first,
+        };
+        return Ok((Counted::Column(column), rest));
+    }
+    let (_, rest) = word(text, rest, TokenKind::Mark(Mark::Period))?;
+    if begins(rest, TokenKind::Mark(Mark::Asterisk)) {
+        let (_, rest) = word(text, rest, TokenKind::Mark(Mark::Asterisk))?;
+        return Ok((Counted::RowsOf(first), rest));
+    }
+    let (second, rest) = name(alloc, text, rest)?;
+    let column = Column {
+        qualifier: Some(first),
+        name: second,
+    };
+    Ok((Counted::Column(column), rest))
+}
+
+/// A word of this kind and a column in brackets, and what follows.
+fn over_column<'a>(
+    alloc: Global,
+    text: &str,
+    tokens: &'a [Token],
+    room: usize,
+    kind: TokenKind,
+) -> Result<(usize, Column, &'a [Token]), ParseFault>
+    requires stands { All (IsToken text.now) tokens.now }
+    ensures exact { Gives (λ x. ((x.0, x.1), x.2.now)) result ((over_column room kind).read text.now tokens.now) }
+    ensures stands { IfOk result (λ x. All (IsToken text.now) x.2.now) }
+    ensures shorter { IfOk result (λ x. length x.2.now < length tokens.now) }
+{
+    let (at, rest) = word(text, tokens, kind)?;
+    let (_, rest) = opening(text, rest, TokenKind::Mark(Mark::LeftParenthesis), room)?;
+    let (column, rest) = column(alloc, text, rest)?;
+    let (_, rest) = word(text, rest, TokenKind::Mark(Mark::RightParenthesis))?;
+    Ok((at, column, rest))
+}
+
+/// An aggregate under this scope, and what follows.
+#[tactic(auto, unfolding(crate::specs::ExprGrammar::aggregate))]
+fn aggregate<'a>(
+    alloc: Global,
+    text: &str,
+    tokens: &'a [Token],
+    room: usize,
+    scope: Option<Scope>,
+) -> Result<(Aggregate, &'a [Token]), ParseFault>
+    requires stands { All (IsToken text.now) tokens.now }
+    ensures exact { Gives (λ x. (x.0, x.1.now)) result
+        ((gives (λ f. f scope) (aggregate room)).read text.now tokens.now) }
+    ensures stands { IfOk result (λ x. All (IsToken text.now) x.1.now) }
+    ensures shorter { IfOk result (λ x. length x.1.now < length tokens.now) }
+{
+    if begins(tokens, TokenKind::Keyword(Keyword::Count)) {
+        let (at, rest) = word(text, tokens, TokenKind::Keyword(Keyword::Count))?;
+        let (_, rest) = opening(text, rest, TokenKind::Mark(Mark::LeftParenthesis), room)?;
+        let (argument, rest) = counted(alloc, text, rest)?;
+        let (_, rest) = word(text, rest, TokenKind::Mark(Mark::RightParenthesis))?;
+        let function = AggregateFunction::Count(argument);
+        return Ok((
+            Aggregate {
+                scope,
+                at,
+                function,
+            },
+            rest,
+        ));
+    }
+    if begins(tokens, TokenKind::Keyword(Keyword::Sum)) {
+        let (at, column, rest) = over_column(
+            alloc,
+            text,
+            tokens,
+            room,
+            TokenKind::Keyword(Keyword::Sum),
+        )?;
+        let function = AggregateFunction::Sum(column);
+        return Ok((
+            Aggregate {
+                scope,
+                at,
+                function,
+            },
+            rest,
+        ));
+    }
+    if begins(tokens, TokenKind::Keyword(Keyword::Min)) {
+        let (at, column, rest) = over_column(
+            alloc,
+            text,
+            tokens,
+            room,
+            TokenKind::Keyword(Keyword::Min),
+        )?;
+        let function = AggregateFunction::Min(column);
+        return Ok((
+            Aggregate {
+                scope,
+                at,
+                function,
+            },
+            rest,
+        ));
+    }
+    let (at, column, rest) = over_column(
+        alloc,
+        text,
+        tokens,
+        room,
+        TokenKind::Keyword(Keyword::Max),
+    )?;
+    let function = AggregateFunction::Max(column);
+    Ok((
+        Aggregate {
+            scope,
+            at,
+            function,
+        },
+        rest,
+    ))
+}
+
+/// A navigation or an aggregate that may have a scope, and what follows.
+#[tactic(auto, unfolding(crate::specs::ExprGrammar::scoped, crate::specs::ExprGrammar::under_scope, crate::specs::NavigationGrammar::edge))]
+fn scoped<'a>(
+    alloc: Global,
+    text: &str,
+    tokens: &'a [Token],
+    room: usize,
+) -> Result<(Expr, &'a [Token]), ParseFault>
+    requires stands { All (IsToken text.now) tokens.now }
+    ensures exact { Gives (λ x. (term_of x.0, x.1.now)) result ((scoped room).read text.now tokens.now) }
+    ensures stands { IfOk result (λ x. All (IsToken text.now) x.1.now) }
+    ensures shorter { IfOk result (λ x. length x.1.now < length tokens.now) }
+{
+    let (scope, rest) = scope(text, tokens)?;
+    if begins(rest, TokenKind::Keyword(Keyword::First))
+        || begins(rest, TokenKind::Keyword(Keyword::Last))
+    {
+        let (path, rest) = edge(alloc, text, rest, room, scope)?;
+        return Ok((Expr::Navigation(path), rest));
+    }
+    let (aggregate, rest) = aggregate(alloc, text, rest, room, scope)?;
+    Ok((Expr::Aggregate(aggregate), rest))
+}
+
+/// An operator of this kind, and what follows.
+fn operation<'a>(
+    text: &str,
+    tokens: &'a [Token],
+    kind: TokenKind,
+    operator: Operator,
+) -> Result<(Operation, &'a [Token]), ParseFault>
+    requires stands { All (IsToken text.now) tokens.now }
+    ensures exact { Gives (λ x. (x.0, x.1.now)) result ((operation operator kind).read text.now tokens.now) }
+    ensures stands { IfOk result (λ x. All (IsToken text.now) x.1.now) }
+    ensures shorter { IfOk result (λ x. length x.1.now < length tokens.now) }
+{
+    let (at, rest) = word(text, tokens, kind)?;
+    Ok((Operation { operator, at }, rest))
+}
+
+/// An operator of comparison, and what follows.
+#[tactic(auto, unfolding(crate::specs::ExprGrammar::comparison))]
+fn comparison<'a>(text: &str, tokens: &'a [Token]) -> Result<(Operation, &'a [Token]), ParseFault>
+    requires stands { All (IsToken text.now) tokens.now }
+    ensures exact { Gives (λ x. (x.0, x.1.now)) result (comparison.read text.now tokens.now) }
+    ensures stands { IfOk result (λ x. All (IsToken text.now) x.1.now) }
+    ensures shorter { IfOk result (λ x. length x.1.now < length tokens.now) }
+{
+    if begins(tokens, TokenKind::Mark(Mark::Equals)) {
+        return operation(
+            text,
+            tokens,
+            TokenKind::Mark(Mark::Equals),
+            Operator::Equals,
+        );
+    }
+    if begins(tokens, TokenKind::Mark(Mark::NotEquals)) {
+        return operation(
+            text,
+            tokens,
+            TokenKind::Mark(Mark::NotEquals),
+            Operator::NotEquals,
+        );
+    }
+    if begins(tokens, TokenKind::Mark(Mark::LessThan)) {
+        return operation(
+            text,
+            tokens,
+            TokenKind::Mark(Mark::LessThan),
+            Operator::Less,
+        );
+    }
+    if begins(tokens, TokenKind::Mark(Mark::LessThanOrEquals)) {
+        return operation(
+            text,
+            tokens,
+            TokenKind::Mark(Mark::LessThanOrEquals),
+            Operator::LessOrEquals,
+        );
+    }
+    if begins(tokens, TokenKind::Mark(Mark::GreaterThan)) {
+        return operation(
+            text,
+            tokens,
+            TokenKind::Mark(Mark::GreaterThan),
+            Operator::Greater,
+        );
+    }
+    operation(
+        text,
+        tokens,
+        TokenKind::Mark(Mark::GreaterThanOrEquals),
+        Operator::GreaterOrEquals,
+    )
+}
+
+/// `IS NULL` or `IS NOT NULL`, and what follows.
+#[tactic(auto, unfolding(crate::specs::ExprGrammar::nullness))]
+fn nullness<'a>(text: &str, tokens: &'a [Token]) -> Result<(usize, bool, &'a [Token]), ParseFault>
+    requires stands { All (IsToken text.now) tokens.now }
+    ensures exact { Gives (λ x. ((x.0, x.1), x.2.now)) result (nullness.read text.now tokens.now) }
+    ensures stands { IfOk result (λ x. All (IsToken text.now) x.2.now) }
+    ensures shorter { IfOk result (λ x. length x.2.now < length tokens.now) }
+{
+    let (at, rest) = word(text, tokens, TokenKind::Keyword(Keyword::Is))?;
+    if begins(rest, TokenKind::Keyword(Keyword::Not)) {
+        let (_, rest) = word(text, rest, TokenKind::Keyword(Keyword::Not))?;
+        let (_, rest) = word(text, rest, TokenKind::Keyword(Keyword::Null))?;
+        return Ok((at, true, rest));
+    }
+    let (_, rest) = word(text, rest, TokenKind::Keyword(Keyword::Null))?;
+    Ok((at, false, rest))
+}
+
+/// Whether the tokens begin with an operator of comparison.
+fn begins_comparison(tokens: &[Token]) -> bool
+    ensures { result ≡ starts comparison_kinds tokens.now }
+{
+    begins(tokens, TokenKind::Mark(Mark::Equals))
+        || begins(tokens, TokenKind::Mark(Mark::NotEquals))
+        || begins(tokens, TokenKind::Mark(Mark::LessThan))
+        || begins(tokens, TokenKind::Mark(Mark::LessThanOrEquals))
+        || begins(tokens, TokenKind::Mark(Mark::GreaterThan))
+        || begins(tokens, TokenKind::Mark(Mark::GreaterThanOrEquals))
+}
+
+/// `+` or `-`, and what follows.
+fn sign<'a>(text: &str, tokens: &'a [Token]) -> Result<(Operation, &'a [Token]), ParseFault>
+    requires stands { All (IsToken text.now) tokens.now }
+    ensures exact { Gives (λ x. (x.0, x.1.now)) result (sign.read text.now tokens.now) }
+    ensures stands { IfOk result (λ x. All (IsToken text.now) x.1.now) }
+    ensures shorter { IfOk result (λ x. length x.1.now < length tokens.now) }
+{
+    if begins(tokens, TokenKind::Mark(Mark::Plus)) {
+        return operation(text, tokens, TokenKind::Mark(Mark::Plus), Operator::Plus);
+    }
+    operation(text, tokens, TokenKind::Mark(Mark::Minus), Operator::Minus)
+}
+
+/// Whether the tokens begin with `+` or `-`.
+fn begins_sign(tokens: &[Token]) -> bool
+    ensures { result ≡ starts sign_kinds tokens.now }
+{
+    begins(tokens, TokenKind::Mark(Mark::Plus)) || begins(tokens, TokenKind::Mark(Mark::Minus))
+}
+
+/// Conjunctions with OR between them, and what follows.
+#[cycle(expr)]
+#[tactic(auto, unfolding(crate::specs::ExprGrammar::expr))]
+pub(crate) fn expr<'a>(
+    alloc: Global,
+    text: &str,
+    tokens: &'a [Token],
+    room: usize,
+) -> Result<(Expr, &'a [Token]), ParseFault>
+    requires stands { All (IsToken text.now) tokens.now }
+    ensures exact { Gives (λ x. (term_of x.0, x.1.now)) result
+        ((expr room (inside_expr room)).read text.now tokens.now) }
+    ensures stands { IfOk result (λ x. All (IsToken text.now) x.1.now) }
+    ensures shorter { IfOk result (λ x. length x.1.now < length tokens.now) }
+{
+    let (first, mut rest) = conjunction(alloc, text, tokens, room)?;
+    if !begins(rest, TokenKind::Keyword(Keyword::Or)) {
+        return Ok((first, rest));
+    }
+    let mut others = Vec::new(alloc);
+    while begins(rest, TokenKind::Keyword(Keyword::Or)) {
+        let (operation, behind) = operation(
+            text,
+            rest,
+            TokenKind::Keyword(Keyword::Or),
+            Operator::Or,
+        )?;
+        let (operand, behind) = conjunction(alloc, text, behind, room)?;
+        others.push((operation, operand))?;
+        rest = behind;
+    }
+    Ok((from_right(alloc, first, others)?, rest))
+}
+
+/// Negations with AND between them, and what follows.
+#[cycle(expr)]
+#[tactic(auto, unfolding(crate::specs::ExprGrammar::conjunction))]
+fn conjunction<'a>(
+    alloc: Global,
+    text: &str,
+    tokens: &'a [Token],
+    room: usize,
+) -> Result<(Expr, &'a [Token]), ParseFault>
+    requires stands { All (IsToken text.now) tokens.now }
+    ensures exact { Gives (λ x. (term_of x.0, x.1.now)) result
+        ((conjunction room (inside_expr room)).read text.now tokens.now) }
+    ensures stands { IfOk result (λ x. All (IsToken text.now) x.1.now) }
+    ensures shorter { IfOk result (λ x. length x.1.now < length tokens.now) }
+{
+    let (first, mut rest) = negation(alloc, text, tokens, room)?;
+    if !begins(rest, TokenKind::Keyword(Keyword::And)) {
+        return Ok((first, rest));
+    }
+    let mut others = Vec::new(alloc);
+    while begins(rest, TokenKind::Keyword(Keyword::And)) {
+        let (operation, behind) = operation(
+            text,
+            rest,
+            TokenKind::Keyword(Keyword::And),
+            Operator::And,
+        )?;
+        let (operand, behind) = negation(alloc, text, behind, room)?;
+        others.push((operation, operand))?;
+        rest = behind;
+    }
+    Ok((from_right(alloc, first, others)?, rest))
+}
+
+/// A test, perhaps with NOT, and what follows.
+#[cycle(expr)]
+#[tactic(auto, unfolding(crate::specs::ExprGrammar::negation))]
+fn negation<'a>(
+    alloc: Global,
+    text: &str,
+    tokens: &'a [Token],
+    room: usize,
+) -> Result<(Expr, &'a [Token]), ParseFault>
+    requires stands { All (IsToken text.now) tokens.now }
+    ensures exact { Gives (λ x. (term_of x.0, x.1.now)) result
+        ((negation room (inside_expr room)).read text.now tokens.now) }
+    ensures stands { IfOk result (λ x. All (IsToken text.now) x.1.now) }
+    ensures shorter { IfOk result (λ x. length x.1.now < length tokens.now) }
+{
+    if !begins(tokens, TokenKind::Keyword(Keyword::Not)) {
+        return test(alloc, text, tokens, room);
+    }
+    let (at, rest) = word(text, tokens, TokenKind::Keyword(Keyword::Not))?;
+    let (body, rest) = test(alloc, text, rest, room)?;
+    Ok((negated(alloc, at, body)?, rest))
+}
+
+/// A sum, perhaps compared, and what follows.
+#[cycle(expr)]
+#[tactic(auto, unfolding(crate::specs::ExprGrammar::test, crate::specs::ExprGrammar::comparison, crate::specs::ExprGrammar::nullness))]
+fn test<'a>(
+    alloc: Global,
+    text: &str,
+    tokens: &'a [Token],
+    room: usize,
+) -> Result<(Expr, &'a [Token]), ParseFault>
+    requires stands { All (IsToken text.now) tokens.now }
+    ensures exact { Gives (λ x. (term_of x.0, x.1.now)) result
+        ((test room (inside_expr room)).read text.now tokens.now) }
+    ensures stands { IfOk result (λ x. All (IsToken text.now) x.1.now) }
+    ensures shorter { IfOk result (λ x. length x.1.now < length tokens.now) }
+{
+    let (left, rest) = sum(alloc, text, tokens, room)?;
+    if begins(rest, TokenKind::Keyword(Keyword::Is)) {
+        let (at, negated, rest) = nullness(text, rest)?;
+        return Ok((is_null(alloc, at, left, negated)?, rest));
+    }
+    if begins_comparison(rest) {
+        let (operation, rest) = comparison(text, rest)?;
+        let (right, rest) = sum(alloc, text, rest, room)?;
+        return Ok((compared(alloc, left, operation, right)?, rest));
+    }
+    Ok((left, rest))
+}
+
+/// Products with `+` or `-` between them, and what follows.
+#[cycle(expr)]
+#[tactic(auto, unfolding(crate::specs::ExprGrammar::sum))]
+fn sum<'a>(
+    alloc: Global,
+    text: &str,
+    tokens: &'a [Token],
+    room: usize,
+) -> Result<(Expr, &'a [Token]), ParseFault>
+    requires stands { All (IsToken text.now) tokens.now }
+    ensures exact { Gives (λ x. (term_of x.0, x.1.now)) result
+        ((sum room (inside_expr room)).read text.now tokens.now) }
+    ensures stands { IfOk result (λ x. All (IsToken text.now) x.1.now) }
+    ensures shorter { IfOk result (λ x. length x.1.now < length tokens.now) }
+{
+    let (first, mut rest) = product(alloc, text, tokens, room)?;
+    if !begins_sign(rest) {
+        return Ok((first, rest));
+    }
+    let mut others = Vec::new(alloc);
+    while begins_sign(rest) {
+        let (operation, behind) = sign(text, rest)?;
+        let (operand, behind) = product(alloc, text, behind, room)?;
+        others.push((operation, operand))?;
+        rest = behind;
+    }
+    Ok((from_left(alloc, first, others)?, rest))
+}
+
+/// Values with `*` between them, and what follows.
+#[cycle(expr)]
+#[tactic(auto, unfolding(crate::specs::ExprGrammar::product))]
+fn product<'a>(
+    alloc: Global,
+    text: &str,
+    tokens: &'a [Token],
+    room: usize,
+) -> Result<(Expr, &'a [Token]), ParseFault>
+    requires stands { All (IsToken text.now) tokens.now }
+    ensures exact { Gives (λ x. (term_of x.0, x.1.now)) result
+        ((product room (inside_expr room)).read text.now tokens.now) }
+    ensures stands { IfOk result (λ x. All (IsToken text.now) x.1.now) }
+    ensures shorter { IfOk result (λ x. length x.1.now < length tokens.now) }
+{
+    let (first, mut rest) = signed(alloc, text, tokens, room)?;
+    if !begins(rest, TokenKind::Mark(Mark::Asterisk)) {
+        return Ok((first, rest));
+    }
+    let mut others = Vec::new(alloc);
+    while begins(rest, TokenKind::Mark(Mark::Asterisk)) {
+        let (operation, behind) = operation(
+            text,
+            rest,
+            TokenKind::Mark(Mark::Asterisk),
+            Operator::Times,
+        )?;
+        let (operand, behind) = signed(alloc, text, behind, room)?;
+        others.push((operation, operand))?;
+        rest = behind;
+    }
+    Ok((from_left(alloc, first, others)?, rest))
+}
+
+/// A value, perhaps with `-`, and what follows.
+#[cycle(expr)]
+#[tactic(auto, unfolding(crate::specs::ExprGrammar::signed))]
+fn signed<'a>(
+    alloc: Global,
+    text: &str,
+    tokens: &'a [Token],
+    room: usize,
+) -> Result<(Expr, &'a [Token]), ParseFault>
+    requires stands { All (IsToken text.now) tokens.now }
+    ensures exact { Gives (λ x. (term_of x.0, x.1.now)) result
+        ((signed room (inside_expr room)).read text.now tokens.now) }
+    ensures stands { IfOk result (λ x. All (IsToken text.now) x.1.now) }
+    ensures shorter { IfOk result (λ x. length x.1.now < length tokens.now) }
+{
+    if !begins(tokens, TokenKind::Mark(Mark::Minus)) {
+        return value(alloc, text, tokens, room);
+    }
+    let (at, rest) = word(text, tokens, TokenKind::Mark(Mark::Minus))?;
+    let (body, rest) = value(alloc, text, rest, room)?;
+    Ok((negative(alloc, at, body)?, rest))
+}
+
+/// A value, and what follows.
+#[cycle(expr)]
+#[tactic(auto, unfolding(crate::specs::ExprGrammar::value, crate::specs::NavigationGrammar::plain, crate::specs::NavigationGrammar::column))]
+fn value<'a>(
+    alloc: Global,
+    text: &str,
+    tokens: &'a [Token],
+    room: usize,
+) -> Result<(Expr, &'a [Token]), ParseFault>
+    requires stands { All (IsToken text.now) tokens.now }
+    ensures exact { Gives (λ x. (term_of x.0, x.1.now)) result
+        ((value room (inside_expr room)).read text.now tokens.now) }
+    ensures stands { IfOk result (λ x. All (IsToken text.now) x.1.now) }
+    ensures shorter { IfOk result (λ x. length x.1.now < length tokens.now) }
+{
+    if begins(tokens, TokenKind::Number) {
+        return number(text, tokens);
+    }
+    if begins(tokens, TokenKind::Text) {
+        return literal(alloc, text, tokens);
+    }
+    if begins(tokens, TokenKind::Mark(Mark::LeftParenthesis)) {
+        let (_, rest) = opening(text, tokens, TokenKind::Mark(Mark::LeftParenthesis), room)?;
+        let (body, rest) = inner_expr(alloc, text, rest, room)?;
+        let (_, rest) = word(text, rest, TokenKind::Mark(Mark::RightParenthesis))?;
+        return Ok((body, rest));
+    }
+    if begins_plain(tokens) {
+        let (path, rest) = plain(alloc, text, tokens, room)?;
+        return Ok((Expr::Navigation(path), rest));
+    }
+    if begins(tokens, TokenKind::Keyword(Keyword::MatchNumber)) {
+        let (at, rest) = word(text, tokens, TokenKind::Keyword(Keyword::MatchNumber))?;
+        let (_, rest) = opening(text, rest, TokenKind::Mark(Mark::LeftParenthesis), room)?;
+        let (_, rest) = word(text, rest, TokenKind::Mark(Mark::RightParenthesis))?;
+        return Ok((Expr::MatchNumber(at), rest));
+    }
+    if begins(tokens, TokenKind::Keyword(Keyword::Classifier)) {
+        let (at, rest) = word(text, tokens, TokenKind::Keyword(Keyword::Classifier))?;
+        let (_, rest) = opening(text, rest, TokenKind::Mark(Mark::LeftParenthesis), room)?;
+        let (_, rest) = word(text, rest, TokenKind::Mark(Mark::RightParenthesis))?;
+        return Ok((Expr::Classifier(at), rest));
+    }
+    scoped(alloc, text, tokens, room)
+}
+
+/// An expression inside a bracket for which there was room, and what follows.
+#[cycle(expr)]
+#[tactic(auto, using(crate::proofs::Exprs::deeper_expr_is))]
+fn inner_expr<'a>(
+    alloc: Global,
+    text: &str,
+    tokens: &'a [Token],
+    room: usize,
+) -> Result<(Expr, &'a [Token]), ParseFault>
+    requires room { 1 ≤ room }
+    requires stands { All (IsToken text.now) tokens.now }
+    ensures exact { Gives (λ x. (term_of x.0, x.1.now)) result ((deeper_expr room).read text.now tokens.now) }
+    ensures stands { IfOk result (λ x. All (IsToken text.now) x.1.now) }
+    ensures shorter { IfOk result (λ x. length x.1.now < length tokens.now) }
+{
+    expr(alloc, text, tokens, room - 1)
+}
+
+fn negated(alloc: Global, at: usize, body: Expr) -> Result<Expr, AllocError>
+    ensures { IfOk result (λ expr. term_of expr ≡ Not at (term_of body)) }
+{
+    Ok(Expr::Not {
+        at,
+        body: Box::new(alloc, body)?,
+    })
+}
+
+fn negative(alloc: Global, at: usize, body: Expr) -> Result<Expr, AllocError>
+    ensures { IfOk result (λ expr. term_of expr ≡ Negative at (term_of body)) }
+{
+    Ok(Expr::Negative {
+        at,
+        body: Box::new(alloc, body)?,
+    })
+}
+
+fn is_null(alloc: Global, at: usize, body: Expr, negated: bool) -> Result<Expr, AllocError>
+    ensures { IfOk result (λ expr. term_of expr ≡ IsNull at negated (term_of body)) }
+{
+    Ok(Expr::IsNull {
+        at,
+        body: Box::new(alloc, body)?,
+        negated,
+    })
+}
+
+fn compared(
+    alloc: Global,
+    left: Expr,
+    operation: Operation,
+    right: Expr,
+) -> Result<Expr, AllocError>
+    ensures { IfOk result (λ expr. term_of expr ≡ Operate (term_of left) operation (term_of right)) }
+{
+    Ok(Expr::Comparison {
+        left: Box::new(alloc, left)?,
+        operation,
+        right: Box::new(alloc, right)?,
+    })
+}
+
+fn from_left(alloc: Global, first: Expr, rest: Vec<(Operation, Expr)>) -> Result<Expr, AllocError>
+    ensures { IfOk result (λ expr. term_of expr ≡ from_left (term_of first) (map operand_of rest.items)) }
+{
+    Ok(Expr::FromLeft {
+        first: Box::new(alloc, first)?,
+        rest,
+    })
+}
+
+fn from_right(alloc: Global, first: Expr, rest: Vec<(Operation, Expr)>) -> Result<Expr, AllocError>
+    ensures { IfOk result (λ expr. term_of expr ≡ from_right (term_of first) (map operand_of rest.items)) }
+{
+    Ok(Expr::FromRight {
+        first: Box::new(alloc, first)?,
+        rest,
+    })
+}

@@ -1,0 +1,172 @@
+//! The text of a table: `sym text, t int, p int`.
+
+ghost use Rattle.std.specs.Prelude.{◌≡◌, ◌<◌, List, length, All, IfOk, IfErr, [], string_bytes};
+ghost use Rattle.rp_lexer.specs.Lexes.{IsToken, Lexes};
+ghost use Rattle.rp_value.specs.Tables.{column_of, columns_of};
+ghost use Rattle.rp_value.specs.declared.table.Column.{Column};
+ghost use Rattle.rp_grammar.specs.Reading.{Gives};
+ghost use Rattle.rp_syntax.specs.TableGrammar.{IsTableText, IsTextFault, column, column_kind, kind_called, table, told_lex, told_table};
+
+use crate::name::{name, named};
+use rp_grammar::{ParseFault, begins, place, word};
+use rp_lexer::{LexFault, Mark, Token, TokenKind, law_lexes, lex};
+use rp_value::{Kind, Table, TableFault};
+use std::alloc::Global;
+use thiserror::Error;
+
+/// Why a text is no table, with a byte offset from 0.
+#[derive(Clone, Copy, Debug, PartialEq, Eq, Error)]
+pub enum TableTextFault {
+    /// The text has no tokens, for this first fault.
+    #[error("{0}")]
+    Lex(LexFault),
+    /// The token that begins here can't follow those before it, or the text ends here too early.
+    #[error("Expected at byte {0}")]
+    Expected(usize),
+    /// The columns that it names make no table.
+    #[error("{0}")]
+    Table(TableFault),
+    /// No memory was left. It says nothing of the text.
+    #[error("out of memory")]
+    OutOfMemory,
+}
+
+impl From<LexFault> for TableTextFault {
+    ghost use Rattle.std.specs.Prelude.{◌≡◌};
+    ghost use Rattle.rp_syntax.specs.TableGrammar.{told_lex};
+
+    ghost from_gives = { λ why fault. fault ≡ told_lex why };
+
+    fn from(why: LexFault) -> TableTextFault {
+        match why {
+            LexFault::OutOfMemory => TableTextFault::OutOfMemory,
+            why => TableTextFault::Lex(why),
+        }
+    }
+}
+
+impl From<TableFault> for TableTextFault {
+    ghost use Rattle.std.specs.Prelude.{◌≡◌};
+    ghost use Rattle.rp_syntax.specs.TableGrammar.{told_table};
+
+    ghost from_gives = { λ why fault. fault ≡ told_table why };
+
+    fn from(why: TableFault) -> TableTextFault {
+        match why {
+            TableFault::OutOfMemory => TableTextFault::OutOfMemory,
+            why => TableTextFault::Table(why),
+        }
+    }
+}
+
+/// The kind that a name in upper case calls.
+fn kind_called(name: &str) -> Option<Kind>
+    ensures { result ≡ kind_called name.now }
+{
+    if name == "INT" || name == "INTEGER" || name == "BIGINT" {
+        return Some(Kind::Int);
+    }
+    if name == "TEXT" || name == "VARCHAR" {
+        return Some(Kind::Text);
+    }
+    None
+}
+
+/// The kind of a column, and what follows.
+fn column_kind<'a>(
+    alloc: Global,
+    text: &str,
+    tokens: &'a [Token],
+) -> Result<(Kind, &'a [Token]), ParseFault>
+    requires stands { All (IsToken text.now) tokens.now }
+    ensures exact { Gives (λ x. (x.0, x.1.now)) result (column_kind.read text.now tokens.now) }
+    ensures stands { IfOk result (λ x. All (IsToken text.now) x.1.now) }
+    ensures shorter { IfOk result (λ x. length x.1.now < length tokens.now) }
+{
+    match tokens.split_first() {
+        Some((first, rest)) if first.kind == TokenKind::Name => {
+            let word = named(alloc, text, *first)?;
+            match kind_called(word.text.as_str()) {
+                Some(kind) => Ok((kind, rest)),
+                None => Err(ParseFault::Expected(first.start)),
+            }
+        }
+        _ => Err(ParseFault::Expected(place(text, tokens))),
+    }
+}
+
+/// A column's name and kind, and what follows.
+fn column<'a>(
+    alloc: Global,
+    text: &str,
+    tokens: &'a [Token],
+) -> Result<((String, Kind), &'a [Token]), ParseFault>
+    requires stands { All (IsToken text.now) tokens.now }
+    ensures exact { Gives (λ x. (column_of x.0, x.1.now)) result (column.read text.now tokens.now) }
+    ensures stands { IfOk result (λ x. All (IsToken text.now) x.1.now) }
+    ensures shorter { IfOk result (λ x. length x.1.now < length tokens.now) }
+{
+    let (name, rest) = name(alloc, text, tokens)?;
+    let (kind, rest) = column_kind(alloc, text, rest)?;
+    Ok(((name.text.into_string(), kind), rest))
+}
+
+/// Columns with commas between, and what follows.
+fn columns<'a>(
+    alloc: Global,
+    text: &str,
+    tokens: &'a [Token],
+) -> Result<(Vec<(String, Kind)>, &'a [Token]), ParseFault>
+    requires stands { All (IsToken text.now) tokens.now }
+    ensures exact { Gives (λ x. (columns_of x.0.items, x.1.now)) result (table.read text.now tokens.now) }
+    ensures stands { IfOk result (λ x. All (IsToken text.now) x.1.now) }
+{
+    let (first, mut rest) = column(alloc, text, tokens)?;
+    let mut items = Vec::new(alloc);
+    items.push(first)?;
+    'items: while begins(rest, TokenKind::Mark(Mark::Comma)) {
+        let (_, behind) = word(text, rest, TokenKind::Mark(Mark::Comma))?;
+        let (item, behind) = column(alloc, text, behind)?;
+        items.push(item)?;
+        rest = behind;
+    }
+    Ok((items, rest))
+}
+
+/// The columns that all tokens derive.
+fn whole(alloc: Global, text: &str, tokens: &[Token]) -> Result<Vec<(String, Kind)>, TableTextFault>
+    requires stands { All (IsToken text.now) tokens.now }
+    requires lexed { Lexes text.now tokens.now }
+    ensures table { IfOk result (λ columns. IsTableText text.now (columns_of columns.items)) }
+    ensures fault { IfErr result (λ fault. IsTextFault text.now fault) }
+{
+    law_lexes();
+    match columns(alloc, text, tokens) {
+        Ok((columns, rest)) => {
+            if !rest.is_empty() {
+                return Err(TableTextFault::Expected(place(text, rest)));
+            }
+            Ok(columns)
+        }
+        Err(ParseFault::Expected(at)) => Err(TableTextFault::Expected(at)),
+        Err(ParseFault::Deep(at)) => Err(TableTextFault::Expected(at)),
+        Err(ParseFault::OutOfMemory) => Err(TableTextFault::OutOfMemory),
+    }
+}
+
+/// The table of a text: names with their kinds, with commas between. Names mean what they do in a clause; kinds are the
+/// words INT, INTEGER and BIGINT for whole numbers, TEXT and VARCHAR for texts, in any case. So `sym text, t int` is
+/// the table of SYM and T.
+///
+/// The whole text is cut into tokens first, then read, and then its columns are looked through.
+pub fn read_table(alloc: Global, text: &str) -> Result<Table, TableTextFault>
+    ensures table { IfOk result (λ table. IsTableText text.now table) }
+    ensures only { IfOk result
+        (λ table. (columns : List Column) → IsTableText text.now columns → table ≡ columns) }
+    ensures fault { IfErr result (λ fault. IsTextFault text.now fault) }
+{
+    law_lexes();
+    let tokens = lex(alloc, text)?;
+    let columns = whole(alloc, text, tokens.as_slice())?;
+    Ok(Table::new(alloc, columns)?)
+}
