@@ -1,24 +1,40 @@
--- The order of two values.
-use Rattle.std.specs.Prelude.{Option, None, Some}
+-- Comparisons of two values.
+use Rattle.std.specs.Prelude.{Bool, true, false, Option, None, Some, if◌then◌else◌}
 use Rattle.std.specs.declared.cmp.Ordering.{Ordering}
-use Rattle.std.specs.declared.cmp.Ordering.TheVariants.{Less, Equal, Greater}
+use Rattle.std.specs.declared.cmp.Ordering.TheVariants as order
 use Rattle.std.specs.Ordering.{int_cmp, nat_cmp}
 use Rattle.std.specs.Cmp.Lexicographic.{slice_cmp}
+use Rattle.rp_value.specs.declared.comparison.Comparison.{Comparison}
+use Rattle.rp_value.specs.declared.comparison.Comparison.TheVariants.{Equal, NotEqual, Less, LessOrEqual, Greater, GreaterOrEqual}
+use Rattle.rp_value.specs.declared.truth.Tri.{Tri}
+use Rattle.rp_value.specs.declared.truth.Tri.TheVariants.{True, False, Unknown}
 use Rattle.rp_value.specs.declared.value.Value.{Value}
 use Rattle.rp_value.specs.declared.value.Value.TheVariants.{Null, Int, Text}
 
--- whole numbers by their size, texts by their bytes from the first on, and else none
+-- whole numbers by their size, texts by their bytes from the first on; none for null, and none for values of different kinds
 abbrev pub comparison : Value → Value → Option Ordering
 comparison (Int a) (Int b) = Some (int_cmp a b)
 comparison (Text a) (Text b) = Some (slice_cmp nat_cmp a b)
 comparison _ _ = None
 
--- the order of keys, which is total: null first, then whole numbers by their size, then texts by their bytes
-abbrev pub key_order : Value → Value → Ordering
-key_order Null Null = Equal
-key_order Null _ = Less
-key_order (Int a) Null = Greater
-key_order (Int a) (Int b) = int_cmp a b
-key_order (Int a) (Text b) = Less
-key_order (Text a) (Text b) = slice_cmp nat_cmp a b
-key_order (Text a) _ = Greater
+-- whether a comparison holds of two values in this order
+abbrev pub holds : Comparison → Ordering → Bool
+holds Equal order.Equal = true
+holds NotEqual order.Less = true
+holds NotEqual order.Greater = true
+holds Less order.Less = true
+holds LessOrEqual order.Less = true
+holds LessOrEqual order.Equal = true
+holds Greater order.Greater = true
+holds GreaterOrEqual order.Greater = true
+holds GreaterOrEqual order.Equal = true
+holds _ _ = false
+
+-- the truth value of a comparison of two values in this order: unknown where they have none
+abbrev pub judged_order : Comparison → Option Ordering → Tri
+judged_order compares None = Unknown
+judged_order compares (Some order) = if holds compares order then True else False
+
+-- the truth value of a comparison: unknown where one of the values is null, and where their kinds differ
+abbrev pub judged : Comparison → Value → Value → Tri
+judged compares a b = judged_order compares (comparison a b)

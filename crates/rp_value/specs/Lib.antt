@@ -1,5 +1,6 @@
 pub mod Arithmetic
 pub mod Compared
+pub mod Order
 pub mod Rows
 pub mod Sums
 pub mod Tables

@@ -1,6 +1,7 @@
 -- Exact sums.
-use Rattle.std.specs.Prelude.{ℕ, ℤ, pos, ◌+ℤ◌, List, fold}
+use Rattle.std.specs.Prelude.{◌≡◌, ℕ, ℤ, pos, ◌+ℤ◌, ◌==◌, List, [], ◌∷◌, length, fold, if◌then◌else◌}
 use Rattle.rp_value.specs.declared.value.Value.{Value}
+use Rattle.rp_value.specs.declared.value.Value.TheVariants.{Null}
 use Rattle.rp_value.specs.Arithmetic.{fitted}
 
 -- the sum of whole numbers, without a bound
@@ -11,7 +12,24 @@ exact_sum = fold ◌+ℤ◌ (pos 0)
 abbrev pub total : List ℤ → Value
 total numbers = fitted (exact_sum numbers)
 
+-- SUM of whole numbers: null of none, and else their total
+abbrev pub sum_of : List ℤ → Value
+sum_of [] = Null
+sum_of (n ∷ numbers) = total (n ∷ numbers)
+
 -- how many numbers were added up, and their exact sum
 pub record Summed : Type 0 where
   pub count : ℕ
   pub sum : ℤ
+
+-- what is kept of numbers
+abbrev pub summed : List ℤ → Summed
+summed numbers = record { count = length numbers; sum = exact_sum numbers }
+
+-- SUM of the numbers that were added up
+abbrev pub sum_or_null : Summed → Value
+sum_or_null s = if s.count == 0 then Null else fitted s.sum
+
+-- what is kept of numbers tells SUM of them
+abbrev pub SumsAgree : Type 0
+SumsAgree = (numbers : List ℤ) → sum_or_null (summed numbers) ≡ sum_of numbers

@@ -6,11 +6,12 @@ use Rattle.std.specs.declared.alloc.Global.{Global}
 use Rattle.rp_value.specs.declared.table.Column.{Column}
 use Rattle.rp_value.specs.declared.table.TableFault.{TableFault}
 use Rattle.rp_value.specs.declared.table.TableFault.TheVariants.{NoColumns, BadName, DoubleName, OutOfMemory}
+use Rattle.rp_value.specs.declared.table.TheConstants.{MAX_NAME_LEN}
 use Rattle.rp_value.specs.declared.value.Kind.{Kind}
 
--- whether a name is empty or above 128 bytes
+-- whether a name is empty or longer than a name may be
 abbrev pub is_bad_name : List ℕ → Bool
-is_bad_name name = (length name == 0) || nat_lt 128 (length name)
+is_bad_name name = (length name == 0) || nat_lt MAX_NAME_LEN (length name)
 
 -- whether some column has such a name
 abbrev pub has_bad_name : List Column → Bool

@@ -2,6 +2,7 @@
 #![tactic(auto)]
 
 mod cells;
+mod comparison;
 mod row;
 mod sum;
 mod table;
@@ -10,12 +11,13 @@ mod truth;
 mod value;
 
 pub use cells::{Cells, same_values};
-pub use row::{Row, RowFault};
-pub use sum::{RunningSum, total};
+pub use comparison::Comparison;
+pub use row::{Row, RowFault, check_cells};
+pub use sum::{RunningSum, law_sum, total};
 pub use table::{Column, MAX_NAME_LEN, Table, TableFault};
 pub use text::Text;
 pub use truth::{Judged, Tri, law_told_stays};
-pub use value::{Kind, Value, law_key_order};
+pub use value::{Kind, Value, law_value_order};
 
 #[cfg(test)]
 mod tests;

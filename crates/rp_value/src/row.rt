@@ -1,14 +1,14 @@
 //! Rows of a table.
-ghost use Rattle.std.specs.Prelude.{◌≡◌, ◌↔◌, IsTrue, IfOk, option_copied};
+ghost use Rattle.std.specs.Prelude.{◌≡◌, ◌↔◌, IsTrue, IfOk, IfErr, OnOk, IfSome, None, Some, not, option_copied, position, zip, length, ◌<◌};
 ghost use Rattle.std.specs.Cmp.Lexicographic.{pointwise, lists_per, lists_equiv};
-ghost use Rattle.rp_value.specs.Rows.{cell_at};
+ghost use Rattle.rp_value.specs.Rows.{admits, cell_at, row_fault};
 ghost use Rattle.rp_value.specs.declared.row.RowFault.TheVariants.{OutOfMemory};
 ghost use Rattle.rp_value.specs.contracts.value.ValuePartialEq.TheImpl.Laws.{laws-law as value_per};
 ghost use Rattle.rp_value.specs.contracts.value.ValueEq.TheImpl.Laws.{laws-law as value_equiv};
 
-use crate::Value;
+use crate::{Kind, Value};
 use crate::cells::same_values;
-use std::alloc::{AllocError, Global};
+use std::alloc::{AllocError, AllocFailed, Global};
 use std::marker::Model;
 use std::rc::Rc;
 use thiserror::Error;
@@ -87,6 +87,32 @@ impl Row {
     }
 }
 
+/// Whether these cells may stand in columns of these kinds, as the cells of a row and the values of a key must: as many
+/// as there are kinds, each null or of its kind. The error is never `OutOfMemory`.
+pub fn check_cells(kinds: &[Kind], cells: &[Value]) -> Result<(), RowFault>
+    ensures ok { OnOk result (row_fault kinds.now cells.now ≡ None) }
+    ensures err { IfErr result (λ fault. row_fault kinds.now cells.now ≡ Some fault) }
+{
+    if cells.len() != kinds.len() {
+        return Err(RowFault::Width);
+    }
+    match first_refused(kinds, cells) {
+        Some(index) => Err(RowFault::Kind(index + 1)),
+        None => Ok(()),
+    }
+}
+
+/// The index of the first value that is neither null nor of its kind.
+fn first_refused(kinds: &[Kind], cells: &[Value]) -> Option<usize>
+    ensures place { result ≡ position (λ p. not (admits p.0 p.1)) (zip kinds.now cells.now) }
+    ensures bound { IfSome result (λ index. index < length kinds.now) }
+{
+    kinds
+        .iter()
+        .zip(cells)
+        .position(|(kind, cell)| !kind.admits(cell))
+}
+
 /// Why values are no row of a table, the first reason in the order of the variants.
 #[derive(Clone, Copy, Debug, PartialEq, Eq, Error)]
 pub enum RowFault {
@@ -105,6 +131,14 @@ impl From<AllocError> for RowFault {
     ghost from_gives = { λ _ fault. fault ≡ OutOfMemory };
 
     fn from(_error: AllocError) -> RowFault {
+        RowFault::OutOfMemory
+    }
+}
+
+impl<T: Drop> From<AllocFailed<T>> for RowFault {
+    ghost from_gives = { λ _ fault. fault ≡ OutOfMemory };
+
+    fn from(_error: AllocFailed<T>) -> RowFault {
         RowFault::OutOfMemory
     }
 }

@@ -1,7 +1,7 @@
 //! A running sum that no partial sum can overflow.
 ghost use Rattle.std.specs.Prelude.{◌≡◌, ◌+◌, ◌-◌, ◌^◌, ◌<◌, pos, ◌+ℤ◌};
 ghost use Rattle.rp_value.specs.Arithmetic.{fitted};
-ghost use Rattle.rp_value.specs.Sums.{total};
+ghost use Rattle.rp_value.specs.Sums.{total, sum_or_null, SumsAgree};
 
 use crate::Value;
 use crate::value::null_if_none;
@@ -64,13 +64,29 @@ impl RunningSum {
         self.count
     }
 
-    /// The sum as a value: null where it is outside 64 bits with sign, and 0 for no number.
+    /// The sum as a value: null where it is outside 64 bits with sign, and 0 for no number. SUM is `sum_or_null`.
     pub fn value(&self) -> Value
         ensures { result ≡ fitted self.now.sum }
     {
         null_if_none(i64::try_from(self.sum).ok())
     }
+
+    /// SUM of the numbers: null for no number, and where the sum is outside 64 bits with sign. COUNT of no number is 0
+    /// all the same, so that `count` tells the two nulls apart.
+    pub fn sum_or_null(&self) -> Value
+        ensures { result ≡ sum_or_null self.now }
+    {
+        if self.count == 0 {
+            return Value::Null;
+        }
+        self.value()
+    }
 }
+
+/// The law that what is kept of numbers tells SUM of them.
+pub fn law_sum()
+    ensures { SumsAgree }
+{}
 
 /// The exact sum of whole numbers as a value: null where it is outside 64 bits with sign,
 /// whatever the partial sums are, and 0 for no number.

@@ -9,7 +9,7 @@ ghost use Rattle.rp_value.specs.contracts.table.ColumnPartialEq.TheImpl.Laws.{la
 ghost use Rattle.rp_value.specs.contracts.table.ColumnEq.TheImpl.Laws.{laws-law as column_equiv};
 
 use crate::{Kind, Row, RowFault, Text, Value};
-use std::alloc::{AllocError, Global};
+use std::alloc::{AllocError, AllocFailed, Global};
 use std::marker::Model;
 use std::rc::Rc;
 use thiserror::Error;
@@ -140,6 +140,14 @@ impl From<AllocError> for TableFault {
     ghost from_gives = { λ _ fault. fault ≡ OutOfMemory };
 
     fn from(_error: AllocError) -> TableFault {
+        TableFault::OutOfMemory
+    }
+}
+
+impl<T: Drop> From<AllocFailed<T>> for TableFault {
+    ghost from_gives = { λ _ fault. fault ≡ OutOfMemory };
+
+    fn from(_error: AllocFailed<T>) -> TableFault {
         TableFault::OutOfMemory
     }
 }

@@ -1,4 +1,7 @@
 //! Values, tables and rows at work.
+ghost use Rattle.std.specs.Prelude.{◌≡◌, [], ◌∷◌, IfOk, IfErr, string_bytes};
+ghost use Rattle.rp_value.specs.Tables.{kinds_of};
+
 use super::*;
 use std::alloc::{AllocError, Global};
 use std::cmp::Ordering;
@@ -68,16 +71,40 @@ fn comparisons(rt: HostRuntime) -> Result<(), Fail> {
 }
 
 #[test]
-fn keys_in_order(rt: HostRuntime) -> Result<(), Fail> {
+fn judged_comparisons(rt: HostRuntime) -> Result<(), Fail> {
+    let alloc = rt.alloc();
+    let comparisons = [
+        (Comparison::Equal, Tri::False, Tri::True, Tri::False),
+        (Comparison::NotEqual, Tri::True, Tri::False, Tri::True),
+        (Comparison::Less, Tri::True, Tri::False, Tri::False),
+        (Comparison::LessOrEqual, Tri::True, Tri::True, Tri::False),
+        (Comparison::Greater, Tri::False, Tri::False, Tri::True),
+        (Comparison::GreaterOrEqual, Tri::False, Tri::True, Tri::True),
+    ];
+    let five = Value::Int(5);
+    for (comparison, less, equal, greater) in comparisons {
+        assert_eq!(rt; Value::Int(-5).judged(comparison, &five), less);
+        assert_eq!(rt; five.judged(comparison, &five), equal);
+        assert_eq!(rt; five.judged(comparison, &Value::Int(4)), greater);
+        assert_eq!(rt; text(alloc, "B")?.judged(comparison, &text(alloc, "a")?), less);
+        assert_eq!(rt; five.judged(comparison, &Value::Null), Tri::Unknown);
+        assert_eq!(rt; Value::Null.judged(comparison, &Value::Null), Tri::Unknown);
+        assert_eq!(rt; text(alloc, "5")?.judged(comparison, &five), Tri::Unknown);
+    }
+    Ok(())
+}
+
+#[test]
+fn values_in_order(rt: HostRuntime) -> Result<(), Fail> {
     let alloc = rt.alloc();
     let values = vec![in alloc;
-        Value::Null,
         Value::Int(LEAST),
         Value::Int(2),
         text(alloc, "")?,
         text(alloc, "B")?,
         text(alloc, "a")?,
         text(alloc, "é")?,
+        Value::Null,
     ]?;
     for (lower, higher) in values.iter().zip(values.iter().skip(1)) {
         assert_eq!(rt; lower.cmp(higher), Ordering::Less);
@@ -125,6 +152,8 @@ fn sums_are_exact(rt: HostRuntime) -> Result<(), Fail> {
     assert_eq!(rt; total(&[GREATEST, 1]), Value::Null);
     assert_eq!(rt; total(&[]), Value::Int(0));
     let mut sum = RunningSum::default();
+    assert_eq!(rt; sum.sum_or_null(), Value::Null);
+    assert_eq!(rt; sum.count(), 0);
     sum.add(LEAST);
     let half_way = sum;
     sum.add(-1);
@@ -134,6 +163,7 @@ fn sums_are_exact(rt: HostRuntime) -> Result<(), Fail> {
     assert_eq!(rt; sum.count(), 3);
     assert_eq!(rt; half_way.value(), Value::Int(LEAST));
     assert_eq!(rt; half_way.count(), 1);
+    assert_eq!(rt; half_way.sum_or_null(), Value::Int(LEAST));
     Ok(())
 }
 
@@ -230,6 +260,34 @@ fn tables(rt: HostRuntime) -> Result<(), Fail> {
     Ok(())
 }
 
+/// A table of stocks and their prices, as a caller of this crate makes one.
+fn prices(alloc: Global) -> Result<Table, TableFault>
+    ensures kinds { IfOk result (λ table. kinds_of table ≡ Kind.Text ∷ Kind.Int ∷ []) }
+{
+    let stock = (String::from_str(alloc, "stock")?, Kind::Text);
+    let price = (String::from_str(alloc, "price")?, Kind::Int);
+    Table::new(alloc, vec![in alloc; stock, price]?)
+}
+
+/// A row of it. Table's contract tells such a caller that nothing but want of memory can refuse the row.
+fn priced(alloc: Global, table: &Table, stock: String, price: i64) -> Result<Row, RowFault>
+    requires kinds { kinds_of table.now ≡ Kind.Text ∷ Kind.Int ∷ [] }
+    ensures row { IfOk result (λ row. row ≡ Value.Text (string_bytes stock) ∷ Value.Int price ∷ []) }
+    ensures accepted { IfErr result (λ fault. fault ≡ RowFault.OutOfMemory) }
+{
+    let stock = Value::Text(Text::new(stock));
+    table.row(alloc, vec![in alloc; stock, Value::Int(price)]?)
+}
+
+#[test]
+fn a_priced_stock(rt: HostRuntime) -> Result<(), Fail> {
+    let alloc = rt.alloc();
+    let table = prices(alloc)?;
+    let row = priced(alloc, &table, String::from_str(alloc, "ACME")?, 17)?;
+    assert_eq!(rt; row.cell(2), Some(&Value::Int(17)));
+    Ok(())
+}
+
 #[test]
 fn rows(rt: HostRuntime) -> Result<(), Fail> {
     let alloc = rt.alloc();
@@ -249,6 +307,20 @@ fn rows(rt: HostRuntime) -> Result<(), Fail> {
     assert_eq!(rt; row.cell(2), Some(&Value::Int(2)));
     assert_eq!(rt; row.cell(3), None);
     assert!(rt; !row.same(&nulls));
+    Ok(())
+}
+
+#[test]
+fn cells_of_kinds(rt: HostRuntime) -> Result<(), Fail> {
+    let alloc = rt.alloc();
+    let kinds = [Kind::Text, Kind::Int];
+    let cells = sale(alloc)?;
+    assert_eq!(rt; check_cells(&kinds, &cells), Ok(()));
+    assert_eq!(rt; check_cells(&kinds[..1], &cells), Err(RowFault::Width));
+    assert_eq!(rt; check_cells(&[Kind::Text, Kind::Text], &cells), Err(RowFault::Kind(2)));
+    assert_eq!(rt; check_cells(&[Kind::Int, Kind::Text], &cells), Err(RowFault::Kind(1)));
+    assert_eq!(rt; check_cells(&[Kind::Int], &[Value::Null]), Ok(()));
+    assert_eq!(rt; check_cells(&[], &[]), Ok(()));
     Ok(())
 }
 
@@ -291,6 +363,27 @@ fn refused_tables_and_rows(rt: HostRuntime) -> Result<(), Fail> {
     let row = row_of(alloc, &copy).or_else(|_| row_of(alloc, &copy))?;
     let twin = row.share()?;
     assert!(rt; twin.same(&row));
+    Ok(())
+}
+
+/// A fault goes through `?` whether or not a refused call gives back what it could not store.
+fn boxed_row(alloc: Global, cell: Value) -> Result<Box<Value>, RowFault> {
+    let mut cells = vec![in alloc; cell]?;
+    cells.push(Value::Null)?;
+    Ok(Box::new(alloc, Value::Null)?)
+}
+
+fn boxed_kind(alloc: Global) -> Result<Box<Kind>, TableFault> {
+    let mut kinds = Vec::with_capacity(alloc, 1)?;
+    kinds.push(Kind::Int)?;
+    Ok(Box::new(alloc, Kind::Int)?)
+}
+
+#[test]
+fn faults_of_memory(rt: HostRuntime) -> Result<(), Fail> {
+    let alloc = rt.alloc();
+    assert_eq!(rt; *boxed_row(alloc, Value::Int(1))?, Value::Null);
+    assert_eq!(rt; *boxed_kind(alloc)?, Kind::Int);
     Ok(())
 }
 

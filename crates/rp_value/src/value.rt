@@ -1,11 +1,12 @@
-//! Values, and their comparison and arithmetic.
+//! Values, and their order, comparison and arithmetic.
 ghost use Rattle.std.specs.Prelude.{◌≡◌, ◌+ℤ◌, ◌-ℤ◌, ◌*ℤ◌, IfOk};
 ghost use Rattle.std.specs.Option.{option_map_or};
 ghost use Rattle.rp_value.specs.Arithmetic.{on_numbers};
-ghost use Rattle.rp_value.specs.Compared.{comparison, key_order};
+ghost use Rattle.rp_value.specs.Compared.{comparison, judged};
+ghost use Rattle.rp_value.specs.Order.{value_order, OrderIsComparison, NullIsLast, DescendingIsReverse};
 ghost use Rattle.rp_value.specs.Rows.{admits};
 
-use crate::Text;
+use crate::{Comparison, Text, Tri};
 use std::alloc::{AllocError, Global};
 use std::cmp::Ordering;
 
@@ -32,17 +33,17 @@ impl Kind {
 
 /// A cell of a row, or the result of an expression.
 ///
-/// `==`, the order and the hash are those of a key of a map: null equals null and is below
-/// all numbers, and numbers are below texts. They are not SQL's comparison: what a condition
-/// asks is `compare`.
+/// `==` and the hash are those of a key of a map, in which null equals null. The order is that of ORDER BY, ascending:
+/// whole numbers are below texts, and null is last. None of these is SQL's comparison: what a condition asks is `judged`.
+// The derived order goes by the variants from the first on.
 #[derive(Debug, PartialEq, Eq, PartialOrd, Ord, Hash, Drop)]
 pub enum Value {
-    /// No value. A column of any kind may hold it.
-    Null,
     /// A whole number.
     Int(i64),
     /// A text, which may be empty: that is another value than null.
     Text(Text),
+    /// No value. A column of any kind may hold it.
+    Null,
 }
 
 impl Value {
@@ -55,6 +56,18 @@ impl Value {
             (Value::Int(left), Value::Int(right)) => Some(left.cmp(right)),
             (Value::Text(left), Value::Text(right)) => Some(left.cmp(right)),
             _ => None,
+        }
+    }
+
+    /// The truth value of a comparison with another value, as `p < 5` has it. A comparison with null is unknown, `=` with
+    /// null on both sides too; and so is one of a whole number with a text.
+    pub fn judged(&self, comparison: Comparison, other: &Value) -> Tri
+        ensures { result ≡ judged comparison self.now other.now }
+    {
+        match self.compare(other) {
+            Some(order) if comparison.holds(order) => Tri::True,
+            Some(_) => Tri::False,
+            None => Tri::Unknown,
         }
     }
 
@@ -103,10 +116,13 @@ impl Value {
     }
 }
 
-/// The law that in the order of keys null is first, then whole numbers by their size, then
-/// texts by their bytes.
-pub fn law_key_order()
-    ensures { (a b : Value) → ⟦<Value as Ord>⟧.cmp a b ≡ key_order a b }
+/// The law of the order of values: whole numbers by their size, then texts by their bytes, then null. So a column sorted
+/// by it is in the order of ORDER BY, ascending; the reverse is that of DESC, in which null is first.
+pub fn law_value_order()
+    ensures order { (a b : Value) → ⟦<Value as Ord>⟧.cmp a b ≡ value_order a b }
+    ensures compared { OrderIsComparison }
+    ensures null_last { NullIsLast }
+    ensures descending { DescendingIsReverse }
 {}
 
 /// A whole number, or null where there is none.
