@@ -104,7 +104,8 @@ impl Series {
     }
 
     fn push_listed(&mut self, tally: Tally, row: u64) -> Result<(), AllocError>
-        ensures pushed { OnOk result (self.new ≡ record self.old { tallies = self.old.tallies ++ tally ∷ []; rows = self.old.rows ++ row ∷ [] }) }
+        ensures pushed { OnOk result (self.new ≡
+            record { tallies = self.old.tallies ++ tally ∷ []; rows = self.old.rows ++ row ∷ [] }) }
         ensures err { OnErr result (self.new ≡ self.old) }
     {
         self.push(tally)?;
