@@ -1,0 +1,349 @@
+-- What is kept of a total, depth by depth.
+use Rattle.std.proofs.Common.{◌≡◌, ℕ, zero, suc, ◌+◌, ◌-◌, ◌≤◌, ◌<◌, ◌==◌, Bool, true, false, cond, List, [], ◌∷◌, ◌++◌, map, length, take, drop, get_or, set, Result, Ok, Err, Option, None, Some, refl, sym, ap, ◌∙◌, subst, arith, append-nil}
+use Rattle.std.specs.Prelude.{slice_get, option_map, OnOk}
+use Rattle.std.proofs.lemmas.List.{take-append-le, take_all, take-take, length-append, length-take-le, get_or-append-add, get_or_append_left, map-append, length-map}
+use Rattle.std.proofs.lemmas.Option.{slice_get-map}
+use Rattle.std.proofs.lemmas.Bool.Decides.{nat_tests}
+use Rattle.std.proofs.lemmas.List.Sums.{fold-append}
+use Rattle.rp_pattern.specs.declared.word.Label.{Label}
+use Rattle.rp_check.specs.declared.plan.Function.{Function}
+use Rattle.rp_check.specs.declared.plan.Function.TheVariants.{Listed, Rows as RowCount, Count, Sum, Least as Min, Greatest as Max}
+use Rattle.rp_check.specs.declared.plan.Total.{Total}
+use Rattle.rp_check.specs.declared.plan.Variables.{Variables}
+use Rattle.rp_check.specs.Scopes.{includes}
+use Rattle.rp_eval.specs.declared.tally.Tally.{Tally}
+use Rattle.rp_eval.specs.Partition.{Rows}
+use Rattle.rp_eval.specs.Mapped.{rows_of, listed}
+use Rattle.rp_eval.specs.Tallies.{no_tally, with_row, tally_of}
+use Rattle.rp_eval.specs.Kept.{Kept, tally_over, tallies_to, kept_of, tally_at, cut_back}
+use Rattle.rp_eval.proofs.MappedRows.{one_if, rows_of-last, rows_of-take, rows_few}
+use Rattle.rp_eval.proofs.Tallied.{IsWithin, tally_within, list_counted}
+
+-- ---- the tallies of all depths
+
+pub length-tallies : (p : Rows) (t : Total) (start : ℕ) (ls : List Label) (n : ℕ) → length (tallies_to p t start ls n) ≡ n
+length-tallies p t start ls zero = refl
+length-tallies p t start ls (suc n) = length-append (tallies_to p t start ls n) (tally_over p t start (take (suc n) ls) ∷ []) ∙ omega (arith, length-tallies p t start ls n)
+
+-- labels beyond the depth don't matter
+pub tallies_within : (p : Rows) (t : Total) (start : ℕ) (ls : List Label) (m d : ℕ) → d ≤ m → tallies_to p t start (take m ls) d ≡ tallies_to p t start ls d
+tallies_within p t start ls m zero le = refl
+tallies_within p t start ls m (suc d) le =
+    let one = tallies_within p t start ls m d (omega arith) in
+    let two = take-take (suc d) m ls le in
+    ap (λ z. z ++ tally_over p t start (take (suc d) (take m ls)) ∷ []) one ∙ ap (λ z. tallies_to p t start ls d ++ tally_over p t start z ∷ []) two
+
+front : (p : Rows) (t : Total) (start : ℕ) (ls : List Label) (k d n : ℕ) → n ≡ d + k → take d (tallies_to p t start ls n) ≡ tallies_to p t start ls d
+front p t start ls zero d n e =
+    let same : n ≡ d = omega arith in
+    ap (λ z. take d (tallies_to p t start ls z)) same ∙ take_all d (tallies_to p t start ls d) (omega (arith, length-tallies p t start ls d))
+front p t start ls (suc k) d n e =
+    let more : n ≡ suc (d + k) = omega arith in
+    ap (λ z. take d (tallies_to p t start ls z)) more
+    ∙ take-append-le d (tallies_to p t start ls (d + k)) (tally_over p t start (take (suc (d + k)) ls) ∷ []) (omega (arith, length-tallies p t start ls (d + k)))
+    ∙ front p t start ls k d (d + k) refl
+
+pub tallies_front : (p : Rows) (t : Total) (start : ℕ) (ls : List Label) (d : ℕ) → d ≤ length ls →
+    take d (tallies_to p t start ls (length ls)) ≡ tallies_to p t start (take d ls) (length (take d ls))
+tallies_front p t start ls d le =
+    front p t start ls (length ls - d) d (length ls) (omega arith)
+    ∙ sym (tallies_within p t start ls d d (omega arith))
+    ∙ ap (tallies_to p t start (take d ls)) (sym (length-take-le d ls le))
+
+got : (p : Rows) (t : Total) (start : ℕ) (ls : List Label) (k d n : ℕ) → n ≡ suc d + k → get_or (tallies_to p t start ls n) d no_tally ≡ tally_over p t start (take (suc d) ls)
+got p t start ls zero d n e =
+    let same : n ≡ suc d = omega arith in
+    let xs = tallies_to p t start ls d in
+    let at : d ≡ length xs + 0 = omega (arith, length-tallies p t start ls d) in
+    ap (λ z. get_or (tallies_to p t start ls z) d no_tally) same
+    ∙ ap (λ z. get_or (xs ++ tally_over p t start (take (suc d) ls) ∷ []) z no_tally) at
+    ∙ get_or-append-add xs (tally_over p t start (take (suc d) ls) ∷ []) 0 no_tally
+got p t start ls (suc k) d n e =
+    let more : n ≡ suc (suc d + k) = omega arith in
+    let xs = tallies_to p t start ls (suc d + k) in
+    ap (λ z. get_or (tallies_to p t start ls z) d no_tally) more
+    ∙ get_or_append_left xs (tally_over p t start (take (suc (suc d + k)) ls) ∷ []) no_tally d (omega (arith, length-tallies p t start ls (suc d + k)))
+    ∙ got p t start ls k d (suc d + k) refl
+
+above : (n : ℕ) → 0 < n → (n == 0) ≡ false
+above n lt = grind (arith, nat_tests)
+
+-- the tally at a depth is that of so many labels
+pub tally_at_depth : (p : Rows) (t : Total) (start : ℕ) (ls : List Label) (n d : ℕ) → d ≤ n → tally_at (tallies_to p t start ls n) d ≡ tally_over p t start (take d ls)
+tally_at_depth p t start ls n zero le = refl
+tally_at_depth p t start ls n (suc d) le =
+    let e : suc d - 1 ≡ d = omega arith in
+    ap (λ b. cond b no_tally (get_or (tallies_to p t start ls n) (suc d - 1) no_tally)) (above (suc d) (omega arith))
+    ∙ ap (λ z. get_or (tallies_to p t start ls n) z no_tally) e
+    ∙ got p t start ls (n - suc d) d n (omega arith)
+
+-- ---- one more label
+
+one_more : (p : Rows) (f : Function) (rows : List ℕ) (row : ℕ) (b : Bool) → tally_of p f (rows ++ one_if b row) ≡ cond b (with_row p f (tally_of p f rows) row) (tally_of p f rows)
+one_more p f rows row true = fold-append (with_row p f) no_tally rows (row ∷ [])
+one_more p f rows row false = ap (tally_of p f) (append-nil rows)
+
+pub tally_last : (p : Rows) (t : Total) (start : ℕ) (before : List Label) (l : Label) →
+    tally_over p t start (before ++ l ∷ []) ≡ cond (includes t.variables l.var) (with_row p t.function (tally_over p t start before) (start + length before)) (tally_over p t start before)
+tally_last p t start before l =
+    ap (tally_of p t.function) (rows_of-last t.variables start before l)
+    ∙ one_more p t.function (rows_of t.variables start before) (start + length before) (includes t.variables l.var)
+
+pub tally_few : (p : Rows) (t : Total) (start : ℕ) (ls : List Label) → IsWithin (length ls) (tally_over p t start ls)
+tally_few p t start ls =
+    let w = tally_within p t.function (rows_of t.variables start ls) in
+    let few = rows_few t.variables start ls in
+    record { count = omega (arith, w.count); sum = omega (arith, w.sum) }
+
+pub tallies_last : (p : Rows) (t : Total) (start : ℕ) (ls before : List Label) (l : Label) → ls ≡ before ++ l ∷ [] →
+    tallies_to p t start before (length before) ++ tally_over p t start ls ∷ [] ≡ tallies_to p t start ls (length ls)
+tallies_last p t start ls before l is =
+    let n = length before in
+    let size : length ls ≡ suc n = ap length is ∙ length-append before (l ∷ []) ∙ omega arith in
+    let same : take n ls ≡ before = ap (take n) is ∙ take-append-le n before (l ∷ []) (omega arith) ∙ take_all n before (omega arith) in
+    let all : take (suc n) ls ≡ ls = take_all (suc n) ls (omega arith) in
+    ap (λ z. tallies_to p t start z n ++ tally_over p t start ls ∷ []) (sym same)
+    ∙ ap (λ z. z ++ tally_over p t start ls ∷ []) (tallies_within p t start ls n n (omega arith))
+    ∙ ap (λ z. tallies_to p t start ls n ++ tally_over p t start z ∷ []) (sym all)
+    ∙ ap (tallies_to p t start ls) (sym size)
+
+-- the last tally is that of the labels before
+last_tally : (p : Rows) (t : Total) (start : ℕ) (ls before : List Label) (l : Label) (k : Kept) (old : Tally) → ls ≡ before ++ l ∷ [] → k ≡ kept_of p start before t → old ≡ tally_at k.tallies (length ls - 1) → old ≡ tally_over p t start before
+last_tally p t start ls before l k old is kept old_is =
+    let n : length ls - 1 ≡ length before = omega (arith, ap length is, length-append before (l ∷ [])) in
+    old_is ∙ ap (λ (z : Kept). tally_at z.tallies (length ls - 1)) kept ∙ ap (tally_at (tallies_to p t start before (length before))) n
+    ∙ tally_at_depth p t start before (length before) (length before) (omega arith) ∙ ap (tally_over p t start) (take_all (length before) before (omega arith))
+
+pub last_few : (p : Rows) (t : Total) (start : ℕ) (ls before : List Label) (l : Label) (k : Kept) (old : Tally) → ls ≡ before ++ l ∷ [] → k ≡ kept_of p start before t → old ≡ tally_at k.tallies (length ls - 1) → IsWithin (length before) old
+last_few p t start ls before l k old is kept old_is = subst (IsWithin (length before)) (sym (last_tally p t start ls before l k old is kept old_is)) (tally_few p t start before)
+
+listed_in : (f : Function) (xs ys : List ℕ) → listed f (xs ++ ys) ≡ listed f xs ++ listed f ys
+listed_in Listed xs ys = refl
+listed_in RowCount xs ys = refl
+listed_in (Count c) xs ys = refl
+listed_in (Sum c) xs ys = refl
+listed_in (Min c) xs ys = refl
+listed_in (Max c) xs ys = refl
+
+pub listed_last : (t : Total) (start : ℕ) (before : List Label) (l : Label) →
+    listed t.function (rows_of t.variables start (before ++ l ∷ [])) ≡ listed t.function (rows_of t.variables start before) ++ listed t.function (one_if (includes t.variables l.var) (start + length before))
+listed_last t start before l =
+    ap (listed t.function) (rows_of-last t.variables start before l) ∙ listed_in t.function (rows_of t.variables start before) (one_if (includes t.variables l.var) (start + length before))
+
+-- ---- cut back
+
+-- the rows that are listed at a depth are the first, as many as its tally counts
+counted : (p : Rows) (f : Function) (vs : Variables) (start d : ℕ) (ls : List Label) → take (tally_of p f (rows_of vs start (take d ls))).count (listed f (rows_of vs start ls)) ≡ listed f (rows_of vs start (take d ls))
+counted p Listed vs start d ls = rows_of-take vs start d _ ls (list_counted p (rows_of vs start (take d ls)))
+counted p RowCount vs start d ls = take_all _ [] (omega arith)
+counted p (Count c) vs start d ls = take_all _ [] (omega arith)
+counted p (Sum c) vs start d ls = take_all _ [] (omega arith)
+counted p (Min c) vs start d ls = take_all _ [] (omega arith)
+counted p (Max c) vs start d ls = take_all _ [] (omega arith)
+
+-- the rows that are listed at a depth, by what is kept
+pub listed_at : (p : Rows) (t : Total) (start d : ℕ) (ls : List Label) → d ≤ length ls →
+    take (tally_at (tallies_to p t start ls (length ls)) d).count (listed t.function (rows_of t.variables start ls)) ≡ listed t.function (rows_of t.variables start (take d ls))
+listed_at p t start d ls le =
+    ap (λ (z : Tally). take z.count (listed t.function (rows_of t.variables start ls))) (tally_at_depth p t start ls (length ls) d le)
+    ∙ counted p t.function t.variables start d ls
+
+pub kept_cut : (p : Rows) (t : Total) (start d : ℕ) (ls : List Label) → d ≤ length ls → cut_back d (kept_of p start ls t) ≡ kept_of p start (take d ls) t
+kept_cut p t start d ls le =
+    let ts = tallies_to p t start ls (length ls) in
+    let e = tallies_front p t start ls d le in
+    let all = listed t.function (rows_of t.variables start ls) in
+    let n = length (take d ls) in
+    let size : length (take d ts) ≡ n = ap length e ∙ length-tallies p t start (take d ls) n in
+    let last : tally_at (take d ts) (length (take d ts)) ≡ tally_over p t start (take d ls) =
+    ap (tally_at (take d ts)) size ∙ ap (λ z. tally_at z n) e ∙ tally_at_depth p t start (take d ls) n n (omega arith) ∙ ap (tally_over p t start) (take_all n (take d ls) (omega arith)) in
+    let rows : take (tally_at (take d ts) (length (take d ts))).count all ≡ listed t.function (rows_of t.variables start (take d ls)) =
+    ap (λ (z : Tally). take z.count all) last ∙ counted p t.function t.variables start d ls in
+    cc (e, rows)
+
+-- those of fewer labels aren't cut
+pub kept_uncut : (p : Rows) (t : Total) (start d : ℕ) (ls : List Label) → d ≡ length ls → cut_back d (kept_of p start ls t) ≡ kept_of p start ls t
+kept_uncut p t start d ls is = kept_cut p t start d ls (omega arith) ∙ ap (λ z. kept_of p start z t) (take_all d ls (omega arith))
+
+-- ---- of all totals of a plan
+
+pub all_cut : (p : Rows) (plan : List Total) (start d : ℕ) (ls : List Label) → d ≤ length ls → map (cut_back d) (map (kept_of p start ls) plan) ≡ map (kept_of p start (take d ls)) plan
+all_cut p [] start d ls le = refl
+all_cut p (t ∷ plan) start d ls le = let one = kept_cut p t start d ls le in let more = all_cut p plan start d ls le in cc (one, more)
+
+all_uncut : (p : Rows) (plan : List Total) (start d : ℕ) (ls : List Label) → d ≡ length ls → map (cut_back d) (map (kept_of p start ls) plan) ≡ map (kept_of p start ls) plan
+all_uncut p [] start d ls is = refl
+all_uncut p (t ∷ plan) start d ls is = let one = kept_uncut p t start d ls is in let more = all_uncut p plan start d ls is in cc (one, more)
+
+-- some totals with one more label, and the others without
+abbrev pub partly : Rows → ℕ → List Label → List Label → List Total → ℕ → List Kept
+partly p start before ls plan n = map (kept_of p start ls) (take n plan) ++ map (kept_of p start before) (drop n plan)
+
+-- cut back, all are without it
+pub partly_cut : (p : Rows) (start : ℕ) (before ls : List Label) (l : Label) (plan : List Total) (n d : ℕ) → ls ≡ before ++ l ∷ [] → d ≡ length ls - 1 →
+    map (cut_back d) (partly p start before ls plan n) ≡ map (kept_of p start before) plan
+partly_cut p start before ls l plan n d is at = go plan n
+  where
+    size : length ls ≡ suc (length before)
+    size = ap length is ∙ length-append before (l ∷ []) ∙ omega arith
+
+    short : take d ls ≡ before
+    short = ap (take d) is ∙ take-append-le d before (l ∷ []) (omega (arith, size)) ∙ take_all d before (omega (arith, size))
+
+    cut_one : (t : Total) → cut_back d (kept_of p start ls t) ≡ kept_of p start before t
+    cut_one t = kept_cut p t start d ls (omega (arith, size)) ∙ ap (λ z. kept_of p start z t) short
+
+    go : (plan : List Total) (n : ℕ) → map (cut_back d) (partly p start before ls plan n) ≡ map (kept_of p start before) plan
+    go plan zero = all_uncut p plan start d before (omega (arith, size))
+    go [] (suc n) = refl
+    go (t ∷ plan) (suc n) = let one = cut_one t in let more = go plan n in cc (one, more)
+
+-- of no label
+abbrev pub nothing : Kept
+nothing = record { tallies = []; rows = [] }
+
+lists_none : (f : Function) → listed f [] ≡ []
+lists_none Listed = refl
+lists_none RowCount = refl
+lists_none (Count c) = refl
+lists_none (Sum c) = refl
+lists_none (Min c) = refl
+lists_none (Max c) = refl
+
+none_of : (p : Rows) (start : ℕ) (t : Total) → nothing ≡ kept_of p start [] t
+none_of p start t = ap (λ rows. record { tallies = []; rows = rows }) (sym (lists_none t.function))
+
+pub all_none : (p : Rows) (start : ℕ) (plan : List Total) (ks : List Kept) → length ks ≡ length plan → map (cut_back 0) ks ≡ map (kept_of p start []) plan
+all_none p start [] [] is = refl
+all_none p start (t ∷ plan) [] is = absurd (omega arith)
+all_none p start [] (k ∷ ks) is = absurd (omega arith)
+all_none p start (t ∷ plan) (k ∷ ks) is = let one = none_of p start t in let more = all_none p start plan ks (omega arith) in cc (one, more)
+
+pub all_nothing : (p : Rows) (start : ℕ) (plan : List Total) → map (λ (t : Total). nothing) plan ≡ map (kept_of p start []) plan
+all_nothing p start [] = refl
+all_nothing p start (t ∷ plan) = let one = none_of p start t in let more = all_nothing p start plan in cc (one, more)
+
+-- ---- what is entered
+
+pub last_label : (ls before : List Label) (l d : Label) → ls ≡ before ++ l ∷ [] → get_or ls (length ls - 1) d ≡ l
+last_label ls before l d is =
+    let at : length ls - 1 ≡ length before + 0 = omega (arith, ap length is, length-append before (l ∷ [])) in
+    ap (λ z. get_or z (length ls - 1) d) is ∙ ap (λ z. get_or (before ++ l ∷ []) z d) at ∙ get_or-append-add before (l ∷ []) 0 d
+
+pub unlisted : (f : Function) → ¬ (f ≡ Listed) → (rows : List ℕ) → [] ≡ listed f rows
+unlisted Listed h rows = absurd (h refl)
+unlisted RowCount h rows = refl
+unlisted (Count c) h rows = refl
+unlisted (Sum c) h rows = refl
+unlisted (Min c) h rows = refl
+unlisted (Max c) h rows = refl
+
+-- a label's row is one of the total's
+pub entered_mapped : (p : Rows) (t : Total) (start row : ℕ) (ls before : List Label) (l : Label) (k : Kept) (old new : Tally) (more all_rows : List ℕ) → ls ≡ before ++ l ∷ [] → includes t.variables l.var ≡ true →
+    k ≡ kept_of p start before t → old ≡ tally_at k.tallies (length ls - 1) → row ≡ start + (length ls - 1) → new ≡ with_row p t.function old row → more ≡ listed t.function (row ∷ []) → all_rows ≡ k.rows ++ more →
+    record { tallies = k.tallies ++ new ∷ []; rows = all_rows } ≡ kept_of p start ls t
+entered_mapped p t start row ls before l k old new more all_rows is b kept old_is row_is new_is more_is rows_are =
+    let f = t.function in
+    let rows = rows_of t.variables start before in
+    let last = last_tally p t start ls before l k old is kept old_is in
+    let at : row ≡ start + length before = omega (arith, ap length is, length-append before (l ∷ [])) in
+    let tally : new ≡ tally_over p t start ls =
+    new_is ∙ ap (λ z. with_row p f z row) last ∙ ap (with_row p f (tally_over p t start before)) at
+    ∙ sym (ap (λ z. cond z (with_row p f (tally_over p t start before) (start + length before)) (tally_over p t start before)) b)
+    ∙ sym (tally_last p t start before l) ∙ ap (tally_over p t start) (sym is) in
+    let all : k.tallies ++ new ∷ [] ≡ tallies_to p t start ls (length ls) =
+    ap (λ (z : Kept). z.tallies ++ new ∷ []) kept ∙ ap (λ z. tallies_to p t start before (length before) ++ z ∷ []) tally ∙ tallies_last p t start ls before l is in
+    let listed_rows : all_rows ≡ listed f (rows_of t.variables start ls) =
+    rows_are ∙ ap (λ z. k.rows ++ z) more_is
+    ∙ ap (λ (z : Kept). z.rows ++ listed f (row ∷ [])) kept ∙ ap (λ z. listed f rows ++ listed f (z ∷ [])) at
+    ∙ sym (ap (λ z. listed f rows ++ listed f (one_if z (start + length before))) b)
+    ∙ sym (listed_last t start before l) ∙ ap (λ z. listed f (rows_of t.variables start z)) (sym is) in
+    cc (all, listed_rows)
+
+-- it isn't
+pub entered_other : (p : Rows) (t : Total) (start : ℕ) (ls before : List Label) (l : Label) (k : Kept) (old : Tally) → ls ≡ before ++ l ∷ [] → includes t.variables l.var ≡ false →
+    k ≡ kept_of p start before t → old ≡ tally_at k.tallies (length ls - 1) →
+    record { tallies = k.tallies ++ old ∷ []; rows = k.rows } ≡ kept_of p start ls t
+entered_other p t start ls before l k old is b kept old_is =
+    let f = t.function in
+    let rows = rows_of t.variables start before in
+    let last = last_tally p t start ls before l k old is kept old_is in
+    let tally : old ≡ tally_over p t start ls =
+    last ∙ sym (ap (λ z. cond z (with_row p f (tally_over p t start before) (start + length before)) (tally_over p t start before)) b)
+    ∙ sym (tally_last p t start before l) ∙ ap (tally_over p t start) (sym is) in
+    let all : k.tallies ++ old ∷ [] ≡ tallies_to p t start ls (length ls) =
+    ap (λ (z : Kept). z.tallies ++ old ∷ []) kept ∙ ap (λ z. tallies_to p t start before (length before) ++ z ∷ []) tally ∙ tallies_last p t start ls before l is in
+    let listed_rows : k.rows ≡ listed f (rows_of t.variables start ls) =
+    ap (λ (z : Kept). z.rows) kept ∙ sym (append-nil (listed f rows)) ∙ ap (λ z. listed f rows ++ z) (sym (lists_none f))
+    ∙ sym (ap (λ z. listed f rows ++ listed f (one_if z (start + length before))) b)
+    ∙ sym (listed_last t start before l) ∙ ap (λ z. listed f (rows_of t.variables start z)) (sym is) in
+    cc (all, listed_rows)
+
+-- ---- by number
+
+pub series_none : (p : Rows) (plan : List Total) (start : ℕ) (ls : List Label) (ks : List Kept) (number : ℕ) → ks ≡ map (kept_of p start ls) plan → None ≡ slice_get ks number → None ≡ slice_get plan number
+series_none p plan start ls ks number is none = go (slice_get plan number) (none ∙ ap (λ z. slice_get z number) is ∙ slice_get-map (kept_of p start ls) plan number)
+  where
+    go : (o : Option Total) → None ≡ option_map (kept_of p start ls) o → None ≡ o
+    go None e = refl
+    go (Some t) e = cc
+
+pub series_some : (p : Rows) (plan : List Total) (start : ℕ) (ls : List Label) (ks : List Kept) (number : ℕ) (t : Total) (k : Kept) → ks ≡ map (kept_of p start ls) plan → Some t ≡ slice_get plan number → Some k ≡ slice_get ks number →
+    k ≡ kept_of p start ls t
+series_some p plan start ls ks number t k is total some =
+    let e : Some k ≡ Some (kept_of p start ls t) =
+    some ∙ ap (λ z. slice_get z number) is ∙ slice_get-map (kept_of p start ls) plan number ∙ ap (option_map (kept_of p start ls)) (sym total) in
+    cc
+
+-- what is kept under a number is that of a total
+pub record SeriesOf (p : Rows) (plan : List Total) (start : ℕ) (ls : List Label) (number : ℕ) (k : Kept) : Type 0 where
+  pub total : Total
+  pub there : Some total ≡ slice_get plan number
+  pub is : k ≡ kept_of p start ls total
+
+pub series_of : (p : Rows) (plan : List Total) (start : ℕ) (ls : List Label) (ks : List Kept) (number : ℕ) (k : Kept) → ks ≡ map (kept_of p start ls) plan → Some k ≡ slice_get ks number → SeriesOf p plan start ls number k
+series_of p plan start ls ks number k is some = go (slice_get plan number) refl
+  where
+    go : (o : Option Total) → o ≡ slice_get plan number → SeriesOf p plan start ls number k
+    go None e = let none : Some k ≡ None = some ∙ ap (λ z. slice_get z number) is ∙ slice_get-map (kept_of p start ls) plan number ∙ ap (option_map (kept_of p start ls)) (sym e) in cc
+    go (Some t) e = record { total = t; there = e; is = series_some p plan start ls ks number t k is e some }
+
+-- ---- a list that is gone through
+
+pub mixed_set : {A : Type 0} (f g : A → Kept) (xs : List A) (n m : ℕ) (a : A) (y : Kept) (ks : List Kept) → n < length xs → m ≡ n + 1 → ks ≡ map f (take n xs) ++ map g (drop n xs) → y ≡ f (get_or xs n a) →
+    set ks n y ≡ map f (take m xs) ++ map g (drop m xs)
+mixed_set {A} f g xs n m a y ks lt next is here =
+    let e : m ≡ suc n = omega arith in
+    ap (λ z. set z n y) is ∙ go xs n lt here ∙ ap (λ z. map f (take z xs) ++ map g (drop z xs)) (sym e)
+  where
+    go : (xs : List A) (n : ℕ) → n < length xs → y ≡ f (get_or xs n a) → set (map f (take n xs) ++ map g (drop n xs)) n y ≡ map f (take (suc n) xs) ++ map g (drop (suc n) xs)
+    go [] n lt here = absurd (omega arith)
+    go (x ∷ xs) zero lt here = ap (λ z. z ∷ map g xs) here
+    go (x ∷ xs) (suc n) lt here = ap (λ z. f x ∷ z) (go xs n (omega arith) here)
+
+pub mixed_get : {A : Type 0} (f g : A → Kept) (xs : List A) (n : ℕ) (a : A) (y : Kept) (ks : List Kept) → n < length xs → ks ≡ map f (take n xs) ++ map g (drop n xs) → y ≡ get_or ks n y → y ≡ g (get_or xs n a)
+mixed_get {A} f g xs n a y ks lt is here = here ∙ ap (λ z. get_or z n y) is ∙ go xs n lt
+  where
+    go : (xs : List A) (n : ℕ) → n < length xs → get_or (map f (take n xs) ++ map g (drop n xs)) n y ≡ g (get_or xs n a)
+    go [] n lt = absurd (omega arith)
+    go (x ∷ xs) zero lt = refl
+    go (x ∷ xs) (suc n) lt = go xs n (omega arith)
+
+pub set_same : (ks : List Kept) (n : ℕ) (k : Kept) → k ≡ get_or ks n k → set ks n k ≡ ks
+set_same [] n k is = refl
+set_same (x ∷ ks) zero k is = ap (λ z. z ∷ ks) is
+set_same (x ∷ ks) (suc n) k is = ap (λ z. x ∷ z) (set_same ks n k is)
+
+pub unchanged : (ks : List Kept) → ks ≡ map (λ (k : Kept). k) ks
+unchanged [] = refl
+unchanged (k ∷ ks) = ap (λ z. k ∷ z) (unchanged ks)
+
+-- the labels but for the last
+pub all_but_last : (ls before : List Label) (l : Label) → ls ≡ before ++ l ∷ [] → take (length ls - 1) ls ≡ before
+all_but_last ls before l is =
+    let n : length ls - 1 ≡ length before = omega (arith, ap length is, length-append before (l ∷ [])) in
+    ap (λ z. take z ls) n ∙ ap (take (length before)) is ∙ take-append-le (length before) before (l ∷ []) (omega arith) ∙ take_all (length before) before (omega arith)
+
+pub on_ok : {T E : Type 0} (P Q : Type 0) (r : Result T E) → (P → Q) → OnOk r P → OnOk r Q
+on_ok P Q (Ok x) f h = f h
+on_ok P Q (Err e) f h = h

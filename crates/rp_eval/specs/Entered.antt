@@ -1,0 +1,26 @@
+-- The totals of labels.
+use Rattle.std.specs.Prelude.{◌≡◌, ℕ, ◌≤◌, List, [], ◌∷◌, ◌++◌, map, length}
+use Rattle.rp_pattern.specs.declared.word.Label.{Label}
+use Rattle.rp_check.specs.declared.plan.Total.{Total}
+use Rattle.rp_eval.specs.declared.totals.Totals.{Totals}
+use Rattle.rp_eval.specs.Partition.{Rows}
+use Rattle.rp_eval.specs.Kept.{Kept, kept_of}
+
+-- the plan's totals
+unfoldable pub plan_of : Totals → List Total
+plan_of t = t.plan.value.items
+
+-- what is kept of each
+unfoldable pub kept_in : Totals → List Kept
+kept_in t = t.series.items
+
+-- These are the totals of the labels: of each total of the plan they keep what there is to keep of them.
+abbrev pub AreTotals : Totals → Rows → ℕ → List Label → Type 0
+AreTotals t p start ls = kept_in t ≡ map (kept_of p start ls) (plan_of t)
+
+-- These labels are those of the totals, and one more.
+pub record NextLabel (t : Totals) (p : Rows) (start : ℕ) (labels : List Label) : Type 0 where
+  pub before : List Label
+  pub label : Label
+  pub is : labels ≡ before ++ label ∷ []
+  pub totals : AreTotals t p start before
