@@ -10,7 +10,7 @@ ghost use Rattle.std.specs.Prelude.{◌≡◌, ◌<◌};
 use crate::{Outcome, Search, Steps, Tests, law_found, law_search};
 use grid::Grid;
 use rp_pattern::{End, Form, Pattern, Seen};
-use script::{MANY, a, any, b, both, either, play};
+use script::{MANY, a, any, b, both, created, either, play};
 use std::alloc::{AllocError, Global};
 use std::marker::Brand;
 use std::sync::ledger::{Blank, Ledger};
@@ -221,8 +221,7 @@ fn restarted<L: Ledger>(blank: Blank, alloc: Global) -> Result<Option<(u32, u32)
     if !form.is_allowed() || !form.are_below(2) {
         return Ok(None);
     }
-    let mut search = Search::new(alloc, &Pattern::new(form), 1)?;
-    law_search();
+    let mut search = created(alloc, &Pattern::new(form))?;
     let first = search.run(&mut grid, 10, &mut steps)?;
     let turns = search.turns_taken();
     search.restart(2);

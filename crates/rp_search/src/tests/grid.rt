@@ -74,6 +74,7 @@ impl Grid {
     pub fn advance(&mut self, known: u64, end: End) -> bool
         ensures none { self.new.entered ≡ self.old.entered }
         ensures some { IsTrue result → 1 ≤ self.new.known }
+        ensures known { IsTrue result → self.new.known ≡ known }
         ensures extends { IsTrue result →
             AskedExtend 1 (⟦<Grid as Tests>⟧.subject self.old) (⟦<Grid as Tests>⟧.subject self.new) }
     {
