@@ -1,5 +1,9 @@
 //! A search takes up one choice a turn. Between its runs it keeps the choices that are not given up, and one list of labels
-//! that is cut back to the choice at hand. While a row's test is open, it keeps an outlook over what would follow that row.
+//! that is cut back to the choice at hand.
+//!
+//! While the test of the last label's row is open, the labels before it are tested true, and the search keeps an outlook
+//! over what would follow that row: only if a word does is there anything to wait for. What is explored then counts as
+//! left in place of the choice itself. A later run asks the open test again first.
 ghost use Rattle.std.specs.Prelude.{◌≡◌, ◌-◌, ◌+◌, ◌<◌, ◌≤◌, [], None, IfOk, OnOk, OnErr};
 ghost use Rattle.rp_pattern.specs.PatternForm.{form_of};
 

@@ -5,10 +5,15 @@ mod script;
 mod table;
 mod turns;
 
-use crate::{Search, law_found, law_search};
+ghost use Rattle.std.specs.Prelude.{◌≡◌, ◌<◌};
+
+use crate::{Outcome, Search, Steps, Tests, law_found, law_search};
 use grid::Grid;
 use rp_pattern::{End, Form, Pattern, Seen};
 use script::{MANY, a, any, b, both, either, play};
+use std::alloc::{AllocError, Global};
+use std::marker::Brand;
+use std::sync::ledger::{Blank, Ledger};
 use std::test::Fail;
 
 /// A shorter match first, where nothing preferred waits.
@@ -177,4 +182,54 @@ fn search_begins(rt: HostRuntime) -> Result<(), Fail> {
     assert_eq!(rt; search.start(), 3);
     assert!(rt; search.labels().is_empty());
     Ok(())
+}
+
+/// Each row is asked once. Of `A* B` over AAB these are A, AA, AAA and AAB: the third row isn't admitted for A.
+#[test]
+fn rows_are_asked_once(rt: HostRuntime) -> Result<(), Fail> {
+    let alloc = rt.alloc();
+    let third = [Seen::True, Seen::True, Seen::True, Seen::NotTrue];
+    let pattern = both(alloc, any(alloc, a())?, b())?;
+    let grid = Grid::answering(alloc, 0, &third, &[])?;
+    let played = play(alloc, pattern, grid, &[(3, End::Closed)], 100, MANY)?;
+    assert_eq!(rt; played.outcomes.as_str(), "AAB ");
+    assert!(rt; played.calls.as_str() == "!A AA AAA AAB |" || played.asked == 4);
+    Ok(())
+}
+
+/// A run tells its turns: for A these are the row and the word. A search that restarts does as a new one.
+#[test]
+fn search_restarts(rt: HostRuntime) -> Result<(), Fail> {
+    let alloc = rt.alloc();
+    let found = restarted::<Brand>(Blank::new(1), alloc)?;
+    assert_eq!(rt; found, Some((2, 2)));
+    Ok(())
+}
+
+/// The turns that a search for A takes from row 1 and, after a restart, from row 2, where it has a match at both.
+fn restarted<L: Ledger>(blank: Blank, alloc: Global) -> Result<Option<(u32, u32)>, AllocError>
+    requires name { blank.name ≡ L.name }
+    requires parts { blank.parts ≡ L.parts }
+    requires shared { 0 < blank.parts }
+{
+    let mut steps = Steps::<L>::new(blank);
+    let mut grid = Grid::new(alloc, 0);
+    if !grid.advance(2, End::Closed) {
+        return Ok(None);
+    }
+    let form = a();
+    if !form.is_allowed() || !form.are_below(2) {
+        return Ok(None);
+    }
+    let mut search = Search::new(alloc, &Pattern::new(form), 1)?;
+    law_search();
+    let first = search.run(&mut grid, 10, &mut steps)?;
+    let turns = search.turns_taken();
+    search.restart(2);
+    grid.cut(0);
+    let second = search.run(&mut grid, 10, &mut steps)?;
+    if first != Outcome::Match || second != Outcome::Match || search.start() != 2 {
+        return Ok(None);
+    }
+    Ok(Some((turns, search.turns_taken())))
 }

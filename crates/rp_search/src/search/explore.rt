@@ -1,4 +1,8 @@
 //! What would follow a row whose test is open: it decides whether there is anything to wait for.
+//!
+//! It is looked for by an outlook, a stack of choices that keeps no labels: which word follows doesn't matter, only whether
+//! one does. Where none does, the choice that maps the row is given up and the next one taken up in the same turn, since
+//! the count of turns leaves none for finding that nothing is left.
 ghost use Rattle.std.specs.Prelude.{◌≡◌, ◌+◌, ◌≤◌, None, IfOk, OnOk};
 
 use super::{Outcome, Search};
