@@ -21,7 +21,7 @@ use Rattle.rp_pattern.specs.Turns.{turns, turns_after, chain_turns, within}
 use Rattle.rp_pattern.specs.WordLaws.{IsLater}
 use Rattle.rp_pattern.specs.Rests.{links_from, reached_parts, tail_links, links_parts, tail_parts, rests_parts, later_parts, chain_words, chain_left, choice_words, stack_words, stack_left, rises, pushed}
 use Rattle.rp_pattern.specs.Splits.{StandsFor, option_words, option_turns, Splits, TakesRow, Waits}
-use Rattle.rp_pattern.specs.Choices.{start_of, entered, whole, whole_left, remaining, left, below, below_left, after, after_left, first_later, OfFirst, HasTop, AtRow, IsFront, IsShorterFront, IsSameWhole, IsSplit, MapsRow, IsFullWord, IsOpenWord, IsNothing}
+use Rattle.rp_pattern.specs.Choices.{start_of, entered, whole, whole_left, whole_from, whole_left_from, remaining, left, below, below_left, after, after_left, first_later, OfFirst, HasTop, AtRow, IsFront, IsShorterFront, IsSamePattern, IsSameWhole, IsSplit, MapsRow, IsFullWord, IsOpenWord, IsNothing}
 use Rattle.rp_pattern.proofs.Lists.{map-map}
 use Rattle.rp_pattern.proofs.Algebra.{append_nil, concatenation_nothing_last, map_same, preceded_twice, map_preceded_nothing}
 
@@ -284,9 +284,17 @@ is_nothing old new s ls n e k m = record {
   less = λ n' e' later. omega (arith, left_is new s ls [] m n' e', left_is old s ls [] k n' e');
 }
 
+pub same_pattern : (old new : Choices) → new.origin ≡ old.origin → IsSamePattern old new
+unfolding whole_from whole_left_from
+same_pattern old new o = record {
+  words = λ n e row. ap (λ t. chain_words (tail_parts n e t) row) o;
+  left = λ n e row. ap (λ t. chain_left (tail_parts n e t) row) o;
+}
+
 pub same_whole : (old new : Choices) → new.start ≡ old.start → new.origin ≡ old.origin → IsSameWhole old new
 unfolding start_of whole whole_left
 same_whole old new s o = record {
+  pattern = same_pattern old new o;
   start = s;
   words = λ n e. ap (λ t. chain_words (tail_parts n e t) new.start) o ∙ ap (chain_words (tail_parts n e old.origin)) s;
   left = λ n e. ap (λ t. chain_left (tail_parts n e t) new.start) o ∙ ap (chain_left (tail_parts n e old.origin)) s;
@@ -422,20 +430,33 @@ none_after i (Full ls ∷ ws) = omega (arith, sum_by-cons (turns_after (chain_tu
 none_after i (Open ls ∷ ws) = omega (arith, sum_by-cons (turns_after (chain_turns []) i) (Open ls) ws, none_after i ws)
 
 -- a pattern as choices of its own
-module _ (c : Choices) (start : ℕ) (node : Node) (f : Form) (n : ℕ) (e : End) (from : c.start ≡ start) (tail : tail_links c.origin ≡ (None, Whole node) ∷ []) (shown : node.excluded ≡ false) (w : words n e node.form.value ≡ words n e f) (t : turns n e node.form.value ≡ turns n e f) where
+module _ (c : Choices) (node : Node) (f : Form) (n : ℕ) (e : End) (tail : tail_links c.origin ≡ (None, Whole node) ∷ []) (shown : node.excluded ≡ false) (w : words n e node.form.value ≡ words n e f) (t : turns n e node.form.value ≡ turns n e f) where
   parts : tail_parts n e c.origin ≡ (words n e f, turns n e f) ∷ []
   parts =
       ap (links_parts n e) tail
       ∙ ap (λ x. within x (words n e node.form.value, turns n e node.form.value) ∷ []) shown
       ∙ ap (λ p. (p, turns n e node.form.value) ∷ []) w ∙ ap (λ s. (words n e f, s) ∷ []) t
 
-  pub new_whole : whole c n e ≡ words n e f start
-  unfolding whole
-  new_whole = ap (λ ps. chain_words ps c.start) parts ∙ concatenation_nothing_last (words n e f) c.start ∙ ap (words n e f) from
+  words_at : (row : ℕ) → chain_words (tail_parts n e c.origin) row ≡ words n e f row
+  words_at row = ap (λ ps. chain_words ps row) parts ∙ concatenation_nothing_last (words n e f) row
 
-  pub new_left : whole_left c n e ≡ turns n e f start + length (words n e f start)
+  left_at : (row : ℕ) → chain_left (tail_parts n e c.origin) row ≡ turns n e f row + length (words n e f row)
+  left_at row =
+      ap (λ ps. chain_left ps row) parts
+      ∙ omega (arith, none_after row (words n e f row), ap length (concatenation_nothing_last (words n e f) row))
+
+  pub new_from : (row : ℕ) → whole_from c n e row ≡ words n e f row
+  unfolding whole_from
+  new_from row = words_at row
+
+  pub new_left_from : (row : ℕ) → whole_left_from c n e row ≡ turns n e f row + length (words n e f row)
+  unfolding whole_left_from
+  new_left_from row = left_at row
+
+  pub new_whole : whole c n e ≡ words n e f c.start
+  unfolding whole
+  new_whole = words_at c.start
+
+  pub new_left : whole_left c n e ≡ turns n e f c.start + length (words n e f c.start)
   unfolding whole_left
-  new_left =
-      ap (λ ps. chain_left ps c.start) parts
-      ∙ omega (arith, none_after c.start (words n e f c.start), ap length (concatenation_nothing_last (words n e f) c.start))
-      ∙ ap (λ i. turns n e f i + length (words n e f i)) from
+  new_left = left_at c.start

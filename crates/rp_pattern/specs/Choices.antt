@@ -25,6 +25,14 @@ entered c = c.labels
 unfoldable pub standing : Choices → List Choice
 standing c = c.stack
 
+-- the words of its pattern from any row
+unfoldable pub whole_from : Choices → ℕ → End → ℕ → List Mapping
+whole_from c n e row = chain_words (tail_parts n e c.origin) row
+
+-- their turns, and one more for each of them
+unfoldable pub whole_left_from : Choices → ℕ → End → ℕ → ℕ
+whole_left_from c n e row = chain_left (tail_parts n e c.origin) row
+
 -- the words that it stood for when it was made
 unfoldable pub whole : Choices → ℕ → End → List Mapping
 whole c n e = chain_words (tail_parts n e c.origin) c.start
@@ -85,11 +93,17 @@ IsFront ls of = (k : ℕ) × (ls ≡ take k of)
 abbrev pub IsShorterFront : List Label → List Label → Type 0
 IsShorterFront ls of = (k : ℕ) × (k < length of) × (ls ≡ take k of)
 
+-- The pattern stays, by its words from every row.
+pub record IsSamePattern (old new : Choices) : Type 0 where
+  pub words : (n : ℕ) (e : End) (row : ℕ) → whole_from new n e row ≡ whole_from old n e row
+  pub left : (n : ℕ) (e : End) (row : ℕ) → whole_left_from new n e row ≡ whole_left_from old n e row
+
 -- The start row and the whole stay.
 pub record IsSameWhole (old new : Choices) : Type 0 where
   pub start : start_of new ≡ start_of old
   pub words : (n : ℕ) (e : End) → whole new n e ≡ whole old n e
   pub left : (n : ℕ) (e : End) → whole_left new n e ≡ whole_left old n e
+  pub pattern : IsSamePattern old new
 
 -- The preferred choice was replaced by those that it stands for.
 pub record IsSplit (old new : Choices) (n : ℕ) (e : End) : Type 0 where

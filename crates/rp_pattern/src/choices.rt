@@ -1,5 +1,5 @@
 //! The words of a pattern listed lazily, by a stack of choices.
-ghost use Rattle.std.specs.Prelude.{◌≡◌, ℕ, ◌∷◌, ◌++◌, ◌+◌, ◌-◌, ◌^◌, ◌<◌, ◌≤◌, IfOk, OnOk, IsTrue, List, [], map, length, drop};
+ghost use Rattle.std.specs.Prelude.{◌≡◌, ℕ, ◌∷◌, ◌++◌, ◌+◌, ◌-◌, ◌^◌, ◌<◌, ◌≤◌, IfOk, OnOk, IsTrue, false, List, [], map, length, drop};
 ghost use Rattle.rp_pattern.specs.Rests.{rises, pushed};
 
 use crate::form::{Form, Pattern};
@@ -49,7 +49,7 @@ impl Choices {
     ghost use Rattle.rp_pattern.specs.PatternForm.{form_of};
     ghost use Rattle.rp_pattern.specs.Rests.{tail_links, BeginsWithRow};
     ghost use Rattle.rp_pattern.specs.Splits.{StandsFor};
-    ghost use Rattle.rp_pattern.specs.Choices.{start_of, entered, first_later, whole, whole_left, remaining, left, below, below_left, after, after_left, OfFirst, HasTop, AtRow, IsFront, IsShorterFront, IsSameWhole, TakenAs, HasBegun};
+    ghost use Rattle.rp_pattern.specs.Choices.{start_of, entered, first_later, whole, whole_left, whole_from, whole_left_from, remaining, left, below, below_left, after, after_left, OfFirst, HasTop, AtRow, IsFront, IsShorterFront, IsSameWhole, IsSamePattern, TakenAs, HasBegun};
     ghost use Rattle.rp_pattern.specs.Outlooks.{words_ahead, turns_ahead, held_by};
 
     /// The words of the pattern from the start row on.
@@ -57,8 +57,13 @@ impl Choices {
         requires { 1 ≤ start }
         ensures start { IfOk result (λ c. start_of c ≡ start) }
         ensures labels { IfOk result (λ c. entered c ≡ []) }
+        ensures from { IfOk result (λ c. (n : ℕ) (e : End) (row : ℕ) →
+            whole_from c n e row ≡ words n e (form_of pattern.now) row) }
+        ensures left_from { IfOk result (λ c. (n : ℕ) (e : End) (row : ℕ) →
+            whole_left_from c n e row ≡ turns n e (form_of pattern.now) row + length (words n e (form_of pattern.now) row)) }
         ensures whole { IfOk result (λ c. (n : ℕ) (e : End) → whole c n e ≡ words n e (form_of pattern.now) start) }
-        ensures whole_left { IfOk result (λ c. (n : ℕ) (e : End) → whole_left c n e ≡ turns n e (form_of pattern.now) start + length (words n e (form_of pattern.now) start)) }
+        ensures whole_left { IfOk result (λ c. (n : ℕ) (e : End) →
+            whole_left c n e ≡ turns n e (form_of pattern.now) start + length (words n e (form_of pattern.now) start)) }
         ensures remaining { IfOk result (λ c. (n : ℕ) (e : End) → remaining c n e ≡ whole c n e) }
         ensures left { IfOk result (λ c. (n : ℕ) (e : End) → left c n e ≡ whole_left c n e) }
     {
@@ -116,7 +121,7 @@ impl Choices {
         if self.begun {
             return Ok(());
         }
-        self.stack.clear();
+        drop_all(&mut self.stack);
         self.labels.clear();
         let first = follow(&self.origin, self.start)?;
         push(&mut self.stack, 0, first)?;
@@ -253,16 +258,50 @@ impl Choices {
         Outlook::at(self.alloc, row, self.follow_first(row)?)
     }
 
-    /// Begins again. It takes no memory.
+    /// Begins again. It takes no memory, and keeps its room.
     pub fn reset(&mut self)
         ensures whole { IsSameWhole self.old self.new }
         ensures remaining { (n : ℕ) (e : End) → remaining self.new n e ≡ whole self.old n e }
         ensures left { (n : ℕ) (e : End) → left self.new n e ≡ whole_left self.old n e }
         ensures labels { entered self.new ≡ [] }
     {
+        self.empty();
+    }
+
+    /// Begins at another row. It takes no memory, and keeps its room.
+    pub fn restart(&mut self, start: u64)
+        requires { 1 ≤ start }
+        ensures pattern { IsSamePattern self.old self.new }
+        ensures start { start_of self.new ≡ start }
+        ensures labels { entered self.new ≡ [] }
+        ensures whole { (n : ℕ) (e : End) → whole self.new n e ≡ whole_from self.old n e start }
+        ensures whole_left { (n : ℕ) (e : End) → whole_left self.new n e ≡ whole_left_from self.old n e start }
+        ensures remaining { (n : ℕ) (e : End) → remaining self.new n e ≡ whole self.new n e }
+        ensures left { (n : ℕ) (e : End) → left self.new n e ≡ whole_left self.new n e }
+    {
+        self.empty();
+        self.start = start;
+    }
+
+    /// No choice is taken up, and none is left of those that were.
+    fn empty(&mut self)
+        ensures begun { self.new.begun ≡ false }
+        ensures start { self.new.start ≡ self.old.start }
+        ensures origin { self.new.origin ≡ self.old.origin }
+        ensures labels { self.new.labels ≡ [] }
+    {
         self.begun = false;
-        self.stack.clear();
+        drop_all(&mut self.stack);
         self.labels.clear();
+    }
+}
+
+/// Drops all choices, and keeps the room of the lowest ones.
+fn drop_all(stack: &mut Stack<Choice>)
+    ensures { stack.new ≡ [] }
+{
+    while !stack.is_empty() {
+        stack.drop_top();
     }
 }
 

@@ -11,7 +11,8 @@ use Rattle.rp_pattern.specs.declared.outlook.Outlook.{Outlook}
 use Rattle.rp_pattern.specs.WordLaws.{IsLater}
 use Rattle.rp_pattern.specs.Choices.{AtRow, start_of, entered, whole, whole_left, remaining, left, below, below_left, after, after_left, IsFront, IsShorterFront, IsSameWhole, IsSplit, MapsRow as TakesRow, IsFullWord, IsOpenWord, IsNothing}
 use Rattle.rp_search.specs.Found.{Test, tested, Stays, TestsStay, found, Match, NoMatch, Waits}
-use Rattle.rp_search.specs.Fits.{rows_from, RefusedBefore, Stands, StandsAtRow, Explores}
+use Rattle.rp_search.specs.Asked.{rows_from}
+use Rattle.rp_search.specs.Fits.{RefusedBefore, Stands, StandsAtRow, Explores}
 use Rattle.rp_search.specs.Turned.{Goes}
 use Rattle.rp_search.proofs.FoundLaws.{tested_stays}
 use Rattle.rp_search.proofs.Tested.{tested_take, refused_row, before_more, before_stays, found_before, full_matches, open_waits, begun_waits, last_decides, cut_admitted}

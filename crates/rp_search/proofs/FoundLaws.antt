@@ -1,14 +1,13 @@
 -- What a search has found stays, and one that waits goes on from its word.
 use Rattle.std.specs.List.{AllByRecursion}
-use Rattle.std.proofs.Common.{map, ◌≡◌, ℕ, ◌≤◌, List, [], ◌∷◌, ◌++◌, length, refl, sym, ap, ◌∙◌, subst, arith}
+use Rattle.std.proofs.Common.{◌≡◌, ℕ, ◌≤◌, List, [], ◌∷◌, ◌++◌, length, refl, sym, ap, ◌∙◌, subst, arith}
 use Rattle.std.specs.Prelude.{◌≢◌}
 use Rattle.rp_pattern.specs.declared.word.Label.{Label}
 use Rattle.rp_pattern.specs.declared.word.Seen.{Seen}
 use Rattle.rp_pattern.specs.declared.word.Seen.TheVariants.{True, NotTrue, Open as OpenTest}
 use Rattle.rp_pattern.specs.Mapping.{Mapping, Full, Open, labels_of}
-use Rattle.rp_pattern.specs.Words.{preceded}
 use Rattle.rp_pattern.specs.WordLaws.{IsFull, BeginsWith, Extends, done, stays, gone, grows}
-use Rattle.rp_search.specs.Found.{Test, first_not_true, tested, status_from, Found, Waits, unless_refused, found, Stays, TestsStay, AreShort, from_status, unrefused, Resumes}
+use Rattle.rp_search.specs.Found.{Test, first_not_true, tested, status, status_from, Status, Good, Refused, Found, Match, Waits, unless_refused, found, Stays, TestsStay, AreShort, from_status, unrefused, Resumes, IsFirstMatch}
 
 first_stays : (a b x y : Seen) → Stays a b → Stays x y → Stays (first_not_true a x) (first_not_true b y)
 first_stays True b x y s t = subst (λ z. Stays x (first_not_true z y)) (sym s) t
@@ -126,7 +125,52 @@ itself_stays True = refl
 itself_stays NotTrue = refl
 itself_stays OpenTest = tt
 
-pub refused_all : (test : Test) (ls : List Label) (ws : List Mapping) → tested test ls ≡ NotTrue → AllByRecursion (λ w. tested test (labels_of w) ≡ NotTrue) (map (preceded ls) ws)
-refused_all test ls [] h = tt
-refused_all test ls (Full ms ∷ ws) h = (tested_refused ls ms test test (λ ns k. itself_stays (test ns)) h, refused_all test ls ws h)
-refused_all test ls (Open ms ∷ ws) h = (tested_refused ls ms test test (λ ns k. itself_stays (test ns)) h, refused_all test ls ws h)
+-- ---- what is refused or good, and what a match is
+
+refused_by : (w : Mapping) (x : Seen) → status_from w x ≡ Refused → x ≡ NotTrue
+refused_by (Full ls) True h = cc
+refused_by (Full ls) NotTrue h = refl
+refused_by (Full ls) OpenTest h = cc
+refused_by (Open ls) True h = cc
+refused_by (Open ls) NotTrue h = refl
+refused_by (Open ls) OpenTest h = cc
+
+refused_so : (w : Mapping) (x : Seen) → x ≡ NotTrue → status_from w x ≡ Refused
+refused_so (Full ls) x h = ap (status_from (Full ls)) h
+refused_so (Open ls) x h = ap (status_from (Open ls)) h
+
+good_by : (w : Mapping) (x y : Seen) → Stays x y → status_from w x ≡ Good → status_from w y ≡ Good
+good_by (Full ls) True y s h = ap (status_from (Full ls)) s
+good_by (Full ls) NotTrue y s h = cc
+good_by (Full ls) OpenTest y s h = cc
+good_by (Open ls) True y s h = cc
+good_by (Open ls) NotTrue y s h = cc
+good_by (Open ls) OpenTest y s h = cc
+
+pub refused_stays : (rows : ℕ) (old new : Test) (w w' : Mapping) → TestsStay rows old new → length (labels_of w) ≤ rows → BeginsWith (labels_of w) w' → status old w ≡ Refused → status new w' ≡ Refused
+refused_stays rows old new w w' s a b h =
+    refused_so w' (tested new (labels_of w')) (word_refused (labels_of w) w' old new (on_word rows old new s (labels_of w) a) b (refused_by w (tested old (labels_of w)) h))
+
+pub good_stays : (rows : ℕ) (old new : Test) (w : Mapping) → TestsStay rows old new → length (labels_of w) ≤ rows → status old w ≡ Good → status new w ≡ Good
+good_stays rows old new w s a h = good_by w (tested old (labels_of w)) (tested new (labels_of w)) (tested_stays (labels_of w) old new (on_word rows old new s (labels_of w) a)) h
+
+match_labels : (a b : List Label) → Match a ≡ Match b → a ≡ b
+match_labels a b h = cc
+
+-- a word before the others
+behind : (test : Test) (w : Mapping) (ws : List Mapping) (ls : List Label) → status test w ≡ Refused → IsFirstMatch test ws ls → IsFirstMatch test (w ∷ ws) ls
+behind test w ws ls h m = record { before = w ∷ m.before; after = m.after; word = ap (λ vs. w ∷ vs) m.word; refused = (h, m.refused); admitted = m.admitted }
+
+first_word : (test : Test) (w : Mapping) (ws : List Mapping) (ls : List Label) (x : Seen) → tested test (labels_of w) ≡ x → (found test ws ≡ Match ls → IsFirstMatch test ws ls) → unless_refused w (status_from w x) (found test ws) ≡ Match ls → IsFirstMatch test (w ∷ ws) ls
+first_word test (Full ms) ws ls True t later h =
+    let same : ms ≡ ls = match_labels ms ls h in
+    record { before = []; after = ws; word = ap (λ ns. Full ns ∷ ws) same; refused = tt; admitted = subst (λ ns. tested test ns ≡ True) same t }
+first_word test (Full ms) ws ls NotTrue t later h = behind test (Full ms) ws ls (refused_so (Full ms) (tested test ms) t) (later h)
+first_word test (Full ms) ws ls OpenTest t later h = cc
+first_word test (Open ms) ws ls True t later h = cc
+first_word test (Open ms) ws ls NotTrue t later h = behind test (Open ms) ws ls (refused_so (Open ms) (tested test ms) t) (later h)
+first_word test (Open ms) ws ls OpenTest t later h = cc
+
+pub match_is_word : (test : Test) (ws : List Mapping) (ls : List Label) → found test ws ≡ Match ls → IsFirstMatch test ws ls
+match_is_word test [] ls h = cc
+match_is_word test (w ∷ ws) ls h = first_word test w ws ls (tested test (labels_of w)) refl (match_is_word test ws ls) h

@@ -1,5 +1,8 @@
 -- A search within a run, at the end of a turn.
-use Rattle.std.proofs.Common.{◌≡◌, ℕ, ◌+◌, ◌<◌, ◌≤◌, List, Option, Some, None, refl, sym, ap, ◌∙◌, subst, arith}
+use Rattle.std.specs.List.{AllByRecursion}
+use Rattle.std.proofs.Common.{map, ◌≡◌, ℕ, zero, suc, ◌+◌, ◌<◌, ◌≤◌, List, [], ◌∷◌, ◌++◌, length, take, Option, Some, None, Bool, true, false, IsTrue, ◌↔◌, refl, sym, ap, ◌∙◌, subst, arith, length-append}
+use Rattle.std.proofs.lemmas.List.{take-append-le}
+use Rattle.std.proofs.lemmas.List.Elements.{All-from_recursion, recursion_from_All, All-nil, All-take, All-push}
 use Rattle.rp_pattern.specs.declared.word.Label.{Label}
 use Rattle.rp_pattern.specs.declared.word.End.{End}
 use Rattle.rp_pattern.specs.declared.word.End.TheVariants.{Open as OpenEnd, Closed as ClosedEnd}
@@ -9,10 +12,16 @@ use Rattle.rp_pattern.specs.declared.choices.Choices.{Choices}
 use Rattle.rp_pattern.specs.declared.outlook.Outlook.{Outlook}
 use Rattle.rp_pattern.specs.Outlooks.{words_ahead, turns_ahead}
 use Rattle.rp_search.specs.declared.search.Search.{Search}
-use Rattle.rp_pattern.specs.Choices.{entered, whole, left, below_left, after, IsSameWhole}
+use Rattle.rp_pattern.specs.Mapping.{Mapping, Full, Open}
+use Rattle.rp_pattern.specs.Words.{preceded}
+use Rattle.rp_pattern.specs.WordLaws.{IsLater}
+use Rattle.rp_pattern.specs.LabelLaws.{IsBelow}
+use Rattle.rp_pattern.specs.Choices.{start_of, entered, whole, whole_left, whole_left_from, remaining, left, below, below_left, after, after_left, IsFront, IsShorterFront, IsSameWhole}
 use Rattle.rp_search.specs.Found.{Test, tested, found, Waits}
-use Rattle.rp_search.specs.Fits.{Stands, Explores, AreAdmitted, ChoicesStand, LabelsStand, unless_open, left_in}
-use Rattle.rp_search.specs.Turned.{AsksTheSame, Goes, IsOpenAt, Searches}
+use Rattle.rp_search.specs.Asked.{Asked, AreBelow, rows_from}
+use Rattle.rp_search.specs.Search.{IsAtStart, labels_of_search, start_of_search, turns_from}
+use Rattle.rp_search.specs.Fits.{Stands, StandsBy, StandsAtRow, StandsAtRowBy, Explores, AreAdmitted, ChoicesStand, LabelsStand, LabelsBelow, test_from, unless_open, left_in, left_by}
+use Rattle.rp_search.specs.Turned.{AddsLabel, AreCutBack, Goes, GoesOn, IsOpenAt, Searches}
 use Rattle.rp_search.proofs.Fitting.{GivesUp, now_later, finds_begun, goes_wordless, no_words}
 
 -- a fact at the rows and the end that were read is one at those of the tests
@@ -23,14 +32,31 @@ pub open_end : (e : End) → (e ≡ ClosedEnd → ⊥) → e ≡ OpenEnd
 open_end OpenEnd h = refl
 open_end ClosedEnd h = absurd (h refl)
 
--- where no row is explored, the labels are tested true, and the turns left are those of the choices
-pub searches_plainly : (s : Search) (n : ℕ) (e : End) (test : Test) → s.outlook ≡ None → Stands s.choices n e test → tested test (entered s.choices) ≡ True → Searches s n e test
-unfolding ChoicesStand LabelsStand
-searches_plainly s n e test none stands h =
+pub below_front : (k : ℕ) (ls ms : List Label) → IsFront ls ms → AreBelow k ms → AreBelow k ls
+below_front k ls ms cut h = subst (λ xs. AreBelow k xs) (sym cut.1) (All-take (λ l. l.var < k) cut.0 ms h)
+
+pub below_added : (k : ℕ) (ls : List Label) (a : AddsLabel (λ ms. AreBelow k ms) ls) → a.label.var < k → AreBelow k ls
+below_added k ls a h = subst (λ xs. AreBelow k xs) (sym a.added) (All-push (λ l. l.var < k) (take a.depth a.before) a.label (All-take (λ l. l.var < k) a.depth a.before a.entered_before) h)
+
+-- where no row is explored, the labels are tested true
+pub searches_plainly : (s : Search) (asked : Asked) (start : ℕ) → start_of s.choices ≡ start → s.outlook ≡ None → Stands s.choices asked.known asked.end (asked.outcome start) → tested (asked.outcome start) (entered s.choices) ≡ True → AreBelow asked.variables (entered s.choices) → Searches s asked
+unfolding ChoicesStand LabelsStand LabelsBelow
+searches_plainly s asked start from none stands h below =
     record {
-      fits = record { stands = stands; labels = subst (λ l. AreAdmitted l s.choices n e test) (sym none) h };
-      is_open = subst (λ l. IsOpenAt l s.choices test) (sym none) tt;
+      fits = record {
+        stands = subst (λ i. Stands s.choices asked.known asked.end (asked.outcome i)) (sym from) stands;
+        labels = subst (λ l. AreAdmitted l s.choices asked.known asked.end (asked.outcome (start_of s.choices))) (sym none)
+            (subst (λ i. tested (asked.outcome i) (entered s.choices) ≡ True) (sym from) h);
+        below = below;
+      };
+      is_open = subst (λ l. IsOpenAt l s.choices (asked.outcome (start_of s.choices))) (sym none) tt;
     }
+
+pub goes_on : (old new : Choices) (asked : Asked) → start_of new ≡ start_of old → Goes old new asked.known asked.end (asked.outcome (start_of old)) → AreBelow asked.variables (entered new) → GoesOn old new asked
+goes_on old new asked from g below = record { goes = subst (λ i. Goes old new asked.known asked.end (asked.outcome i)) (sym from) g; below = below }
+
+pub searches_settled : (s : Search) (old : Choices) (asked : Asked) → s.outlook ≡ None → GoesOn old s.choices asked → Searches s asked
+searches_settled s old asked none g = searches_plainly s asked (start_of s.choices) refl none g.goes.stands g.goes.admitted g.below
 
 pub admitted_plainly : (c : Choices) (p : Option Outlook) (n : ℕ) (e : End) (test : Test) → p ≡ None → AreAdmitted p c n e test → tested test (entered c) ≡ True
 admitted_plainly c p n e test none h = subst (λ q. AreAdmitted q c n e test) none h
@@ -38,8 +64,8 @@ admitted_plainly c p n e test none h = subst (λ q. AreAdmitted q c n e test) no
 pub left_plainly : (c : Choices) (p : Option Outlook) (n : ℕ) (e : End) (test : Test) → p ≡ None → left_in p c n e test ≡ left c n e
 left_plainly c p n e test none = ap (λ q. left_in q c n e test) none
 
-pub fewer_plainly : (old new : Choices) (p : Option Outlook) (n : ℕ) (e : End) (test : Test) → p ≡ None → left new n e ≤ left old n e → left_in p new n e test ≤ left_in p old n e test
-fewer_plainly old new p n e test none h = omega (arith, h, left_plainly old p n e test none, left_plainly new p n e test none)
+pub fewer_plainly : (old new : Choices) (p : Option Outlook) (n : ℕ) (e : End) (test test' : Test) → p ≡ None → left new n e ≤ left old n e → left_in p new n e test' ≤ left_in p old n e test
+fewer_plainly old new p n e test test' none h = omega (arith, h, left_plainly old p n e test none, left_plainly new p n e test' none)
 
 -- while a row is explored
 pub left_exploring : (c : Choices) (outlook : Outlook) (n : ℕ) (e : End) (test : Test) → test (entered c) ≡ OpenTest → left_in (Some outlook) c n e test ≡ below_left c n e + turns_ahead outlook n e
@@ -69,10 +95,98 @@ pub explored_nothing : (c d : Choices) (outlook : Outlook) (n : ℕ) (e : End) (
 explored_nothing c d outlook n e test s x none keeps g =
     goes_wordless c d n e test s x.row (λ n' e' h. no_words (after c n' e') (sym (x.words n' e' h) ∙ none n' e')) keeps g
 
--- what fits the tests fits them where they ask the same
-pub searches_asked : (s : Search) (n n' : ℕ) (e e' : End) (asked asked' : ℕ → List Label → Seen) (start start' : ℕ) → AsksTheSame n n' e e' asked asked' → start' ≡ start → Searches s n e (asked start) → Searches s n' e' (asked' start')
-searches_asked s n n' e e' asked asked' start start' same from h =
-    subst (λ m. Searches s m e' (asked' start')) (sym same.rows)
-    (subst (λ f. Searches s n f (asked' start')) (sym same.ending)
-    (subst (λ o. Searches s n e (o start')) (sym same.outcome)
-    (subst (λ i. Searches s n e (asked i)) (sym from) h)))
+-- ---- a label that is not tested
+
+front_below : (k : ℕ) (ls ms : List Label) → AllByRecursion (λ l. l.var < k) (ls ++ ms) → AllByRecursion (λ l. l.var < k) ls
+front_below k [] ms h = tt
+front_below k (l ∷ ls) ms h = (h.0, front_below k ls ms h.1)
+
+words_behind : (P : Mapping → Type 0) (xs ys : List Mapping) → AllByRecursion P (xs ++ ys) → AllByRecursion P ys
+words_behind P [] ys h = h
+words_behind P (x ∷ xs) ys h = words_behind P xs ys h.1
+
+words_before : (P : Mapping → Type 0) (xs ys : List Mapping) → AllByRecursion P (xs ++ ys) → AllByRecursion P xs
+words_before P [] ys h = tt
+words_before P (x ∷ xs) ys h = (h.0, words_before P xs ys h.1)
+
+none_begins : (k : ℕ) (ls : List Label) (ws : List Mapping) → (AreBelow k ls → ⊥) → AllByRecursion (IsBelow k) (map (preceded ls) ws) → ws ≡ []
+none_begins k ls [] h a = refl
+none_begins k ls (Full ms ∷ ws) h a = absurd (h (All-from_recursion (λ l. l.var < k) ls (front_below k ls ms a.0)))
+none_begins k ls (Open ms ∷ ws) h a = absurd (h (All-from_recursion (λ l. l.var < k) ls (front_below k ls ms a.0)))
+
+-- no word begins with labels of which one is not among the variables of the words
+pub untested_none : (c : Choices) (n : ℕ) (e : End) (test : Test) (k : ℕ) → Stands c n e test → StandsAtRow c n e test → ((n' : ℕ) (e' : End) → AllByRecursion (IsBelow k) (whole c n' e')) → (AreBelow k (entered c) → ⊥) → (n' : ℕ) (e' : End) → IsLater n e n' e' → after c n' e' ≡ []
+untested_none c n e test k s r small not n' e' later =
+    let b = s.words n' e' later in
+    none_begins k (entered c) (after c n' e') not
+    (words_before (IsBelow k) (map (preceded (entered c)) (after c n' e')) (below c n' e')
+    (subst (λ ws. AllByRecursion (IsBelow k) ws) (r.words n' e' later)
+    (words_behind (IsBelow k) b.front (remaining c n' e') (subst (λ ws. AllByRecursion (IsBelow k) ws) b.is (small n' e')))))
+
+take_of_take : (k d : ℕ) (ls : List Label) → k ≤ length (take d ls) → take k (take d ls) ≡ take k ls
+take_of_take zero d ls h = refl
+take_of_take (suc k) zero ls h = absurd (omega arith)
+take_of_take (suc k) (suc d) [] h = absurd (omega arith)
+take_of_take (suc k) (suc d) (l ∷ ls) h = ap (λ z. l ∷ z) (take_of_take k d ls (omega arith))
+
+-- labels that are cut back below the one that was added
+pub cut_added : (Entered : List Label → Type 0) (ls ms : List Label) → AddsLabel Entered ms → IsShorterFront ls ms → AreCutBack Entered ls
+cut_added Entered ls ms a f =
+    let short : f.0 ≤ length (take a.depth a.before) = omega (arith, f.1, ap length a.added, length-append (take a.depth a.before) (a.label ∷ [])) in
+    record {
+      before = a.before;
+      entered_before = a.entered_before;
+      depth = f.0;
+      cut = f.2 ∙ ap (take f.0) a.added ∙ take-append-le f.0 (take a.depth a.before) (a.label ∷ []) short ∙ take_of_take f.0 a.depth a.before short;
+    }
+
+pub below_cut : (k : ℕ) (ls : List Label) → AreCutBack (λ ms. AreBelow k ms) ls → AreBelow k ls
+below_cut k ls a = subst (λ xs. AreBelow k xs) (sym a.cut) (All-take (λ l. l.var < k) a.depth a.before a.entered_before)
+
+last_below : (k : ℕ) (ls : List Label) (l : Label) → AllByRecursion (λ m. m.var < k) (ls ++ l ∷ []) → l.var < k
+last_below k [] l h = h.0
+last_below k (m ∷ ls) l h = last_below k ls l h.1
+
+-- where the last label is not tested, no word begins with these labels
+pub none_untested : (k : ℕ) (before : List Label) (last : Label) (ls : List Label) (is_tested : Bool) → ls ≡ before ++ last ∷ [] → (IsTrue is_tested ↔ (last.var < k)) → is_tested ≡ false → AreBelow k ls → ⊥
+none_untested k before last ls is_tested e iff untested h =
+    let tested_after : IsTrue is_tested = iff.1 (last_below k before last (recursion_from_All (λ l. l.var < k) (before ++ last ∷ []) (subst (λ xs. AreBelow k xs) e h))) in
+    cc
+
+pub yes_tested : (P : Type 0) (is_tested : Bool) → (IsTrue is_tested ↔ P) → is_tested ≡ true → P
+yes_tested P is_tested iff h = iff.0 h
+
+-- ---- where a search stands
+
+-- a search that is at its start
+pub at_start : (s : Search) → s.outlook ≡ None → 1 ≤ start_of s.choices → entered s.choices ≡ [] → ((n : ℕ) (e : End) → remaining s.choices n e ≡ whole s.choices n e) → ((n : ℕ) (e : End) → left s.choices n e ≡ whole_left s.choices n e) → IsAtStart s
+unfolding labels_of_search start_of_search turns_from left_by ChoicesStand LabelsStand LabelsBelow whole_left whole_left_from start_of
+at_start s none one labels words most = record {
+  labels = labels;
+  fits = λ asked. record {
+    stands = record {
+      from_one = one;
+      known = subst (λ ls. length ls ≤ rows_from (start_of s.choices) asked.known) (sym labels) (omega arith);
+      words = λ n' e' h. record { front = []; is = sym (words n' e'); refused = tt };
+      turns = λ n' e' h. omega (arith, most n' e');
+    };
+    labels = subst (λ l. AreAdmitted l s.choices asked.known asked.end (asked.outcome (start_of s.choices))) (sym none)
+        (subst (λ ls. tested (asked.outcome (start_of s.choices)) ls ≡ True) (sym labels) refl);
+    below = subst (λ ls. AreBelow asked.variables ls) (sym labels) (All-nil (λ l. l.var < asked.variables));
+  };
+  left = λ asked. left_plainly s.choices s.outlook asked.known asked.end (asked.outcome (start_of s.choices)) none ∙ most asked.known asked.end;
+}
+
+-- where a row's test is open, and what would follow it is explored
+pub searches_exploring : (s : Search) (outlook : Outlook) (asked : Asked) → s.outlook ≡ Some outlook → StandsBy s.choices asked → StandsAtRowBy s.choices asked → AreBelow asked.variables (entered s.choices) → ((n : ℕ) (e : End) → words_ahead outlook n e ≡ length (after s.choices n e)) → ((n : ℕ) (e : End) → turns_ahead outlook n e ≡ after_left s.choices n e) → test_from s.choices asked (entered s.choices) ≡ OpenTest → Searches s asked
+unfolding ChoicesStand LabelsStand LabelsBelow
+searches_exploring s outlook asked some stands row below words turns seen =
+    record {
+      fits = record {
+        stands = stands;
+        labels = subst (λ l. AreAdmitted l s.choices asked.known asked.end (asked.outcome (start_of s.choices))) (sym some)
+            (record { row = row; words = λ n' e' h. words n' e'; turns = λ n' e' h. omega (arith, turns n' e') });
+        below = below;
+      };
+      is_open = subst (λ l. IsOpenAt l s.choices (asked.outcome (start_of s.choices))) (sym some) seen;
+    }

@@ -1,12 +1,11 @@
 -- The status of a word under tests, and the first word that is not refused.
-use Rattle.std.specs.Prelude.{◌≡◌, ◌≢◌, ℕ, ◌≤◌, List, [], ◌∷◌, ◌++◌, map, length, ⊤}
+use Rattle.std.specs.Prelude.{◌≡◌, ◌≢◌, ℕ, ◌≤◌, List, [], ◌∷◌, ◌++◌, length, ⊤}
 use Rattle.std.specs.List.{AllByRecursion}
 use Rattle.rp_pattern.specs.declared.word.Label.{Label}
 use Rattle.rp_pattern.specs.declared.word.Seen.{Seen}
 use Rattle.rp_pattern.specs.declared.word.Seen.TheVariants.{True, NotTrue, Open as OpenTest}
 use Rattle.rp_pattern.specs.Mapping.{Mapping, Full, Open, labels_of}
-use Rattle.rp_pattern.specs.Words.{preceded}
-use Rattle.rp_pattern.specs.WordLaws.{Extends, IsFull}
+use Rattle.rp_pattern.specs.WordLaws.{BeginsWith, Extends, IsFull}
 
 -- What is seen of the last label's row, from the labels up to it
 abbrev pub Test : Type 0
@@ -91,20 +90,25 @@ pub record Resumes (old new : Test) (ws ws' : List Mapping) : Type 0 where
 abbrev pub FoundResumes : Type 0
 FoundResumes = (rows : ℕ) (old new : Test) (ws ws' : List Mapping) → TestsStay rows old new → AreShort rows ws → Extends ws ws' → Resumes old new ws ws'
 
--- These words are refused ones and then the rest.
-pub record RefusedThen (test : Test) (ws rest : List Mapping) : Type 0 where
-  pub front : List Mapping
-  pub is : ws ≡ front ++ rest
-  pub refused : AllByRecursion (λ w. tested test (labels_of w) ≡ NotTrue) front
-
 -- Over a closed end, with tests that are never open there, no search waits.
 abbrev pub ClosedDecides : Type 0
 ClosedDecides = (test : Test) (ws : List Mapping) → ((ls : List Label) → test ls ≢ OpenTest) → AllByRecursion IsFull ws → found test ws ≢ Waits
 
--- Refused words in front change nothing.
-abbrev pub RefusedPassed : Type 0
-RefusedPassed = (test : Test) (ws rest : List Mapping) → RefusedThen test ws rest → found test ws ≡ found test rest
+-- A match is one of the words: it is full, its rows are admitted, and each word before it is refused.
+pub record IsFirstMatch (test : Test) (ws : List Mapping) (ls : List Label) : Type 0 where
+  pub before : List Mapping
+  pub after : List Mapping
+  pub word : ws ≡ before ++ Full ls ∷ after
+  pub refused : AllByRecursion (λ w. status test w ≡ Refused) before
+  pub admitted : tested test ls ≡ True
 
--- Once the labels so far are refused, so is every word that begins with them.
-abbrev pub RefusedAll : Type 0
-RefusedAll = (test : Test) (ls : List Label) (ws : List Mapping) → tested test ls ≡ NotTrue → AllByRecursion (λ w. tested test (labels_of w) ≡ NotTrue) (map (preceded ls) ws)
+abbrev pub MatchIsWord : Type 0
+MatchIsWord = (test : Test) (ws : List Mapping) (ls : List Label) → found test ws ≡ Match ls → IsFirstMatch test ws ls
+
+-- What is refused stays refused, with every word that begins with its labels.
+abbrev pub RefusedStays : Type 0
+RefusedStays = (rows : ℕ) (old new : Test) (w w' : Mapping) → TestsStay rows old new → length (labels_of w) ≤ rows → BeginsWith (labels_of w) w' → status old w ≡ Refused → status new w' ≡ Refused
+
+-- What is good stays good.
+abbrev pub GoodStays : Type 0
+GoodStays = (rows : ℕ) (old new : Test) (w : Mapping) → TestsStay rows old new → length (labels_of w) ≤ rows → status old w ≡ Good → status new w ≡ Good

@@ -1,10 +1,11 @@
--- For the tests: what is written down for rows and variables, and when a row's test is open.
+-- For the tests alone: what is written down for rows and variables, and when a row's test is open.
 use Rattle.std.specs.Prelude.{ℕ, ◌+◌, ◌-◌, Bool, true, false, ◌&&◌, ◌==◌, List, length, nat_lt, Option, Some, None, if◌then◌else◌, slice_get}
 use Rattle.rp_pattern.specs.declared.word.Label.{Label}
 use Rattle.rp_pattern.specs.declared.word.End.{End}
 use Rattle.rp_pattern.specs.declared.word.End.TheVariants.{Open as OpenEnd, Closed as ClosedEnd}
 use Rattle.rp_pattern.specs.declared.word.Seen.{Seen}
 use Rattle.rp_pattern.specs.declared.word.Seen.TheVariants.{True, NotTrue, Open as OpenTest}
+use Rattle.rp_search.specs.Asked.{Asked}
 
 abbrev pub may_go_on : End → Bool
 may_go_on OpenEnd = true
@@ -34,3 +35,7 @@ last_answer answer (Some l) = answer l.var
 
 abbrev pub grid_outcome : List Seen → List Seen → ℕ → ℕ → End → ℕ → List Label → Seen
 grid_outcome first second reach known e start labels = last_answer (row_answer first second reach known e (start + length labels - 1)) (slice_get labels (length labels - 1))
+
+-- two variables are tested
+abbrev pub grid_asked : List Seen → List Seen → ℕ → ℕ → End → Asked
+grid_asked first second reach known e = record { known = known; end = e; variables = 2; outcome = grid_outcome first second reach known e }

@@ -1,7 +1,12 @@
+-- What contracts of public calls cite: what is found, what is asked, and what a search does.
 pub mod Found
+pub mod Asked
+pub mod Search
+-- The inside of a search.
 pub mod Fits
 pub mod Turned
+-- Counts that stay at their last value.
 pub mod Counts
+-- What the tests alone cite.
 pub mod Grid
 pub mod GridDecides
-pub mod Spent

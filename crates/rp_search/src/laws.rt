@@ -1,21 +1,27 @@
 //! Laws over the definitions alone. A call does nothing, and its caller may then use them.
-ghost use Rattle.rp_search.specs.Found.{FoundStays, FoundResumes, ClosedDecides, RefusedPassed, RefusedAll};
-ghost use Rattle.rp_search.specs.Fits.{FitsStays, LeftIsBounded};
+ghost use Rattle.rp_search.specs.Found.{FoundStays, FoundResumes, ClosedDecides, MatchIsWord, RefusedStays, GoodStays};
+ghost use Rattle.rp_search.specs.Search.{FitsStays, LeftIsBounded, VariablesAreBelow};
 
-/// The laws of what is found. It stays over every continuation unless it waits, and where it waits it goes on from the
-/// word where it waited. Over a closed end nothing is waited for. Refused words in front change nothing, and all words
-/// that begin with refused labels are refused.
+use rp_pattern::law_labels;
+
+/// The laws of what is found. A match is one of the words, and the first that isn't refused. What is found stays over
+/// every continuation unless it waits, and where it waits it goes on from the word where it waited. Over a closed end
+/// nothing is waited for. What is refused or good stays so.
 pub fn law_found()
+    ensures word { MatchIsWord }
     ensures stays { FoundStays }
     ensures resumes { FoundResumes }
     ensures closed { ClosedDecides }
-    ensures passed { RefusedPassed }
-    ensures all_refused { RefusedAll }
+    ensures refused { RefusedStays }
+    ensures good { GoodStays }
 {}
 
-/// The laws of a search that fits tests. It fits all tests that extend them, and has no more turns left than its
-/// pattern takes from its start row.
+/// The laws of a search that fits what is asked. It fits all that extends it, and has no more turns left than its
+/// pattern takes from its start row. The labels of its words are of the pattern's variables.
 pub fn law_search()
     ensures stays { FitsStays }
     ensures bounded { LeftIsBounded }
-{}
+    ensures variables { VariablesAreBelow }
+{
+    law_labels();
+}

@@ -1,13 +1,25 @@
 //! The resumable search for the first word of a pattern that no condition refuses.
+//!
+//! A caller answers what a search asks by an implementation of `Tests`, begins at a row, and runs the search with a budget of
+//! turns until it isn't paused:
+//!
+//! ```text
+//! let mut search = Search::new(alloc, &pattern, 1)?;
+//! while search.run(&mut tests, 1_000, &mut steps)? == Outcome::Paused {}
+//! let labels = search.labels(); // after a match
+//! search.restart(2);
+//! ```
+//!
+//! What is found is said by `specs/Found`, what is asked by `specs/Asked`, and what a search does by `specs/Search`.
 #![tactic(auto)]
 
 mod asking;
-#[cfg(test)]
-mod cases;
 mod conditions;
 mod laws;
 mod search;
 mod steps;
+#[cfg(test)]
+mod tests;
 
 pub use conditions::Tests;
 pub use laws::{law_found, law_search};

@@ -1,20 +1,18 @@
 //! A search takes up one choice a turn. Between its runs it keeps the choices that are not given up, and one list of labels
-//! that is cut back to the choice at hand. While a row's test is open, it keeps an outlook over what would follow that row.
-ghost use Rattle.std.specs.Prelude.{◌≡◌, ◌≢◌, ℕ, ◌+◌, ◌-◌, ◌*◌, ◌^◌, ◌<◌, ◌≤◌, List, [], ◌∷◌, ◌++◌, length, take, None, IfOk, OnOk, OnErr};
-ghost use Rattle.rp_pattern.specs.declared.word.End.{End};
-ghost use Rattle.rp_pattern.specs.declared.word.End.TheVariants.{Closed};
-ghost use Rattle.rp_pattern.specs.declared.word.Seen.TheVariants.{Open as OpenTest};
+//! that is cut back to the choice at hand.
+//!
+//! While the test of the last label's row is open, the labels before it are tested true, and the search keeps an outlook
+//! over what would follow that row: only if a word does is there anything to wait for. What is explored then counts as
+//! left in place of the choice itself. A later run asks the open test again first.
+ghost use Rattle.std.specs.Prelude.{◌≡◌, ◌-◌, ◌+◌, ◌<◌, ◌≤◌, [], None, IfOk, OnOk, OnErr};
 ghost use Rattle.rp_pattern.specs.PatternForm.{form_of};
-ghost use Rattle.rp_pattern.specs.Words.{words};
-ghost use Rattle.rp_pattern.specs.Turns.{turns};
 
 mod explore;
 
-use crate::asking::{enter_row, follow, settle};
+use crate::asking::{enter_row, follow, is_tested, settle};
 use crate::conditions::Tests;
 use crate::steps::Steps;
-use explore::shed;
-use rp_pattern::{Choices, Label, Outlook, Pattern, Seen, Stack, Taken};
+use rp_pattern::{Choices, Label, Outlook, Pattern, Seen, Taken};
 use std::alloc::{AllocError, Global};
 use std::sync::ledger::Ledger;
 
@@ -41,31 +39,41 @@ pub struct Search {
     /// Where the test of the row that the preferred choice maps is open: what would follow that row. Only if there is
     /// such a word is the search undecided.
     outlook: Option<Outlook>,
-    /// Outlooks that a decided test has made needless. Each turn drops one of their choices.
-    spent: Stack<Outlook>,
+    /// The turns of the last run that had a budget and met no refusal.
+    taken: u32,
 }
 
-#[tactic(auto, unfolding(crate::specs::Fits::start_of_search, crate::specs::Fits::labels_of_search, crate::specs::Fits::pattern_words, crate::specs::Fits::most_turns, crate::specs::Fits::left_of, crate::specs::Fits::ChoicesStand, crate::specs::Fits::LabelsStand, crate::specs::Spent::kept_by, crate::specs::Spent::spent_of, crate::specs::Spent::in_use))]
+#[tactic(auto, unfolding(crate::specs::Search::start_of_search, crate::specs::Search::labels_of_search, crate::specs::Search::words_from, crate::specs::Search::turns_from, crate::specs::Search::turns_of_run, crate::specs::Fits::left_by, crate::specs::Fits::ChoicesStand, crate::specs::Fits::LabelsStand, crate::specs::Fits::LabelsBelow))]
 impl Search {
-    ghost use Rattle.rp_search.specs.Found.{Test, found, Match, NoMatch, Waits};
-    ghost use Rattle.rp_search.specs.Fits.{Fits, IsSameSearch, start_of_search, labels_of_search, pattern_words, most_turns, left_of, Stands, StandsAtRow};
-    ghost use Rattle.rp_search.specs.Spent.{kept_by, spent_of, in_use, held_in};
-    ghost use Rattle.rp_search.specs.Turned.{AsksTheSame, AddsLabel, Searches, Turned};
+    ghost use Rattle.rp_search.specs.Asked.{AreBelow};
+    ghost use Rattle.rp_search.specs.Fits.{Fits, left_by, StandsBy, StandsAtRowBy};
+    ghost use Rattle.rp_search.specs.Search.{Answers, HasVariablesBelow, IsAtStart, IsFor, IsSamePattern, IsSameSearch, Lowers, TakesTurns, labels_of_search, start_of_search, turns_of_run};
+    ghost use Rattle.rp_search.specs.Turned.{AddsLabel, Searches, Turned};
 
     /// A search from the row `start`, which is at least 1.
     pub fn new(alloc: Global, pattern: &Pattern, start: u64) -> Result<Search, AllocError>
         requires { 1 ≤ start }
+        ensures pattern { IfOk result (IsFor (form_of pattern.now)) }
         ensures start { IfOk result (λ s. start_of_search s ≡ start) }
-        ensures labels { IfOk result (λ s. labels_of_search s ≡ []) }
-        ensures words { IfOk result (λ s. (n : ℕ) (e : End) → pattern_words s n e ≡ words n e (form_of pattern.now) start) }
-        ensures turns { IfOk result (λ s. (n : ℕ) (e : End) → most_turns s n e ≤ turns n e (form_of pattern.now) start + length (words n e (form_of pattern.now) start)) }
-        ensures fits { IfOk result (λ s. (n : ℕ) (e : End) (test : Test) → Fits s n e test) }
+        ensures at_start { IfOk result IsAtStart }
     {
         Ok(Search {
             choices: Choices::new(alloc, pattern, start)?,
             outlook: None,
-            spent: Stack::new(alloc),
+            taken: 0,
         })
+    }
+
+    /// Begins at another row, as a new search for the same pattern does. It takes no memory, and keeps the room that it
+    /// has. Tests that are used further are to be cut back to no label.
+    pub fn restart(&mut self, start: u64)
+        requires { 1 ≤ start }
+        ensures pattern { IsSamePattern self.old self.new }
+        ensures start { start_of_search self.new ≡ start }
+        ensures at_start { IsAtStart self.new }
+    {
+        self.choices.restart(start);
+        self.outlook = None;
     }
 
     /// Takes at most `budget` turns: a turn is one choice taken up.
@@ -79,49 +87,33 @@ impl Search {
         budget: u32,
         steps: &mut Steps<L>,
     ) -> Result<Outcome, AllocError>
-        requires known { start_of_search self.old ≤ T.rows tests.old }
-        requires fits { Fits self.old (T.rows tests.old) (T.ending tests.old) (T.outcome tests.old (start_of_search self.old)) }
+        requires known { start_of_search self.old ≤ (T.asked (T.subject tests.old)).known }
+        requires variables { HasVariablesBelow (T.asked (T.subject tests.old)).variables self.old }
+        requires fits { Fits self.old (T.asked (T.subject tests.old)) }
         requires entered { T.entered tests.old (start_of_search self.old) (labels_of_search self.old) }
 
         ensures same { IsSameSearch self.old self.new }
-        ensures rows { T.rows tests.new ≡ T.rows tests.old }
-        ensures ending { T.ending tests.new ≡ T.ending tests.old }
-        ensures outcome { T.outcome tests.new ≡ T.outcome tests.old }
-        ensures fits { Fits self.new (T.rows tests.old) (T.ending tests.old) (T.outcome tests.old (start_of_search self.old)) }
+        ensures subject { T.subject tests.new ≡ T.subject tests.old }
+        ensures fits { Fits self.new (T.asked (T.subject tests.old)) }
         ensures entered { T.entered tests.new (start_of_search self.new) (labels_of_search self.new) }
+        ensures answers { IfOk result (Answers self.old self.new (T.asked (T.subject tests.old))) }
 
-        ensures matched { result ≡ Ok Outcome.Match → found (T.outcome tests.old (start_of_search self.old)) (pattern_words self.old (T.rows tests.old) (T.ending tests.old)) ≡ Match (labels_of_search self.new) }
-        ensures none { result ≡ Ok Outcome.NoMatch → found (T.outcome tests.old (start_of_search self.old)) (pattern_words self.old (T.rows tests.old) (T.ending tests.old)) ≡ NoMatch }
-        ensures waits { result ≡ Ok Outcome.Waits → found (T.outcome tests.old (start_of_search self.old)) (pattern_words self.old (T.rows tests.old) (T.ending tests.old)) ≡ Waits }
-        ensures closed { T.ending tests.old ≡ Closed → result ≢ Ok Outcome.Waits }
+        ensures turns { TakesTurns budget result steps.old steps.new (T.entries tests.old) (T.entries tests.new) }
+        ensures left { IfOk result (Lowers (steps.new - steps.old) self.old self.new (T.asked (T.subject tests.old))) }
+        ensures taken { 0 < budget → OnOk result (steps.new ≡ steps.old + turns_of_run self.new) }
 
-        // The number left falls by one at least with each turn but the one that ends the search, and never rises.
-        ensures paused { result ≡ Ok Outcome.Paused → left_of self.new (T.rows tests.old) (T.ending tests.old) (T.outcome tests.old (start_of_search self.old)) + budget ≤ left_of self.old (T.rows tests.old) (T.ending tests.old) (T.outcome tests.old (start_of_search self.old)) }
-        ensures left { OnOk result (left_of self.new (T.rows tests.old) (T.ending tests.old) (T.outcome tests.old (start_of_search self.old)) ≤ left_of self.old (T.rows tests.old) (T.ending tests.old) (T.outcome tests.old (start_of_search self.old))) }
-        ensures taken { OnOk result (left_of self.new (T.rows tests.old) (T.ending tests.old) (T.outcome tests.old (start_of_search self.old)) + steps.new ≤ left_of self.old (T.rows tests.old) (T.ending tests.old) (T.outcome tests.old (start_of_search self.old)) + steps.old + 1) }
-        ensures turns { steps.new ≤ steps.old + budget }
-        ensures spent { result ≡ Ok Outcome.Paused → steps.new ≡ steps.old + budget }
-        ensures ticked { 0 < budget → OnOk result (steps.old < steps.new) }
-        ensures counted { T.entries tests.new + steps.old ≤ T.entries tests.old + steps.new }
-        ensures enters { T.entries tests.new ≤ T.entries tests.old + budget }
-
-        // Of the choices of outlooks a turn adds at most one, and drops at most two: the one it takes up, and one that a
-        // decided test has made needless. Those fall with each turn, until none is left.
-        ensures gains { OnOk result (kept_by self.new + steps.old ≤ kept_by self.old + steps.new) }
-        ensures drops { OnOk result (kept_by self.old + 2 * steps.old ≤ kept_by self.new + 2 * steps.new) }
-        ensures spent_falls { OnOk result (spent_of self.new ≤ spent_of self.old + in_use self.old - (steps.new - steps.old)) }
-
-        ensures nothing { budget ≡ 0 → (result ≡ Ok Outcome.Paused) × (self.new ≡ self.old) × (tests.new ≡ tests.old) × (steps.new ≡ steps.old) }
-        ensures begins_again { OnErr result (labels_of_search self.new ≡ []) }
-        ensures fits_all { OnErr result ((n : ℕ) (e : End) (test : Test) → Fits self.new n e test) }
-        ensures kept_none { OnErr result (kept_by self.new ≡ 0) }
-        ensures nothing_given_up { OnErr result ((n : ℕ) (e : End) (test : Test) → left_of self.new n e test ≡ most_turns self.new n e) }
+        ensures nothing { budget ≡ 0 →
+            (result ≡ Ok Outcome.Paused) × (self.new ≡ self.old) × (tests.new ≡ tests.old) × (steps.new ≡ steps.old) }
+        ensures refused { OnErr result (IsAtStart self.new) }
     {
         if budget == 0 {
             return Ok(Outcome::Paused);
         }
         match self.go_on(tests, budget, steps) {
-            Ok(outcome) => Ok(outcome),
+            Ok((outcome, taken)) => {
+                self.taken = taken;
+                Ok(outcome)
+            }
             Err(refused) => {
                 self.begin_again(tests);
                 Err(refused)
@@ -143,100 +135,100 @@ impl Search {
         self.choices.start()
     }
 
+    /// How many turns the last run took that had a budget and met no refusal.
+    pub fn turns_taken(&self) -> u32
+        ensures { result ≡ turns_of_run self.now }
+    {
+        self.taken
+    }
+
     fn begin_again<T: Tests>(&mut self, tests: &mut T)
+        requires { 1 ≤ start_of_search self.old }
         ensures same { IsSameSearch self.old self.new }
-        ensures asks { AsksTheSame (T.rows tests.old) (T.rows tests.new) (T.ending tests.old) (T.ending tests.new) (T.outcome tests.old) (T.outcome tests.new) }
+        ensures subject { T.subject tests.new ≡ T.subject tests.old }
         ensures entries { T.entries tests.new ≡ T.entries tests.old }
         ensures entered { T.entered tests.new (start_of_search self.new) [] }
-        ensures labels { labels_of_search self.new ≡ [] }
-        ensures left { (n : ℕ) (e : End) (test : Test) → left_of self.new n e test ≡ most_turns self.new n e }
-        ensures fits { 1 ≤ start_of_search self.old → (n : ℕ) (e : End) (test : Test) → Fits self.new n e test }
-        ensures kept { kept_by self.new ≡ 0 }
+        ensures at_start { IsAtStart self.new }
     {
         self.choices.reset();
         self.outlook = None;
-        self.spent.clear();
         tests.cut(0);
     }
 
+    /// Takes at most `budget` turns, and tells how many.
     fn go_on<T: Tests, L: Ledger>(
         &mut self,
         tests: &mut T,
         budget: u32,
         steps: &mut Steps<L>,
-    ) -> Result<Outcome, AllocError>
-        requires known { start_of_search self.old ≤ T.rows tests.old }
-        requires fits { Fits self.old (T.rows tests.old) (T.ending tests.old) (T.outcome tests.old (start_of_search self.old)) }
+    ) -> Result<(Outcome, u32), AllocError>
+        requires some { 0 < budget }
+        requires known { start_of_search self.old ≤ (T.asked (T.subject tests.old)).known }
+        requires variables { HasVariablesBelow (T.asked (T.subject tests.old)).variables self.old }
+        requires fits { Fits self.old (T.asked (T.subject tests.old)) }
         requires entered { T.entered tests.old (start_of_search self.old) (labels_of_search self.old) }
 
         ensures same { IsSameSearch self.old self.new }
-        ensures asks { AsksTheSame (T.rows tests.old) (T.rows tests.new) (T.ending tests.old) (T.ending tests.new) (T.outcome tests.old) (T.outcome tests.new) }
-        ensures entries { T.entries tests.new ≤ T.entries tests.old + budget }
-        ensures steps { steps.new ≤ steps.old + budget }
-        ensures taken { OnOk result (left_of self.new (T.rows tests.old) (T.ending tests.old) (T.outcome tests.old (start_of_search self.old)) + steps.new ≤ left_of self.old (T.rows tests.old) (T.ending tests.old) (T.outcome tests.old (start_of_search self.old)) + steps.old + 1) }
-        ensures spent { result ≡ Ok Outcome.Paused → steps.new ≡ steps.old + budget }
-        ensures ticked { 0 < budget → OnOk result (steps.old < steps.new) }
-        ensures counted { T.entries tests.new + steps.old ≤ T.entries tests.old + steps.new }
+        ensures subject { T.subject tests.new ≡ T.subject tests.old }
         ensures entered { OnOk result (T.entered tests.new (start_of_search self.new) (labels_of_search self.new)) }
-        ensures fits { OnOk result (Fits self.new (T.rows tests.old) (T.ending tests.old) (T.outcome tests.old (start_of_search self.old))) }
-        ensures turned { IfOk result (Turned budget (pattern_words self.old (T.rows tests.old) (T.ending tests.old)) (labels_of_search self.new) (T.ending tests.old) (T.outcome tests.old (start_of_search self.old)) (left_of self.old (T.rows tests.old) (T.ending tests.old) (T.outcome tests.old (start_of_search self.old))) (left_of self.new (T.rows tests.old) (T.ending tests.old) (T.outcome tests.old (start_of_search self.old)))) }
-        ensures gains { OnOk result (kept_by self.new + steps.old ≤ kept_by self.old + steps.new) }
-        ensures drops { OnOk result (kept_by self.old + 2 * steps.old ≤ kept_by self.new + 2 * steps.new) }
-        ensures spent_falls { OnOk result (spent_of self.new ≤ spent_of self.old + in_use self.old - (steps.new - steps.old)) }
+        ensures fits { OnOk result (Fits self.new (T.asked (T.subject tests.old))) }
+        ensures answers { IfOk result (λ r. Answers self.old self.new (T.asked (T.subject tests.old)) r.0) }
+        ensures left { IfOk result (λ r. Lowers r.1 self.old self.new (T.asked (T.subject tests.old)) r.0) }
+        ensures counted { IfOk result (λ r. steps.new ≡ steps.old + r.1) }
+        ensures some { IfOk result (λ r. 0 < r.1) }
+        ensures paused { IfOk result (λ r. r.0 ≡ Outcome.Paused → r.1 ≡ budget) }
+        ensures grows { steps.old ≤ steps.new }
+        ensures within { steps.new ≤ steps.old + budget }
+        ensures entries { T.entries tests.new + steps.old ≤ T.entries tests.old + steps.new }
     {
         self.resume(tests)?;
-        for _turn in 0..budget {
+        for turn in 0..budget {
             steps.tick();
             let outcome = self.turn(tests)?;
             if outcome != Outcome::Paused {
-                return Ok(outcome);
+                return Ok((outcome, turn + 1));
             }
         }
-        Ok(Outcome::Paused)
+        Ok((Outcome::Paused, budget))
     }
 
     /// Where a test was open, it is asked again.
     fn resume<T: Tests>(&mut self, tests: &mut T) -> Result<(), AllocError>
-        requires known { start_of_search self.old ≤ T.rows tests.old }
-        requires fits { Fits self.old (T.rows tests.old) (T.ending tests.old) (T.outcome tests.old (start_of_search self.old)) }
+        requires known { start_of_search self.old ≤ (T.asked (T.subject tests.old)).known }
+        requires fits { Fits self.old (T.asked (T.subject tests.old)) }
         requires entered { T.entered tests.old (start_of_search self.old) (labels_of_search self.old) }
 
         ensures same { IsSameSearch self.old self.new }
-        ensures asks { AsksTheSame (T.rows tests.old) (T.rows tests.new) (T.ending tests.old) (T.ending tests.new) (T.outcome tests.old) (T.outcome tests.new) }
+        ensures subject { T.subject tests.new ≡ T.subject tests.old }
         ensures entries { T.entries tests.new ≡ T.entries tests.old }
         ensures entered { OnOk result (T.entered tests.new (start_of_search self.new) (labels_of_search self.new)) }
-        ensures searches { OnOk result (Searches self.new (T.rows tests.old) (T.ending tests.old) (T.outcome tests.old (start_of_search self.old))) }
-        ensures left { OnOk result (left_of self.new (T.rows tests.old) (T.ending tests.old) (T.outcome tests.old (start_of_search self.old)) ≤ left_of self.old (T.rows tests.old) (T.ending tests.old) (T.outcome tests.old (start_of_search self.old))) }
-        ensures kept { OnOk result (kept_by self.new ≡ kept_by self.old) }
-        ensures spent { OnOk result (spent_of self.new ≤ spent_of self.old + in_use self.old) }
+        ensures searches { OnOk result (Searches self.new (T.asked (T.subject tests.old))) }
+        ensures left { OnOk result (left_by self.new (T.asked (T.subject tests.old)) ≤ left_by self.old (T.asked (T.subject tests.old))) }
     {
         let Some(outlook) = self.outlook.take() else {
             return Ok(());
         };
         match settle(&mut self.choices, tests)? {
             Seen::Open => self.outlook = Some(outlook),
-            Seen::True | Seen::NotTrue => self.spent.push(outlook)?,
+            Seen::True | Seen::NotTrue => {}
         }
         Ok(())
     }
 
     /// Takes up one choice. It answers `Paused` where the search isn't at its end.
     fn turn<T: Tests>(&mut self, tests: &mut T) -> Result<Outcome, AllocError>
-        requires known { start_of_search self.old ≤ T.rows tests.old }
-        requires searches { Searches self.old (T.rows tests.old) (T.ending tests.old) (T.outcome tests.old (start_of_search self.old)) }
+        requires known { start_of_search self.old ≤ (T.asked (T.subject tests.old)).known }
+        requires variables { HasVariablesBelow (T.asked (T.subject tests.old)).variables self.old }
+        requires searches { Searches self.old (T.asked (T.subject tests.old)) }
         requires entered { T.entered tests.old (start_of_search self.old) (labels_of_search self.old) }
 
         ensures same { IsSameSearch self.old self.new }
-        ensures asks { AsksTheSame (T.rows tests.old) (T.rows tests.new) (T.ending tests.old) (T.ending tests.new) (T.outcome tests.old) (T.outcome tests.new) }
+        ensures subject { T.subject tests.new ≡ T.subject tests.old }
         ensures entries { T.entries tests.new ≤ T.entries tests.old + 1 }
         ensures entered { OnOk result (T.entered tests.new (start_of_search self.new) (labels_of_search self.new)) }
-        ensures searches { OnOk result (Searches self.new (T.rows tests.old) (T.ending tests.old) (T.outcome tests.old (start_of_search self.old))) }
-        ensures turned { IfOk result (Turned 1 (pattern_words self.old (T.rows tests.old) (T.ending tests.old)) (labels_of_search self.new) (T.ending tests.old) (T.outcome tests.old (start_of_search self.old)) (left_of self.old (T.rows tests.old) (T.ending tests.old) (T.outcome tests.old (start_of_search self.old))) (left_of self.new (T.rows tests.old) (T.ending tests.old) (T.outcome tests.old (start_of_search self.old)))) }
-        ensures gains { OnOk result (kept_by self.new ≤ kept_by self.old + 1) }
-        ensures drops { OnOk result (kept_by self.old ≤ kept_by self.new + 2) }
-        ensures spent { OnOk result (spent_of self.new ≤ spent_of self.old - 1) }
+        ensures searches { OnOk result (Searches self.new (T.asked (T.subject tests.old))) }
+        ensures turned { IfOk result (Turned 1 self.old self.new (T.asked (T.subject tests.old)) (left_by self.old (T.asked (T.subject tests.old)))) }
     {
-        shed(&mut self.spent)?;
         // To take an outlook out moves it, so most turns only look whether there is one.
         if self.outlook.is_none() {
             return self.take_up(tests);
@@ -249,19 +241,18 @@ impl Search {
 
     /// Takes up the preferred choice.
     fn take_up<T: Tests>(&mut self, tests: &mut T) -> Result<Outcome, AllocError>
-        requires known { start_of_search self.old ≤ T.rows tests.old }
+        requires known { start_of_search self.old ≤ (T.asked (T.subject tests.old)).known }
+        requires variables { HasVariablesBelow (T.asked (T.subject tests.old)).variables self.old }
         requires none { self.old.outlook ≡ None }
-        requires searches { Searches self.old (T.rows tests.old) (T.ending tests.old) (T.outcome tests.old (start_of_search self.old)) }
+        requires searches { Searches self.old (T.asked (T.subject tests.old)) }
         requires entered { T.entered tests.old (start_of_search self.old) (labels_of_search self.old) }
 
         ensures same { IsSameSearch self.old self.new }
-        ensures asks { AsksTheSame (T.rows tests.old) (T.rows tests.new) (T.ending tests.old) (T.ending tests.new) (T.outcome tests.old) (T.outcome tests.new) }
+        ensures subject { T.subject tests.new ≡ T.subject tests.old }
         ensures entries { T.entries tests.new ≤ T.entries tests.old + 1 }
         ensures entered { OnOk result (T.entered tests.new (start_of_search self.new) (labels_of_search self.new)) }
-        ensures searches { OnOk result (Searches self.new (T.rows tests.old) (T.ending tests.old) (T.outcome tests.old (start_of_search self.old))) }
-        ensures turned { IfOk result (Turned 1 (pattern_words self.old (T.rows tests.old) (T.ending tests.old)) (labels_of_search self.new) (T.ending tests.old) (T.outcome tests.old (start_of_search self.old)) (left_of self.old (T.rows tests.old) (T.ending tests.old) (T.outcome tests.old (start_of_search self.old))) (left_of self.new (T.rows tests.old) (T.ending tests.old) (T.outcome tests.old (start_of_search self.old)))) }
-        ensures spent { self.new.spent ≡ self.old.spent }
-        ensures outlook { OnOk result (held_in self.new.outlook ≤ 1) }
+        ensures searches { OnOk result (Searches self.new (T.asked (T.subject tests.old))) }
+        ensures turned { IfOk result (Turned 1 self.old self.new (T.asked (T.subject tests.old)) (left_by self.old (T.asked (T.subject tests.old)))) }
     {
         match self.choices.take_up(tests.known(), tests.end())? {
             Taken::Row => {
@@ -287,23 +278,29 @@ impl Search {
         }
     }
 
-    /// The preferred choice maps a new row: its label is entered, and its test asked.
+    /// The preferred choice maps a new row: its label is entered, and its test asked. No word has a label that isn't
+    /// tested, so a choice that begins with one has no words and is given up.
     fn map_row<T: Tests>(&mut self, tests: &mut T) -> Result<(), AllocError>
-        requires known { start_of_search self.old ≤ T.rows tests.old }
+        requires known { start_of_search self.old ≤ (T.asked (T.subject tests.old)).known }
+        requires variables { HasVariablesBelow (T.asked (T.subject tests.old)).variables self.old }
         requires none { self.old.outlook ≡ None }
-        requires stands { Stands self.old.choices (T.rows tests.old) (T.ending tests.old) (T.outcome tests.old (start_of_search self.old)) }
-        requires row { StandsAtRow self.old.choices (T.rows tests.old) (T.ending tests.old) (T.outcome tests.old (start_of_search self.old)) }
+        requires stands { StandsBy self.old.choices (T.asked (T.subject tests.old)) }
+        requires row { StandsAtRowBy self.old.choices (T.asked (T.subject tests.old)) }
         requires new { AddsLabel (T.entered tests.old (start_of_search self.old)) (labels_of_search self.old) }
+        requires below { AddsLabel (AreBelow (T.asked (T.subject tests.old)).variables) (labels_of_search self.old) }
 
         ensures same { IsSameSearch self.old self.new }
-        ensures asks { AsksTheSame (T.rows tests.old) (T.rows tests.new) (T.ending tests.old) (T.ending tests.new) (T.outcome tests.old) (T.outcome tests.new) }
+        ensures subject { T.subject tests.new ≡ T.subject tests.old }
         ensures entries { T.entries tests.new ≤ T.entries tests.old + 1 }
         ensures entered { OnOk result (T.entered tests.new (start_of_search self.new) (labels_of_search self.new)) }
-        ensures searches { OnOk result (Searches self.new (T.rows tests.old) (T.ending tests.old) (T.outcome tests.old (start_of_search self.old))) }
-        ensures turned { OnOk result (left_of self.new (T.rows tests.old) (T.ending tests.old) (T.outcome tests.old (start_of_search self.old)) + 1 ≤ left_of self.old (T.rows tests.old) (T.ending tests.old) (T.outcome tests.old (start_of_search self.old))) }
-        ensures spent { self.new.spent ≡ self.old.spent }
-        ensures outlook { OnOk result (held_in self.new.outlook ≤ 1) }
+        ensures searches { OnOk result (Searches self.new (T.asked (T.subject tests.old))) }
+        ensures left { OnOk result (left_by self.new (T.asked (T.subject tests.old)) + 1 ≤ left_by self.old (T.asked (T.subject tests.old))) }
     {
+        if !is_tested(&self.choices, tests) {
+            self.choices.give_up();
+            follow(&self.choices, tests);
+            return Ok(());
+        }
         enter_row(&self.choices, tests)?;
         match settle(&mut self.choices, tests)? {
             Seen::Open => {

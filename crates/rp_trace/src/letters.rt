@@ -15,6 +15,9 @@ pub struct Letters<'a> {
     ghost short: { length line.now ≤ 4096 },
 }
 
+/// The variables of a pattern are the letters A to Z.
+const VARIABLES: usize = 26;
+
 /// The variable that admits every row.
 const ANY: usize = 25;
 
@@ -32,17 +35,15 @@ impl<'a> Letters<'a> {
 }
 
 impl Tests for Letters<'_> {
-    ghost use Rattle.std.specs.Prelude.{◌≡◌, ℕ, ◌<◌, ◌≤◌, length};
-    ghost use Rattle.rp_pattern.specs.declared.word.End.TheVariants.{Closed};
-    ghost use Rattle.rp_trace.specs.LetterRows.{line_of};
-    ghost use Rattle.rp_trace.specs.LetterTest.{letter_test};
+    ghost use Rattle.std.specs.Prelude.{ℕ, List, length};
+    ghost use Rattle.rp_trace.specs.LetterRows.{asked_of_line, line_of};
     ghost use Rattle.rp_trace.specs.LetterLaws.{letter_test-decided, short_fits};
 
-    ghost rows = { λ letters. length (line_of letters) };
+    ghost Subject = { List ℕ };
 
-    ghost ending = { λ _. Closed };
+    ghost subject = { line_of };
 
-    ghost outcome = { λ letters start labels. letter_test (line_of letters) start labels };
+    ghost asked = { asked_of_line };
 
     // A letter is tested alone, so no labels are kept.
     ghost entered = { λ _ _ _. Unit {0} };
@@ -55,6 +56,10 @@ impl Tests for Letters<'_> {
 
     fn end(&self) -> End {
         End::Closed
+    }
+
+    fn variables(&self) -> usize {
+        VARIABLES
     }
 
     fn test(&self, start: u64, labels: &[Label]) -> Seen {

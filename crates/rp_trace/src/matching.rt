@@ -1,8 +1,9 @@
 //! A search that is run to its end.
-ghost use Rattle.std.specs.Prelude.{◌≡◌, ◌≤◌, ℕ, IfOk, MatchBool};
+ghost use Rattle.std.specs.Prelude.{◌≡◌, ◌≤◌, IfOk, MatchBool};
 ghost use Rattle.rp_pattern.specs.declared.word.End.TheVariants.{Closed};
-ghost use Rattle.rp_search.specs.Found.{found, Match, NoMatch};
-ghost use Rattle.rp_search.specs.Fits.{Fits, labels_of_search, pattern_words, start_of_search};
+ghost use Rattle.rp_search.specs.Found.{Match, NoMatch};
+ghost use Rattle.rp_search.specs.Fits.{Fits};
+ghost use Rattle.rp_search.specs.Search.{HasVariablesBelow, found_by, labels_of_search, start_of_search};
 
 use rp_search::{Outcome, Search, Steps, Tests};
 use std::alloc::AllocError;
@@ -17,12 +18,14 @@ pub fn find<T: Tests, L: Ledger>(
     tests: &mut T,
     steps: &mut Steps<L>,
 ) -> Result<bool, AllocError>
-    requires closed { T.ending tests.old ≡ Closed }
-    requires known { start_of_search search.old ≤ T.rows tests.old }
-    requires fits { Fits search.old (T.rows tests.old) (T.ending tests.old) (T.outcome tests.old (start_of_search search.old)) }
+    requires closed { (T.asked (T.subject tests.old)).end ≡ Closed }
+    requires known { start_of_search search.old ≤ (T.asked (T.subject tests.old)).known }
+    requires variables { HasVariablesBelow (T.asked (T.subject tests.old)).variables search.old }
+    requires fits { Fits search.old (T.asked (T.subject tests.old)) }
     requires entered { T.entered tests.old (start_of_search search.old) (labels_of_search search.old) }
-    ensures { IfOk result (λ is_match. let search' = found (T.outcome tests.old (start_of_search search.old)) (pattern_words search.old (T.rows tests.old) (T.ending tests.old)) in
-        MatchBool is_match (search' ≡ Match (labels_of_search search.new)) (search' ≡ NoMatch)) }
+    ensures { IfOk result (λ is_match. MatchBool is_match
+        (found_by search.old (T.asked (T.subject tests.old)) ≡ Match (labels_of_search search.new))
+        (found_by search.old (T.asked (T.subject tests.old)) ≡ NoMatch)) }
 {
     loop {
         match search.run(tests, BUDGET, steps)? {

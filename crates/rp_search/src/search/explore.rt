@@ -1,20 +1,21 @@
 //! What would follow a row whose test is open: it decides whether there is anything to wait for.
-ghost use Rattle.std.specs.Prelude.{◌≡◌, ℕ, ◌+◌, ◌-◌, ◌≤◌, None, IfOk, OnOk};
-ghost use Rattle.rp_pattern.specs.declared.word.Seen.TheVariants.{Open as OpenTest};
-ghost use Rattle.rp_search.specs.Spent.{held_in, held_together, weight};
+//!
+//! It is looked for by an outlook, a stack of choices that keeps no labels: which word follows doesn't matter, only whether
+//! one does. Where none does, the choice that maps the row is given up and the next one taken up in the same turn, since
+//! the count of turns leaves none for finding that nothing is left.
+ghost use Rattle.std.specs.Prelude.{◌≡◌, ◌+◌, ◌≤◌, None, IfOk, OnOk};
 
 use super::{Outcome, Search};
 use crate::asking::follow;
 use crate::conditions::Tests;
-use rp_pattern::{Outlook, Sight, Stack};
+use rp_pattern::{Outlook, Sight};
 use std::alloc::AllocError;
 
-#[tactic(auto, unfolding(crate::specs::Fits::start_of_search, crate::specs::Fits::labels_of_search, crate::specs::Fits::pattern_words, crate::specs::Fits::most_turns, crate::specs::Fits::left_of, crate::specs::Fits::ChoicesStand, crate::specs::Fits::LabelsStand))]
+#[tactic(auto, unfolding(crate::specs::Search::start_of_search, crate::specs::Search::labels_of_search, crate::specs::Search::words_from, crate::specs::Search::turns_from, crate::specs::Fits::left_by, crate::specs::Fits::ChoicesStand, crate::specs::Fits::LabelsStand, crate::specs::Fits::LabelsBelow))]
 impl Search {
-    ghost use Rattle.rp_search.specs.Fits.{IsSameSearch, start_of_search, labels_of_search, pattern_words, left_of, Stands, Explores};
-    ghost use Rattle.rp_search.specs.Turned.{AsksTheSame, Searches, Turned};
-    ghost use Rattle.rp_pattern.specs.Choices.{below_left};
-    ghost use Rattle.rp_pattern.specs.Outlooks.{turns_ahead, held_by};
+    ghost use Rattle.rp_search.specs.Fits.{left_by};
+    ghost use Rattle.rp_search.specs.Search.{HasVariablesBelow, IsSameSearch, labels_of_search, start_of_search};
+    ghost use Rattle.rp_search.specs.Turned.{Searches, Turned, exploring};
 
     /// Takes up what would follow a row whose test is open. There each row is taken without a test. Where nothing would
     /// follow it, the choice that maps it is given up, and the next one is taken up.
@@ -23,22 +24,18 @@ impl Search {
         mut outlook: Outlook,
         tests: &mut T,
     ) -> Result<Outcome, AllocError>
-        requires known { start_of_search self.old ≤ T.rows tests.old }
-        requires stands { Stands self.old.choices (T.rows tests.old) (T.ending tests.old) (T.outcome tests.old (start_of_search self.old)) }
-        requires explores { Explores self.old.choices outlook (T.rows tests.old) (T.ending tests.old) (T.outcome tests.old (start_of_search self.old)) }
-        requires is_open { T.outcome tests.old (start_of_search self.old) (labels_of_search self.old) ≡ OpenTest }
+        requires known { start_of_search self.old ≤ (T.asked (T.subject tests.old)).known }
+        requires variables { HasVariablesBelow (T.asked (T.subject tests.old)).variables self.old }
         requires none { self.old.outlook ≡ None }
+        requires before { Searches (exploring self.old outlook) (T.asked (T.subject tests.old)) }
         requires entered { T.entered tests.old (start_of_search self.old) (labels_of_search self.old) }
 
         ensures same { IsSameSearch self.old self.new }
-        ensures asks { AsksTheSame (T.rows tests.old) (T.rows tests.new) (T.ending tests.old) (T.ending tests.new) (T.outcome tests.old) (T.outcome tests.new) }
+        ensures subject { T.subject tests.new ≡ T.subject tests.old }
         ensures entries { T.entries tests.new ≤ T.entries tests.old + 1 }
         ensures entered { OnOk result (T.entered tests.new (start_of_search self.new) (labels_of_search self.new)) }
-        ensures searches { OnOk result (Searches self.new (T.rows tests.old) (T.ending tests.old) (T.outcome tests.old (start_of_search self.old))) }
-        ensures turned { IfOk result (Turned 1 (pattern_words self.old (T.rows tests.old) (T.ending tests.old)) (labels_of_search self.new) (T.ending tests.old) (T.outcome tests.old (start_of_search self.old)) (below_left self.old.choices (T.rows tests.old) (T.ending tests.old) + turns_ahead outlook (T.rows tests.old) (T.ending tests.old)) (left_of self.new (T.rows tests.old) (T.ending tests.old) (T.outcome tests.old (start_of_search self.old)))) }
-        ensures spent { self.new.spent ≡ self.old.spent }
-        ensures gains { OnOk result (held_in self.new.outlook ≤ held_by outlook + 1) }
-        ensures drops { OnOk result (held_by outlook ≤ held_in self.new.outlook + 1) }
+        ensures searches { OnOk result (Searches self.new (T.asked (T.subject tests.old))) }
+        ensures turned { IfOk result (Turned 1 self.old self.new (T.asked (T.subject tests.old)) (left_by (exploring self.old outlook) (T.asked (T.subject tests.old)))) }
     {
         match outlook.take_up(tests.known(), tests.end())? {
             Sight::Further => {
@@ -56,21 +53,4 @@ impl Search {
             }
         }
     }
-}
-
-/// Drops one choice of the outlooks that aren't needed any more. So no turn drops all that was explored.
-pub(super) fn shed(spent: &mut Stack<Outlook>) -> Result<(), AllocError>
-    ensures one { OnOk result (held_together spent.old ≤ held_together spent.new + 1) }
-    ensures none { OnOk result (held_together spent.new ≤ held_together spent.old) }
-    ensures less { OnOk result (weight spent.new ≤ weight spent.old - 1) }
-{
-    if spent.is_empty() {
-        return Ok(());
-    }
-    if let Some(mut last) = spent.pop() {
-        if last.drop_one() {
-            spent.push(last)?;
-        }
-    }
-    Ok(())
 }

@@ -1,6 +1,4 @@
-use Rattle.std.proofs.Common.{ap, ◌∙◌}
-use Rattle.rp_search.specs.Found.{found}
-use Rattle.rp_search.proofs.FoundLaws.{found_stays, found_resumes, closed_decides, refused_passed, refused_all}
+use Rattle.rp_search.proofs.FoundLaws.{found_stays, found_resumes, closed_decides, match_is_word, refused_stays, good_stays}
 use Rattle.rp_search.proofs.laws.law_found.Goals as goal
 
 pub returns-clause-stays : goal.returns-clause-stays
@@ -12,8 +10,11 @@ returns-clause-resumes c = λ rows old new ws ws' s a r. found_resumes rows old 
 pub returns-clause-closed : goal.returns-clause-closed
 returns-clause-closed c = λ test ws h a. closed_decides test ws h a
 
-pub returns-clause-passed : goal.returns-clause-passed
-returns-clause-passed c = λ test ws rest h. ap (found test) h.is ∙ refused_passed test h.front rest h.refused
+pub returns-clause-word : goal.returns-clause-word
+returns-clause-word c = λ test ws ls h. match_is_word test ws ls h
 
-pub returns-clause-all_refused : goal.returns-clause-all_refused
-returns-clause-all_refused c = λ test ls ws h. refused_all test ls ws h
+pub returns-clause-refused : goal.returns-clause-refused
+returns-clause-refused c = λ rows old new w w' s a b h. refused_stays rows old new w w' s a b h
+
+pub returns-clause-good : goal.returns-clause-good
+returns-clause-good c = λ rows old new w s a h. good_stays rows old new w s a h

@@ -1,24 +1,32 @@
-use Rattle.std.proofs.Common.{◌+◌, ◌≤◌, ℕ, Option, Some, None, arith}
+use Rattle.std.proofs.Common.{◌+◌, ◌≤◌, ℕ, Option, Some, None, arith, subst, sym}
+use Rattle.std.specs.List.{AllByRecursion}
+use Rattle.rp_pattern.specs.LabelLaws.{IsBelow}
 use Rattle.rp_pattern.specs.declared.word.End.{End}
 use Rattle.rp_pattern.specs.declared.word.Seen.{Seen}
 use Rattle.rp_pattern.specs.declared.word.Seen.TheVariants.{True, NotTrue, Open as OpenTest}
 use Rattle.rp_pattern.specs.declared.choices.Choices.{Choices}
-use Rattle.rp_pattern.specs.Choices.{start_of, entered, left, whole_left, below_left}
+use Rattle.rp_pattern.specs.Choices.{start_of, entered, left, whole_left, whole_left_from, below_left}
 use Rattle.rp_pattern.specs.declared.outlook.Outlook.{Outlook}
 use Rattle.rp_pattern.specs.Outlooks.{turns_ahead}
 use Rattle.rp_search.specs.Found.{Test}
-use Rattle.rp_search.specs.Fits.{rows_from, Stands, AreAdmitted, TestsExtend, unless_open, left_in, start_of_search, most_turns, left_of, ChoicesStand, LabelsStand}
+use Rattle.rp_search.specs.Asked.{Asked, AskedExtend, AreBelow, rows_from}
+use Rattle.rp_search.specs.Search.{start_of_search, turns_from}
+use Rattle.rp_search.specs.Fits.{Stands, AreAdmitted, unless_open, left_in, left_by, ChoicesStand, LabelsStand, LabelsBelow}
 use Rattle.rp_search.proofs.Fitting.{now_later, stands_later, true_later, explores_later}
 use Rattle.rp_search.proofs.laws.law_search.Goals as goal
 
-admitted_later : (outlook : Option Outlook) (c : Choices) (n : ℕ) (e : End) (test : Test) (n' : ℕ) (e' : End) (test' : Test) → TestsExtend (start_of c) n e test n' e' test' → Stands c n e test → AreAdmitted outlook c n e test → AreAdmitted outlook c n' e' test'
-admitted_later None c n e test n' e' test' x s a = true_later n n' e e' test test' x.later (entered c) (rows_from (start_of c) n) x.stay s.known a
-admitted_later (Some outlook) c n e test n' e' test' x s a = explores_later n n' e e' test test' x.later c outlook x.stay s.known a
+admitted_later : (outlook : Option Outlook) (c : Choices) (old new : Asked) → AskedExtend (start_of c) old new → Stands c old.known old.end (old.outcome (start_of c)) → AreAdmitted outlook c old.known old.end (old.outcome (start_of c)) → AreAdmitted outlook c new.known new.end (new.outcome (start_of c))
+admitted_later None c old new x s a = true_later old.known new.known old.end new.end (old.outcome (start_of c)) (new.outcome (start_of c)) x.later (entered c) (rows_from (start_of c) old.known) x.stay s.known a
+admitted_later (Some outlook) c old new x s a = explores_later old.known new.known old.end new.end (old.outcome (start_of c)) (new.outcome (start_of c)) x.later c outlook x.stay s.known a
 
 pub returns-clause-stays : goal.returns-clause-stays
-unfolding start_of_search ChoicesStand LabelsStand
-returns-clause-stays c = λ s n e test n' e' test' x f.
-    record { stands = stands_later n n' e e' test test' x.later s.choices x.stay f.stands; labels = admitted_later s.outlook s.choices n e test n' e' test' x f.stands f.labels }
+unfolding start_of_search ChoicesStand LabelsStand LabelsBelow
+returns-clause-stays c = λ s old new x f.
+    record {
+      stands = stands_later old.known new.known old.end new.end (old.outcome (start_of s.choices)) (new.outcome (start_of s.choices)) x.later s.choices x.stay f.stands;
+      labels = admitted_later s.outlook s.choices old new x f.stands f.labels;
+      below = subst (λ k. AreBelow k (entered s.choices)) (sym x.variables) f.below;
+    }
 
 either_bounded : (seen : Seen) (standing exploring most : ℕ) → standing ≤ most → exploring ≤ most → unless_open seen standing exploring ≤ most
 either_bounded True standing exploring most h k = h
@@ -32,5 +40,9 @@ bounded (Some outlook) c n e test s a =
     (omega (arith, s.turns n e (now_later n e), a.row.turns n e (now_later n e), a.turns n e (now_later n e)))
 
 pub returns-clause-bounded : goal.returns-clause-bounded
-unfolding left_of most_turns ChoicesStand LabelsStand
-returns-clause-bounded c = λ s n e test f. bounded s.outlook s.choices n e test f.stands f.labels
+unfolding left_by turns_from start_of_search ChoicesStand LabelsStand whole_left whole_left_from start_of
+returns-clause-bounded c = λ s asked f. bounded s.outlook s.choices asked.known asked.end (asked.outcome (start_of s.choices)) f.stands f.labels
+
+pub returns-clause-variables : goal.returns-clause-variables
+returns-clause-variables c = λ form s k is below n e row.
+    subst (λ ws. AllByRecursion (IsBelow k) ws) (sym (is.same_words n e row)) (c.law_labels.ensures k form below n e row)

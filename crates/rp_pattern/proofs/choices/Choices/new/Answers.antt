@@ -4,7 +4,7 @@ use Rattle.rp_pattern.specs.Words.{words}
 use Rattle.rp_pattern.specs.Turns.{turns}
 use Rattle.rp_pattern.specs.PatternForm.{form_of}
 use Rattle.rp_pattern.specs.Choices.{start_of, entered}
-use Rattle.rp_pattern.proofs.Stacks.{new_whole, new_left, fresh_remaining, fresh_left}
+use Rattle.rp_pattern.proofs.Stacks.{new_from, new_left_from, new_whole, new_left, fresh_remaining, fresh_left}
 use Rattle.rp_pattern.proofs.choices.Choices.new.Goals as goal
 
 pub invariant_of-part : goal.invariant_of-part
@@ -18,6 +18,24 @@ pub returns-clause-labels : goal.returns-clause-labels
 unfolding entered
 returns-clause-labels c = c.new-2.ensures
 
+pub returns-clause-from : goal.returns-clause-from
+returns-clause-from c = λ n e row.
+    let is = c.in_ok-form.ensures.ok in
+    let same = c.in_ok-share.ensures in
+    let f = form_of c.args.pattern.now in
+    let w = ap (words n e) is ∙ same.words n e ∙ ap (words n e) c.form.ensures.tree in
+    let t = ap (turns n e) is ∙ same.turns n e ∙ ap (turns n e) c.form.ensures.tree in
+    new_from _ _ f n e c.in_ok-linked.ensures refl w t row
+
+pub returns-clause-left_from : goal.returns-clause-left_from
+returns-clause-left_from c = λ n e row.
+    let is = c.in_ok-form.ensures.ok in
+    let same = c.in_ok-share.ensures in
+    let f = form_of c.args.pattern.now in
+    let w = ap (words n e) is ∙ same.words n e ∙ ap (words n e) c.form.ensures.tree in
+    let t = ap (turns n e) is ∙ same.turns n e ∙ ap (turns n e) c.form.ensures.tree in
+    new_left_from _ _ f n e c.in_ok-linked.ensures refl w t row
+
 pub returns-clause-whole : goal.returns-clause-whole
 returns-clause-whole c = λ n e.
     let is = c.in_ok-form.ensures.ok in
@@ -25,7 +43,7 @@ returns-clause-whole c = λ n e.
     let f = form_of c.args.pattern.now in
     let w = ap (words n e) is ∙ same.words n e ∙ ap (words n e) c.form.ensures.tree in
     let t = ap (turns n e) is ∙ same.turns n e ∙ ap (turns n e) c.form.ensures.tree in
-    new_whole _ c.args.start _ f n e refl c.in_ok-linked.ensures refl w t
+    new_whole _ _ f n e c.in_ok-linked.ensures refl w t
 
 pub returns-clause-whole_left : goal.returns-clause-whole_left
 returns-clause-whole_left c = λ n e.
@@ -34,7 +52,7 @@ returns-clause-whole_left c = λ n e.
     let f = form_of c.args.pattern.now in
     let w = ap (words n e) is ∙ same.words n e ∙ ap (words n e) c.form.ensures.tree in
     let t = ap (turns n e) is ∙ same.turns n e ∙ ap (turns n e) c.form.ensures.tree in
-    new_left _ c.args.start _ f n e refl c.in_ok-linked.ensures refl w t
+    new_left _ _ f n e c.in_ok-linked.ensures refl w t
 
 pub returns-clause-remaining : goal.returns-clause-remaining
 returns-clause-remaining c = λ n e. fresh_remaining _ refl n e

@@ -1,19 +1,21 @@
-use Rattle.std.proofs.Common.{refl}
-use Rattle.rp_pattern.specs.Choices.{remaining, left, whole, whole_left, entered}
-use Rattle.rp_pattern.proofs.Stacks.{same_whole}
+use Rattle.std.proofs.Common.{◌∙◌}
+use Rattle.rp_pattern.specs.Choices.{IsSameWhole, entered}
+use Rattle.rp_pattern.proofs.Stacks.{same_whole, fresh_remaining, fresh_left}
 use Rattle.rp_pattern.proofs.choices.Choices.reset.Goals as goal
 
 pub returns-clause-whole : goal.returns-clause-whole
-returns-clause-whole c = same_whole _ _ refl refl
+returns-clause-whole c = same_whole _ _ c.empty.ensures.start c.empty.ensures.origin
 
 pub returns-clause-remaining : goal.returns-clause-remaining
-unfolding remaining whole
-returns-clause-remaining c = λ n e. refl
+returns-clause-remaining c = λ n e.
+    let same : IsSameWhole c.args.self.now c.empty.new.self = same_whole _ _ c.empty.ensures.start c.empty.ensures.origin in
+    fresh_remaining _ c.empty.ensures.begun n e ∙ same.words n e
 
 pub returns-clause-left : goal.returns-clause-left
-unfolding left whole_left
-returns-clause-left c = λ n e. refl
+returns-clause-left c = λ n e.
+    let same : IsSameWhole c.args.self.now c.empty.new.self = same_whole _ _ c.empty.ensures.start c.empty.ensures.origin in
+    fresh_left _ c.empty.ensures.begun n e ∙ same.left n e
 
 pub returns-clause-labels : goal.returns-clause-labels
 unfolding entered
-returns-clause-labels c = c.clear-2.ensures
+returns-clause-labels c = c.empty.ensures.labels

@@ -1,29 +1,40 @@
-use Rattle.std.proofs.Common.{ap, arith}
+use Rattle.std.proofs.Common.{ap, arith, subst, sym}
 use Rattle.rp_pattern.specs.declared.outlook.Sight.TheVariants.{Word, Nothing}
-use Rattle.rp_pattern.specs.Choices.{start_of, entered}
+use Rattle.rp_pattern.specs.Choices.{start_of, entered, whole, whole_from}
 use Rattle.rp_pattern.specs.Outlooks.{SeenAs, turns_ahead}
-use Rattle.rp_search.specs.Turned.{Goes}
-use Rattle.rp_search.specs.Fits.{start_of_search, labels_of_search, pattern_words, left_of, ChoicesStand, LabelsStand}
-use Rattle.rp_search.proofs.Turning.{at_known, open_end, searches_plainly, searches_asked, fewer_exploring, explored_word, explored_nothing}
+use Rattle.rp_search.specs.declared.search.Search.{Search}
+use Rattle.rp_search.specs.Asked.{Asked}
+use Rattle.rp_search.specs.Search.{start_of_search, labels_of_search, words_from}
+use Rattle.rp_search.specs.Fits.{left_by, ChoicesStand, LabelsStand, LabelsBelow}
+use Rattle.rp_search.specs.Turned.{Goes, Searches}
+use Rattle.rp_search.proofs.Turning.{at_known, below_front, open_end, searches_plainly, left_exploring, explored_word, explored_nothing}
 use Rattle.rp_search.proofs.search.Search.explore.Goals as goal
 
 pub returns-in-Word-clause-turned : goal.returns-in-Word-clause-turned
-unfolding start_of_search labels_of_search pattern_words left_of ChoicesStand LabelsStand
+unfolding start_of_search labels_of_search words_from left_by ChoicesStand LabelsStand LabelsBelow whole whole_from start_of
 returns-in-Word-clause-turned g c =
+    let asked : Asked = g.T.Tests.asked (g.T.Tests.subject c.args.tests.now) in
+    let choices = c.args.self.now.choices in
     let read : SeenAs c.args.outlook c.take_up.new.self c.known.result c.end.result Word = rw c.in-Word.is at c.in_ok-take_up.ensures in
     let seen = at_known (λ n e. SeenAs c.args.outlook c.take_up.new.self n e Word) _ _ _ _ c.known.ensures c.end.ensures read in
-    let n = g.T.Tests.rows c.args.tests.now in
-    let e = g.T.Tests.ending c.args.tests.now in (
-      explored_word c.args.self.now.choices c.args.outlook _ _ _ c.requires.stands c.requires.explores c.requires.is_open seen.1,
-      open_end e (λ h. g.met.T.Tests.decided c.args.tests.now (start_of c.args.self.now.choices) (entered c.args.self.now.choices) h c.requires.is_open),
-      fewer_exploring c.args.self.now.choices c.args.outlook c.take_up.new.self n e (g.T.Tests.outcome c.args.tests.now (start_of c.args.self.now.choices)) c.requires.is_open (omega (arith, ap (λ o. turns_ahead o n e) seen.0)),
+    let fits = c.requires.before.fits in
+    let is_open = c.requires.before.is_open in
+    let test = asked.outcome (start_of choices) in (
+      explored_word choices c.args.outlook _ _ _ fits.stands fits.labels is_open seen.1,
+      open_end asked.end (λ h. g.met.T.Tests.decided c.args.tests.now (start_of choices) (entered choices) h is_open),
+      omega (arith, left_exploring choices c.args.outlook asked.known asked.end test is_open, left_exploring choices c.take_up.new.self asked.known asked.end test is_open, ap (λ o. turns_ahead o asked.known asked.end) seen.0),
     )
 
 pub take_up-requires-in-Nothing-clause-searches : goal.take_up-requires-in-Nothing-clause-searches
-unfolding start_of_search ChoicesStand LabelsStand
+unfolding start_of_search labels_of_search words_from left_by ChoicesStand LabelsStand LabelsBelow whole whole_from start_of
 take_up-requires-in-Nothing-clause-searches g c =
+    let asked : Asked = g.T.Tests.asked (g.T.Tests.subject c.args.tests.now) in
+    let choices = c.args.self.now.choices in
     let read : SeenAs c.args.outlook c.take_up.new.self c.known.result c.end.result Nothing = rw c.in-Nothing.is at c.in_ok-take_up.ensures in
-    let goes : Goes c.args.self.now.choices c.give_up.new.self (g.T.Tests.rows c.args.tests.now) (g.T.Tests.ending c.args.tests.now) (g.T.Tests.outcome c.args.tests.now (start_of c.args.self.now.choices)) =
-    explored_nothing c.args.self.now.choices c.give_up.new.self c.args.outlook _ _ _ c.requires.stands c.requires.explores read.2 c.give_up.ensures.whole (record { cut = c.give_up.ensures.labels; cut_off = c.give_up.ensures.cut_off; words = c.give_up.ensures.remaining; turns = c.give_up.ensures.left }) in
-    searches_asked _ _ _ _ _ (g.T.Tests.outcome c.args.tests.now) (g.T.Tests.outcome c.follow.new.tests) (start_of c.args.self.now.choices) (start_of c.give_up.new.self) c.follow.ensures.asks c.give_up.ensures.whole.start
-    (searches_plainly _ _ _ _ c.requires.none goes.stands goes.admitted)
+    let fits = c.requires.before.fits in
+    let gave = c.give_up.ensures in
+    let goes : Goes choices c.give_up.new.self asked.known asked.end (asked.outcome (start_of choices)) =
+        explored_nothing choices c.give_up.new.self c.args.outlook _ _ _ fits.stands fits.labels read.2 gave.whole (record { cut = gave.labels; cut_off = gave.cut_off; words = gave.remaining; turns = gave.left }) in
+    let after : Search = record { choices = c.give_up.new.self; outlook = c.args.self.now.outlook; taken = c.args.self.now.taken } in
+    subst (λ s. Searches after (g.T.Tests.asked s)) (sym c.follow.ensures.subject)
+    (searches_plainly after asked (start_of choices) gave.whole.start c.requires.none goes.stands goes.admitted (below_front asked.variables (entered c.give_up.new.self) (entered choices) gave.labels fits.below))

@@ -1,0 +1,31 @@
+-- What a search asks of the rows of a partition.
+use Rattle.std.specs.Prelude.{◌≡◌, ℕ, suc, ◌-◌, ◌<◌, ◌≤◌, List, length, All}
+use Rattle.rp_pattern.specs.declared.word.Label.{Label}
+use Rattle.rp_pattern.specs.declared.word.End.{End}
+use Rattle.rp_pattern.specs.declared.word.Seen.{Seen}
+use Rattle.rp_pattern.specs.WordLaws.{IsLater}
+use Rattle.rp_search.specs.Found.{TestsStay}
+
+pub record Asked : Type 0 where
+  -- so many rows are known, from row 1 on
+  pub known : ℕ
+  -- whether further rows may come
+  pub end : End
+  -- labels of variables below this number are tested
+  pub variables : ℕ
+  -- what the test of the last of these labels says, where they begin at this row
+  pub outcome : ℕ → List Label → Seen
+
+-- each label is of a variable below this number
+abbrev pub AreBelow : ℕ → List Label → Type 0
+AreBelow variables labels = All (λ label. label.var < variables) labels
+
+-- so many rows are known from a row on
+abbrev pub rows_from : ℕ → ℕ → ℕ
+rows_from start n = suc n - start
+
+-- What is asked from a start row on goes on: as many rows or more, what was decided stays, and a close stays with its rows.
+pub record AskedExtend (start : ℕ) (old new : Asked) : Type 0 where
+  pub later : IsLater old.known old.end new.known new.end
+  pub stay : TestsStay (rows_from start old.known) (old.outcome start) (new.outcome start)
+  pub variables : new.variables ≡ old.variables

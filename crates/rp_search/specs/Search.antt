@@ -1,0 +1,125 @@
+-- What a caller needs of a search: what it is for, what a run of it comes to, and where it stands.
+use Rattle.std.specs.Prelude.{◌≡◌, ℕ, true, ◌+◌, ◌<◌, ◌≤◌, List, [], length, Result, Ok, OnOk}
+use Rattle.std.specs.List.{AllByRecursion}
+use Rattle.std.specs.declared.alloc.AllocError.{AllocError}
+use Rattle.rp_pattern.specs.declared.form.Form.{Form}
+use Rattle.rp_pattern.specs.declared.word.Label.{Label}
+use Rattle.rp_pattern.specs.declared.word.End.{End}
+use Rattle.rp_pattern.specs.declared.word.End.TheVariants.{Open as OpenEnd}
+use Rattle.rp_pattern.specs.Mapping.{Mapping}
+use Rattle.rp_pattern.specs.Words.{words}
+use Rattle.rp_pattern.specs.Turns.{turns}
+use Rattle.rp_pattern.specs.Variables.{are_below}
+use Rattle.rp_pattern.specs.LabelLaws.{IsBelow}
+use Rattle.rp_pattern.specs.Choices.{start_of, entered, whole_from, whole_left_from}
+use Rattle.rp_search.specs.declared.search.Search.{Search}
+use Rattle.rp_search.specs.declared.search.Outcome.{Outcome}
+use Rattle.rp_search.specs.declared.search.Outcome.TheVariants.{Match as MatchOutcome, NoMatch as NoMatchOutcome, Waits as WaitsOutcome, Paused as PausedOutcome}
+use Rattle.rp_search.specs.Found.{Test, Found, found, Match, NoMatch, Waits}
+use Rattle.rp_search.specs.Asked.{Asked, AskedExtend}
+use Rattle.rp_search.specs.Fits.{Fits, left_by}
+
+-- ---- what it is for
+
+-- the row that a search begins at
+unfoldable pub start_of_search : Search → ℕ
+start_of_search s = start_of s.choices
+
+-- the words of its pattern from any row, over the rows 1 to n and that end
+unfoldable pub words_from : Search → ℕ → End → ℕ → List Mapping
+words_from s n e row = whole_from s.choices n e row
+
+-- at most so many turns it takes from that row
+unfoldable pub turns_from : Search → ℕ → End → ℕ → ℕ
+turns_from s n e row = whole_left_from s.choices n e row
+
+-- the words from its start row
+abbrev pub words_of_search : Search → ℕ → End → List Mapping
+words_of_search s n e = words_from s n e (start_of_search s)
+
+-- at most so many turns it takes from its start row
+abbrev pub most_turns : Search → ℕ → End → ℕ
+most_turns s n e = turns_from s n e (start_of_search s)
+
+-- It is for this pattern: it has the pattern's words from each row, and takes no more turns than their choices and themselves.
+pub record IsFor (form : Form) (s : Search) : Type 0 where
+  pub same_words : (n : ℕ) (e : End) (row : ℕ) → words_from s n e row ≡ words n e form row
+  pub same_turns : (n : ℕ) (e : End) (row : ℕ) → turns_from s n e row ≡ turns n e form row + length (words n e form row)
+
+-- It is for the same pattern.
+pub record IsSamePattern (old new : Search) : Type 0 where
+  pub words : (n : ℕ) (e : End) (row : ℕ) → words_from new n e row ≡ words_from old n e row
+  pub turns : (n : ℕ) (e : End) (row : ℕ) → turns_from new n e row ≡ turns_from old n e row
+
+-- what no run changes
+pub record IsSameSearch (old new : Search) : Type 0 where
+  pub start : start_of_search new ≡ start_of_search old
+  pub pattern : IsSamePattern old new
+  pub words : (n : ℕ) (e : End) → words_of_search new n e ≡ words_of_search old n e
+  pub turns : (n : ℕ) (e : End) → most_turns new n e ≡ most_turns old n e
+
+-- the labels of its words are of variables below this number
+abbrev pub HasVariablesBelow : ℕ → Search → Type 0
+HasVariablesBelow k s = (n : ℕ) (e : End) (row : ℕ) → AllByRecursion (IsBelow k) (words_from s n e row)
+
+-- ---- what it finds
+
+-- the tests of labels from its start row on
+abbrev pub test_of : Search → Asked → Test
+test_of s asked = asked.outcome (start_of_search s)
+
+-- the first word of its pattern that the tests don't refuse
+abbrev pub found_by : Search → Asked → Found
+found_by s asked = found (test_of s asked) (words_of_search s asked.known asked.end)
+
+-- the labels of the rows that it has mapped, after a match those of the match
+unfoldable pub labels_of_search : Search → List Label
+labels_of_search s = entered s.choices
+
+-- what a run answers
+abbrev pub Answers : Search → Search → Asked → Outcome → Type 0
+Answers old new asked MatchOutcome = found_by old asked ≡ Match (labels_of_search new)
+Answers old new asked NoMatchOutcome = found_by old asked ≡ NoMatch
+Answers old new asked WaitsOutcome = (found_by old asked ≡ Waits) × (asked.end ≡ OpenEnd)
+Answers old new asked PausedOutcome = Unit {0}
+
+-- ---- what a run takes
+
+-- so many turns its last run took that had a budget
+unfoldable pub turns_of_run : Search → ℕ
+turns_of_run s = s.taken
+
+-- Each turn is counted and enters one row at most. A run takes at most its budget of turns, all of it where it is paused, and with a
+-- budget at least one where memory isn't refused.
+pub record TakesTurns (budget : ℕ) (outcome : Result Outcome AllocError) (steps steps' entries entries' : ℕ) : Type 0 where
+  pub grows : steps ≤ steps'
+  pub within : steps' ≤ steps + budget
+  pub paused : outcome ≡ Ok PausedOutcome → steps' ≡ steps + budget
+  pub some : 0 < budget → OnOk outcome (steps < steps')
+  pub enters : entries' + steps ≤ entries + steps'
+
+-- The number left never rises. It falls by one at least with each turn but the one that ends the search.
+pub record Lowers (taken : ℕ) (old new : Search) (asked : Asked) (outcome : Outcome) : Type 0 where
+  pub never_rises : left_by new asked ≤ left_by old asked
+  pub falls : left_by new asked + taken ≤ left_by old asked + 1
+  pub paused : outcome ≡ PausedOutcome → left_by new asked + taken ≤ left_by old asked
+
+-- ---- where it stands
+
+-- It stands at its start row, as a new one does: nothing is mapped or given up, and it fits whatever is asked.
+pub record IsAtStart (s : Search) : Type 0 where
+  pub labels : labels_of_search s ≡ []
+  pub fits : (asked : Asked) → Fits s asked
+  pub left : (asked : Asked) → left_by s asked ≡ most_turns s asked.known asked.end
+
+-- A search that fits what is asked fits all that extends it.
+abbrev pub FitsStays : Type 0
+FitsStays = (s : Search) (old new : Asked) → AskedExtend (start_of_search s) old new → Fits s old → Fits s new
+
+-- No more turns are left than the pattern takes from its start row.
+abbrev pub LeftIsBounded : Type 0
+LeftIsBounded = (s : Search) (asked : Asked) → Fits s asked → left_by s asked ≤ most_turns s asked.known asked.end
+
+-- Where each variable of its pattern is below a number, so is each in its words.
+abbrev pub VariablesAreBelow : Type 0
+VariablesAreBelow = (form : Form) (s : Search) (k : ℕ) → IsFor form s → are_below k form ≡ true → HasVariablesBelow k s

@@ -1,0 +1,252 @@
+//! Searches over stages, for the tests.
+ghost use Rattle.std.specs.Prelude.{◌≡◌, ◌<◌, ◌≤◌, true, [], IfOk, OnOk};
+ghost use Rattle.rp_pattern.specs.PatternForm.{form_of};
+ghost use Rattle.rp_pattern.specs.Variables.{are_below};
+ghost use Rattle.rp_search.specs.Fits.{Fits};
+ghost use Rattle.rp_search.specs.Search.{HasVariablesBelow, IsAtStart, labels_of_search, start_of_search};
+
+use super::grid::{Grid, write_letters};
+use crate::conditions::Tests;
+use crate::laws::law_search;
+use crate::search::{Outcome, Search};
+use crate::steps::Steps;
+use rp_pattern::{End, Form, Label, Pattern};
+use std::alloc::{AllocError, Global};
+use std::marker::Brand;
+use std::rc::Rc;
+use std::sync::ledger::{Blank, Ledger};
+
+/// More runs than any test needs.
+pub const MANY: u64 = 100_000;
+
+pub fn a() -> Form {
+    Form::Variable(0)
+}
+
+pub fn b() -> Form {
+    Form::Variable(1)
+}
+
+pub fn both(alloc: Global, first: Form, second: Form) -> Result<Form, AllocError> {
+    Ok(Form::Concatenation(Rc::new(alloc, first)?, Rc::new(alloc, second)?))
+}
+
+pub fn either(alloc: Global, first: Form, second: Form) -> Result<Form, AllocError> {
+    Ok(Form::Alternation(Rc::new(alloc, first)?, Rc::new(alloc, second)?))
+}
+
+pub fn many(
+    alloc: Global,
+    body: Form,
+    lower: u32,
+    upper: Option<u32>,
+    reluctant: bool,
+) -> Result<Form, AllocError> {
+    Ok(Form::Quantified {
+        body: Rc::new(alloc, body)?,
+        lower,
+        upper,
+        reluctant,
+    })
+}
+
+pub fn any(alloc: Global, body: Form) -> Result<Form, AllocError> {
+    many(alloc, body, 0, None, false)
+}
+
+pub fn excluded(alloc: Global, body: Form) -> Result<Form, AllocError> {
+    Ok(Form::Exclusion(Rc::new(alloc, body)?))
+}
+
+pub fn permuted(alloc: Global, parts: Vec<Form>) -> Result<Form, AllocError> {
+    let mut shared = Vec::new(alloc);
+    for part in parts {
+        shared.push(Rc::new(alloc, part)?)?;
+    }
+    Ok(Form::Permute(shared))
+}
+
+/// What a search from row 1 did.
+#[derive(Drop)]
+pub struct Played {
+    /// Of each stage the letters of a match, or `none`, `waits` or `paused`.
+    pub outcomes: String,
+    /// Of each stage the labels at each call of `enter`, after a `!` where a refused run was made again, and a `|`.
+    pub calls: String,
+    /// How many runs were made, at each stage from the last refusal on.
+    pub runs: u64,
+    /// How many calls of `enter`.
+    pub entries: u64,
+    /// How many calls of `test`.
+    pub asked: u64,
+    /// How many turns the last run took.
+    pub taken: u32,
+}
+
+/// A search from row 1 over stages, each a known last row and an end, at most so many runs a stage.
+pub fn play(
+    alloc: Global,
+    form: Form,
+    grid: Grid,
+    stages: &[(u64, End)],
+    budget: u32,
+    most: u64,
+) -> Result<Played, AllocError>
+    requires none { grid.entered.items ≡ [] }
+{
+    counted::<Brand>(Blank::new(1), alloc, form, grid, stages, budget, most)
+}
+
+fn counted<L: Ledger>(
+    blank: Blank,
+    alloc: Global,
+    form: Form,
+    mut grid: Grid,
+    stages: &[(u64, End)],
+    budget: u32,
+    most: u64,
+) -> Result<Played, AllocError>
+    requires name { blank.name ≡ L.name }
+    requires parts { blank.parts ≡ L.parts }
+    requires shared { 0 < blank.parts }
+    requires none { grid.entered.items ≡ [] }
+{
+    let mut played = Played {
+        outcomes: String::new(alloc),
+        calls: String::new(alloc),
+        runs: 0,
+        entries: 0,
+        asked: 0,
+        taken: 0,
+    };
+    if !form.is_allowed() || !form.are_below(2) {
+        return Ok(played);
+    }
+    let mut steps = Steps::<L>::new(blank);
+    let mut search = created(alloc, &Pattern::new(form))?;
+    'stages: for (known, end) in stages {
+        if !grid.advance(*known, *end) {
+            return Ok(played);
+        }
+        law_search();
+        let decided = decide(&mut search, &mut grid, budget, most, &mut steps)?;
+        tell(&decided, search.labels(), &grid, &mut played)?;
+        played.taken = search.turns_taken();
+        grid.forget();
+    }
+    Ok(played)
+}
+
+/// A search from row 1. A refused call is made again.
+pub fn created(alloc: Global, pattern: &Pattern) -> Result<Search, AllocError>
+    requires { are_below 2 (form_of pattern.now) ≡ true }
+    ensures start { IfOk result (λ s. start_of_search s ≡ 1) }
+    ensures variables { IfOk result (HasVariablesBelow 2) }
+    ensures at_start { IfOk result IsAtStart }
+{
+    law_search();
+    match Search::new(alloc, pattern, 1) {
+        Ok(search) => Ok(search),
+        Err(_) => Search::new(alloc, pattern, 1),
+    }
+}
+
+/// What the runs of a stage came to.
+#[derive(Clone, Copy)]
+pub struct Decided {
+    pub outcome: Outcome,
+    /// How many runs were made, from the last refusal on.
+    pub runs: u64,
+    pub began_again: bool,
+}
+
+/// Runs until the search isn't paused, at most so many times. A refused run is made again, once.
+pub fn decide<L: Ledger>(
+    search: &mut Search,
+    grid: &mut Grid,
+    budget: u32,
+    most: u64,
+    steps: &mut Steps<L>,
+) -> Result<Decided, AllocError>
+    requires start { start_of_search search.old ≡ 1 }
+    requires known { 1 ≤ grid.old.known }
+    requires variables { HasVariablesBelow 2 search.old }
+    requires fits { Fits search.old (⟦<Grid as Tests>⟧.subject grid.old) }
+    requires entered { grid.old.entered.items ≡ labels_of_search search.old }
+    ensures start { OnOk result (start_of_search search.new ≡ 1) }
+    ensures variables { OnOk result (HasVariablesBelow 2 search.new) }
+    ensures fits { OnOk result (Fits search.new (⟦<Grid as Tests>⟧.subject grid.new)) }
+    ensures entered { OnOk result (grid.new.entered.items ≡ labels_of_search search.new) }
+{
+    let mut decided = Decided {
+        outcome: Outcome::Paused,
+        runs: 0,
+        began_again: false,
+    };
+    'runs: for _run in 0..most {
+        run_once(search, grid, budget, steps, &mut decided)?;
+        if decided.outcome != Outcome::Paused {
+            return Ok(decided);
+        }
+    }
+    Ok(decided)
+}
+
+fn run_once<L: Ledger>(
+    search: &mut Search,
+    grid: &mut Grid,
+    budget: u32,
+    steps: &mut Steps<L>,
+    decided: &mut Decided,
+) -> Result<(), AllocError>
+    requires start { start_of_search search.old ≡ 1 }
+    requires known { 1 ≤ grid.old.known }
+    requires variables { HasVariablesBelow 2 search.old }
+    requires fits { Fits search.old (⟦<Grid as Tests>⟧.subject grid.old) }
+    requires entered { grid.old.entered.items ≡ labels_of_search search.old }
+    ensures start { OnOk result (start_of_search search.new ≡ 1) }
+    ensures known { OnOk result (1 ≤ grid.new.known) }
+    ensures variables { OnOk result (HasVariablesBelow 2 search.new) }
+    ensures fits { OnOk result (Fits search.new (⟦<Grid as Tests>⟧.subject grid.new)) }
+    ensures entered { OnOk result (grid.new.entered.items ≡ labels_of_search search.new) }
+{
+    match search.run(grid, budget, steps) {
+        Ok(outcome) => {
+            decided.outcome = outcome;
+            decided.runs = decided.runs.saturating_add(1);
+            Ok(())
+        }
+        Err(refused) => {
+            if decided.began_again {
+                return Err(refused);
+            }
+            decided.began_again = true;
+            decided.runs = 0;
+            grid.forget();
+            Ok(())
+        }
+    }
+}
+
+fn tell(
+    decided: &Decided,
+    labels: &[Label],
+    grid: &Grid,
+    played: &mut Played,
+) -> Result<(), AllocError> {
+    match decided.outcome {
+        Outcome::Match => write_letters(labels, &mut played.outcomes)?,
+        Outcome::NoMatch => played.outcomes.push_str("none ")?,
+        Outcome::Waits => played.outcomes.push_str("waits ")?,
+        Outcome::Paused => played.outcomes.push_str("paused ")?,
+    }
+    if decided.began_again {
+        played.calls.push('!')?;
+    }
+    played.calls.push_str(&grid.calls)?;
+    played.calls.push('|')?;
+    played.runs = played.runs.saturating_add(decided.runs);
+    played.entries = grid.entries;
+    played.asked = grid.asked.get();
+    Ok(())
+}

@@ -1,0 +1,354 @@
+//! A table of patterns: what a search finds beside the words that are listed.
+ghost use Rattle.std.specs.Prelude.{◌≡◌, ◌<◌, true};
+ghost use Rattle.rp_pattern.specs.PatternForm.{form_of};
+ghost use Rattle.rp_pattern.specs.Variables.{are_below};
+
+use super::grid::Grid;
+use super::script::{MANY, a, any, b, both, created, decide, either, excluded, many, permuted};
+use crate::search::Outcome;
+use crate::steps::Steps;
+use rp_pattern::Seen::{NotTrue, Open, True};
+use rp_pattern::{End, Form, Label, ListFault, Mark, Pattern, Seen, Word, list_words};
+use std::alloc::{AllocError, Global};
+use std::marker::Brand;
+use std::sync::ledger::{Blank, Ledger};
+use std::test::Fail;
+
+/// More words than any pattern of the table has over four rows.
+const CAP: usize = 100_000;
+
+/// What is answered for A and for B at the rows from 0 on, of which row 0 is never asked.
+const WAYS: [[[Seen; 5]; 2]; 6] = [
+    [
+        [True, True, True, True, True],
+        [True, True, True, True, True],
+    ],
+    [
+        [True, True, NotTrue, True, NotTrue],
+        [True, NotTrue, True, NotTrue, True],
+    ],
+    [
+        [True, NotTrue, True, True, True],
+        [True, True, True, NotTrue, True],
+    ],
+    [
+        [True, True, True, True, True],
+        [True, NotTrue, NotTrue, NotTrue, NotTrue],
+    ],
+    [
+        [True, Open, True, True, NotTrue],
+        [True, True, Open, True, True],
+    ],
+    [
+        [True, True, True, Open, True],
+        [True, Open, NotTrue, True, True],
+    ],
+];
+
+fn few(alloc: Global, body: Form) -> Result<Form, AllocError> {
+    many(alloc, body, 0, None, true)
+}
+
+/// One row after another, choices and the places that take no row.
+fn plain_forms(alloc: Global) -> Result<Vec<Form>, AllocError> {
+    let mut forms = Vec::new(alloc);
+    forms.push(a())?;
+    forms.push(Form::Empty)?;
+    forms.push(Form::PartitionStart)?;
+    forms.push(Form::PartitionEnd)?;
+    forms.push(both(alloc, a(), b())?)?;
+    forms.push(either(alloc, a(), both(alloc, a(), b())?)?)?;
+    forms.push(either(alloc, both(alloc, a(), b())?, a())?)?;
+    forms.push(either(alloc, both(alloc, a(), Form::PartitionEnd)?, a())?)?;
+    forms.push(both(
+        alloc,
+        Form::PartitionStart,
+        both(alloc, a(), Form::PartitionEnd)?,
+    )?)?;
+    forms.push(both(alloc, a(), Form::PartitionStart)?)?;
+    forms.push(either(alloc, Form::Empty, a())?)?;
+    forms.push(both(alloc, either(alloc, a(), Form::Empty)?, b())?)?;
+    Ok(forms)
+}
+
+/// Quantifiers, greedy and reluctant, with bounds and without.
+fn quantified_forms(alloc: Global) -> Result<Vec<Form>, AllocError> {
+    let mut forms = Vec::new(alloc);
+    forms.push(any(alloc, a())?)?;
+    forms.push(few(alloc, a())?)?;
+    forms.push(many(alloc, a(), 1, None, false)?)?;
+    forms.push(many(alloc, a(), 1, None, true)?)?;
+    forms.push(many(alloc, a(), 0, Some(1), false)?)?;
+    forms.push(many(alloc, a(), 0, Some(1), true)?)?;
+    forms.push(many(alloc, a(), 2, Some(2), false)?)?;
+    forms.push(many(alloc, a(), 1, Some(3), true)?)?;
+    forms.push(many(alloc, a(), 0, Some(0), false)?)?;
+    forms.push(both(alloc, any(alloc, a())?, b())?)?;
+    forms.push(both(alloc, few(alloc, a())?, b())?)?;
+    forms.push(both(alloc, few(alloc, a())?, Form::PartitionEnd)?)?;
+    forms.push(many(alloc, either(alloc, a(), Form::Empty)?, 2, Some(3), false)?)?;
+    Ok(forms)
+}
+
+/// Quantifiers within quantifiers.
+fn nested_forms(alloc: Global) -> Result<Vec<Form>, AllocError> {
+    let mut forms = Vec::new(alloc);
+    forms.push(any(alloc, any(alloc, a())?)?)?;
+    forms.push(any(alloc, many(alloc, a(), 0, Some(1), true)?)?)?;
+    forms.push(both(alloc, any(alloc, any(alloc, a())?)?, Form::PartitionEnd)?)?;
+    forms.push(few(alloc, few(alloc, either(alloc, a(), b())?)?)?)?;
+    forms.push(many(alloc, any(alloc, a())?, 2, None, false)?)?;
+    forms.push(many(alloc, few(alloc, a())?, 1, Some(2), true)?)?;
+    forms.push(many(alloc, Form::Empty, 3, None, false)?)?;
+    forms.push(any(alloc, either(alloc, Form::PartitionStart, a())?)?)?;
+    forms.push(any(alloc, either(alloc, a(), Form::PartitionEnd)?)?)?;
+    forms.push(both(alloc, any(alloc, either(alloc, a(), a())?)?, b())?)?;
+    Ok(forms)
+}
+
+/// PERMUTE and exclusion.
+fn other_forms(alloc: Global) -> Result<Vec<Form>, AllocError> {
+    let mut forms = Vec::new(alloc);
+    forms.push(permuted(alloc, vec![in alloc; a()]?)?)?;
+    forms.push(permuted(alloc, vec![in alloc; a(), b()]?)?)?;
+    forms.push(permuted(alloc, vec![in alloc; a(), b(), a()]?)?)?;
+    forms.push(permuted(alloc, vec![in alloc; any(alloc, a())?, b()]?)?)?;
+    forms.push(permuted(alloc, vec![in alloc; a(), Form::PartitionEnd]?)?)?;
+    forms.push(any(alloc, permuted(alloc, vec![in alloc; a(), b()]?)?)?)?;
+    forms.push(excluded(alloc, a())?)?;
+    forms.push(both(alloc, excluded(alloc, any(alloc, a())?)?, b())?)?;
+    forms.push(any(alloc, excluded(alloc, either(alloc, a(), b())?)?)?)?;
+    forms.push(excluded(alloc, permuted(alloc, vec![in alloc; a(), b()]?)?)?)?;
+    Ok(forms)
+}
+
+fn grids(alloc: Global) -> Result<Vec<Grid>, AllocError> {
+    let mut grids = Vec::new(alloc);
+    for [first, second] in WAYS {
+        grids.push(Grid::answering(alloc, 0, &first, &second)?)?;
+    }
+    Ok(grids)
+}
+
+/// In how many cases a search finds what the definition says: 8 lists of words for each pattern, and 6 ways to answer.
+fn agreeing(alloc: Global, forms: Vec<Form>) -> Result<u64, ListFault> {
+    let mut grids = grids(alloc)?;
+    let mut count: u64 = 0;
+    for form in forms {
+        count = count.saturating_add(over_rows(alloc, form, &mut grids)?);
+    }
+    Ok(count)
+}
+
+/// Over 1 to 4 rows, open and closed.
+fn over_rows(alloc: Global, form: Form, grids: &mut [Grid]) -> Result<u64, ListFault> {
+    if !form.is_allowed() || !form.are_below(2) {
+        return Ok(0);
+    }
+    let pattern = Pattern::new(form);
+    let mut count: u64 = 0;
+    for place in 2..10 {
+        let known = place / 2;
+        let end = if place % 2 == 0 {
+            End::Open
+        } else {
+            End::Closed
+        };
+        let words = list_words(alloc, &pattern, 1, known, end, CAP)?;
+        count = count.saturating_add(over_ways(alloc, &pattern, &words, grids, known, end)?);
+    }
+    Ok(count)
+}
+
+/// In one run, and with one turn a run.
+fn over_ways(
+    alloc: Global,
+    pattern: &Pattern,
+    words: &[Word],
+    grids: &mut [Grid],
+    known: u64,
+    end: End,
+) -> Result<u64, AllocError>
+    requires { are_below 2 (form_of pattern.now) ≡ true }
+{
+    let mut count: u64 = 0;
+    for grid in grids {
+        let at_once = agrees(alloc, pattern, words, grid, known, end, 100_000)?;
+        if at_once && agrees(alloc, pattern, words, grid, known, end, 1)? {
+            count = count.saturating_add(1);
+        }
+    }
+    Ok(count)
+}
+
+fn agrees(
+    alloc: Global,
+    pattern: &Pattern,
+    words: &[Word],
+    grid: &mut Grid,
+    known: u64,
+    end: End,
+    budget: u32,
+) -> Result<bool, AllocError>
+    requires { are_below 2 (form_of pattern.now) ≡ true }
+{
+    counted::<Brand>(
+        Blank::new(1),
+        alloc,
+        pattern,
+        words,
+        grid,
+        known,
+        end,
+        budget,
+    )
+}
+
+fn counted<L: Ledger>(
+    blank: Blank,
+    alloc: Global,
+    pattern: &Pattern,
+    words: &[Word],
+    grid: &mut Grid,
+    known: u64,
+    end: End,
+    budget: u32,
+) -> Result<bool, AllocError>
+    requires variables { are_below 2 (form_of pattern.now) ≡ true }
+    requires name { blank.name ≡ L.name }
+    requires parts { blank.parts ≡ L.parts }
+    requires shared { 0 < blank.parts }
+{
+    grid.begin();
+    if !grid.advance(known, end) {
+        return Ok(false);
+    }
+    let mut steps = Steps::<L>::new(blank);
+    let mut search = created(alloc, pattern)?;
+    let decided = decide(&mut search, grid, budget, MANY, &mut steps)?;
+    Ok(is_found(grid, words, decided.outcome, search.labels()))
+}
+
+/// Whether this is what the words say, in their order: a refused word is passed over, and the first other one is waited
+/// for, if a test or the word itself is open, or else the match.
+fn is_found(grid: &Grid, words: &[Word], outcome: Outcome, labels: &[Label]) -> bool {
+    for word in words {
+        match first_not_true(grid, &word.labels) {
+            Seen::NotTrue => {}
+            Seen::Open => return outcome == Outcome::Waits,
+            Seen::True => {
+                return match word.mark {
+                    Mark::Open => outcome == Outcome::Waits,
+                    Mark::Full => outcome == Outcome::Match && labels == word.labels.as_slice(),
+                };
+            }
+        }
+    }
+    outcome == Outcome::NoMatch
+}
+
+/// The first answer that isn't true, for the labels from row 1 on.
+fn first_not_true(grid: &Grid, labels: &[Label]) -> Seen {
+    let mut row: u64 = 1;
+    for label in labels {
+        let seen = grid.answer(row, label.var);
+        if seen != Seen::True {
+            return seen;
+        }
+        row = row.saturating_add(1);
+    }
+    Seen::True
+}
+
+#[test]
+fn plain_forms_agree(rt: HostRuntime) -> Result<(), Fail> {
+    let alloc = rt.alloc();
+    assert_eq!(rt; agreeing(alloc, plain_forms(alloc)?)?, 12 * 48);
+    Ok(())
+}
+
+#[test]
+fn quantified_forms_agree(rt: HostRuntime) -> Result<(), Fail> {
+    let alloc = rt.alloc();
+    assert_eq!(rt; agreeing(alloc, quantified_forms(alloc)?)?, 13 * 48);
+    Ok(())
+}
+
+#[test]
+fn nested_forms_agree(rt: HostRuntime) -> Result<(), Fail> {
+    let alloc = rt.alloc();
+    assert_eq!(rt; agreeing(alloc, nested_forms(alloc)?)?, 10 * 48);
+    Ok(())
+}
+
+#[test]
+fn other_forms_agree(rt: HostRuntime) -> Result<(), Fail> {
+    let alloc = rt.alloc();
+    assert_eq!(rt; agreeing(alloc, other_forms(alloc)?)?, 10 * 48);
+    Ok(())
+}
+
+/// The first word of each pattern over no row: `.` where it is the empty word, `?` where it is open, `-` where there is
+/// none.
+fn firsts(alloc: Global, forms: Vec<Form>, end: End) -> Result<String, ListFault> {
+    let mut text = String::new(alloc);
+    for form in forms {
+        if !form.is_allowed() {
+            return Ok(text);
+        }
+        let words = list_words(alloc, &Pattern::new(form), 1, 0, end, CAP)?;
+        text.push(match words.first() {
+            None => '-',
+            Some(word) => match (word.mark, word.labels.is_empty()) {
+                (Mark::Full, true) => '.',
+                (Mark::Open, true) => '?',
+                (_, false) => '!',
+            },
+        })?;
+    }
+    Ok(text)
+}
+
+#[test]
+fn no_row_is_known(rt: HostRuntime) -> Result<(), Fail> {
+    let alloc = rt.alloc();
+    assert_eq!(rt;
+        firsts(alloc, plain_forms(alloc)?, End::Open)?.as_str(),
+        "?..???????.?"
+    );
+    assert_eq!(rt;
+        firsts(alloc, plain_forms(alloc)?, End::Closed)?.as_str(),
+        "-...------.-"
+    );
+    assert_eq!(rt;
+        firsts(alloc, quantified_forms(alloc)?, End::Open)?.as_str(),
+        "?.???.??.????"
+    );
+    assert_eq!(rt;
+        firsts(alloc, quantified_forms(alloc)?, End::Closed)?.as_str(),
+        "..--..--.--.."
+    );
+    Ok(())
+}
+
+#[test]
+fn no_row_is_known_of_nested_parts(rt: HostRuntime) -> Result<(), Fail> {
+    let alloc = rt.alloc();
+    assert_eq!(rt;
+        firsts(alloc, nested_forms(alloc)?, End::Open)?.as_str(),
+        "???.?..???"
+    );
+    assert_eq!(rt;
+        firsts(alloc, nested_forms(alloc)?, End::Closed)?.as_str(),
+        ".........-"
+    );
+    assert_eq!(rt;
+        firsts(alloc, other_forms(alloc)?, End::Open)?.as_str(),
+        "??????????"
+    );
+    assert_eq!(rt;
+        firsts(alloc, other_forms(alloc)?, End::Closed)?.as_str(),
+        "-----.--.-"
+    );
+    Ok(())
+}
