@@ -186,10 +186,13 @@ partly_cut p start before ls l plan n d is at = go plan n
   where
     size : length ls ≡ suc (length before)
     size = ap length is ∙ length-append before (l ∷ []) ∙ omega arith
+
     short : take d ls ≡ before
     short = ap (take d) is ∙ take-append-le d before (l ∷ []) (omega (arith, size)) ∙ take_all d before (omega (arith, size))
+
     cut_one : (t : Total) → cut_back d (kept_of p start ls t) ≡ kept_of p start before t
     cut_one t = kept_cut p t start d ls (omega (arith, size)) ∙ ap (λ z. kept_of p start z t) short
+
     go : (plan : List Total) (n : ℕ) → map (cut_back d) (partly p start before ls plan n) ≡ map (kept_of p start before) plan
     go plan zero = all_uncut p plan start d before (omega (arith, size))
     go [] (suc n) = refl

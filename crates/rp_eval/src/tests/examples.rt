@@ -10,6 +10,7 @@ use std::rc::Rc;
 use std::test::Fail;
 
 const A: RowsOf = RowsOf::Listed(0);
+
 const B: RowsOf = RowsOf::Listed(1);
 
 /// `x(p)` or `LAST(x.p, places)`, and so many rows from there.
@@ -51,11 +52,7 @@ fn total(number: usize) -> Expr {
 }
 
 fn is(value: Expr, number: i64) -> Condition {
-    Condition::Compare(
-        Comparison::Equal,
-        value,
-        Expr::Literal(Value::Int(number)),
-    )
+    Condition::Compare(Comparison::Equal, value, Expr::Literal(Value::Int(number)))
 }
 
 fn p_is(number: i64) -> Condition {
@@ -103,13 +100,25 @@ fn settled(alloc: Global) -> Result<Vec<Case>, AllocError> {
     let no_last = Condition::IsNull(last(A, 1, Step::Ahead(0)));
     let sum = plus(alloc, first(A), last(B, 0, Step::Ahead(0)))?;
     let known = [
-        ("PREV(p, 2) IS NULL", Condition::IsNull(prev_2()), Seen::True),
+        (
+            "PREV(p, 2) IS NULL",
+            Condition::IsNull(prev_2()),
+            Seen::True,
+        ),
         ("FIRST(A.p) + B.p = 3", is(sum, 3), Seen::True),
         ("SUM(p) = 3", is(total(2), 3), Seen::True),
         ("COUNT(A.*) = 1", is(total(3), 1), Seen::True),
         ("LAST(A.p, 1) IS NULL", no_last, Seen::True),
-        ("NEXT(A.p) = 2", is(last(A, 0, Step::Ahead(1)), 2), Seen::True),
-        ("NOT PREV(p, 2) = 1", not(alloc, is(prev_2(), 1))?, Seen::NotTrue),
+        (
+            "NEXT(A.p) = 2",
+            is(last(A, 0, Step::Ahead(1)), 2),
+            Seen::True,
+        ),
+        (
+            "NOT PREV(p, 2) = 1",
+            not(alloc, is(prev_2(), 1))?,
+            Seen::NotTrue,
+        ),
     ];
     let mut cases = Vec::new(alloc);
     for (what, condition, seen) in known {

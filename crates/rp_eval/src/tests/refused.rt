@@ -2,7 +2,7 @@
 ghost use Rattle.std.specs.Prelude.{◌≡◌, ◌+◌, ◌≤◌, IfOk, length};
 ghost use Rattle.rp_eval.specs.Entered.{AreTotals};
 
-use super::support::{Listed, Of, label, rows_of_cells, plan, shown};
+use super::support::{Listed, Of, label, plan, rows_of_cells, shown};
 use crate::{Rows, Totals, View};
 use rp_check::{Edge, Expr, Function, Navigation, RowsOf, Step, Total};
 use rp_pattern::{End, Label};

@@ -1,6 +1,6 @@
 //! Each navigation and aggregate at each row of a match, running and over the whole match, and in an empty match. The
 //! values wanted were worked out by a plain program that goes over all labels again for each row.
-use super::support::{Listed, Of, entered, label, rows_of_cells, plan, shown};
+use super::support::{Listed, Of, entered, label, plan, rows_of_cells, shown};
 use crate::{Rows, Totals, View};
 use rp_check::{Edge, Expr, Function, Navigation, RowsOf, Step, Total};
 use rp_pattern::{End, Label};
@@ -9,6 +9,7 @@ use std::rc::Rc;
 use std::test::Fail;
 
 const P: usize = 1;
+
 const T: usize = 2;
 
 /// A navigation as it is written, and its values.
@@ -598,15 +599,14 @@ fn running_at_each_row(rt: HostRuntime) -> Result<(), Fail> {
         let values = shown(alloc, &navigation(line, true), &view, 2)?;
         assert_eq!(rt; values.as_str(), line.whole, "FINAL {}", line.what);
     }
-    let mut number = 4;
-    for line in &AGGREGATES {
+    for (i, line) in AGGREGATES.iter().enumerate() {
+        let number = 4 + i;
         let is_final = false;
         let values = shown(alloc, &Expr::Aggregate { number, is_final }, &view, 7)?;
         assert_eq!(rt; values.as_str(), line.running, "{}", line.what);
         let is_final = true;
         let values = shown(alloc, &Expr::Aggregate { number, is_final }, &view, 2)?;
         assert_eq!(rt; values.as_str(), line.whole, "FINAL {}", line.what);
-        number += 1;
     }
     Ok(())
 }
@@ -633,8 +633,8 @@ fn in_an_empty_match(rt: HostRuntime) -> Result<(), Fail> {
             assert_eq!(rt; values.as_str(), "null", "{}", line.what);
         }
     }
-    let mut number = 4;
-    for line in &AGGREGATES {
+    for (i, line) in AGGREGATES.iter().enumerate() {
+        let number = 4 + i;
         let want = match line.function {
             Function::Rows | Function::Count(_) => "0",
             _ => "null",
@@ -643,7 +643,6 @@ fn in_an_empty_match(rt: HostRuntime) -> Result<(), Fail> {
             let values = shown(alloc, &Expr::Aggregate { number, is_final }, &view, 2)?;
             assert_eq!(rt; values.as_str(), want, "{}", line.what);
         }
-        number += 1;
     }
     Ok(())
 }

@@ -33,4 +33,4 @@ returns-in-Some g c =
     let s = series_of (g.R.Rows.known v.rows.now) (plan_of v.totals.now) v.start v.labels.now (kept_in v.totals.now) c.in-Listed.number c.in-Some.series.now c.requires.totals c.in-Some.ensures in
     c.place.ensures
     ∙ ap (place_in n.edge n.places)
-      (kept_among (setting_of g.R.Rows.known g.R.Rows.ending v) n.is_final c.depth-depth.result c.in-Listed.number n.rows_of c.in-Some.series.now c.in-Listed.is s c.depth-depth.ensures.within c.depth-depth.ensures.labels)
+    (kept_among (setting_of g.R.Rows.known g.R.Rows.ending v) n.is_final c.depth-depth.result c.in-Listed.number n.rows_of c.in-Some.series.now c.in-Listed.is s c.depth-depth.ensures.within c.depth-depth.ensures.labels)

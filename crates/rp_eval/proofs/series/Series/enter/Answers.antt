@@ -45,7 +45,7 @@ returns-in-Listed-clause-entered g c =
     let row = c.args.start + (length ls - 1) in
     let b : includes t.variables n.label.var ≡ true = sym (c.if-not-includes.ensures ∙ ap (λ (z : Label). includes t.variables z.var) (last_label ls n.before n.label _ n.is)) in
     on_ok _ _ c.push_listed.result (λ e. e ∙ entered_mapped (g.R.Rows.known c.args.rows.now) t c.args.start row ls n.before n.label c.args.self.now c.tally-old.result c.with_row-new.result (row ∷ []) _ n.is b n.kept c.tally-old.ensures refl c.with_row-new.ensures
-      (ap (λ f. listed f (row ∷ [])) (sym c.in-Listed.is)) refl) c.push_listed.ensures.pushed
+    (ap (λ f. listed f (row ∷ [])) (sym c.in-Listed.is)) refl) c.push_listed.ensures.pushed
 
 pub returns-in_default : goal.returns-in_default
 returns-in_default g c =
@@ -56,6 +56,6 @@ returns-in_default g c =
     let b : includes t.variables n.label.var ≡ true = sym (c.if-not-includes.ensures ∙ ap (λ (z : Label). includes t.variables z.var) (last_label ls n.before n.label _ n.is)) in
     record {
       entered = on_ok _ _ c.push-in_default.result (λ e. e ∙ entered_mapped (g.R.Rows.known c.args.rows.now) t c.args.start row ls n.before n.label c.args.self.now c.tally-old.result c.with_row-new.result [] _ n.is b n.kept c.tally-old.ensures refl c.with_row-new.ensures
-        (unlisted t.function c.in_default.not-Listed (row ∷ [])) (sym (append-nil c.args.self.now.rows))) c.push-in_default.ensures.pushed;
+          (unlisted t.function c.in_default.not-Listed (row ∷ [])) (sym (append-nil c.args.self.now.rows))) c.push-in_default.ensures.pushed;
       err = c.push-in_default.ensures.err;
     }

@@ -40,9 +40,9 @@ returns-in-Err g c =
       plan = ap (λ (z : Rc (Vec Total Global) Global). z.value.items) c.loop-number.invariant.plan;
       entered = tt;
       err =
-        ap (λ k. map (cut_back m) (set items n k)) c.in-Err.ensures.err
-        ∙ ap (map (cut_back m)) (set_same items n c.index_mut.result.now c.index_mut.ensures.value ∙ c.loop-number.invariant.series)
-        ∙ ap (λ b. map (cut_back m) (partly p c.args.start b ls plan n)) (all_but_last ls new.before new.label new.is)
-        ∙ partly_cut p c.args.start new.before ls new.label plan n m new.is refl
-        ∙ sym new.totals;
+          ap (λ k. map (cut_back m) (set items n k)) c.in-Err.ensures.err
+          ∙ ap (map (cut_back m)) (set_same items n c.index_mut.result.now c.index_mut.ensures.value ∙ c.loop-number.invariant.series)
+          ∙ ap (λ b. map (cut_back m) (partly p c.args.start b ls plan n)) (all_but_last ls new.before new.label new.is)
+          ∙ partly_cut p c.args.start new.before ls new.label plan n m new.is refl
+          ∙ sym new.totals;
     }
