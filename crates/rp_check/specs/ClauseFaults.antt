@@ -1,9 +1,10 @@
--- The faults of a clause over a table, in the order in which they are looked for.
-use Rattle.std.specs.Prelude.{ℕ, suc, nat_le, Bool, true, false, not, ◌&&◌, ◌||◌, List, [], ◌∷◌, ◌++◌, map, Option, None, Some, is_some, cond}
-use Rattle.std.specs.List.{list_any}
+-- The faults of a clause over a table, in the order in which they are looked for: each check by itself, and all of them.
+-- Which names and bounds a clause may have is ISO/IEC 9075-2:2016, 7.6 to 7.7; the order is this project's own.
+use Rattle.std.specs.Prelude.{ℕ, suc, nat_le, Bool, true, false, not, ◌&&◌, ◌||◌, List, [], ◌∷◌, ◌++◌, map, Option, None, Some, is_some, option_map}
 use Rattle.rp_value.specs.declared.table.Column.{Column}
-use Rattle.rp_value.specs.declared.value.Value.TheVariants as value
+use Rattle.rp_pattern.specs.Bounds.{bounds_hold}
 use Rattle.rp_syntax.specs.declared.tree.Name.{Name}
+use Rattle.rp_syntax.specs.declared.tree.Quantifier.{Quantifier}
 use Rattle.rp_syntax.specs.declared.tree.RowsPerMatch.{RowsPerMatch}
 use Rattle.rp_syntax.specs.declared.tree.RowsPerMatch.TheVariants.{One, AllShowEmpty, AllOmitEmpty, AllWithUnmatched}
 use Rattle.rp_syntax.specs.declared.tree.Skip.{Skip}
@@ -13,30 +14,27 @@ use Rattle.rp_syntax.specs.Tree.{Tree}
 use Rattle.rp_syntax.specs.Clauses.{ClauseTree, MeasureTree, UnionTree, DefinitionTree}
 use Rattle.rp_check.specs.declared.fault.Fault.{Fault}
 use Rattle.rp_check.specs.declared.fault.CheckKind.TheVariants.{UnknownColumn, UnknownVariable, DoubleName, KindMismatch, BadBounds, TooManyPermuted, ExclusionWithUnmatched}
-use Rattle.rp_check.specs.Context.{Context, Naming, is_name, column_named}
+use Rattle.rp_check.specs.Context.{Context, column_named}
+use Rattle.rp_check.specs.Variables.{is_among, variables_of, context}
 use Rattle.rp_check.specs.Sorts.{sort_of, may_be_value, may_be_condition}
 use Rattle.rp_check.specs.ExprFaults.{unless, variable_faults, expr_faults}
 
--- whether the name is among these
-abbrev pub is_among : List ℕ → List (List ℕ) → Bool
-is_among name names = list_any (λ other. is_name name other) names
+-- the faults of each element, which is looked at beside those before it
+abbrev pub each_after : {A : Type 0} → (List A → A → List Fault) → List A → List A → List Fault
+each_after look earlier [] = []
+each_after look earlier (x ∷ xs) = look earlier x ++ each_after look (earlier ++ x ∷ []) xs
+
+abbrev pub each : {A : Type 0} → (List A → A → List Fault) → List A → List Fault
+each look xs = each_after look [] xs
 
 -- 1. the pattern
-abbrev pub bounds_hold : ℕ → Option ℕ → Bool
-bounds_hold lower None = nat_le lower 1000
-bounds_hold lower (Some upper) = nat_le lower upper && nat_le upper 1000
+abbrev pub quantifier_faults : Quantifier → List Fault
+quantifier_faults q = unless (bounds_hold q.lower.count (option_map (λ b. b.count) q.upper)) BadBounds q.at
 
-abbrev pub parts : Tree → ℕ
-parts (tree.Beside a b) = suc (parts b)
-parts (tree.Variable name) = 1
-parts tree.Empty = 1
-parts tree.PartitionStart = 1
-parts tree.PartitionEnd = 1
-parts (tree.Concatenation a b) = 1
-parts (tree.Alternation a b) = 1
-parts (tree.Permute at body) = 1
-parts (tree.Exclusion at body) = 1
-parts (tree.Quantified q body) = 1
+-- how many parts stand beside each other
+abbrev pub part_count : Tree → ℕ
+part_count (tree.Beside a b) = suc (part_count b)
+part_count t = 1
 
 abbrev pub pattern_faults : Tree → List Fault
 pattern_faults (tree.Variable name) = []
@@ -46,62 +44,42 @@ pattern_faults tree.PartitionEnd = []
 pattern_faults (tree.Concatenation a b) = pattern_faults a ++ pattern_faults b
 pattern_faults (tree.Alternation a b) = pattern_faults a ++ pattern_faults b
 pattern_faults (tree.Beside a b) = pattern_faults a ++ pattern_faults b
-pattern_faults (tree.Permute at body) = unless (nat_le (parts body) 8) TooManyPermuted at ++ pattern_faults body
+pattern_faults (tree.Permute at body) = unless (nat_le (part_count body) 8) TooManyPermuted at ++ pattern_faults body
 pattern_faults (tree.Exclusion at body) = pattern_faults body
-pattern_faults (tree.Quantified q body) = pattern_faults body ++ unless (bounds_hold q.lower q.upper) BadBounds q.at
-
--- the pattern variables, by first appearance
-abbrev pub added : List (List ℕ) → List ℕ → List (List ℕ)
-added names name = cond (is_among name names) names (names ++ name ∷ [])
-
-abbrev pub variables_after : List (List ℕ) → Tree → List (List ℕ)
-variables_after names (tree.Variable name) = added names name.text
-variables_after names tree.Empty = names
-variables_after names tree.PartitionStart = names
-variables_after names tree.PartitionEnd = names
-variables_after names (tree.Concatenation a b) = variables_after (variables_after names a) b
-variables_after names (tree.Alternation a b) = variables_after (variables_after names a) b
-variables_after names (tree.Beside a b) = variables_after (variables_after names a) b
-variables_after names (tree.Permute at body) = variables_after names body
-variables_after names (tree.Exclusion at body) = variables_after names body
-variables_after names (tree.Quantified q body) = variables_after names body
-
-abbrev pub variables_of : Tree → List (List ℕ)
-variables_of t = variables_after [] t
+pattern_faults (tree.Quantified q body) = pattern_faults body ++ quantifier_faults q
 
 -- 2. SUBSET
-abbrev pub member_faults : List (List ℕ) → List Name → List Fault
-member_faults variables [] = []
-member_faults variables (m ∷ ms) = unless (is_among m.text variables) UnknownVariable m.at ++ member_faults variables ms
+abbrev pub member_faults : List (List ℕ) → List Name → Name → List Fault
+member_faults variables earlier m = unless (is_among m.text variables) UnknownVariable m.at
 
-abbrev pub subset_faults : List (List ℕ) → List (List ℕ) → List UnionTree → List Fault
-subset_faults variables earlier [] = []
-subset_faults variables earlier (u ∷ us) =
-    unless (not (is_among u.name.text variables || is_among u.name.text earlier)) DoubleName u.name.at
-    ++ (member_faults variables u.members ++ subset_faults variables (u.name.text ∷ earlier) us)
+abbrev pub union_faults : List (List ℕ) → List UnionTree → UnionTree → List Fault
+union_faults variables earlier u =
+    unless (not (is_among u.name.text variables || is_among u.name.text (map (λ v. v.name.text) earlier))) DoubleName u.name.at
+    ++ each (member_faults variables) u.members
 
--- 3. PARTITION BY, then ORDER BY
-abbrev pub listed_faults : List Column → List (List ℕ) → List Name → List Fault
-listed_faults columns earlier [] = []
-listed_faults columns earlier (n ∷ ns) =
+-- 3. PARTITION BY, and then ORDER BY with the partition's columns before it
+abbrev pub partition_faults : List Column → List Name → Name → List Fault
+partition_faults columns earlier n =
     unless (is_some (column_named n.text columns)) UnknownColumn n.at
-    ++ (unless (not (is_among n.text earlier)) DoubleName n.at ++ listed_faults columns (n.text ∷ earlier) ns)
+    ++ unless (not (is_among n.text (map (λ m. m.text) earlier))) DoubleName n.at
+
+abbrev pub order_faults : List Column → List Name → List Name → Name → List Fault
+order_faults columns partition earlier n = 
+    unless (is_some (column_named n.text columns)) UnknownColumn n.at
+    ++ unless (not (is_among n.text (map (λ m. m.text) partition) || is_among n.text (map (λ m. m.text) earlier))) DoubleName n.at
 
 -- 4. the names of DEFINE
-abbrev pub defined_faults : List (List ℕ) → List (List ℕ) → List DefinitionTree → List Fault
-defined_faults variables earlier [] = []
-defined_faults variables earlier (d ∷ ds) =
+abbrev pub defined_faults : List (List ℕ) → List DefinitionTree → DefinitionTree → List Fault
+defined_faults variables earlier d =
     unless (is_among d.name.text variables) UnknownVariable d.name.at
-    ++ (unless (not (is_among d.name.text earlier)) DoubleName d.name.at ++ defined_faults variables (d.name.text ∷ earlier) ds)
+    ++ unless (not (is_among d.name.text (map (λ e. e.name.text) earlier))) DoubleName d.name.at
 
 -- 5. the expressions of MEASURES, then of DEFINE
-abbrev pub measure_faults : Context → List MeasureTree → List Fault
-measure_faults x [] = []
-measure_faults x (m ∷ ms) = (expr_faults x m.term ++ unless (may_be_value (sort_of x m.term)) KindMismatch m.at) ++ measure_faults x ms
+abbrev pub measure_faults : Context → List MeasureTree → MeasureTree → List Fault
+measure_faults x earlier m = expr_faults x m.term ++ unless (may_be_value (sort_of x m.term)) KindMismatch m.at
 
-abbrev pub definition_faults : Context → List DefinitionTree → List Fault
-definition_faults x [] = []
-definition_faults x (d ∷ ds) = (expr_faults x d.term ++ unless (may_be_condition (sort_of x d.term)) KindMismatch d.at) ++ definition_faults x ds
+abbrev pub definition_faults : Context → List DefinitionTree → DefinitionTree → List Fault
+definition_faults x earlier d = expr_faults x d.term ++ unless (may_be_condition (sort_of x d.term)) KindMismatch d.at
 
 -- 6. the skip's variable
 abbrev pub skip_faults : Context → Skip → List Fault
@@ -110,67 +88,64 @@ skip_faults x ToNextRow = []
 skip_faults x (ToFirst name) = variable_faults x name
 skip_faults x (ToLast name) = variable_faults x name
 
--- 7. exclusion with unmatched rows
-abbrev pub exclusion_faults : Tree → List Fault
-exclusion_faults (tree.Variable name) = []
-exclusion_faults tree.Empty = []
-exclusion_faults tree.PartitionStart = []
-exclusion_faults tree.PartitionEnd = []
-exclusion_faults (tree.Concatenation a b) = exclusion_faults a ++ exclusion_faults b
-exclusion_faults (tree.Alternation a b) = exclusion_faults a ++ exclusion_faults b
-exclusion_faults (tree.Beside a b) = exclusion_faults a ++ exclusion_faults b
-exclusion_faults (tree.Permute at body) = exclusion_faults body
-exclusion_faults (tree.Exclusion at body) = record { kind = ExclusionWithUnmatched; offset = at } ∷ exclusion_faults body
-exclusion_faults (tree.Quantified q body) = exclusion_faults body
+-- 7. the first exclusion, with unmatched rows
+abbrev pub first_of : Option ℕ → Option ℕ → Option ℕ
+first_of None b = b
+first_of (Some at) b = Some at
+
+abbrev pub first_exclusion : Tree → Option ℕ
+first_exclusion (tree.Variable name) = None
+first_exclusion tree.Empty = None
+first_exclusion tree.PartitionStart = None
+first_exclusion tree.PartitionEnd = None
+first_exclusion (tree.Concatenation a b) = first_of (first_exclusion a) (first_exclusion b)
+first_exclusion (tree.Alternation a b) = first_of (first_exclusion a) (first_exclusion b)
+first_exclusion (tree.Beside a b) = first_of (first_exclusion a) (first_exclusion b)
+first_exclusion (tree.Permute at body) = first_exclusion body
+first_exclusion (tree.Exclusion at body) = Some at
+first_exclusion (tree.Quantified q body) = first_exclusion body
+
+abbrev pub exclusion_faults : Option ℕ → List Fault
+exclusion_faults None = []
+exclusion_faults (Some at) = record { kind = ExclusionWithUnmatched; offset = at } ∷ []
 
 abbrev pub unmatched_faults : RowsPerMatch → Tree → List Fault
 unmatched_faults One t = []
 unmatched_faults AllShowEmpty t = []
 unmatched_faults AllOmitEmpty t = []
-unmatched_faults AllWithUnmatched t = exclusion_faults t
+unmatched_faults AllWithUnmatched t = exclusion_faults (first_exclusion t)
 
--- 8. the names of measures, where these names stand in the output beside them
-abbrev pub output_faults : List (List ℕ) → List MeasureTree → List Fault
-output_faults taken [] = []
-output_faults taken (m ∷ ms) = unless (not (is_among m.name.text taken)) DoubleName m.name.at ++ output_faults (m.name.text ∷ taken) ms
+-- 8. the names of measures beside those that stand in the output with them
+abbrev pub shown_names : RowsPerMatch → List Name → List Column → List (List ℕ)
+shown_names One partition columns = map (λ n. n.text) partition
+shown_names AllShowEmpty partition columns = map (λ c. c.name) columns
+shown_names AllOmitEmpty partition columns = map (λ c. c.name) columns
+shown_names AllWithUnmatched partition columns = map (λ c. c.name) columns
 
-abbrev pub shown_columns : RowsPerMatch → List Name → List Column → List (List ℕ)
-shown_columns One partition columns = map (λ n. n.text) partition
-shown_columns AllShowEmpty partition columns = map (λ c. c.name) columns
-shown_columns AllOmitEmpty partition columns = map (λ c. c.name) columns
-shown_columns AllWithUnmatched partition columns = map (λ c. c.name) columns
+abbrev pub output_faults : List (List ℕ) → List MeasureTree → MeasureTree → List Fault
+output_faults shown earlier m = unless (not (is_among m.name.text shown || is_among m.name.text (map (λ e. e.name.text) earlier))) DoubleName m.name.at
 
--- what an expression may name: the variables, numbered by first appearance, and the unions
-abbrev pub numbered : ℕ → List (List ℕ) → List Naming
-numbered k [] = []
-numbered k (n ∷ ns) = record { name = n; members = k ∷ [] } ∷ numbered (suc k) ns
+-- the eight checks, two and two
+abbrev pub name_faults : ClauseTree → List Fault
+name_faults c = pattern_faults c.pattern ++ each (union_faults (variables_of c.pattern)) c.subsets
 
-abbrev pub place_among : ℕ → List ℕ → List (List ℕ) → List ℕ
-place_among k name [] = []
-place_among k name (n ∷ ns) = cond (is_name name n) (k ∷ []) (place_among (suc k) name ns)
+abbrev pub listing_faults : List (List ℕ) → List Column → ClauseTree → List Fault
+listing_faults variables columns c =
+    each (partition_faults columns) c.partition
+    ++ (each (order_faults columns c.partition) (map (λ o. o.name) c.order) ++ each (defined_faults variables) c.definitions)
 
-abbrev pub places_of : List (List ℕ) → List Name → List ℕ
-places_of variables [] = []
-places_of variables (m ∷ ms) = place_among 0 m.text variables ++ places_of variables ms
+abbrev pub expression_faults : Context → Context → ClauseTree → List Fault
+expression_faults measuring defining c =
+    each (measure_faults measuring) c.measures ++ (each (definition_faults defining) c.definitions ++ skip_faults measuring c.skip)
 
-abbrev pub context : List (List ℕ) → List UnionTree → List Column → Bool → Context
-context variables unions columns in_define = record {
-  sets = numbered 0 variables ++ map (λ u. record { name = u.name.text; members = places_of variables u.members }) unions;
-  columns = columns;
-  in_define = in_define;
-  classes = map value.Text variables;
-}
+abbrev pub shown_faults : List Column → ClauseTree → List Fault
+shown_faults columns c = unmatched_faults c.rows c.pattern ++ each (output_faults (shown_names c.rows c.partition columns)) c.measures
 
--- all faults, the first of which is told
+-- all faults of a clause over a table with these columns: the first of them is told
 abbrev pub faults : ClauseTree → List Column → List Fault
 faults c columns =
     let variables = variables_of c.pattern in
-    pattern_faults c.pattern
-    ++ (subset_faults variables [] c.subsets
-    ++ (listed_faults columns [] (c.partition ++ map (λ o. o.name) c.order)
-    ++ (defined_faults variables [] c.definitions
-    ++ (measure_faults (context variables c.subsets columns false) c.measures
-    ++ (definition_faults (context variables c.subsets columns true) c.definitions
-    ++ (skip_faults (context variables c.subsets columns false) c.skip
-    ++ (unmatched_faults c.rows c.pattern
-    ++ output_faults (shown_columns c.rows c.partition columns) c.measures)))))))
+    name_faults c
+    ++ (listing_faults variables columns c
+    ++ (expression_faults (context variables c.subsets columns false) (context variables c.subsets columns true) c
+    ++ shown_faults columns c))

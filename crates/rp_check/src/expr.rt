@@ -115,7 +115,7 @@ fn grouped(
 }
 
 /// An expression with its names resolved, or its first fault. Its aggregates are put behind those before it.
-pub fn resolve(
+pub(crate) fn resolve(
     alloc: Global,
     names: &Names,
     totals: &mut Vec<Total>,

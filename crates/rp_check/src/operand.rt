@@ -21,7 +21,7 @@ use rp_value::{Kind, Value};
 use std::alloc::{AllocError, Global};
 
 /// The expression of a value.
-fn value(operand: Resolved) -> Option<Expr>
+pub(crate) fn value(operand: Resolved) -> Option<Expr>
     ensures { MatchOption result (may_be_value (Some (sort_in operand)) ≡ false) (λ e. (may_be_value (Some (sort_in operand)) ≡ true) × (value_formula e ≡ formula_in operand)) }
 {
     match operand {

@@ -40,7 +40,7 @@ pub(crate) fn require(test: bool, kind: CheckKind, offset: usize) -> Result<(), 
 }
 
 /// The rows of a pattern variable or a union.
-fn variables(alloc: Global, names: &Names, name: &Name) -> Result<Variables, CheckFault>
+pub(crate) fn variables(alloc: Global, names: &Names, name: &Name) -> Result<Variables, CheckFault>
     ensures { Answers (variable_faults (context_of names.now) name.now) (λ v. members_of v ≡ members_named name.now.text (context_of names.now).sets) result }
 {
     match set_named(&name.text, names.sets) {
