@@ -1,5 +1,5 @@
 -- What was found of a clause is its query.
-use Rattle.std.proofs.Common.{◌≡◌, ◌∙◌, ℕ, Bool, true, false, List, [], ◌++◌, map, refl, sym, ap}
+use Rattle.std.proofs.Common.{◌≡◌, ◌∙◌, ℕ, Bool, true, false, List, [], ◌++◌, map, refl, ap}
 use Rattle.std.proofs.lemmas.List.{append-nil}
 use Rattle.rp_pattern.specs.declared.form.Form.{Form}
 use Rattle.rp_value.specs.declared.value.Value.TheVariants as value
@@ -15,7 +15,7 @@ use Rattle.rp_check.specs.Asked.{IsQueryOf, measuring, defining}
 use Rattle.rp_check.specs.Checked.{Tells}
 use Rattle.rp_check.specs.Checking.{IsNamed, IsListed, IsPlanned, IsMadeOf, spoken}
 use Rattle.rp_check.specs.ClauseFaults.{faults, name_faults, listing_faults, expression_faults, shown_faults}
-use Rattle.rp_check.specs.Context.{Context, naming_of}
+use Rattle.rp_check.specs.Context.{naming_of}
 use Rattle.rp_check.specs.Formulas.{value_formula, condition_formula, kept_of}
 use Rattle.rp_check.specs.Queries.{rule_of}
 use Rattle.rp_check.specs.Reading.{Reads}

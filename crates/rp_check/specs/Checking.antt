@@ -1,5 +1,5 @@
 -- What was found of a clause so far.
-use Rattle.std.specs.Prelude.{◌≡◌, ℕ, List, [], ◌++◌, map, Bool, true, max}
+use Rattle.std.specs.Prelude.{◌≡◌, ℕ, List, [], ◌++◌, map, Bool, max}
 use Rattle.std.specs.declared.rc.Rc.{Rc}
 use Rattle.std.specs.declared.vec.Vec.{Vec}
 use Rattle.std.specs.declared.alloc.Global.{Global}
@@ -19,7 +19,7 @@ use Rattle.rp_check.specs.Queries.{formulas, totals_of, terms_of_measures, terms
 use Rattle.rp_check.specs.Reach.{reach, condition_reach}
 use Rattle.rp_check.specs.Resolved.{number_at}
 use Rattle.rp_check.specs.Shapes.{shaped, shape_of}
-use Rattle.rp_check.specs.Variables.{variables_of, context, numbered, union_of}
+use Rattle.rp_check.specs.Variables.{variables_of, numbered, union_of}
 
 -- what may be named, with these sets and classes
 abbrev pub spoken : List NamedSet → List Column → Rc (Vec Value Global) Global → Bool → Context

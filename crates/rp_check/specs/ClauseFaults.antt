@@ -1,6 +1,6 @@
 -- The faults of a clause over a table, in the order in which they are looked for: each check by itself, and all of them.
 -- Which names and bounds a clause may have is ISO/IEC 9075-2:2016, 7.6 to 7.7; the order is this project's own.
-use Rattle.std.specs.Prelude.{ℕ, suc, nat_le, Bool, true, false, not, ◌&&◌, ◌||◌, List, [], ◌∷◌, ◌++◌, map, Option, None, Some, is_some, option_map}
+use Rattle.std.specs.Prelude.{ℕ, suc, nat_le, true, false, not, ◌||◌, List, [], ◌∷◌, ◌++◌, map, Option, None, Some, is_some, option_map}
 use Rattle.rp_value.specs.declared.table.Column.{Column}
 use Rattle.rp_pattern.specs.Bounds.{bounds_hold}
 use Rattle.rp_syntax.specs.declared.tree.Name.{Name}
@@ -64,7 +64,7 @@ partition_faults columns earlier n =
     ++ unless (not (is_among n.text (map (λ m. m.text) earlier))) DoubleName n.at
 
 abbrev pub order_faults : List Column → List Name → List Name → Name → List Fault
-order_faults columns partition earlier n = 
+order_faults columns partition earlier n =
     unless (is_some (column_named n.text columns)) UnknownColumn n.at
     ++ unless (not (is_among n.text (map (λ m. m.text) partition) || is_among n.text (map (λ m. m.text) earlier))) DoubleName n.at
 

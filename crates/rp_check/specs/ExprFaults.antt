@@ -17,7 +17,7 @@ use Rattle.rp_check.specs.declared.fault.Fault.{Fault}
 use Rattle.rp_check.specs.declared.fault.CheckKind.{CheckKind}
 use Rattle.rp_check.specs.declared.fault.CheckKind.TheVariants.{UnknownColumn, UnknownVariable, KindMismatch, FinalInDefine, NestedNavigation, BadBounds, MeasureOnly}
 use Rattle.rp_check.specs.Context.{Context, members_named, column_named}
-use Rattle.rp_check.specs.Sorts.{Sort, sort_of, column_sort, may_be_number, may_be_value, may_be_condition, takes}
+use Rattle.rp_check.specs.Sorts.{sort_of, column_sort, may_be_number, may_be_value, may_be_condition, takes}
 
 -- no fault where the test holds
 abbrev pub unless : Bool → CheckKind → ℕ → List Fault

@@ -1,28 +1,21 @@
 -- What the query of a clause is made of.
-use Rattle.std.specs.Prelude.{◌≡◌, ℕ, max, Bool, true, false, not, ◌||◌, List, [], ◌∷◌, ◌++◌, map, length, Option, None, Some, cond}
+use Rattle.std.specs.Prelude.{ℕ, max, ◌||◌, List, [], ◌∷◌, ◌++◌, map, Option, cond}
 use Rattle.std.specs.List.{position}
 use Rattle.rp_value.specs.declared.table.Column.{Column}
-use Rattle.rp_pattern.specs.PatternForm.{form_of}
-use Rattle.rp_syntax.specs.declared.tree.Name.{Name}
 use Rattle.rp_syntax.specs.declared.tree.Order.{Order}
-use Rattle.rp_syntax.specs.declared.tree.Offset.{Offset}
-use Rattle.rp_syntax.specs.declared.tree.Movement.TheVariants as movement
 use Rattle.rp_syntax.specs.declared.tree.RowsPerMatch.{RowsPerMatch}
 use Rattle.rp_syntax.specs.declared.tree.RowsPerMatch.TheVariants.{One, AllShowEmpty, AllOmitEmpty, AllWithUnmatched}
 use Rattle.rp_syntax.specs.declared.tree.Skip.{Skip}
 use Rattle.rp_syntax.specs.declared.tree.Skip.TheVariants as written
-use Rattle.rp_syntax.specs.Paths.{Path, At, Move}
-use Rattle.rp_syntax.specs.Terms.{Term, Number, Literal, Navigation, Aggregated, MatchNumber, Classifier, Negative, Not, IsNull, Operate}
+use Rattle.rp_syntax.specs.Terms.{Term}
 use Rattle.rp_syntax.specs.Clauses.{ClauseTree, MeasureTree, DefinitionTree}
 use Rattle.rp_check.specs.declared.query.SkipTo.{SkipTo}
 use Rattle.rp_check.specs.declared.query.SkipTo.TheVariants as skip
-use Rattle.rp_check.specs.declared.query.QueryData.{QueryData}
 use Rattle.rp_check.specs.declared.lists.OrderColumn.{OrderColumn}
-use Rattle.rp_check.specs.Formulas.{Formula, Kept, value_formula, condition_formula, kept_of, members_of}
+use Rattle.rp_check.specs.Formulas.{Formula, Kept, members_of}
 use Rattle.rp_check.specs.Context.{Context, members_named, column_named, is_name}
-use Rattle.rp_check.specs.Resolved.{resolved, totals, number_at, rows_or}
-use Rattle.rp_check.specs.Shapes.{shaped, shape_of}
-use Rattle.rp_check.specs.Variables.{is_among, variables_of, context}
+use Rattle.rp_check.specs.Resolved.{resolved, totals, number_at}
+use Rattle.rp_check.specs.Variables.{is_among}
 
 -- expressions after these totals, from the left, and their totals
 abbrev pub formulas : Context → List Kept → List Term → List Formula

@@ -21,7 +21,6 @@ use Rattle.rp_check.specs.declared.plan.RowsOf.TheVariants.{Universal, Listed}
 use Rattle.rp_check.specs.declared.plan.Navigation.{Navigation as Place}
 use Rattle.rp_check.specs.declared.plan.Edge.TheVariants.{First, Last}
 use Rattle.rp_check.specs.declared.plan.Step.TheVariants.{Back, Ahead}
-use Rattle.rp_check.specs.declared.plan.Function.{Function}
 use Rattle.rp_check.specs.declared.plan.Function.TheVariants as function
 use Rattle.rp_check.specs.declared.plan.Operation.TheVariants.{Plus, Minus, Times}
 use Rattle.rp_check.specs.declared.plan.Comparison.TheVariants as comparison

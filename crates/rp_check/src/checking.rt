@@ -59,7 +59,12 @@ fn name_all(alloc: Global, clause: &Clause) -> Result<Named, CheckFault>
     let mut variables = Vec::new(alloc);
     let form = read(alloc, &mut variables, &clause.pattern)?;
     let mut sets = variable_sets(alloc, variables.as_slice())?;
-    add_unions(alloc, variables.as_slice(), &mut sets, clause.subsets.as_slice())?;
+    add_unions(
+        alloc,
+        variables.as_slice(),
+        &mut sets,
+        clause.subsets.as_slice(),
+    )?;
     let classes = classes(alloc, variables.as_slice())?;
     let classes = Rc::new(alloc, classes)?;
     let pattern = Pattern::new(form);
@@ -170,7 +175,13 @@ pub fn check(alloc: Global, clause: Clause, table: &Table) -> Result<Query, Chec
     let columns = table.columns();
     let named = name_all(alloc, &clause)?;
     let listed = list_all(alloc, named.variables.as_slice(), columns, &clause)?;
-    let planned = plan_all(alloc, named.sets.as_slice(), columns, &named.classes, &clause)?;
+    let planned = plan_all(
+        alloc,
+        named.sets.as_slice(),
+        columns,
+        &named.classes,
+        &clause,
+    )?;
     allow_output(columns, &clause)?;
     let query = assembled(alloc, clause, table, named, listed, planned)?;
     Ok(query)
@@ -206,14 +217,17 @@ fn assembled(
         definitions: listed.definitions,
         totals,
     };
-    Query::new(alloc, QueryData {
-        text: clause.text,
-        table,
-        pattern: named.pattern,
-        output,
-        reach,
-        partition: listed.partition,
-        order: listed.order,
-        plan,
-    })
+    Query::new(
+        alloc,
+        QueryData {
+            text: clause.text,
+            table,
+            pattern: named.pattern,
+            output,
+            reach,
+            partition: listed.partition,
+            order: listed.order,
+            plan,
+        },
+    )
 }

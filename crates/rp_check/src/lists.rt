@@ -67,7 +67,11 @@ fn member(variables: &[Text], name: &Name) -> Result<usize, CheckFault>
     ensures { Answers (unless (is_among name.now.text variables.now) UnknownVariable name.now.at)
         (λ number. number ≡ number_of name.now.text variables.now) result }
 {
-    require(is_variable(&name.text, variables), CheckKind::UnknownVariable, name.at)?;
+    require(
+        is_variable(&name.text, variables),
+        CheckKind::UnknownVariable,
+        name.at,
+    )?;
     Ok(number_of(&name.text, variables))
 }
 

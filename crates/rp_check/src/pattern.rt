@@ -169,7 +169,11 @@ fn repeated(alloc: Global, body: Form, quantifier: Quantifier) -> Result<Form, A
 }
 
 #[cycle(read)]
-fn read_all(alloc: Global, names: &mut Vec<Text>, parts: &[Written]) -> Result<Vec<Form>, CheckFault>
+fn read_all(
+    alloc: Global,
+    names: &mut Vec<Text>,
+    parts: &[Written],
+) -> Result<Vec<Form>, CheckFault>
     ensures { Answers (all_faults (map tree_of parts.now))
         (λ fs. ReadsAll names.old.items (map tree_of parts.now) names.new.items fs.items) result }
 {
@@ -213,7 +217,12 @@ fn permutation(
 }
 
 #[cycle(read)]
-fn exclusion(alloc: Global, names: &mut Vec<Text>, at: usize, body: &Written) -> Result<Form, CheckFault>
+fn exclusion(
+    alloc: Global,
+    names: &mut Vec<Text>,
+    at: usize,
+    body: &Written,
+) -> Result<Form, CheckFault>
     ensures { let whole = tree.Exclusion at (tree_of body.now) in
         Answers (pattern_faults whole) (Reads names.old.items whole names.new.items) result }
 {
@@ -254,7 +263,12 @@ pub(crate) fn read(
         Written::Empty => Ok(Form::Empty),
         Written::PartitionStart => Ok(Form::PartitionStart),
         Written::PartitionEnd => Ok(Form::PartitionEnd),
-        Written::Concatenation(parts) => joined(alloc, names, Joint::Concatenation, parts.as_slice()),
+        Written::Concatenation(parts) => joined(
+            alloc,
+            names,
+            Joint::Concatenation,
+            parts.as_slice(),
+        ),
         Written::Alternation(parts) => joined(alloc, names, Joint::Alternation, parts.as_slice()),
         Written::Permute { at, parts } => permutation(alloc, names, *at, parts.as_slice()),
         Written::Exclusion { at, body } => exclusion(alloc, names, *at, &**body),

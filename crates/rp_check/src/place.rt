@@ -206,7 +206,7 @@ fn moved_path(
 ) -> Result<(Navigation, Kind), CheckFault>
     ensures { let path = Move movement 0 (path_of argument.now) offset in
         Answers (path_faults (context_of names.now) path)
-            (Navigates (context_of names.now) (map kept_of totals.old.items) path (map kept_of totals.new.items)) result }
+        (Navigates (context_of names.now) (map kept_of totals.old.items) path (map kept_of totals.new.items)) result }
 {
     allow_scope(names, scope_in(movement))?;
     allow_nesting(movement, argument)?;
@@ -292,30 +292,34 @@ fn counted(alloc: Global, names: &Names, argument: &Counted) -> Result<Total, Ch
         Counted::RowsOf(name) => {
             let variables = variables(alloc, names, name)?;
             let function = Function::Rows;
-            Ok(Total { variables, function })
+            Ok(Total {
+                variables,
+                function,
+            })
         }
         Counted::Column(reference) => {
             let (variables, number, _) = column(alloc, names, reference)?;
             let function = Function::Count(number);
-            Ok(Total { variables, function })
+            Ok(Total {
+                variables,
+                function,
+            })
         }
     }
 }
 
 /// SUM of a column, which must be of whole numbers.
-fn summed(
-    alloc: Global,
-    names: &Names,
-    at: usize,
-    reference: &Column,
-) -> Result<Total, CheckFault>
+fn summed(alloc: Global, names: &Names, at: usize, reference: &Column) -> Result<Total, CheckFault>
     ensures { Answers (column_faults (context_of names.now) reference.now ++ unless (may_be_number (column_sort (context_of names.now) reference.now)) KindMismatch at)
         (λ t. (members_of t.variables ≡ members_meant (context_of names.now) reference.now.qualifier) × (t.function ≡ Function.Sum (column_number (context_of names.now) reference.now))) result }
 {
     let (variables, number, kind) = column(alloc, names, reference)?;
     require(kind == Kind::Int, CheckKind::KindMismatch, at)?;
     let function = Function::Sum(number);
-    Ok(Total { variables, function })
+    Ok(Total {
+        variables,
+        function,
+    })
 }
 
 /// The total of an aggregate whose word stands at the offset, and the kind of its value.
@@ -334,12 +338,24 @@ pub(crate) fn totalled(
         AggregateFunction::Min(reference) => {
             let (variables, number, kind) = column(alloc, names, reference)?;
             let function = Function::Least(number);
-            Ok((Total { variables, function }, kind))
+            Ok((
+                Total {
+                    variables,
+                    function,
+                },
+                kind,
+            ))
         }
         AggregateFunction::Max(reference) => {
             let (variables, number, kind) = column(alloc, names, reference)?;
             let function = Function::Greatest(number);
-            Ok((Total { variables, function }, kind))
+            Ok((
+                Total {
+                    variables,
+                    function,
+                },
+                kind,
+            ))
         }
     }
 }

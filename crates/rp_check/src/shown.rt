@@ -30,7 +30,9 @@ pub(crate) fn classes(alloc: Global, variables: &[Text]) -> Result<Vec<Value>, A
 fn place_of_definition(name: &Text, definitions: &[Definition]) -> Option<usize>
     ensures { result ≡ position (λ d. is_name name.now d.name.text) definitions.now }
 {
-    definitions.iter().position(|definition| definition.name.text == *name)
+    definitions
+        .iter()
+        .position(|definition| definition.name.text == *name)
 }
 
 /// The place of a variable's definition.
@@ -73,7 +75,11 @@ fn add_order(alloc: Global, output: &mut Vec<Text>, order: &[Order]) -> Result<(
     Ok(())
 }
 
-fn add_measures(alloc: Global, output: &mut Vec<Text>, measures: &[Measure]) -> Result<(), AllocError>
+fn add_measures(
+    alloc: Global,
+    output: &mut Vec<Text>,
+    measures: &[Measure],
+) -> Result<(), AllocError>
     ensures { OnOk result (output.new.items ≡ output.old.items ++ map (λ m. m.name.text) (map measure_tree measures.now)) }
 {
     for measure in measures {

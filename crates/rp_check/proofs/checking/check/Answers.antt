@@ -1,9 +1,9 @@
-use Rattle.std.proofs.Common.{rules, ◌≡◌, [], false, true, ◌++◌}
+use Rattle.std.proofs.Common.{rules, ◌≡◌, [], false, true}
 use Rattle.rp_syntax.specs.Clauses.{clause_tree}
 use Rattle.rp_check.specs.Checked.{Tells}
 use Rattle.rp_check.specs.Checking.{IsListed, IsPlanned, spoken}
 use Rattle.rp_check.specs.ClauseFaults.{faults, name_faults, listing_faults, expression_faults, shown_faults}
-use Rattle.rp_check.proofs.Telling.{telling, tells_front, tells_memory}
+use Rattle.rp_check.proofs.Telling.{telling, tells_front}
 use Rattle.rp_check.proofs.Whole.{planned_in, is_query, list_wrong, plan_wrong, output_wrong, none_wrong}
 use Rattle.rp_check.proofs.checking.check.Goals as goal
 
@@ -51,6 +51,7 @@ returns c =
     let planned : expression_faults (spoken n.sets.items columns n.classes false) (spoken n.sets.items columns n.classes true) t ≡ [] = rw (← c.as_slice-2.ensures.value, ← c.columns-columns.ensures.columns) c.in_ok-planned.ensures.0 in
     let shown : shown_faults columns t ≡ [] = rw (← c.columns-columns.ensures.columns) c.in_ok-allow_output.ensures.0 in
     let is_listed : IsListed n.variables.items columns t c.in_ok-listed.listed = rw (← c.as_slice.ensures.value, ← c.columns-columns.ensures.columns) c.in_ok-listed.ensures.1 in
-    let is_planned : IsPlanned (spoken n.sets.items columns n.classes false) (spoken n.sets.items columns n.classes true) t c.in_ok-planned.planned = rw (← c.as_slice-2.ensures.value, ← c.columns-columns.ensures.columns) c.in_ok-planned.ensures.1 in
-    (none_wrong t columns n c.in_ok-named.ensures.0 c.in_ok-named.ensures.1 listed planned shown,
-     is_query t c.args.clause.text columns n c.in_ok-listed.listed c.in_ok-planned.planned _ c.in_ok-named.ensures.1 is_listed (planned_in t columns n c.in_ok-planned.planned c.in_ok-named.ensures.1 is_planned) c.in_ok-query.ensures)
+    let is_planned : IsPlanned (spoken n.sets.items columns n.classes false) (spoken n.sets.items columns n.classes true) t c.in_ok-planned.planned = rw (← c.as_slice-2.ensures.value, ← c.columns-columns.ensures.columns) c.in_ok-planned.ensures.1 in (
+      none_wrong t columns n c.in_ok-named.ensures.0 c.in_ok-named.ensures.1 listed planned shown,
+      is_query t c.args.clause.text columns n c.in_ok-listed.listed c.in_ok-planned.planned _ c.in_ok-named.ensures.1 is_listed (planned_in t columns n c.in_ok-planned.planned c.in_ok-named.ensures.1 is_planned) c.in_ok-query.ensures,
+    )

@@ -1,7 +1,5 @@
-use Rattle.std.proofs.Common.{rules, refl, ◌≡◌, ◌∙◌, ◌+◌, ◌++◌, [], ◌∷◌, map, take, drop, length, ap, arith, sym, append_assoc, cond, Some}
-use Rattle.std.specs.List.{list_any}
-use Rattle.std.specs.Prelude.{nat_eq}
-use Rattle.std.proofs.lemmas.List.{drop_all, take_all, map_push}
+use Rattle.std.proofs.Common.{rules, ◌+◌, map, drop}
+use Rattle.std.proofs.lemmas.List.{drop_all, map_push}
 use Rattle.rp_check.proofs.Telling.{telling}
 use Rattle.rp_syntax.specs.Clauses.{definition_tree}
 use Rattle.rp_syntax.specs.Terms.{term_of}
@@ -37,13 +35,14 @@ loop-i-preserved c =
     record {
       clean = goes_on definition_tree (definition_faults x) xs i m c.loop-i-test.true c.index-written-i.is c.loop-i.invariant.clean c.in_ok-condition.ensures.0;
       done = rw (c.in_ok-push.ensures.items, map_push condition_formula c.loop-i.conditions.items c.in_ok-condition.condition)
-        (one_done x (map kept_of c.args.totals.now.items) (terms_of_definitions (map definition_tree xs)) (map condition_formula c.loop-i.conditions.items) (map kept_of c.loop-i.totals.items) (map kept_of c.defined.new.totals.items) (term_of m.expr) (terms_of_definitions (map definition_tree (drop (i + 1) xs))) (condition_formula c.in_ok-condition.condition) so c.in_ok-condition.ensures.1.0 c.in_ok-condition.ensures.1.1);
+          (one_done x (map kept_of c.args.totals.now.items) (terms_of_definitions (map definition_tree xs)) (map condition_formula c.loop-i.conditions.items) (map kept_of c.loop-i.totals.items) (map kept_of c.defined.new.totals.items) (term_of m.expr) (terms_of_definitions (map definition_tree (drop (i + 1) xs))) (condition_formula c.in_ok-condition.condition) so c.in_ok-condition.ensures.1.0 c.in_ok-condition.ensures.1.1);
     }
 
 pub returns : goal.returns
 returns c =
     let x = context_of c.args.names.now in
     let xs = c.args.written.now in
-    let so = rw (drop_all c.loop-i.i xs c.loop-i-test.false) at c.loop-i.invariant.done in
-    (ends definition_tree (definition_faults x) xs c.loop-i.i c.loop-i-test.false c.loop-i.invariant.clean,
-     all_done x (map kept_of c.args.totals.now.items) (terms_of_definitions (map definition_tree xs)) (map condition_formula c.loop-i.conditions.items) (map kept_of c.loop-i.totals.items) so)
+    let so = rw (drop_all c.loop-i.i xs c.loop-i-test.false) at c.loop-i.invariant.done in (
+      ends definition_tree (definition_faults x) xs c.loop-i.i c.loop-i-test.false c.loop-i.invariant.clean,
+      all_done x (map kept_of c.args.totals.now.items) (terms_of_definitions (map definition_tree xs)) (map condition_formula c.loop-i.conditions.items) (map kept_of c.loop-i.totals.items) so,
+    )

@@ -11,5 +11,5 @@ use Rattle.rp_check.proofs.expressions.conditions.Given as goal
 abbrev pub invariant-loop-i : goal.invariant-loop-i
 invariant-loop-i l = record {
   clean : IsLeft definition_tree (definition_faults (context_of l.names)) l.written l.i;
-  done : AreDone (context_of l.names) (map kept_of l.fn.totals.items) (terms_of_definitions (map definition_tree l.written)) (map condition_formula l.conditions.items) (map kept_of l.totals.items) (terms_of_definitions (map definition_tree (drop l.i l.written)))
+  done : AreDone (context_of l.names) (map kept_of l.fn.totals.items) (terms_of_definitions (map definition_tree l.written)) (map condition_formula l.conditions.items) (map kept_of l.totals.items) (terms_of_definitions (map definition_tree (drop l.i l.written)));
 }
