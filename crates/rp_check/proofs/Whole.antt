@@ -1,0 +1,85 @@
+-- What was found of a clause is its query.
+use Rattle.std.proofs.Common.{◌≡◌, ◌∙◌, ℕ, Bool, true, false, List, [], ◌++◌, map, refl, ap}
+use Rattle.std.proofs.lemmas.List.{append-nil}
+use Rattle.rp_pattern.specs.declared.form.Form.{Form}
+use Rattle.rp_value.specs.declared.value.Value.TheVariants as value
+use Rattle.rp_value.specs.declared.table.Column.{Column}
+use Rattle.rp_pattern.specs.PatternForm.{form_of}
+use Rattle.rp_syntax.specs.Clauses.{ClauseTree}
+use Rattle.rp_check.specs.declared.checking.Named.{Named}
+use Rattle.rp_check.specs.declared.checking.Listed.{Listed}
+use Rattle.rp_check.specs.declared.checking.Planned.{Planned}
+use Rattle.rp_check.specs.declared.fault.CheckFault.{CheckFault}
+use Rattle.rp_check.specs.declared.query.QueryData.{QueryData}
+use Rattle.rp_check.specs.Asked.{IsQueryOf, measuring, defining}
+use Rattle.rp_check.specs.Checked.{Tells}
+use Rattle.rp_check.specs.Checking.{IsNamed, IsListed, IsPlanned, IsMadeOf, spoken}
+use Rattle.rp_check.specs.ClauseFaults.{faults, name_faults, listing_faults, expression_faults, shown_faults}
+use Rattle.rp_check.specs.Context.{naming_of}
+use Rattle.rp_check.specs.Formulas.{value_formula, condition_formula, kept_of}
+use Rattle.rp_check.specs.Queries.{rule_of}
+use Rattle.rp_check.specs.Reading.{Reads}
+use Rattle.rp_check.specs.Shapes.{shape_of, shaped}
+use Rattle.rp_check.specs.Variables.{variables_of, context, numbered, union_of}
+use Rattle.rp_check.proofs.Telling.{tells_front, tells_behind, none_in_both}
+
+pub is_named : (c : ClauseTree) (n : Named) (f : Form) → Reads [] c.pattern n.variables.items f → form_of n.pattern ≡ f
+    → map naming_of n.sets.items ≡ numbered 0 n.variables.items ++ map (union_of n.variables.items) c.subsets → n.classes.value.items ≡ map value.Text n.variables.items → IsNamed c n
+is_named c n f r is sets classes = record {
+  pattern = ap shape_of is ∙ (r.shape [] ∙ ap (λ ns. shaped ns c.pattern) (append-nil n.variables.items ∙ r.names));
+  variables = r.names;
+  sets = rw (← r.names) sets;
+  classes = rw (← r.names) classes;
+}
+
+pub same_context : (c : ClauseTree) (columns : List Column) (n : Named) (b : Bool) → IsNamed c n → spoken n.sets.items columns n.classes b ≡ context (variables_of c.pattern) c.subsets columns b
+same_context c columns n b is = rw (is.sets, is.classes) refl
+
+pub planned_in : (c : ClauseTree) (columns : List Column) (n : Named) (p : Planned) → IsNamed c n
+    → IsPlanned (spoken n.sets.items columns n.classes false) (spoken n.sets.items columns n.classes true) c p → IsPlanned (measuring c columns) (defining c columns) c p
+planned_in c columns n p is plan = rw (← same_context c columns n false is, ← same_context c columns n true is) plan
+
+pub is_query : (c : ClauseTree) (written : List ℕ) (columns : List Column) (n : Named) (l : Listed) (p : Planned) (d : QueryData)
+    → IsNamed c n → IsListed n.variables.items columns c l → IsPlanned (measuring c columns) (defining c columns) c p → IsMadeOf c written columns n l p d → IsQueryOf c written columns d
+is_query c written columns n l p d named listed planned made = record {
+  text = made.text;
+  table = made.table;
+  pattern = ap (λ q. shape_of (form_of q)) made.pattern ∙ named.pattern;
+  output = made.output;
+  reach = rw (made.measures, made.conditions) made.reach;
+  partition = ap (λ v. v.items) made.partition ∙ listed.partition;
+  order = ap (λ v. v.items) made.order ∙ listed.order;
+  measures = ap (λ v. map value_formula v.items) made.measures ∙ planned.measures;
+  rows = made.rows;
+  skip = ap rule_of made.skip ∙ planned.skip;
+  conditions = ap (λ v. map condition_formula v.items) made.conditions ∙ planned.conditions;
+  definitions = ap (λ v. v.items) made.definitions ∙ rw (← named.variables) listed.definitions;
+  totals = ap (λ v. map kept_of v.items) made.totals ∙ planned.totals;
+}
+
+module _ (c : ClauseTree) (columns : List Column) (n : Named) (e : CheckFault) where
+  pub list_wrong : name_faults c ≡ [] → IsNamed c n → Tells e (listing_faults n.variables.items columns c) → Tells e (faults c columns)
+  list_wrong none is told =
+      tells_behind e (name_faults c) _ none (tells_front e (listing_faults (variables_of c.pattern) columns c) _ (rw (← is.variables) told))
+
+  pub plan_wrong : name_faults c ≡ [] → IsNamed c n → listing_faults n.variables.items columns c ≡ []
+      → Tells e (expression_faults (spoken n.sets.items columns n.classes false) (spoken n.sets.items columns n.classes true) c) → Tells e (faults c columns)
+  plan_wrong none is listed told =
+      tells_behind e (name_faults c) _ none
+      (tells_behind e (listing_faults (variables_of c.pattern) columns c) _ (rw (← is.variables) listed)
+      (tells_front e (expression_faults (measuring c columns) (defining c columns) c) _ (rw (← same_context c columns n false is, ← same_context c columns n true is) told)))
+
+  pub output_wrong : name_faults c ≡ [] → IsNamed c n → listing_faults n.variables.items columns c ≡ []
+      → expression_faults (spoken n.sets.items columns n.classes false) (spoken n.sets.items columns n.classes true) c ≡ [] → Tells e (shown_faults columns c) → Tells e (faults c columns)
+  output_wrong none is listed planned told =
+      tells_behind e (name_faults c) _ none
+      (tells_behind e (listing_faults (variables_of c.pattern) columns c) _ (rw (← is.variables) listed)
+      (tells_behind e (expression_faults (measuring c columns) (defining c columns) c) _ (rw (← same_context c columns n false is, ← same_context c columns n true is) planned) told))
+
+module _ (c : ClauseTree) (columns : List Column) (n : Named) where
+  pub none_wrong : name_faults c ≡ [] → IsNamed c n → listing_faults n.variables.items columns c ≡ []
+      → expression_faults (spoken n.sets.items columns n.classes false) (spoken n.sets.items columns n.classes true) c ≡ [] → shown_faults columns c ≡ [] → faults c columns ≡ []
+  none_wrong none is listed planned shown =
+      none_in_both (name_faults c) _ none
+      (none_in_both (listing_faults (variables_of c.pattern) columns c) _ (rw (← is.variables) listed)
+      (none_in_both (expression_faults (measuring c columns) (defining c columns) c) _ (rw (← same_context c columns n false is, ← same_context c columns n true is) planned) shown))

@@ -1,0 +1,57 @@
+-- A row pattern as plain data, its variables by number.
+use Rattle.std.specs.Prelude.{ℕ, Bool, List, [], ◌∷◌, map, Option, option_map}
+use Rattle.rp_pattern.specs.declared.form.Form.{Form}
+use Rattle.rp_pattern.specs.declared.form.Form.TheOpen as F
+use Rattle.rp_pattern.specs.declared.form.Form.TheFolds.{fold-Form}
+use Rattle.rp_syntax.specs.Tree as tree
+use Rattle.rp_syntax.specs.Tree.{Tree}
+use Rattle.rp_check.specs.Variables.{number_of}
+
+-- the parts of PERMUTE are nested from the right by `Beside`
+pub data Shape : Type 0 where
+  Variable : ℕ → Shape
+  Empty : Shape
+  PartitionStart : Shape
+  PartitionEnd : Shape
+  Concatenation : Shape → Shape → Shape
+  Alternation : Shape → Shape → Shape
+  Permute : Shape → Shape
+  Beside : Shape → Shape → Shape
+  Exclusion : Shape → Shape
+  Quantified : Shape → ℕ → Option ℕ → Bool → Shape
+
+abbrev pub joined : (Shape → Shape → Shape) → Shape → List Shape → Shape
+joined f s [] = s
+joined f s (t ∷ ts) = f s (joined f t ts)
+
+abbrev pub joined_all : (Shape → Shape → Shape) → List Shape → Shape
+joined_all f [] = Empty
+joined_all f (s ∷ ss) = joined f s ss
+
+abbrev pub shape_step : F.Form-F Shape → Shape
+shape_step (F.Variable v) = Variable v
+shape_step F.Empty = Empty
+shape_step (F.Concatenation p q) = Concatenation p.value q.value
+shape_step (F.Alternation p q) = Alternation p.value q.value
+shape_step F.PartitionStart = PartitionStart
+shape_step F.PartitionEnd = PartitionEnd
+shape_step (F.Permute ps) = Permute (joined_all Beside (map (λ p. p.value) ps.items))
+shape_step (F.Exclusion p) = Exclusion p.value
+shape_step (F.Quantified p lower upper reluctant) = Quantified p.value lower upper reluctant
+
+-- the shape of a pattern
+abbrev pub shape_of : Form → Shape
+shape_of = fold-Form Shape shape_step
+
+-- the shape of a pattern as it is written, whose variables have the numbers of these names
+abbrev pub shaped : List (List ℕ) → Tree → Shape
+shaped names (tree.Variable name) = Variable (number_of name.text names)
+shaped names tree.Empty = Empty
+shaped names tree.PartitionStart = PartitionStart
+shaped names tree.PartitionEnd = PartitionEnd
+shaped names (tree.Concatenation a b) = Concatenation (shaped names a) (shaped names b)
+shaped names (tree.Alternation a b) = Alternation (shaped names a) (shaped names b)
+shaped names (tree.Beside a b) = Beside (shaped names a) (shaped names b)
+shaped names (tree.Permute at body) = Permute (shaped names body)
+shaped names (tree.Exclusion at body) = Exclusion (shaped names body)
+shaped names (tree.Quantified q body) = Quantified (shaped names body) q.lower.count (option_map (λ b. b.count) q.upper) q.reluctant

@@ -1,0 +1,233 @@
+//! A clause is checked, and becomes a query.
+
+ghost use Rattle.std.specs.Prelude.{true, false, IfOk};
+ghost use Rattle.rp_syntax.specs.Clauses.{clause_tree};
+ghost use Rattle.rp_check.specs.Checked.{Answers};
+ghost use Rattle.rp_check.specs.ClauseFaults.{faults, name_faults, listing_faults, expression_faults, shown_faults, unmatched_faults};
+ghost use Rattle.rp_check.specs.Asked.{IsQueryOf};
+ghost use Rattle.rp_check.specs.QueryView.{data_of};
+ghost use Rattle.rp_check.specs.Checking.{IsNamed, IsListed, IsPlanned, IsMadeOf, spoken};
+ghost use Rattle.rp_syntax.specs.Tree.{tree_of};
+
+use crate::expressions::{conditions, measures, skip_to};
+use crate::fault::{CheckFault, CheckKind};
+use crate::lists::{
+    OrderColumn, add_unions, allow_definitions, allow_measures, order_columns, partition_columns,
+    variable_sets,
+};
+use crate::names::{NamedSet, Names};
+use crate::pattern::{first_exclusion, read};
+use crate::place::fault;
+use crate::plan::{Condition, Expr, Total};
+use crate::query::{Plan, Query, QueryData, SkipTo};
+use crate::shown::{classes, definition_places, output_names, whole_reach};
+use rp_pattern::Pattern;
+use rp_syntax::{Clause, Pattern as Written, RowsPerMatch};
+use rp_value::{Column, Table, Text, Value};
+use std::alloc::{AllocError, Global};
+use std::rc::Rc;
+
+/// The pattern, and the names of variables and unions.
+#[derive(Drop)]
+pub(crate) struct Named {
+    pub(crate) pattern: Pattern,
+    pub(crate) variables: Vec<Text>,
+    pub(crate) sets: Vec<NamedSet>,
+    pub(crate) classes: Rc<Vec<Value>>,
+}
+
+/// The columns of PARTITION BY and ORDER BY, and the place of each variable's definition.
+#[derive(Drop)]
+pub(crate) struct Listed {
+    pub(crate) partition: Vec<usize>,
+    pub(crate) order: Vec<OrderColumn>,
+    pub(crate) definitions: Vec<Option<usize>>,
+}
+
+/// The expressions with names resolved.
+#[derive(Drop)]
+pub(crate) struct Planned {
+    pub(crate) measures: Vec<Expr>,
+    pub(crate) conditions: Vec<Condition>,
+    pub(crate) skip: SkipTo,
+    pub(crate) totals: Vec<Total>,
+}
+
+fn name_all(alloc: Global, clause: &Clause) -> Result<Named, CheckFault>
+    ensures { Answers (name_faults (clause_tree clause.now)) (IsNamed (clause_tree clause.now)) result }
+{
+    let mut variables = Vec::new(alloc);
+    let form = read(alloc, &mut variables, &clause.pattern)?;
+    let mut sets = variable_sets(alloc, variables.as_slice())?;
+    add_unions(
+        alloc,
+        variables.as_slice(),
+        &mut sets,
+        clause.subsets.as_slice(),
+    )?;
+    let classes = classes(alloc, variables.as_slice())?;
+    let classes = Rc::new(alloc, classes)?;
+    let pattern = Pattern::new(form);
+    Ok(Named {
+        pattern,
+        variables,
+        sets,
+        classes,
+    })
+}
+
+fn list_all(
+    alloc: Global,
+    variables: &[Text],
+    columns: &[Column],
+    clause: &Clause,
+) -> Result<Listed, CheckFault>
+    ensures { Answers (listing_faults variables.now columns.now (clause_tree clause.now)) (IsListed variables.now columns.now (clause_tree clause.now)) result }
+{
+    let partition = partition_columns(alloc, columns, clause.partition.as_slice())?;
+    let order = order_columns(
+        alloc,
+        columns,
+        clause.partition.as_slice(),
+        clause.order.as_slice(),
+    )?;
+    allow_definitions(variables, clause.definitions.as_slice())?;
+    let definitions = definition_places(alloc, variables, clause.definitions.as_slice())?;
+    Ok(Listed {
+        partition,
+        order,
+        definitions,
+    })
+}
+
+fn plan_all(
+    alloc: Global,
+    sets: &[NamedSet],
+    columns: &[Column],
+    classes: &Rc<Vec<Value>>,
+    clause: &Clause,
+) -> Result<Planned, CheckFault>
+    ensures { Answers (expression_faults (spoken sets.now columns.now classes.now false) (spoken sets.now columns.now classes.now true) (clause_tree clause.now))
+        (IsPlanned (spoken sets.now columns.now classes.now false) (spoken sets.now columns.now classes.now true) (clause_tree clause.now)) result }
+{
+    let measuring = Names {
+        sets,
+        columns,
+        in_define: false,
+        classes,
+    };
+    let defining = Names {
+        sets,
+        columns,
+        in_define: true,
+        classes,
+    };
+    let mut totals = Vec::new(alloc);
+    let measures = measures(alloc, &measuring, &mut totals, clause.measures.as_slice())?;
+    let conditions = conditions(alloc, &defining, &mut totals, clause.definitions.as_slice())?;
+    let skip = skip_to(alloc, &measuring, &clause.skip)?;
+    Ok(Planned {
+        measures,
+        conditions,
+        skip,
+        totals,
+    })
+}
+
+/// Rows that no match has aren't given beside rows that aren't shown.
+fn allow_unmatched(rows: RowsPerMatch, pattern: &Written) -> Result<(), CheckFault>
+    ensures { Answers (unmatched_faults rows (tree_of pattern.now)) (λ u. Unit {0}) result }
+{
+    match rows {
+        RowsPerMatch::One => Ok(()),
+        RowsPerMatch::AllShowEmpty => Ok(()),
+        RowsPerMatch::AllOmitEmpty => Ok(()),
+        RowsPerMatch::AllWithUnmatched => match first_exclusion(pattern) {
+            None => Ok(()),
+            Some(at) => Err(fault(CheckKind::ExclusionWithUnmatched, at)),
+        },
+    }
+}
+
+/// What the output has is named once, and unmatched rows and exclusion don't stand together.
+fn allow_output(columns: &[Column], clause: &Clause) -> Result<(), CheckFault>
+    ensures { Answers (shown_faults columns.now (clause_tree clause.now)) (λ u. Unit {0}) result }
+{
+    allow_unmatched(clause.rows, &clause.pattern)?;
+    allow_measures(
+        clause.rows,
+        clause.partition.as_slice(),
+        columns,
+        clause.measures.as_slice(),
+    )?;
+    Ok(())
+}
+
+/// The query of a clause over a table, or the first of the clause's faults.
+///
+/// The faults are looked for in this order: the pattern's bounds and PERMUTEs; SUBSET; PARTITION BY and ORDER BY; the
+/// names of DEFINE; the expressions of MEASURES and then of DEFINE; the skip's variable; exclusion with unmatched rows;
+/// the names of measures. `OutOfMemory` may come before any of them.
+pub fn check(alloc: Global, clause: Clause, table: &Table) -> Result<Query, CheckFault>
+    ensures { Answers (faults (clause_tree clause) table.now)
+        (λ query. IsQueryOf (clause_tree clause) clause.text table.now (data_of query)) result }
+{
+    let columns = table.columns();
+    let named = name_all(alloc, &clause)?;
+    let listed = list_all(alloc, named.variables.as_slice(), columns, &clause)?;
+    let planned = plan_all(
+        alloc,
+        named.sets.as_slice(),
+        columns,
+        &named.classes,
+        &clause,
+    )?;
+    allow_output(columns, &clause)?;
+    let query = assembled(alloc, clause, table, named, listed, planned)?;
+    Ok(query)
+}
+
+/// The query of what was found.
+fn assembled(
+    alloc: Global,
+    clause: Clause,
+    table: &Table,
+    named: Named,
+    listed: Listed,
+    planned: Planned,
+) -> Result<Query, AllocError>
+    ensures { IfOk result (λ query. IsMadeOf (clause_tree clause) clause.text table.now named listed planned (data_of query)) }
+{
+    let output = output_names(
+        alloc,
+        clause.rows,
+        clause.partition.as_slice(),
+        clause.order.as_slice(),
+        clause.measures.as_slice(),
+        table.columns(),
+    )?;
+    let reach = whole_reach(planned.measures.as_slice(), planned.conditions.as_slice());
+    let table = table.share()?;
+    let totals = Rc::new(alloc, planned.totals)?;
+    let plan = Plan {
+        measures: planned.measures,
+        rows: clause.rows,
+        skip: planned.skip,
+        conditions: planned.conditions,
+        definitions: listed.definitions,
+        totals,
+    };
+    Query::new(
+        alloc,
+        QueryData {
+            text: clause.text,
+            table,
+            pattern: named.pattern,
+            output,
+            reach,
+            partition: listed.partition,
+            order: listed.order,
+            plan,
+        },
+    )
+}

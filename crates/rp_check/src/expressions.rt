@@ -1,0 +1,111 @@
+//! The expressions of MEASURES and DEFINE, and the skip's variable.
+
+ghost use Rattle.std.specs.Prelude.{◌≡◌, ◌++◌, Some, map};
+ghost use Rattle.rp_syntax.specs.Terms.{term_of};
+ghost use Rattle.rp_syntax.specs.Clauses.{measure_tree, definition_tree};
+ghost use Rattle.rp_check.specs.Formulas.{kept_of, value_formula, condition_formula};
+ghost use Rattle.rp_check.specs.Context.{context_of};
+ghost use Rattle.rp_check.specs.Sorts.{sort_of, may_be_value, may_be_condition};
+ghost use Rattle.rp_check.specs.ExprFaults.{unless, expr_faults};
+ghost use Rattle.rp_check.specs.ClauseFaults.{each, measure_faults, definition_faults, skip_faults};
+ghost use Rattle.rp_check.specs.Resolved.{resolved};
+ghost use Rattle.rp_check.specs.Resolved.{totals as totals_in};
+ghost use Rattle.rp_check.specs.Queries.{formulas, totals_of, terms_of_measures, terms_of_definitions, rule_of, rule_meant};
+ghost use Rattle.rp_check.specs.Checked.{Answers};
+ghost use Rattle.rp_check.specs.declared.fault.CheckKind.TheVariants.{KindMismatch};
+
+use crate::expr::resolve;
+use crate::fault::{CheckFault, CheckKind};
+use crate::names::Names;
+use crate::operand::{condition, value};
+use crate::place::{fault, variables};
+use crate::plan::{Condition, Expr, Total};
+use crate::query::SkipTo;
+use rp_syntax::{Definition, Expr as Written, Measure, Skip};
+use std::alloc::Global;
+
+/// A measure's expression, which begins at the offset and must be a value.
+fn measured(
+    alloc: Global,
+    names: &Names,
+    totals: &mut Vec<Total>,
+    at: usize,
+    expr: &Written,
+) -> Result<Expr, CheckFault>
+    ensures { Answers (expr_faults (context_of names.now) (term_of expr.now) ++ unless (may_be_value (sort_of (context_of names.now) (term_of expr.now))) KindMismatch at)
+        (λ e. (value_formula e ≡ resolved (context_of names.now) (map kept_of totals.old.items) (term_of expr.now)) × (map kept_of totals.new.items ≡ map kept_of totals.old.items ++ totals_in (context_of names.now) (term_of expr.now))) result }
+{
+    let found = resolve(alloc, names, totals, expr)?;
+    match value(found) {
+        Some(expr) => Ok(expr),
+        None => Err(fault(CheckKind::KindMismatch, at)),
+    }
+}
+
+/// A definition's expression, which begins at the offset and must be a condition.
+fn defined(
+    alloc: Global,
+    names: &Names,
+    totals: &mut Vec<Total>,
+    at: usize,
+    expr: &Written,
+) -> Result<Condition, CheckFault>
+    ensures { Answers (expr_faults (context_of names.now) (term_of expr.now) ++ unless (may_be_condition (sort_of (context_of names.now) (term_of expr.now))) KindMismatch at)
+        (λ c. (condition_formula c ≡ resolved (context_of names.now) (map kept_of totals.old.items) (term_of expr.now)) × (map kept_of totals.new.items ≡ map kept_of totals.old.items ++ totals_in (context_of names.now) (term_of expr.now))) result }
+{
+    let found = resolve(alloc, names, totals, expr)?;
+    match condition(found) {
+        Some(condition) => Ok(condition),
+        None => Err(fault(CheckKind::KindMismatch, at)),
+    }
+}
+
+/// The measures, with names resolved. Their totals are put behind those before them.
+pub(crate) fn measures(
+    alloc: Global,
+    names: &Names,
+    totals: &mut Vec<Total>,
+    written: &[Measure],
+) -> Result<Vec<Expr>, CheckFault>
+    ensures { Answers (each (measure_faults (context_of names.now)) (map measure_tree written.now))
+        (λ es. (map value_formula es.items ≡ formulas (context_of names.now) (map kept_of totals.old.items) (terms_of_measures (map measure_tree written.now))) × (map kept_of totals.new.items ≡ map kept_of totals.old.items ++ totals_of (context_of names.now) (terms_of_measures (map measure_tree written.now)))) result }
+{
+    let mut exprs = Vec::new(alloc);
+    for i in 0..written.len() {
+        let measure = &written[i];
+        let expr = measured(alloc, names, totals, measure.at, &measure.expr)?;
+        exprs.push(expr)?;
+    }
+    Ok(exprs)
+}
+
+/// The conditions of DEFINE, with names resolved. Their totals are put behind those before them.
+pub(crate) fn conditions(
+    alloc: Global,
+    names: &Names,
+    totals: &mut Vec<Total>,
+    written: &[Definition],
+) -> Result<Vec<Condition>, CheckFault>
+    ensures { Answers (each (definition_faults (context_of names.now)) (map definition_tree written.now))
+        (λ cs. (map condition_formula cs.items ≡ formulas (context_of names.now) (map kept_of totals.old.items) (terms_of_definitions (map definition_tree written.now))) × (map kept_of totals.new.items ≡ map kept_of totals.old.items ++ totals_of (context_of names.now) (terms_of_definitions (map definition_tree written.now)))) result }
+{
+    let mut conditions = Vec::new(alloc);
+    for i in 0..written.len() {
+        let definition = &written[i];
+        let condition = defined(alloc, names, totals, definition.at, &definition.expr)?;
+        conditions.push(condition)?;
+    }
+    Ok(conditions)
+}
+
+/// The skip rule, with its name resolved.
+pub(crate) fn skip_to(alloc: Global, names: &Names, skip: &Skip) -> Result<SkipTo, CheckFault>
+    ensures { Answers (skip_faults (context_of names.now) skip.now) (λ s. rule_of s ≡ rule_meant (context_of names.now) skip.now) result }
+{
+    match skip {
+        Skip::PastLastRow => Ok(SkipTo::PastLastRow),
+        Skip::ToNextRow => Ok(SkipTo::NextRow),
+        Skip::ToFirst(name) => Ok(SkipTo::First(variables(alloc, names, name)?)),
+        Skip::ToLast(name) => Ok(SkipTo::Last(variables(alloc, names, name)?)),
+    }
+}

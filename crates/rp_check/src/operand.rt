@@ -1,0 +1,253 @@
+//! Operators.
+
+ghost use Rattle.std.specs.Prelude.{◌≡◌, true, false, Some, IfOk, MatchOption, pos};
+ghost use Rattle.rp_value.specs.declared.value.Value.TheVariants as value;
+ghost use Rattle.rp_value.specs.declared.value.Kind.TheVariants as kind_as;
+ghost use Rattle.rp_check.specs.Formulas.{value_formula, condition_formula};
+ghost use Rattle.rp_check.specs.Formulas as formula;
+ghost use Rattle.rp_check.specs.Sorts.{Valued, Judged, may_be_number, may_be_text, may_be_value, may_be_condition, numbers, conditions, comparable, takes, operator_sort};
+ghost use Rattle.rp_check.specs.ExprFaults.{unless};
+ghost use Rattle.rp_check.specs.Resolved.{operated, nullness};
+ghost use Rattle.rp_check.specs.Checked.{Answers, sort_in, formula_in};
+ghost use Rattle.rp_check.specs.declared.fault.CheckKind.TheVariants.{KindMismatch};
+ghost use Rattle.rp_check.specs.declared.plan.Operation.TheVariants.{Minus};
+
+use crate::fault::{CheckFault, CheckKind};
+use crate::place::{fault, require};
+use crate::plan::{Condition, Expr, Operation};
+use crate::resolved::Resolved;
+use rp_syntax::{Operation as Sign, Operator};
+use rp_value::{Comparison, Kind, Value};
+use std::alloc::{AllocError, Global};
+
+/// The expression of a value.
+pub(crate) fn value(operand: Resolved) -> Option<Expr>
+    ensures { MatchOption result (may_be_value (Some (sort_in operand)) ≡ false) (λ e. (may_be_value (Some (sort_in operand)) ≡ true) × (value_formula e ≡ formula_in operand)) }
+{
+    match operand {
+        Resolved::Value(expr, _) => Some(expr),
+        Resolved::Condition(_) => None,
+    }
+}
+
+/// The expression of a whole number.
+fn number(operand: Resolved) -> Option<Expr>
+    ensures { MatchOption result (may_be_number (Some (sort_in operand)) ≡ false) (λ e. (may_be_number (Some (sort_in operand)) ≡ true) × (value_formula e ≡ formula_in operand)) }
+{
+    match operand {
+        Resolved::Value(expr, Kind::Int) => Some(expr),
+        Resolved::Value(_, Kind::Text) => None,
+        Resolved::Condition(_) => None,
+    }
+}
+
+/// The condition, if it is one.
+pub(crate) fn condition(operand: Resolved) -> Option<Condition>
+    ensures { MatchOption result (may_be_condition (Some (sort_in operand)) ≡ false) (λ c. (may_be_condition (Some (sort_in operand)) ≡ true) × (condition_formula c ≡ formula_in operand)) }
+{
+    match operand {
+        Resolved::Value(_, _) => None,
+        Resolved::Condition(condition) => Some(condition),
+    }
+}
+
+fn calculated(
+    alloc: Global,
+    operation: Operation,
+    left: Expr,
+    right: Expr,
+) -> Result<Expr, AllocError>
+    ensures { IfOk result (λ e. value_formula e ≡ formula.Arithmetic operation (value_formula left) (value_formula right)) }
+{
+    let left = Box::new(alloc, left)?;
+    let right = Box::new(alloc, right)?;
+    Ok(Expr::Arithmetic(operation, left, right))
+}
+
+fn negated(alloc: Global, body: Condition) -> Result<Condition, AllocError>
+    ensures { IfOk result (λ c. condition_formula c ≡ formula.Not (condition_formula body)) }
+{
+    let body = Box::new(alloc, body)?;
+    Ok(Condition::Not(body))
+}
+
+fn both(alloc: Global, left: Condition, right: Condition) -> Result<Condition, AllocError>
+    ensures { IfOk result (λ c. condition_formula c ≡ formula.And (condition_formula left) (condition_formula right)) }
+{
+    let left = Box::new(alloc, left)?;
+    let right = Box::new(alloc, right)?;
+    Ok(Condition::And(left, right))
+}
+
+fn either(alloc: Global, left: Condition, right: Condition) -> Result<Condition, AllocError>
+    ensures { IfOk result (λ c. condition_formula c ≡ formula.Or (condition_formula left) (condition_formula right)) }
+{
+    let left = Box::new(alloc, left)?;
+    let right = Box::new(alloc, right)?;
+    Ok(Condition::Or(left, right))
+}
+
+/// A calculation with two whole numbers.
+fn arithmetic(
+    alloc: Global,
+    at: usize,
+    operation: Operation,
+    left: Resolved,
+    right: Resolved,
+) -> Result<Resolved, CheckFault>
+    ensures { Answers (unless (numbers (Some (sort_in left)) (Some (sort_in right))) KindMismatch at) (λ r. (sort_in r ≡ Valued kind_as.Int) × (formula_in r ≡ formula.Arithmetic operation (formula_in left) (formula_in right))) result }
+{
+    let Some(left) = number(left) else {
+        return Err(fault(CheckKind::KindMismatch, at));
+    };
+    let Some(right) = number(right) else {
+        return Err(fault(CheckKind::KindMismatch, at));
+    };
+    Ok(Resolved::Value(calculated(alloc, operation, left, right)?, Kind::Int))
+}
+
+/// AND of two conditions.
+fn conjunction(
+    alloc: Global,
+    at: usize,
+    left: Resolved,
+    right: Resolved,
+) -> Result<Resolved, CheckFault>
+    ensures { Answers (unless (conditions (Some (sort_in left)) (Some (sort_in right))) KindMismatch at) (λ r. (sort_in r ≡ Judged) × (formula_in r ≡ formula.And (formula_in left) (formula_in right))) result }
+{
+    let Some(left) = condition(left) else {
+        return Err(fault(CheckKind::KindMismatch, at));
+    };
+    let Some(right) = condition(right) else {
+        return Err(fault(CheckKind::KindMismatch, at));
+    };
+    Ok(Resolved::Condition(both(alloc, left, right)?))
+}
+
+/// OR of two conditions.
+fn disjunction(
+    alloc: Global,
+    at: usize,
+    left: Resolved,
+    right: Resolved,
+) -> Result<Resolved, CheckFault>
+    ensures { Answers (unless (conditions (Some (sort_in left)) (Some (sort_in right))) KindMismatch at) (λ r. (sort_in r ≡ Judged) × (formula_in r ≡ formula.Or (formula_in left) (formula_in right))) result }
+{
+    let Some(left) = condition(left) else {
+        return Err(fault(CheckKind::KindMismatch, at));
+    };
+    let Some(right) = condition(right) else {
+        return Err(fault(CheckKind::KindMismatch, at));
+    };
+    Ok(Resolved::Condition(either(alloc, left, right)?))
+}
+
+fn is_number(operand: &Resolved) -> bool
+    ensures { result ≡ may_be_number (Some (sort_in operand.now)) }
+{
+    match operand {
+        Resolved::Value(_, Kind::Int) => true,
+        Resolved::Value(_, Kind::Text) => false,
+        Resolved::Condition(_) => false,
+    }
+}
+
+fn is_text(operand: &Resolved) -> bool
+    ensures { result ≡ may_be_text (Some (sort_in operand.now)) }
+{
+    match operand {
+        Resolved::Value(_, Kind::Int) => false,
+        Resolved::Value(_, Kind::Text) => true,
+        Resolved::Condition(_) => false,
+    }
+}
+
+/// Whether both are whole numbers, or both texts.
+fn are_comparable(left: &Resolved, right: &Resolved) -> bool
+    ensures { result ≡ comparable (Some (sort_in left.now)) (Some (sort_in right.now)) }
+{
+    (is_number(left) && is_number(right)) || (is_text(left) && is_text(right))
+}
+
+/// A comparison of two whole numbers or two texts.
+fn compared(
+    at: usize,
+    comparison: Comparison,
+    left: Resolved,
+    right: Resolved,
+) -> Result<Resolved, CheckFault>
+    ensures { Answers (unless (comparable (Some (sort_in left)) (Some (sort_in right))) KindMismatch at) (λ r. (sort_in r ≡ Judged) × (formula_in r ≡ formula.Compare comparison (formula_in left) (formula_in right))) result }
+{
+    require(are_comparable(&left, &right), CheckKind::KindMismatch, at)?;
+    let Some(left) = value(left) else {
+        return Err(fault(CheckKind::KindMismatch, at));
+    };
+    let Some(right) = value(right) else {
+        return Err(fault(CheckKind::KindMismatch, at));
+    };
+    Ok(Resolved::Condition(Condition::Compare(comparison, left, right)))
+}
+
+/// An operator between two operands.
+pub(crate) fn operated(
+    alloc: Global,
+    operation: Sign,
+    left: Resolved,
+    right: Resolved,
+) -> Result<Resolved, CheckFault>
+    ensures { Answers (unless (takes operation.operator (Some (sort_in left)) (Some (sort_in right))) KindMismatch operation.at) (λ r. (sort_in r ≡ operator_sort operation.operator) × (formula_in r ≡ operated operation.operator (formula_in left) (formula_in right))) result }
+{
+    match operation.operator {
+        Operator::Or => disjunction(alloc, operation.at, left, right),
+        Operator::And => conjunction(alloc, operation.at, left, right),
+        Operator::Equals => compared(operation.at, Comparison::Equal, left, right),
+        Operator::NotEquals => compared(operation.at, Comparison::NotEqual, left, right),
+        Operator::Less => compared(operation.at, Comparison::Less, left, right),
+        Operator::LessOrEquals => compared(operation.at, Comparison::LessOrEqual, left, right),
+        Operator::Greater => compared(operation.at, Comparison::Greater, left, right),
+        Operator::GreaterOrEquals => compared(operation.at, Comparison::GreaterOrEqual, left, right),
+        Operator::Plus => arithmetic(alloc, operation.at, Operation::Plus, left, right),
+        Operator::Minus => arithmetic(alloc, operation.at, Operation::Minus, left, right),
+        Operator::Times => arithmetic(alloc, operation.at, Operation::Times, left, right),
+    }
+}
+
+/// Zero less the operand.
+pub(crate) fn negative(alloc: Global, at: usize, body: Resolved) -> Result<Resolved, CheckFault>
+    ensures { Answers (unless (may_be_number (Some (sort_in body))) KindMismatch at) (λ r. (sort_in r ≡ Valued kind_as.Int) × (formula_in r ≡ formula.Arithmetic Minus (formula.Literal (value.Int (pos 0))) (formula_in body))) result }
+{
+    let Some(body) = number(body) else {
+        return Err(fault(CheckKind::KindMismatch, at));
+    };
+    let zero = Expr::Literal(Value::Int(0));
+    Ok(Resolved::Value(calculated(alloc, Operation::Minus, zero, body)?, Kind::Int))
+}
+
+/// NOT of a condition.
+pub(crate) fn inverted(alloc: Global, at: usize, body: Resolved) -> Result<Resolved, CheckFault>
+    ensures { Answers (unless (may_be_condition (Some (sort_in body))) KindMismatch at) (λ r. (sort_in r ≡ Judged) × (formula_in r ≡ formula.Not (formula_in body))) result }
+{
+    let Some(body) = condition(body) else {
+        return Err(fault(CheckKind::KindMismatch, at));
+    };
+    Ok(Resolved::Condition(negated(alloc, body)?))
+}
+
+/// IS NULL or IS NOT NULL of a value.
+pub(crate) fn null_test(
+    alloc: Global,
+    at: usize,
+    negate: bool,
+    body: Resolved,
+) -> Result<Resolved, CheckFault>
+    ensures { Answers (unless (may_be_value (Some (sort_in body))) KindMismatch at) (λ r. (sort_in r ≡ Judged) × (formula_in r ≡ nullness negate (formula_in body))) result }
+{
+    let Some(body) = value(body) else {
+        return Err(fault(CheckKind::KindMismatch, at));
+    };
+    let test = Condition::IsNull(body);
+    if negate {
+        return Ok(Resolved::Condition(negated(alloc, test)?));
+    }
+    Ok(Resolved::Condition(test))
+}

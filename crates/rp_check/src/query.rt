@@ -1,0 +1,148 @@
+//! Queries.
+
+use crate::lists::OrderColumn;
+use crate::plan::{Condition, Expr, Total, Variables};
+use rp_pattern::Pattern;
+use rp_syntax::RowsPerMatch;
+use rp_value::{Table, Text};
+use std::alloc::{AllocError, Global};
+use std::rc::Rc;
+
+/// Where the next search starts after a match, with names resolved.
+#[derive(Debug, Drop)]
+pub enum SkipTo {
+    PastLastRow,
+    NextRow,
+    /// The first row of these variables.
+    First(Variables),
+    /// The last row of these variables.
+    Last(Variables),
+}
+
+/// What is computed for a match, with names resolved.
+#[derive(Debug, Drop)]
+pub struct Plan {
+    /// The measures, in text order.
+    pub measures: Vec<Expr>,
+    /// Which rows a match gives.
+    pub rows: RowsPerMatch,
+    /// Where the next search starts.
+    pub skip: SkipTo,
+    /// The conditions of DEFINE, in text order.
+    pub conditions: Vec<Condition>,
+    /// For each pattern variable the place of its condition, from 0; none: it admits every row.
+    pub definitions: Vec<Option<usize>>,
+    /// What is kept of the rows for navigation and aggregates, which name an entry by its place.
+    pub totals: Rc<Vec<Total>>,
+}
+
+/// What a query is made of, as contracts see it.
+#[derive(Debug, Drop)]
+pub struct QueryData {
+    /// The text of the clause.
+    pub text: Text,
+    pub table: Table,
+    /// The row pattern, its variables numbered by first appearance.
+    pub pattern: Pattern,
+    /// The names of the output columns.
+    pub output: Vec<Text>,
+    /// The greatest offset of PREV, 0 where there is none.
+    pub reach: u64,
+    /// The columns of PARTITION BY, from 1.
+    pub partition: Vec<usize>,
+    /// The columns of ORDER BY.
+    pub order: Vec<OrderColumn>,
+    pub plan: Plan,
+}
+
+/// A clause that was checked against a table, its names resolved. A further owner costs a count.
+#[derive(Debug, Drop)]
+pub struct Query {
+    parts: Rc<QueryData>,
+}
+
+#[tactic(auto, unfolding(crate::specs::QueryView::data_of))]
+impl Query {
+    ghost use Rattle.std.specs.Prelude.{◌≡◌, IfOk};
+    ghost use Rattle.rp_pattern.specs.PatternForm.{form_of};
+    ghost use Rattle.rp_check.specs.QueryView.{data_of};
+
+    /// The query of this data.
+    pub(crate) fn new(alloc: Global, parts: QueryData) -> Result<Query, AllocError>
+        ensures { IfOk result (λ query. data_of query ≡ parts) }
+    {
+        let parts = Rc::new(alloc, parts)?;
+        Ok(Query { parts })
+    }
+
+    /// The text of the clause, as it was compiled.
+    pub fn text(&self) -> &Text
+        ensures { result.now ≡ (data_of self.now).text }
+    {
+        &self.parts.text
+    }
+
+    /// The table that it was checked against.
+    pub fn table(&self) -> &Table
+        ensures { result.now ≡ (data_of self.now).table }
+    {
+        &self.parts.table
+    }
+
+    /// The row pattern. Its variables are numbered from 0 by first appearance.
+    pub fn pattern(&self) -> &Pattern
+        ensures { result.now ≡ (data_of self.now).pattern }
+    {
+        &self.parts.pattern
+    }
+
+    /// The names of the output columns, in order.
+    pub fn output(&self) -> &[Text]
+        ensures { result.now ≡ (data_of self.now).output.items }
+    {
+        self.parts.output.as_slice()
+    }
+
+    /// The greatest offset of PREV, 0 where there is none: so many rows before a match may be read.
+    pub fn reach(&self) -> u64
+        ensures { result ≡ (data_of self.now).reach }
+    {
+        self.parts.reach
+    }
+
+    /// The columns of PARTITION BY, by number from 1.
+    pub fn partition(&self) -> &[usize]
+        ensures { result.now ≡ (data_of self.now).partition.items }
+    {
+        self.parts.partition.as_slice()
+    }
+
+    /// The columns of ORDER BY, by number from 1, each with its direction.
+    pub fn order(&self) -> &[OrderColumn]
+        ensures { result.now ≡ (data_of self.now).order.items }
+    {
+        self.parts.order.as_slice()
+    }
+
+    /// The measures, rows per match, the skip rule and the variables' definitions.
+    pub fn plan(&self) -> &Plan
+        ensures { result.now ≡ (data_of self.now).plan }
+    {
+        &self.parts.plan
+    }
+
+    /// What is kept of the rows for navigation and aggregates.
+    pub fn totals(&self) -> &Rc<Vec<Total>>
+        ensures { result.now ≡ (data_of self.now).plan.totals }
+    {
+        &self.parts.plan.totals
+    }
+
+    /// An equal query: a further owner of the same data. The error says that the count of owners is full.
+    pub fn share(&self) -> Result<Query, AllocError>
+        ensures { IfOk result (λ query. data_of query ≡ data_of self.now) }
+    {
+        let parts = self.parts.clone()?;
+        Ok(Query { parts })
+    }
+}
