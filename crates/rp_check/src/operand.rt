@@ -205,7 +205,12 @@ pub(crate) fn operated(
         Operator::Less => compared(operation.at, Comparison::Less, left, right),
         Operator::LessOrEquals => compared(operation.at, Comparison::LessOrEqual, left, right),
         Operator::Greater => compared(operation.at, Comparison::Greater, left, right),
-        Operator::GreaterOrEquals => compared(operation.at, Comparison::GreaterOrEqual, left, right),
+        Operator::GreaterOrEquals => compared(
+            operation.at,
+            Comparison::GreaterOrEqual,
+            left,
+            right,
+        ),
         Operator::Plus => arithmetic(alloc, operation.at, Operation::Plus, left, right),
         Operator::Minus => arithmetic(alloc, operation.at, Operation::Minus, left, right),
         Operator::Times => arithmetic(alloc, operation.at, Operation::Times, left, right),

@@ -50,6 +50,7 @@ lettered_both p q a b = (subst IsTrue (sym allowed) (allowed_and (is_allowed p.v
   where
     allowed : is_allowed (V.Concatenation p q) ≡ (is_allowed p.value && is_allowed q.value)
     allowed = ap is_allowed (sym (V.rolls-Concatenation p q)) ∙ fold-roll-Form Bool allowed_step (F.Concatenation p q)
+
     below : are_below 26 (V.Concatenation p q) ≡ (are_below 26 p.value && are_below 26 q.value)
     below = ap (are_below 26) (sym (V.rolls-Concatenation p q)) ∙ fold-roll-Form Bool (below_step 26) (F.Concatenation p q)
 
@@ -61,6 +62,7 @@ lettered_either p q a b = (subst IsTrue (sym allowed) (allowed_and (is_allowed p
   where
     allowed : is_allowed (V.Alternation p q) ≡ (is_allowed p.value && is_allowed q.value)
     allowed = ap is_allowed (sym (V.rolls-Alternation p q)) ∙ fold-roll-Form Bool allowed_step (F.Alternation p q)
+
     below : are_below 26 (V.Alternation p q) ≡ (are_below 26 p.value && are_below 26 q.value)
     below = ap (are_below 26) (sym (V.rolls-Alternation p q)) ∙ fold-roll-Form Bool (below_step 26) (F.Alternation p q)
 
@@ -72,6 +74,7 @@ lettered_body p a = (subst IsTrue (sym allowed) a.0, below ∙ a.1)
   where
     allowed : is_allowed (V.Quantified p 0 None false) ≡ is_allowed p.value
     allowed = ap is_allowed (sym (V.rolls-Quantified p 0 None false)) ∙ fold-roll-Form Bool allowed_step (F.Quantified p 0 None false)
+
     below : are_below 26 (V.Quantified p 0 None false) ≡ are_below 26 p.value
     below = ap (are_below 26) (sym (V.rolls-Quantified p 0 None false)) ∙ fold-roll-Form Bool (below_step 26) (F.Quantified p 0 None false)
 

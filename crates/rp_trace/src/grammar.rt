@@ -126,10 +126,7 @@ fn factor(alloc: Global, symbols: &[u8]) -> Result<(Form, &[u8]), Stop>
 {
     let (body, rest) = primary(alloc, symbols)?;
     match after_mark(rest, b'*') {
-        Some(rest) => Ok((
-            Form::quantified(alloc, body, 0, None, false)?,
-            rest,
-        )),
+        Some(rest) => Ok((Form::quantified(alloc, body, 0, None, false)?, rest)),
         None => Ok((body, rest)),
     }
 }
