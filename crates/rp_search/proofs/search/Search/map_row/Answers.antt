@@ -4,7 +4,7 @@ use Rattle.rp_pattern.specs.Choices.{start_of, entered, whole, whole_from}
 use Rattle.rp_search.specs.Asked.{Asked, AreBelow}
 use Rattle.rp_search.specs.Search.{start_of_search, labels_of_search, words_from}
 use Rattle.rp_search.specs.Fits.{StandsBy, StandsAtRowBy, left_by, test_from, ChoicesStand, LabelsStand, LabelsBelow}
-use Rattle.rp_search.specs.Turned.{Goes, Settled}
+use Rattle.rp_search.specs.Turned.{AreCutBack, Goes, Settled}
 use Rattle.rp_search.proofs.Fitting.{goes_wordless}
 use Rattle.rp_search.proofs.Turning.{below_added, below_cut, cut_added, none_untested, searches_exploring, searches_plainly, untested_none, yes_tested}
 use Rattle.rp_search.proofs.search.Search.map_row.Goals as goal
@@ -23,6 +23,14 @@ returns-then-not-is_tested-clause-searches g c =
     goes_wordless old c.give_up.new.self _ _ _ c.requires.stands row none gave.whole (record { cut = gave.labels; cut_off = gave.cut_off; words = gave.remaining; turns = gave.left }) in
     searches_plainly _ asked (start_of old) gave.whole.start c.requires.none goes.stands goes.admitted
     (below_cut asked.variables (entered c.give_up.new.self) (cut_added (λ ms. AreBelow asked.variables ms) (entered c.give_up.new.self) (entered old) c.requires.below (gave.cut_off row.at_row)))
+
+pub follow-requires : goal.follow-requires
+unfolding start_of_search labels_of_search
+follow-requires g c =
+    let old = c.args.self.now.choices in
+    let gave = c.give_up.ensures in
+    subst (λ s. AreCutBack (g.T.Tests.entered c.args.tests.now s) (entered c.give_up.new.self)) (sym gave.whole.start)
+    (cut_added (g.T.Tests.entered c.args.tests.now (start_of old)) (entered c.give_up.new.self) (entered old) c.requires.new (gave.cut_off c.requires.row.at_row))
 
 pub enter_row-requires-clause-below : goal.enter_row-requires-clause-below
 unfolding labels_of_search
