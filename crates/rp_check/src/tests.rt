@@ -1,34 +1,38 @@
 //! The first faults of clauses, in the order of checks, and the query of one. Expected values were worked out by hand
 //! from the written order.
-use crate::{CheckFault, Query, check};
-use rp_lexer::lex;
-use rp_syntax::{parse, read_table};
+use crate::{CompileFault, Query, compile};
+use rp_syntax::read_table;
 use std::alloc::Global;
 use std::test::*;
 
 /// The query of a clause over prices, or its fault.
-fn checked(alloc: Global, text: &str) -> Result<Result<Query, CheckFault>, Fail> {
+fn compiled(alloc: Global, text: &str) -> Result<Result<Query, CompileFault>, Fail> {
     let table = read_table(alloc, "sym text, t int, p int")?;
-    let tokens = lex(alloc, text)?;
-    let clause = parse(alloc, text, tokens.as_slice())?;
-    Ok(check(alloc, clause, &table))
+    Ok(compile(alloc, text, &table))
 }
 
-/// The kind and the offset of a clause's first fault, and an empty text where it has none.
+/// A clause's first fault with its offset, and an empty text where it has none.
 fn first_fault(alloc: Global, text: &str) -> Result<String, Fail> {
-    match checked(alloc, text)? {
+    match compiled(alloc, text)? {
         Ok(_) => Ok(String::new(alloc)),
-        Err(CheckFault::Fault(fault)) => {
+        Err(CompileFault::Lex(fault)) => Ok(format!(in alloc; "{fault:?}")?),
+        Err(CompileFault::Parse(fault)) => Ok(format!(in alloc; "{fault:?}")?),
+        Err(CompileFault::Check(fault)) => {
             let kind = fault.kind;
             let offset = fault.offset;
             Ok(format!(in alloc; "{kind:?} {offset}")?)
         }
-        Err(CheckFault::OutOfMemory) => Err(Fail::from(CheckFault::OutOfMemory)),
+        Err(CompileFault::OutOfMemory) => Err(Fail::from(CompileFault::OutOfMemory)),
     }
 }
 
 /// Clauses, and the first fault of each.
-const FAULTS: [(&str, &str); 66] = [
+const FAULTS: [(&str, &str); 70] = [
+    // the text and its tokens
+    ("PATTERN (A", "Expected(10)"),
+    ("PATTERN (A)", "Expected(11)"),
+    ("PATTERN (A DEFINE", "Expected(11)"),
+    ("PATTERN (A) DEFINE A AS p = 'u", "OpenText(28)"),
     // the pattern
     ("PATTERN (A{3,2}) DEFINE A AS p = 1", "BadBounds 10"),
     ("PATTERN (A{1001}) DEFINE A AS p = 1", "BadBounds 10"),
@@ -252,7 +256,7 @@ fn first_faults(rt: HostRuntime) -> Result<(), Fail> {
 
 /// The output and the reach of a clause that has no fault.
 fn shown(alloc: Global, text: &str) -> Result<String, Fail> {
-    let query = checked(alloc, text)??;
+    let query = compiled(alloc, text)??;
     let output = query.output();
     let reach = query.reach();
     Ok(format!(in alloc; "{output:?} {reach}")?)
@@ -269,6 +273,14 @@ fn output_and_reach(rt: HostRuntime) -> Result<(), Fail> {
         one.as_str()
             == "[Text { string: \"SYM\" }, Text { string: \"N\" }, Text { string: \"A\" }, Text { string: \"LO\" }, Text { string: \"HI\" }] 1",
         "{one}"
+    );
+    let framed = shown(
+        alloc,
+        "MATCH_RECOGNIZE (PARTITION BY sym MEASURES FIRST(p) AS a PATTERN (A B+) DEFINE B AS p < PREV(p))",
+    )?;
+    assert!(rt;
+        framed.as_str() == "[Text { string: \"SYM\" }, Text { string: \"A\" }] 1",
+        "{framed}"
     );
     let all = shown(
         alloc,
