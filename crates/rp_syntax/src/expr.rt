@@ -155,67 +155,44 @@ fn aggregate<'a>(
         let (argument, rest) = counted(alloc, text, rest)?;
         let (_, rest) = word(text, rest, TokenKind::Mark(Mark::RightParenthesis))?;
         let function = AggregateFunction::Count(argument);
-        return Ok((
-            Aggregate {
-                scope,
-                at,
-                function,
-            },
-            rest,
-        ));
-    }
-    if begins(tokens, TokenKind::Keyword(Keyword::Sum)) {
-        let (at, column, rest) = over_column(
-            alloc,
-            text,
-            tokens,
-            room,
-            TokenKind::Keyword(Keyword::Sum),
-        )?;
-        let function = AggregateFunction::Sum(column);
-        return Ok((
-            Aggregate {
-                scope,
-                at,
-                function,
-            },
-            rest,
-        ));
-    }
-    if begins(tokens, TokenKind::Keyword(Keyword::Min)) {
-        let (at, column, rest) = over_column(
-            alloc,
-            text,
-            tokens,
-            room,
-            TokenKind::Keyword(Keyword::Min),
-        )?;
-        let function = AggregateFunction::Min(column);
-        return Ok((
-            Aggregate {
-                scope,
-                at,
-                function,
-            },
-            rest,
-        ));
-    }
-    let (at, column, rest) = over_column(
-        alloc,
-        text,
-        tokens,
-        room,
-        TokenKind::Keyword(Keyword::Max),
-    )?;
-    let function = AggregateFunction::Max(column);
-    Ok((
-        Aggregate {
+        let aggregate = Aggregate {
             scope,
             at,
             function,
-        },
-        rest,
-    ))
+        };
+        return Ok((aggregate, rest));
+    }
+    let sum = TokenKind::Keyword(Keyword::Sum);
+    if begins(tokens, sum) {
+        let (at, column, rest) = over_column(alloc, text, tokens, room, sum)?;
+        let function = AggregateFunction::Sum(column);
+        let aggregate = Aggregate {
+            scope,
+            at,
+            function,
+        };
+        return Ok((aggregate, rest));
+    }
+    let min = TokenKind::Keyword(Keyword::Min);
+    if begins(tokens, min) {
+        let (at, column, rest) = over_column(alloc, text, tokens, room, min)?;
+        let function = AggregateFunction::Min(column);
+        let aggregate = Aggregate {
+            scope,
+            at,
+            function,
+        };
+        return Ok((aggregate, rest));
+    }
+    let max = TokenKind::Keyword(Keyword::Max);
+    let (at, column, rest) = over_column(alloc, text, tokens, room, max)?;
+    let function = AggregateFunction::Max(column);
+    let aggregate = Aggregate {
+        scope,
+        at,
+        function,
+    };
+    Ok((aggregate, rest))
 }
 
 /// A navigation or an aggregate that may have a scope, and what follows.
@@ -266,52 +243,28 @@ fn comparison<'a>(text: &str, tokens: &'a [Token]) -> Result<(Operation, &'a [To
     ensures stands { IfOk result (λ x. All (IsToken text.now) x.1.now) }
     ensures shorter { IfOk result (λ x. length x.1.now < length tokens.now) }
 {
-    if begins(tokens, TokenKind::Mark(Mark::Equals)) {
-        return operation(
-            text,
-            tokens,
-            TokenKind::Mark(Mark::Equals),
-            Operator::Equals,
-        );
+    let equals = TokenKind::Mark(Mark::Equals);
+    if begins(tokens, equals) {
+        return operation(text, tokens, equals, Operator::Equals);
     }
-    if begins(tokens, TokenKind::Mark(Mark::NotEquals)) {
-        return operation(
-            text,
-            tokens,
-            TokenKind::Mark(Mark::NotEquals),
-            Operator::NotEquals,
-        );
+    let not_equals = TokenKind::Mark(Mark::NotEquals);
+    if begins(tokens, not_equals) {
+        return operation(text, tokens, not_equals, Operator::NotEquals);
     }
-    if begins(tokens, TokenKind::Mark(Mark::LessThan)) {
-        return operation(
-            text,
-            tokens,
-            TokenKind::Mark(Mark::LessThan),
-            Operator::Less,
-        );
+    let less = TokenKind::Mark(Mark::LessThan);
+    if begins(tokens, less) {
+        return operation(text, tokens, less, Operator::Less);
     }
-    if begins(tokens, TokenKind::Mark(Mark::LessThanOrEquals)) {
-        return operation(
-            text,
-            tokens,
-            TokenKind::Mark(Mark::LessThanOrEquals),
-            Operator::LessOrEquals,
-        );
+    let less_or_equals = TokenKind::Mark(Mark::LessThanOrEquals);
+    if begins(tokens, less_or_equals) {
+        return operation(text, tokens, less_or_equals, Operator::LessOrEquals);
     }
-    if begins(tokens, TokenKind::Mark(Mark::GreaterThan)) {
-        return operation(
-            text,
-            tokens,
-            TokenKind::Mark(Mark::GreaterThan),
-            Operator::Greater,
-        );
+    let greater = TokenKind::Mark(Mark::GreaterThan);
+    if begins(tokens, greater) {
+        return operation(text, tokens, greater, Operator::Greater);
     }
-    operation(
-        text,
-        tokens,
-        TokenKind::Mark(Mark::GreaterThanOrEquals),
-        Operator::GreaterOrEquals,
-    )
+    let greater_or_equals = TokenKind::Mark(Mark::GreaterThanOrEquals);
+    operation(text, tokens, greater_or_equals, Operator::GreaterOrEquals)
 }
 
 /// `IS NULL` or `IS NOT NULL`, and what follows.

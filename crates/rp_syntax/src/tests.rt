@@ -1,9 +1,12 @@
-//! Clauses and tables with their trees and faults. Expected trees and offsets were worked out by two plain second
-//! programs: one that descends by the written grammar, and Earley's, which lists at each token what may follow.
+//! Clauses and tables with their trees and faults. Expected trees were worked out by a plain second program that
+//! descends by the written grammar.
+
+mod second;
 
 use crate::{Clause, ParseFault, TableTextFault, parse, read_table};
 use rp_lexer::{LexFault, lex};
 use rp_value::{Kind, Table, TableFault};
+use second::first_fault;
 use std::alloc::Global;
 use std::test::*;
 
@@ -24,17 +27,14 @@ fn clause_of(alloc: Global, text: &str) -> Result<Clause, Fail> {
     Ok(parsed(alloc, text)??)
 }
 
-/// The offset that a text has its Expected at.
-fn expected_at(alloc: Global, text: &str) -> Result<usize, Fail> {
+/// The offset that a text has its Expected at, if it has no clause.
+fn expected_at(alloc: Global, text: &str) -> Result<Option<usize>, Fail> {
     match parsed(alloc, text)? {
-        Ok(_) => Ok(ACCEPTED),
-        Err(ParseFault::Expected(at)) => Ok(at),
+        Ok(_) => Ok(None),
+        Err(ParseFault::Expected(at)) => Ok(Some(at)),
         Err(fault) => Err(Fail::from(fault)),
     }
 }
-
-/// Stands for a text that has no fault.
-const ACCEPTED: usize = 9999;
 
 /// Each optional part left out and put in, with the fields of the tree behind the text.
 const CLAUSES: [(&str, &str); 17] = [
@@ -329,7 +329,7 @@ const FAULTS: [(&str, usize); 19] = [
 #[test]
 fn compile_faults(rt: HostRuntime) -> Result<(), Fail> {
     for (text, at) in FAULTS {
-        assert_eq!(rt; expected_at(rt.alloc(), text)?, at, "{text}");
+        assert_eq!(rt; expected_at(rt.alloc(), text)?, Some(at), "{text}");
     }
     Ok(())
 }
@@ -406,42 +406,40 @@ const WORDS: [&str; 69] = [
     "IS",
     "NULL",
 ];
-/// Where the clause is at fault without the token, each token in turn; one that may be left out leaves no fault.
-const DROPPED: [usize; 69] = [
-    0, 10, 13, 15, 21, 24, 9999, 31, 9999, 46, 50, 52, 54, 56, 58, 60, 63, 65, 69, 74, 78, 84, 90,
-    96, 101, 9999, 109, 111, 119, 121, 123, 9999, 127, 9999, 131, 9999, 143, 137, 9999, 141, 147,
-    9999, 147, 149, 156, 158, 160, 162, 164, 166, 168, 170, 177, 179, 9999, 186, 188, 190, 192,
-    198, 199, 201, 203, 205, 207, 209, 213, 215, 218,
-];
-/// Where it is at fault with the token twice.
-const DOUBLED: [usize; 69] = [
-    10, 13, 15, 21, 24, 26, 31, 40, 46, 50, 52, 54, 56, 58, 60, 63, 65, 69, 74, 78, 84, 90, 96,
-    101, 104, 109, 111, 119, 151, 9999, 125, 127, 129, 131, 133, 135, 151, 9999, 141, 9999, 147,
-    147, 149, 156, 158, 160, 162, 164, 166, 168, 170, 177, 179, 182, 186, 188, 190, 192, 194, 199,
-    201, 203, 205, 207, 209, 213, 215, 218, 223,
-];
-
-/// The words with a blank behind each, where the one at the index stands so many times.
-fn with_times(alloc: Global, index: usize, times: usize) -> Result<String, Fail> {
-    let mut text = String::new(alloc);
+/// The words, where the one at the index stands so many times.
+fn with_times(alloc: Global, index: usize, times: usize) -> Result<Vec<&'static str>, Fail> {
+    let mut words = Vec::new(alloc);
     for (place, word) in WORDS.iter().enumerate() {
         let count = if place == index { times } else { 1 };
         for _ in 0..count {
-            text.push_str(word)?;
-            text.push_str(" ")?;
+            words.push(*word)?;
         }
+    }
+    Ok(words)
+}
+
+/// A text of these words, with a blank behind each.
+fn text_of(alloc: Global, words: &[&'static str]) -> Result<String, Fail> {
+    let mut text = String::new(alloc);
+    for word in words {
+        text.push_str(word)?;
+        text.push_str(" ")?;
     }
     Ok(text)
 }
 
+/// Each token of a clause dropped and doubled in turn: what is left is at fault where a plain second parser finds that
+/// nothing can go on.
 #[test]
 fn dropped_and_doubled_tokens(rt: HostRuntime) -> Result<(), Fail> {
     let alloc = rt.alloc();
-    for (index, (dropped, doubled)) in DROPPED.iter().zip(&DOUBLED).enumerate() {
-        let text = with_times(alloc, index, 0)?;
-        assert_eq!(rt; expected_at(alloc, text.as_str())?, *dropped, "{text}");
-        let text = with_times(alloc, index, 2)?;
-        assert_eq!(rt; expected_at(alloc, text.as_str())?, *doubled, "{text}");
+    for index in 0..WORDS.len() {
+        for times in [0, 2] {
+            let words = with_times(alloc, index, times)?;
+            let text = text_of(alloc, words.as_slice())?;
+            let fault = first_fault(alloc, words.as_slice())?;
+            assert_eq!(rt; expected_at(alloc, text.as_str())?, fault, "{text}");
+        }
     }
     Ok(())
 }
