@@ -1,4 +1,4 @@
-use Rattle.std.proofs.Common.{◌≡◌, ◌∷◌, ℕ, List, refl, sym, ap}
+use Rattle.std.proofs.Common.{◌∷◌, ℕ, List}
 use Rattle.rp_pattern.specs.declared.word.End.{End}
 use Rattle.rp_pattern.specs.declared.machine.link.Part.TheVariants.{Whole, Orders}
 use Rattle.rp_pattern.specs.declared.machine.link.Link.TheViews.{out-Link}
