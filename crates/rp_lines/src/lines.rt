@@ -75,7 +75,8 @@ impl Lines {
         ensures end { result ≡ Ok false → IsAtEnd (R.remaining reader.new) }
         ensures told { TellsEnd result (R.ended reader.old) (R.ended reader.new) }
         ensures failures { TellsFailure result (R.failures reader.old) (R.failures reader.new) }
-        ensures calls { after_calls self.new.reads (R.calls reader.new) ≡ after_calls self.old.reads (R.calls reader.old) }
+        ensures calls { after_calls self.new.reads (R.calls reader.new)
+            ≡ after_calls self.old.reads (R.calls reader.old) }
         ensures reads { result ≡ Err LineFault.Turns → self.new.reads ≡ 0 }
         ensures gives { (result ≡ Ok true) ⊎ (result ≡ Err LineFault.Turns) →
             GivesEach self.old.reads self.new.reads (R.remaining reader.old) (R.remaining reader.new) }
@@ -112,7 +113,8 @@ impl Lines {
         Ok(is_whole)
     }
 
-    /// Reads the next chunk, if a further call may be made, and says whether there is any.
+    /// Reads the next chunk, if a further call may be made, and says whether there is any. If none may be made, nothing
+    /// changes.
     fn fill<R: Intake>(&mut self, reader: &mut R) -> Result<bool, LineFault>
         requires { pending_of self.old ≡ [] }
         ensures ok { OnOk result (Consumes (R.remaining reader.old) (R.remaining reader.new) (pending_of self.new)) }
@@ -120,10 +122,10 @@ impl Lines {
         ensures end { result ≡ Ok false → IsAtEnd (R.remaining reader.new) }
         ensures told { TellsEnd result (R.ended reader.old) (R.ended reader.new) }
         ensures failures { TellsFailure result (R.failures reader.old) (R.failures reader.new) }
-        ensures calls { after_calls self.new.reads (R.calls reader.new) ≡ after_calls self.old.reads (R.calls reader.old) }
-        ensures reads { result ≡ Err LineFault.Turns → self.new.reads ≡ 0 }
-        ensures due { result ≡ Err LineFault.Turns → self.old.reads ≡ 0 }
-        ensures unread { result ≡ Err LineFault.Turns → R.remaining reader.new ≡ R.remaining reader.old }
+        ensures calls { after_calls self.new.reads (R.calls reader.new)
+            ≡ after_calls self.old.reads (R.calls reader.old) }
+        ensures unread { result ≡ Err LineFault.Turns →
+            (self.old.reads ≡ 0) × (self.new ≡ self.old) × (reader.new ≡ reader.old) }
         ensures gives { result ≡ Ok true →
             GivesEach self.old.reads self.new.reads (R.remaining reader.old) (R.remaining reader.new) }
         ensures fewer { OnOk result (self.new.reads < self.old.reads) }

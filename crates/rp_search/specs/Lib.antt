@@ -5,8 +5,6 @@ pub mod Search
 -- The inside of a search.
 pub mod Fits
 pub mod Turned
--- Counts that stay at their last value.
-pub mod Counts
 -- What the tests alone cite.
 pub mod Grid
 pub mod GridDecides

@@ -112,6 +112,14 @@ pub record IsAtStart (s : Search) : Type 0 where
   pub fits : (asked : Asked) → Fits s asked
   pub left : (asked : Asked) → left_by s asked ≡ most_turns s asked.known asked.end
 
+-- It may run on tests: its start row is known, the labels of its words are of variables that are tested, it fits what is asked,
+-- and its labels are those that were entered.
+pub record CanRun (s : Search) (asked : Asked) (Entered : ℕ → List Label → Type 0) : Type 0 where
+  pub known : start_of_search s ≤ asked.known
+  pub variables : HasVariablesBelow asked.variables s
+  pub fits : Fits s asked
+  pub entered : Entered (start_of_search s) (labels_of_search s)
+
 -- A search that fits what is asked fits all that extends it.
 abbrev pub FitsStays : Type 0
 FitsStays = (s : Search) (old new : Asked) → AskedExtend (start_of_search s) old new → Fits s old → Fits s new

@@ -14,7 +14,12 @@ use Rattle.rp_search.specs.declared.search.Outcome.TheVariants.{Match as MatchOu
 use Rattle.rp_search.specs.Found.{Test, tested, Match, NoMatch, Waits}
 use Rattle.rp_search.specs.Asked.{Asked, AreBelow}
 use Rattle.rp_search.specs.Fits.{Stands, Fits, test_from, left_by}
-use Rattle.rp_search.specs.Search.{found_by, labels_of_search}
+use Rattle.rp_search.specs.Search.{HasVariablesBelow, found_by, labels_of_search, start_of_search}
+
+-- What is asked covers a search: its start row is known, and the labels of its words are of variables that are tested.
+pub record Covers (asked : Asked) (s : Search) : Type 0 where
+  pub known : start_of_search s ≤ asked.known
+  pub variables : HasVariablesBelow asked.variables s
 
 -- These labels are entered ones cut back to some depth.
 pub record AreCutBack (Entered : List Label → Type 0) (labels : List Label) : Type 0 where
@@ -68,3 +73,9 @@ Turned taken old new asked before MatchOutcome = (found_by old asked ≡ Match (
 Turned taken old new asked before NoMatchOutcome = (found_by old asked ≡ NoMatch) × (left_by new asked ≤ before)
 Turned taken old new asked before WaitsOutcome = (found_by old asked ≡ Waits) × (asked.end ≡ OpenEnd) × (left_by new asked ≤ before)
 Turned taken old new asked before PausedOutcome = left_by new asked + taken ≤ before
+
+-- So many turns were taken and counted: one at least, and the whole budget where the search is paused.
+pub record CountsTurns (budget : ℕ) (outcome : Outcome) (taken steps steps' : ℕ) : Type 0 where
+  pub counted : steps' ≡ steps + taken
+  pub some : 0 < taken
+  pub paused : outcome ≡ PausedOutcome → taken ≡ budget

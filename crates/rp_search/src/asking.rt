@@ -56,7 +56,8 @@ pub fn settle<T: Tests>(choices: &mut Choices, tests: &mut T) -> Result<Seen, Al
     ensures subject { T.subject tests.new ≡ T.subject tests.old }
     ensures entries { T.entries tests.new ≡ T.entries tests.old }
     ensures entered { OnOk result (T.entered tests.new (start_of choices.new) (entered choices.new)) }
-    ensures seen { IfOk result (λ seen. seen ≡ test_from choices.old (T.asked (T.subject tests.old)) (entered choices.old)) }
+    ensures seen { IfOk result (λ seen.
+        seen ≡ test_from choices.old (T.asked (T.subject tests.old)) (entered choices.old)) }
     ensures settled { IfOk result (Settled choices.old choices.new (T.asked (T.subject tests.old))) }
 {
     match tests.test(choices.start(), choices.labels()) {

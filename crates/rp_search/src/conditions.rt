@@ -1,10 +1,9 @@
 //! What a search asks of the rows of a partition.
-ghost use Rattle.std.specs.Prelude.{◌≡◌, ◌≢◌, ℕ, ◌+◌, ◌-◌, ◌^◌, ◌<◌, ◌≤◌, List, [], ◌∷◌, ◌++◌, length, take, OnOk, OnErr};
+ghost use Rattle.std.specs.Prelude.{◌≡◌, ◌≢◌, ℕ, ◌+◌, ◌-◌, ◌^◌, ◌<◌, ◌≤◌, List, [], ◌∷◌, ◌++◌, length, take, min, OnOk, OnErr};
 ghost use Rattle.rp_pattern.specs.declared.word.Label.{Label};
 ghost use Rattle.rp_pattern.specs.declared.word.End.TheVariants.{Closed};
 ghost use Rattle.rp_pattern.specs.declared.word.Seen.TheVariants.{Open};
 ghost use Rattle.rp_search.specs.Asked.{Asked, AreBelow};
-ghost use Rattle.rp_search.specs.Counts.{raised};
 
 use rp_pattern::{End, Label, Seen};
 use std::alloc::AllocError;
@@ -58,8 +57,9 @@ pub trait Tests {
         requires new { (before : List Label) × (label : Label) ×
             (labels.now ≡ before ++ label ∷ []) × entered self.old start before }
         ensures entered { OnOk result (entered self.new start labels.now) }
-        ensures err { OnErr result ((before : List Label) → entered self.old start before → entered self.new start before) }
-        ensures entries { entries self.new ≡ raised (entries self.old) }
+        ensures err { OnErr result ((before : List Label) →
+            entered self.old start before → entered self.new start before) }
+        ensures entries { entries self.new ≡ min (entries self.old + 1) (2 ^ 64 - 1) }
         ensures subject { subject self.new ≡ subject self.old };
 
     /// The labels are cut back to the first `depth`. It takes no memory. After a cut to 0 none is entered, from

@@ -47,8 +47,8 @@ pub struct Search {
 impl Search {
     ghost use Rattle.rp_search.specs.Asked.{AreBelow};
     ghost use Rattle.rp_search.specs.Fits.{Fits, left_by, StandsBy, StandsAtRowBy};
-    ghost use Rattle.rp_search.specs.Search.{Answers, HasVariablesBelow, IsAtStart, IsFor, IsSamePattern, IsSameSearch, Lowers, TakesTurns, labels_of_search, start_of_search, turns_of_run};
-    ghost use Rattle.rp_search.specs.Turned.{AddsLabel, Searches, Turned};
+    ghost use Rattle.rp_search.specs.Search.{Answers, CanRun, IsAtStart, IsFor, IsSamePattern, IsSameSearch, Lowers, TakesTurns, labels_of_search, start_of_search, turns_of_run};
+    ghost use Rattle.rp_search.specs.Turned.{AddsLabel, CountsTurns, Covers, Searches, Turned};
 
     /// A search from the row `start`, which is at least 1.
     pub fn new(alloc: Global, pattern: &Pattern, start: u64) -> Result<Search, AllocError>
@@ -87,10 +87,7 @@ impl Search {
         budget: u32,
         steps: &mut Steps<L>,
     ) -> Result<Outcome, AllocError>
-        requires known { start_of_search self.old ≤ (T.asked (T.subject tests.old)).known }
-        requires variables { HasVariablesBelow (T.asked (T.subject tests.old)).variables self.old }
-        requires fits { Fits self.old (T.asked (T.subject tests.old)) }
-        requires entered { T.entered tests.old (start_of_search self.old) (labels_of_search self.old) }
+        requires { CanRun self.old (T.asked (T.subject tests.old)) (T.entered tests.old) }
 
         ensures same { IsSameSearch self.old self.new }
         ensures subject { T.subject tests.new ≡ T.subject tests.old }
@@ -163,10 +160,7 @@ impl Search {
         steps: &mut Steps<L>,
     ) -> Result<(Outcome, u32), AllocError>
         requires some { 0 < budget }
-        requires known { start_of_search self.old ≤ (T.asked (T.subject tests.old)).known }
-        requires variables { HasVariablesBelow (T.asked (T.subject tests.old)).variables self.old }
-        requires fits { Fits self.old (T.asked (T.subject tests.old)) }
-        requires entered { T.entered tests.old (start_of_search self.old) (labels_of_search self.old) }
+        requires can_run { CanRun self.old (T.asked (T.subject tests.old)) (T.entered tests.old) }
 
         ensures same { IsSameSearch self.old self.new }
         ensures subject { T.subject tests.new ≡ T.subject tests.old }
@@ -174,9 +168,7 @@ impl Search {
         ensures fits { OnOk result (Fits self.new (T.asked (T.subject tests.old))) }
         ensures answers { IfOk result (λ r. Answers self.old self.new (T.asked (T.subject tests.old)) r.0) }
         ensures left { IfOk result (λ r. Lowers r.1 self.old self.new (T.asked (T.subject tests.old)) r.0) }
-        ensures counted { IfOk result (λ r. steps.new ≡ steps.old + r.1) }
-        ensures some { IfOk result (λ r. 0 < r.1) }
-        ensures paused { IfOk result (λ r. r.0 ≡ Outcome.Paused → r.1 ≡ budget) }
+        ensures counted { IfOk result (λ r. CountsTurns budget r.0 r.1 steps.old steps.new) }
         ensures grows { steps.old ≤ steps.new }
         ensures within { steps.new ≤ steps.old + budget }
         ensures entries { T.entries tests.new + steps.old ≤ T.entries tests.old + steps.new }
@@ -194,16 +186,15 @@ impl Search {
 
     /// Where a test was open, it is asked again.
     fn resume<T: Tests>(&mut self, tests: &mut T) -> Result<(), AllocError>
-        requires known { start_of_search self.old ≤ (T.asked (T.subject tests.old)).known }
-        requires fits { Fits self.old (T.asked (T.subject tests.old)) }
-        requires entered { T.entered tests.old (start_of_search self.old) (labels_of_search self.old) }
+        requires { CanRun self.old (T.asked (T.subject tests.old)) (T.entered tests.old) }
 
         ensures same { IsSameSearch self.old self.new }
         ensures subject { T.subject tests.new ≡ T.subject tests.old }
         ensures entries { T.entries tests.new ≡ T.entries tests.old }
         ensures entered { OnOk result (T.entered tests.new (start_of_search self.new) (labels_of_search self.new)) }
         ensures searches { OnOk result (Searches self.new (T.asked (T.subject tests.old))) }
-        ensures left { OnOk result (left_by self.new (T.asked (T.subject tests.old)) ≤ left_by self.old (T.asked (T.subject tests.old))) }
+        ensures left { OnOk result
+            (left_by self.new (T.asked (T.subject tests.old)) ≤ left_by self.old (T.asked (T.subject tests.old))) }
     {
         let Some(outlook) = self.outlook.take() else {
             return Ok(());
@@ -217,8 +208,7 @@ impl Search {
 
     /// Takes up one choice. It answers `Paused` where the search isn't at its end.
     fn turn<T: Tests>(&mut self, tests: &mut T) -> Result<Outcome, AllocError>
-        requires known { start_of_search self.old ≤ (T.asked (T.subject tests.old)).known }
-        requires variables { HasVariablesBelow (T.asked (T.subject tests.old)).variables self.old }
+        requires covers { Covers (T.asked (T.subject tests.old)) self.old }
         requires searches { Searches self.old (T.asked (T.subject tests.old)) }
         requires entered { T.entered tests.old (start_of_search self.old) (labels_of_search self.old) }
 
@@ -227,7 +217,8 @@ impl Search {
         ensures entries { T.entries tests.new ≤ T.entries tests.old + 1 }
         ensures entered { OnOk result (T.entered tests.new (start_of_search self.new) (labels_of_search self.new)) }
         ensures searches { OnOk result (Searches self.new (T.asked (T.subject tests.old))) }
-        ensures turned { IfOk result (Turned 1 self.old self.new (T.asked (T.subject tests.old)) (left_by self.old (T.asked (T.subject tests.old)))) }
+        ensures turned { IfOk result (Turned 1 self.old self.new
+            (T.asked (T.subject tests.old)) (left_by self.old (T.asked (T.subject tests.old)))) }
     {
         // To take an outlook out moves it, so most turns only look whether there is one.
         if self.outlook.is_none() {
@@ -240,9 +231,9 @@ impl Search {
     }
 
     /// Takes up the preferred choice.
+    #[inline(always)]
     fn take_up<T: Tests>(&mut self, tests: &mut T) -> Result<Outcome, AllocError>
-        requires known { start_of_search self.old ≤ (T.asked (T.subject tests.old)).known }
-        requires variables { HasVariablesBelow (T.asked (T.subject tests.old)).variables self.old }
+        requires covers { Covers (T.asked (T.subject tests.old)) self.old }
         requires none { self.old.outlook ≡ None }
         requires searches { Searches self.old (T.asked (T.subject tests.old)) }
         requires entered { T.entered tests.old (start_of_search self.old) (labels_of_search self.old) }
@@ -252,7 +243,8 @@ impl Search {
         ensures entries { T.entries tests.new ≤ T.entries tests.old + 1 }
         ensures entered { OnOk result (T.entered tests.new (start_of_search self.new) (labels_of_search self.new)) }
         ensures searches { OnOk result (Searches self.new (T.asked (T.subject tests.old))) }
-        ensures turned { IfOk result (Turned 1 self.old self.new (T.asked (T.subject tests.old)) (left_by self.old (T.asked (T.subject tests.old)))) }
+        ensures turned { IfOk result (Turned 1 self.old self.new
+            (T.asked (T.subject tests.old)) (left_by self.old (T.asked (T.subject tests.old)))) }
     {
         match self.choices.take_up(tests.known(), tests.end())? {
             Taken::Row => {
@@ -281,8 +273,7 @@ impl Search {
     /// The preferred choice maps a new row: its label is entered, and its test asked. No word has a label that isn't
     /// tested, so a choice that begins with one has no words and is given up.
     fn map_row<T: Tests>(&mut self, tests: &mut T) -> Result<(), AllocError>
-        requires known { start_of_search self.old ≤ (T.asked (T.subject tests.old)).known }
-        requires variables { HasVariablesBelow (T.asked (T.subject tests.old)).variables self.old }
+        requires covers { Covers (T.asked (T.subject tests.old)) self.old }
         requires none { self.old.outlook ≡ None }
         requires stands { StandsBy self.old.choices (T.asked (T.subject tests.old)) }
         requires row { StandsAtRowBy self.old.choices (T.asked (T.subject tests.old)) }
@@ -294,7 +285,8 @@ impl Search {
         ensures entries { T.entries tests.new ≤ T.entries tests.old + 1 }
         ensures entered { OnOk result (T.entered tests.new (start_of_search self.new) (labels_of_search self.new)) }
         ensures searches { OnOk result (Searches self.new (T.asked (T.subject tests.old))) }
-        ensures left { OnOk result (left_by self.new (T.asked (T.subject tests.old)) + 1 ≤ left_by self.old (T.asked (T.subject tests.old))) }
+        ensures left { OnOk result
+            (left_by self.new (T.asked (T.subject tests.old)) + 1 ≤ left_by self.old (T.asked (T.subject tests.old))) }
     {
         if !is_tested(&self.choices, tests) {
             self.choices.give_up();

@@ -10,7 +10,7 @@ ghost use Rattle.std.specs.Prelude.{◌≡◌, ◌<◌};
 use crate::{Outcome, Search, Steps, Tests, law_found, law_search};
 use grid::Grid;
 use rp_pattern::{End, Form, Pattern, Seen};
-use script::{MANY, a, any, b, both, created, either, play};
+use script::{MANY, a, any, b, created, play};
 use std::alloc::{AllocError, Global};
 use std::marker::Brand;
 use std::sync::ledger::{Blank, Ledger};
@@ -20,7 +20,7 @@ use std::test::Fail;
 #[test]
 fn first_word_matches(rt: HostRuntime) -> Result<(), Fail> {
     let alloc = rt.alloc();
-    let pattern = either(alloc, a(), both(alloc, a(), b())?)?;
+    let pattern = Form::alternation(alloc, a(), Form::concatenation(alloc, a(), b())?)?;
     let played = play(
         alloc,
         pattern,
@@ -37,7 +37,7 @@ fn first_word_matches(rt: HostRuntime) -> Result<(), Fail> {
 #[test]
 fn preferred_word_waits(rt: HostRuntime) -> Result<(), Fail> {
     let alloc = rt.alloc();
-    let pattern = either(alloc, both(alloc, a(), b())?, a())?;
+    let pattern = Form::alternation(alloc, Form::concatenation(alloc, a(), b())?, a())?;
     let stages = [(1, End::Open), (1, End::Open), (1, End::Closed)];
     let played = play(alloc, pattern, Grid::new(alloc, 0), &stages, 100, MANY)?;
     assert_eq!(rt; played.outcomes.as_str(), "waits waits A ");
@@ -48,7 +48,11 @@ fn preferred_word_waits(rt: HostRuntime) -> Result<(), Fail> {
 #[test]
 fn end_waits_for_a_row(rt: HostRuntime) -> Result<(), Fail> {
     let alloc = rt.alloc();
-    let pattern = either(alloc, both(alloc, a(), Form::PartitionEnd)?, a())?;
+    let pattern = Form::alternation(
+        alloc,
+        Form::concatenation(alloc, a(), Form::PartitionEnd)?,
+        a(),
+    )?;
     let stages = [(1, End::Open), (2, End::Open)];
     let played = play(alloc, pattern, Grid::new(alloc, 0), &stages, 100, MANY)?;
     assert_eq!(rt; played.outcomes.as_str(), "waits A ");
@@ -59,7 +63,11 @@ fn end_waits_for_a_row(rt: HostRuntime) -> Result<(), Fail> {
 #[test]
 fn open_test_without_a_word(rt: HostRuntime) -> Result<(), Fail> {
     let alloc = rt.alloc();
-    let pattern = either(alloc, both(alloc, a(), Form::PartitionStart)?, b())?;
+    let pattern = Form::alternation(
+        alloc,
+        Form::concatenation(alloc, a(), Form::PartitionStart)?,
+        b(),
+    )?;
     let played = play(
         alloc,
         pattern,
@@ -87,7 +95,7 @@ fn open_test_is_asked_again(rt: HostRuntime) -> Result<(), Fail> {
     ];
     for budget in [1, 3, 100] {
         let grid = Grid::answering(alloc, 2, &third, &[])?;
-        let pattern = both(alloc, any(alloc, a())?, b())?;
+        let pattern = Form::concatenation(alloc, any(alloc, a())?, b())?;
         let played = play(alloc, pattern, grid, &stages, budget, MANY)?;
         assert_eq!(rt;
             played.outcomes.as_str(),
@@ -111,7 +119,7 @@ fn goes_on_row_by_row(rt: HostRuntime) -> Result<(), Fail> {
     ];
     for budget in [1, 2, 1_000] {
         let grid = Grid::answering(alloc, 0, &[], &[Seen::NotTrue; 5])?;
-        let pattern = both(alloc, any(alloc, a())?, b())?;
+        let pattern = Form::concatenation(alloc, any(alloc, a())?, b())?;
         let played = play(alloc, pattern, grid, &stages, budget, MANY)?;
         assert_eq!(rt; played.outcomes.as_str(), "waits waits waits waits none ");
         let calls = [
@@ -133,7 +141,11 @@ fn budgets_agree(rt: HostRuntime) -> Result<(), Fail> {
     let alloc = rt.alloc();
     for budget in [1, 1_000, 100_000] {
         let grid = Grid::answering(alloc, 0, &[], &[Seen::NotTrue; 11])?;
-        let pattern = both(alloc, any(alloc, either(alloc, a(), a())?)?, b())?;
+        let pattern = Form::concatenation(
+            alloc,
+            any(alloc, Form::alternation(alloc, a(), a())?)?,
+            b(),
+        )?;
         let played = play(alloc, pattern, grid, &[(10, End::Closed)], budget, MANY)?;
         assert_eq!(rt; played.outcomes.as_str(), "none ");
     }
@@ -145,7 +157,11 @@ fn budgets_agree(rt: HostRuntime) -> Result<(), Fail> {
 fn forty_rows_pause(rt: HostRuntime) -> Result<(), Fail> {
     let alloc = rt.alloc();
     let grid = Grid::answering(alloc, 0, &[], &[Seen::NotTrue; 41])?;
-    let pattern = both(alloc, any(alloc, either(alloc, a(), a())?)?, b())?;
+    let pattern = Form::concatenation(
+        alloc,
+        any(alloc, Form::alternation(alloc, a(), a())?)?,
+        b(),
+    )?;
     let played = play(alloc, pattern, grid, &[(40, End::Closed)], 1_000, 1)?;
     assert_eq!(rt; played.outcomes.as_str(), "paused ");
     assert!(rt; played.entries <= 1_000);
@@ -156,8 +172,8 @@ fn forty_rows_pause(rt: HostRuntime) -> Result<(), Fail> {
 #[test]
 fn rows_are_entered_one_by_one(rt: HostRuntime) -> Result<(), Fail> {
     let alloc = rt.alloc();
-    let later = both(alloc, any(alloc, either(alloc, a(), a())?)?, b())?;
-    let pattern = either(alloc, a(), later)?;
+    let later = Form::concatenation(alloc, any(alloc, Form::alternation(alloc, a(), a())?)?, b())?;
+    let pattern = Form::alternation(alloc, a(), later)?;
     let played = play(
         alloc,
         pattern,
@@ -189,7 +205,7 @@ fn search_begins(rt: HostRuntime) -> Result<(), Fail> {
 fn rows_are_asked_once(rt: HostRuntime) -> Result<(), Fail> {
     let alloc = rt.alloc();
     let third = [Seen::True, Seen::True, Seen::True, Seen::NotTrue];
-    let pattern = both(alloc, any(alloc, a())?, b())?;
+    let pattern = Form::concatenation(alloc, any(alloc, a())?, b())?;
     let grid = Grid::answering(alloc, 0, &third, &[])?;
     let played = play(alloc, pattern, grid, &[(3, End::Closed)], 100, MANY)?;
     assert_eq!(rt; played.outcomes.as_str(), "AAB ");

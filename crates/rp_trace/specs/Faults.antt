@@ -2,7 +2,7 @@
 use Rattle.rp_lines.specs.declared.lines.LineFault.{LineFault}
 use Rattle.rp_lines.specs.declared.lines.LineFault.TheVariants.{Read as LineRead, Turns as LineTurns, OutOfMemory as LineOutOfMemory}
 use Rattle.rp_trace.specs.declared.trace.TraceFault.{TraceFault}
-use Rattle.rp_trace.specs.declared.trace.TraceFault.TheVariants.{Read, Write, Turns, OutOfMemory}
+use Rattle.rp_trace.specs.declared.trace.TraceFault.TheVariants.{Read, Turns, OutOfMemory}
 
 -- the fault of a run of trace for one of a line
 abbrev pub trace_fault : LineFault → TraceFault

@@ -1,9 +1,8 @@
 //! A search that is run to its end.
-ghost use Rattle.std.specs.Prelude.{◌≡◌, ◌≤◌, IfOk, MatchBool};
+ghost use Rattle.std.specs.Prelude.{◌≡◌, IfOk, MatchBool};
 ghost use Rattle.rp_pattern.specs.declared.word.End.TheVariants.{Closed};
 ghost use Rattle.rp_search.specs.Found.{Match, NoMatch};
-ghost use Rattle.rp_search.specs.Fits.{Fits};
-ghost use Rattle.rp_search.specs.Search.{HasVariablesBelow, found_by, labels_of_search, start_of_search};
+ghost use Rattle.rp_search.specs.Search.{CanRun, found_by, labels_of_search};
 
 use rp_search::{Outcome, Search, Steps, Tests};
 use std::alloc::AllocError;
@@ -19,10 +18,7 @@ pub fn find<T: Tests, L: Ledger>(
     steps: &mut Steps<L>,
 ) -> Result<bool, AllocError>
     requires closed { (T.asked (T.subject tests.old)).end ≡ Closed }
-    requires known { start_of_search search.old ≤ (T.asked (T.subject tests.old)).known }
-    requires variables { HasVariablesBelow (T.asked (T.subject tests.old)).variables search.old }
-    requires fits { Fits search.old (T.asked (T.subject tests.old)) }
-    requires entered { T.entered tests.old (start_of_search search.old) (labels_of_search search.old) }
+    requires can_run { CanRun search.old (T.asked (T.subject tests.old)) (T.entered tests.old) }
     ensures { IfOk result (λ is_match. MatchBool is_match
         (found_by search.old (T.asked (T.subject tests.old)) ≡ Match (labels_of_search search.new))
         (found_by search.old (T.asked (T.subject tests.old)) ≡ NoMatch)) }

@@ -59,10 +59,9 @@ pub fn run_trace<R: Intake, W: Outlet>(
         (form_of pattern.now) (R.remaining reader.old) (W.contents writer.old) (W.contents writer.new)) }
     ensures front { OnErr result (WritesFront
         (form_of pattern.now) (R.remaining reader.old) (W.contents writer.old) (W.contents writer.new)) }
-    ensures end { OnOk result (IsAtEnd (R.remaining reader.new)) }
-    ensures told { OnOk result (R.ended reader.new ≡ true) }
-    ensures reads_go { OnOk result (R.failures reader.new ≡ R.failures reader.old) }
-    ensures writes_go { OnOk result (W.failures writer.new ≡ W.failures writer.old) }
+    ensures end { OnOk result (IsAtEnd (R.remaining reader.new) × (R.ended reader.new ≡ true)) }
+    ensures goes { OnOk result
+        ((R.failures reader.new ≡ R.failures reader.old) × (W.failures writer.new ≡ W.failures writer.old)) }
     ensures read { result ≡ Err TraceFault.Read → R.failures reader.new ≡ raised (R.failures reader.old) }
     ensures write { result ≡ Err TraceFault.Write → W.failures writer.new ≡ raised (W.failures writer.old) }
     ensures reads { result ≡ Err TraceFault.Turns → R.calls reader.new ≡ after_calls reads (R.calls reader.old) }

@@ -134,7 +134,7 @@ impl Iterations {
             ∷ tail_parts n e then.now) split.new) }
     {
         let again = self.again(alloc, further, then, row)?;
-        self.another_or(again, stop, split)
+        self.another_or(self.reluctant, again, stop, split)
     }
 
     /// What comes after another iteration: `further` ones may follow, if it has taken a row.
@@ -158,21 +158,23 @@ impl Iterations {
         linked(alloc, since, part, share(then)?)
     }
 
-    /// Another iteration, with what comes after it, or to stop.
+    /// Another iteration, with what comes after it, or to stop. The caller says which of them is preferred, since it knows.
     #[inline(always)]
     pub(crate) fn another_or(
         &self,
+        reluctant: bool,
         again: Tail,
         stop: Option<Continuation>,
         split: &mut Split,
     ) -> Result<(), AllocError>
+        requires { reluctant ≡ self.now.reluctant }
         ensures { OnOk result ((row : ℕ) (n : ℕ) (e : End) (further : Option ℕ) (ts : List WordsAndTurns) →
             IsOneLess self.now.further further →
             ComesAgain n e row self.now further ts (tail_parts n e again) → StandsFor n e row ts stop →
             SplitsAt n e row (iterations_part n e 0 self.now ∷ ts) split.new) }
     {
         let another = Some(before(&self.body.form, self.body.excluded, again)?);
-        if self.reluctant {
+        if reluctant {
             *split = Split {
                 preferred: stop,
                 other: another,

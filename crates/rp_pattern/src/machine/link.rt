@@ -97,7 +97,7 @@ pub(crate) fn follow(tail: &Tail, row: u64) -> Result<Option<Continuation>, Allo
     Ok(reach(share(tail)?, row))
 }
 
-/// Later parts, the first of which is reached, taken up.
+/// Later parts, the first of which is reached, taken up. Greedy iterations without bounds come up most often.
 #[inline(always)]
 pub(crate) fn take_reached(
     alloc: Global,
@@ -109,37 +109,74 @@ pub(crate) fn take_reached(
 ) -> Result<Expansion, AllocError>
     ensures { IfOk result (TakenUp n end row (λ n e. reached_parts n e (links_from link.now.value)) split.new) }
 {
+    if let Part::Times { lower, iterations } = &link.part {
+        if !iterations.reluctant && comes_again(link, *lower, iterations) {
+            take_again(link, *lower, iterations, row, split)?;
+            return Ok(Expansion::Split);
+        }
+    }
+    take_part(alloc, link, row, n, end, split)
+}
+
+/// The same, whatever part is first.
+#[inline(always)]
+fn take_part(
+    alloc: Global,
+    link: &Rc<Link>,
+    row: u64,
+    n: u64,
+    end: End,
+    split: &mut Split,
+) -> Result<Expansion, AllocError>
+    ensures { IfOk result (TakenUp n end row (λ n e. reached_parts n e (links_from link.now.value)) split.new) }
+{
+    let (expansion, part) = take_part_apart(alloc, link, row, n, end)?;
+    *split = part;
+    Ok(expansion)
+}
+
+/// The same, in a call of its own.
+#[inline(never)]
+fn take_part_apart(
+    alloc: Global,
+    link: &Rc<Link>,
+    row: u64,
+    n: u64,
+    end: End,
+) -> Result<(Expansion, Split), AllocError>
+    ensures { IfOk result (λ taken.
+        TakenUp n end row (λ n e. reached_parts n e (links_from link.now.value)) taken.1 taken.0) }
+{
     match &link.part {
-        Part::Whole(node) => node.take_up(alloc, &node.form, &link.then, row, n, end, split),
+        Part::Whole(node) => node.take_apart(alloc, &link.then, row, n, end),
         Part::Times { lower, iterations } => {
-            take_times(alloc, link, *lower, iterations, row, split)?;
-            Ok(Expansion::Split)
+            let split = take_times(alloc, link, *lower, iterations, row)?;
+            Ok((Expansion::Split, split))
         }
         Part::Orders(orders) => {
-            *split = orders.take_apart(alloc, &link.then, row)?;
-            Ok(Expansion::Split)
+            let split = orders.take_apart(alloc, &link.then, row)?;
+            Ok((Expansion::Split, split))
         }
     }
 }
 
 /// Iterations that are reached, taken up. Where any number may follow and each takes a row, the same link comes again.
-#[inline(always)]
 fn take_times(
     alloc: Global,
     link: &Rc<Link>,
     lower: u32,
     iterations: &Iterations,
     row: u64,
-    split: &mut Split,
-) -> Result<(), AllocError>
+) -> Result<Split, AllocError>
     requires { IsTimes lower iterations.now link.now.value }
-    ensures { OnOk result (AlwaysSplits row (λ n e. reached_parts n e (links_from link.now.value)) split.new) }
+    ensures { IfOk result (AlwaysSplits row (λ n e. reached_parts n e (links_from link.now.value))) }
 {
     if comes_again(link, lower, iterations) {
-        return take_again(link, lower, iterations, row, split);
+        let mut split = Split::none();
+        take_again(link, lower, iterations, row, &mut split)?;
+        return Ok(split);
     }
-    *split = iterations.take_apart(alloc, lower, &link.then, row)?;
-    Ok(())
+    iterations.take_apart(alloc, lower, &link.then, row)
 }
 
 /// An iteration, before the same link again, or to stop.
@@ -155,8 +192,9 @@ fn take_again(
     requires again { ComesUnchanged lower iterations.now link.now.value }
     ensures { OnOk result (AlwaysSplits row (λ n e. reached_parts n e (links_from link.now.value)) split.new) }
 {
+    let reluctant = iterations.reluctant;
     let stop = follow(&link.then, row)?;
-    iterations.another_or(Some(link.clone()?), stop, split)
+    iterations.another_or(reluctant, Some(link.clone()?), stop, split)
 }
 
 /// Whether it is known that the same may come after each iteration.

@@ -22,7 +22,7 @@ pub(crate) struct Node {
 }
 
 impl Node {
-    ghost use Rattle.std.specs.Prelude.{◌≡◌, ℕ, ◌∷◌, ◌<◌, ◌≤◌, ◌++◌, IfOk, OnOk, IsTrue, List, Option, map, length};
+    ghost use Rattle.std.specs.Prelude.{◌≡◌, ◌≢◌, ℕ, ◌∷◌, ◌<◌, ◌≤◌, ◌++◌, IfOk, OnOk, IsTrue, List, Option, map, length};
     ghost use Rattle.std.specs.List.{AllByRecursion};
     ghost use Rattle.std.specs.declared.vec.Vec.{Vec};
     ghost use Rattle.std.specs.declared.rc.Rc.{Rc};
@@ -72,16 +72,6 @@ impl Node {
             ∷ tail_parts n e then.now) split.new) }
     {
         match form {
-            Form::Variable(var) => Ok(take_row(*var, self.excluded, row, n, end, split)),
-            Form::Empty => {
-                self.take_empty(then, row, split)?;
-                Ok(Expansion::Split)
-            }
-            Form::PartitionStart => {
-                self.take_start(then, row, split)?;
-                Ok(Expansion::Split)
-            }
-            Form::PartitionEnd => self.take_end(then, row, n, end, split),
             Form::Concatenation(first, second) => {
                 self.take_concatenation(alloc, first, second, then, split)?;
                 Ok(Expansion::Split)
@@ -90,14 +80,78 @@ impl Node {
                 self.take_alternation(first, second, then, split)?;
                 Ok(Expansion::Split)
             }
-            Form::Permute(_) => {
-                self.take_permute(alloc, then, row, split)?;
-                Ok(Expansion::Split)
-            }
-            Form::Exclusion(body) => {
-                self.take_exclusion(body, then, split)?;
-                Ok(Expansion::Split)
-            }
+            _ => self.take_other(alloc, form, then, row, n, end, split),
+        }
+    }
+
+    /// The same, with the choices that it stands for.
+    pub(crate) fn take_apart(
+        &self,
+        alloc: Global,
+        then: &Tail,
+        row: u64,
+        n: u64,
+        end: End,
+    ) -> Result<(Expansion, Split), AllocError>
+        ensures { IfOk result (λ taken. TakenUp n end row (λ n e. node_part n e self.now
+            ∷ tail_parts n e then.now) taken.1 taken.0) }
+    {
+        let mut split = Split::none();
+        let expansion = self.take_up(alloc, &self.form, then, row, n, end, &mut split)?;
+        Ok((expansion, split))
+    }
+
+    /// The same where it isn't two parts: few choices begin so.
+    #[inline(always)]
+    fn take_other(
+        &self,
+        alloc: Global,
+        form: &Form,
+        then: &Tail,
+        row: u64,
+        n: u64,
+        end: End,
+        split: &mut Split,
+    ) -> Result<Expansion, AllocError>
+        requires form { form.now ≡ self.now.form.value }
+        requires no_concatenation { (first second : Rc Form Global) → form.now ≢ Form.Concatenation first second }
+        requires no_alternation { (first second : Rc Form Global) → form.now ≢ Form.Alternation first second }
+        ensures { IfOk result (TakenUp n end row (λ n e. node_part n e self.now
+            ∷ tail_parts n e then.now) split.new) }
+    {
+        let (expansion, other) = self.take_other_apart(alloc, form, then, row, n, end)?;
+        *split = other;
+        Ok(expansion)
+    }
+
+    /// The same, in a call of its own.
+    #[inline(never)]
+    fn take_other_apart(
+        &self,
+        alloc: Global,
+        form: &Form,
+        then: &Tail,
+        row: u64,
+        n: u64,
+        end: End,
+    ) -> Result<(Expansion, Split), AllocError>
+        requires form { form.now ≡ self.now.form.value }
+        requires no_concatenation { (first second : Rc Form Global) → form.now ≢ Form.Concatenation first second }
+        requires no_alternation { (first second : Rc Form Global) → form.now ≢ Form.Alternation first second }
+        ensures { IfOk result (λ taken. TakenUp n end row (λ n e. node_part n e self.now
+            ∷ tail_parts n e then.now) taken.1 taken.0) }
+    {
+        match form {
+            Form::Variable(var) => {
+                let mut split = Split::none();
+                let expansion = take_row(*var, self.excluded, row, n, end, &mut split);
+                Ok((expansion, split))
+            },
+            Form::Empty => Ok((Expansion::Split, self.take_empty(then, row)?)),
+            Form::PartitionStart => Ok((Expansion::Split, self.take_start(then, row)?)),
+            Form::PartitionEnd => self.take_end(then, row, n, end),
+            Form::Permute(_) => Ok((Expansion::Split, self.take_permute(alloc, then, row)?)),
+            Form::Exclusion(body) => Ok((Expansion::Split, self.take_exclusion(body, then)?)),
             Form::Quantified {
                 body,
                 lower,
@@ -105,9 +159,10 @@ impl Node {
                 reluctant,
             } => {
                 let iterations = self.iterations(body, *lower, *upper, *reluctant)?;
-                *split = iterations.take_apart(alloc, *lower, then, row)?;
-                Ok(Expansion::Split)
+                let split = iterations.take_apart(alloc, *lower, then, row)?;
+                Ok((Expansion::Split, split))
             }
+            Form::Concatenation(_, _) | Form::Alternation(_, _) => unreachable!(),
         }
     }
 
@@ -163,70 +218,52 @@ impl Node {
     }
 
     /// No row.
-    #[inline(always)]
-    fn take_empty(&self, then: &Tail, row: u64, split: &mut Split) -> Result<(), AllocError>
+    fn take_empty(&self, then: &Tail, row: u64) -> Result<Split, AllocError>
         requires { self.now.form.value ≡ Form.Empty }
-        ensures { OnOk result (AlwaysSplits row (λ n e. node_part n e self.now ∷ tail_parts n e then.now) split.new) }
+        ensures { IfOk result (AlwaysSplits row (λ n e. node_part n e self.now ∷ tail_parts n e then.now)) }
     {
-        *split = Split::one(follow(then, row)?);
-        Ok(())
+        Ok(Split::one(follow(then, row)?))
     }
 
     /// No row, before row 1.
-    #[inline(always)]
-    fn take_start(&self, then: &Tail, row: u64, split: &mut Split) -> Result<(), AllocError>
+    fn take_start(&self, then: &Tail, row: u64) -> Result<Split, AllocError>
         requires { self.now.form.value ≡ Form.PartitionStart }
-        ensures { OnOk result (AlwaysSplits row (λ n e. node_part n e self.now ∷ tail_parts n e then.now) split.new) }
+        ensures { IfOk result (AlwaysSplits row (λ n e. node_part n e self.now ∷ tail_parts n e then.now)) }
     {
         if row != 1 {
-            *split = Split::none();
-            return Ok(());
+            return Ok(Split::none());
         }
-        *split = Split::one(follow(then, row)?);
-        Ok(())
+        Ok(Split::one(follow(then, row)?))
     }
 
     /// No row, after the last one.
-    #[inline(always)]
     fn take_end(
         &self,
         then: &Tail,
         row: u64,
         n: u64,
         end: End,
-        split: &mut Split,
-    ) -> Result<Expansion, AllocError>
+    ) -> Result<(Expansion, Split), AllocError>
         requires { self.now.form.value ≡ Form.PartitionEnd }
-        ensures { IfOk result (TakenUp n end row (λ n e. node_part n e self.now
-            ∷ tail_parts n e then.now) split.new) }
+        ensures { IfOk result (λ taken. TakenUp n end row (λ n e. node_part n e self.now
+            ∷ tail_parts n e then.now) taken.1 taken.0) }
     {
         if row <= n {
-            *split = Split::none();
-            return Ok(Expansion::Split);
+            return Ok((Expansion::Split, Split::none()));
         }
         match end {
-            End::Open => Ok(Expansion::Open),
-            End::Closed => {
-                *split = Split::one(follow(then, row)?);
-                Ok(Expansion::Split)
-            }
+            End::Open => Ok((Expansion::Open, Split::none())),
+            End::Closed => Ok((Expansion::Split, Split::one(follow(then, row)?))),
         }
     }
 
     /// The part, whose labels are excluded.
-    #[inline(always)]
-    fn take_exclusion(
-        &self,
-        body: &Rc<Form>,
-        then: &Tail,
-        split: &mut Split,
-    ) -> Result<(), AllocError>
+    fn take_exclusion(&self, body: &Rc<Form>, then: &Tail) -> Result<Split, AllocError>
         requires { self.now.form.value ≡ Form.Exclusion body.now }
-        ensures { OnOk result ((row : ℕ) →
-            AlwaysSplits row (λ n e. node_part n e self.now ∷ tail_parts n e then.now) split.new) }
+        ensures { IfOk result (λ split. (row : ℕ) →
+            AlwaysSplits row (λ n e. node_part n e self.now ∷ tail_parts n e then.now) split) }
     {
-        *split = Split::one(Some(before(body, true, share(then)?)?));
-        Ok(())
+        Ok(Split::one(Some(before(body, true, share(then)?)?)))
     }
 
     /// The iterations of a quantified part.
@@ -251,23 +288,15 @@ impl Node {
     }
 
     /// The orders of the parts.
-    #[inline(always)]
-    fn take_permute(
-        &self,
-        alloc: Global,
-        then: &Tail,
-        row: u64,
-        split: &mut Split,
-    ) -> Result<(), AllocError>
+    fn take_permute(&self, alloc: Global, then: &Tail, row: u64) -> Result<Split, AllocError>
         requires { (parts : Vec (Rc Form Global) Global) × (self.now.form.value ≡ Form.Permute parts) }
-        ensures { OnOk result (AlwaysSplits row (λ n e. node_part n e self.now ∷ tail_parts n e then.now) split.new) }
+        ensures { IfOk result (AlwaysSplits row (λ n e. node_part n e self.now ∷ tail_parts n e then.now)) }
     {
         let orders = Orders {
             permute: self.share()?,
             from: 0,
         };
-        *split = orders.take_apart(alloc, then, row)?;
-        Ok(())
+        orders.take_apart(alloc, then, row)
     }
 
     /// The parts of a PERMUTE.

@@ -14,18 +14,18 @@ use std::alloc::AllocError;
 #[tactic(auto, unfolding(crate::specs::Search::start_of_search, crate::specs::Search::labels_of_search, crate::specs::Search::words_from, crate::specs::Search::turns_from, crate::specs::Fits::left_by, crate::specs::Fits::ChoicesStand, crate::specs::Fits::LabelsStand, crate::specs::Fits::LabelsBelow))]
 impl Search {
     ghost use Rattle.rp_search.specs.Fits.{left_by};
-    ghost use Rattle.rp_search.specs.Search.{HasVariablesBelow, IsSameSearch, labels_of_search, start_of_search};
-    ghost use Rattle.rp_search.specs.Turned.{Searches, Turned, exploring};
+    ghost use Rattle.rp_search.specs.Search.{IsSameSearch, labels_of_search, start_of_search};
+    ghost use Rattle.rp_search.specs.Turned.{Covers, Searches, Turned, exploring};
 
     /// Takes up what would follow a row whose test is open. There each row is taken without a test. Where nothing would
     /// follow it, the choice that maps it is given up, and the next one is taken up.
+    #[inline(never)]
     pub(super) fn explore<T: Tests>(
         &mut self,
         mut outlook: Outlook,
         tests: &mut T,
     ) -> Result<Outcome, AllocError>
-        requires known { start_of_search self.old ≤ (T.asked (T.subject tests.old)).known }
-        requires variables { HasVariablesBelow (T.asked (T.subject tests.old)).variables self.old }
+        requires covers { Covers (T.asked (T.subject tests.old)) self.old }
         requires none { self.old.outlook ≡ None }
         requires before { Searches (exploring self.old outlook) (T.asked (T.subject tests.old)) }
         requires entered { T.entered tests.old (start_of_search self.old) (labels_of_search self.old) }
@@ -35,7 +35,8 @@ impl Search {
         ensures entries { T.entries tests.new ≤ T.entries tests.old + 1 }
         ensures entered { OnOk result (T.entered tests.new (start_of_search self.new) (labels_of_search self.new)) }
         ensures searches { OnOk result (Searches self.new (T.asked (T.subject tests.old))) }
-        ensures turned { IfOk result (Turned 1 self.old self.new (T.asked (T.subject tests.old)) (left_by (exploring self.old outlook) (T.asked (T.subject tests.old)))) }
+        ensures turned { IfOk result (Turned 1 self.old self.new
+            (T.asked (T.subject tests.old)) (left_by (exploring self.old outlook) (T.asked (T.subject tests.old)))) }
     {
         match outlook.take_up(tests.known(), tests.end())? {
             Sight::Further => {

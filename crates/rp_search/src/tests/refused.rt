@@ -2,8 +2,8 @@
 //! by a search that is made then: the outcome, the labels and the calls of `enter` are its.
 
 use super::grid::Grid;
-use super::script::{MANY, a, any, b, both, excluded, many, permuted, play};
-use rp_pattern::{End, Seen};
+use super::script::{MANY, a, any, b, play};
+use rp_pattern::{End, Form, Seen};
 use std::test::Fail;
 
 /// One run, or one after another with so many turns each.
@@ -11,7 +11,7 @@ use std::test::Fail;
 fn refused_run_is_made_again(rt: HostRuntime) -> Result<(), Fail> {
     let alloc = rt.alloc();
     for budget in [100, 2, 1] {
-        let form = both(alloc, any(alloc, a())?, b())?;
+        let form = Form::concatenation(alloc, any(alloc, a())?, b())?;
         let grid = Grid::new(alloc, 0);
         let played = play(alloc, form, grid, &[(3, End::Closed)], budget, MANY)?;
         assert_eq!(rt; played.outcomes.as_str(), "AAB ");
@@ -27,7 +27,7 @@ fn refused_after_a_wait(rt: HostRuntime) -> Result<(), Fail> {
     let alloc = rt.alloc();
     let stages = [(1, End::Open), (2, End::Open), (2, End::Closed)];
     for budget in [100, 2] {
-        let form = both(alloc, any(alloc, a())?, b())?;
+        let form = Form::concatenation(alloc, any(alloc, a())?, b())?;
         let played = play(alloc, form, Grid::new(alloc, 0), &stages, budget, MANY)?;
         assert_eq!(rt; played.outcomes.as_str(), "waits waits AB ");
         let calls = [
@@ -46,7 +46,7 @@ fn refused_after_a_wait(rt: HostRuntime) -> Result<(), Fail> {
 fn refused_behind_an_open_test(rt: HostRuntime) -> Result<(), Fail> {
     let alloc = rt.alloc();
     for budget in [100, 1] {
-        let form = both(alloc, a(), b())?;
+        let form = Form::concatenation(alloc, a(), b())?;
         let grid = Grid::new(alloc, 1);
         let stages = [(1, End::Open), (2, End::Open)];
         let played = play(alloc, form, grid, &stages, budget, MANY)?;
@@ -61,9 +61,9 @@ fn refused_behind_an_open_test(rt: HostRuntime) -> Result<(), Fail> {
 #[test]
 fn refused_order_of_parts(rt: HostRuntime) -> Result<(), Fail> {
     let alloc = rt.alloc();
-    let part = excluded(alloc, a())?;
-    let other = many(alloc, b(), 1, Some(2), true)?;
-    let form = permuted(alloc, vec![in alloc; part, other]?)?;
+    let part = Form::exclusion(alloc, a())?;
+    let other = Form::quantified(alloc, b(), 1, Some(2), true)?;
+    let form = Form::permute(alloc, vec![in alloc; part, other]?)?;
     let grid = Grid::answering(alloc, 0, &[Seen::True, Seen::NotTrue], &[])?;
     let played = play(alloc, form, grid, &[(2, End::Closed)], 100, MANY)?;
     assert_eq!(rt; played.outcomes.as_str(), "Ba ");

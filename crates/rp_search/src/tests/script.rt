@@ -13,57 +13,21 @@ use crate::steps::Steps;
 use rp_pattern::{End, Form, Label, Pattern};
 use std::alloc::{AllocError, Global};
 use std::marker::Brand;
-use std::rc::Rc;
 use std::sync::ledger::{Blank, Ledger};
 
 /// More runs than any test needs.
 pub const MANY: u64 = 100_000;
 
 pub fn a() -> Form {
-    Form::Variable(0)
+    Form::variable(0)
 }
 
 pub fn b() -> Form {
-    Form::Variable(1)
-}
-
-pub fn both(alloc: Global, first: Form, second: Form) -> Result<Form, AllocError> {
-    Ok(Form::Concatenation(Rc::new(alloc, first)?, Rc::new(alloc, second)?))
-}
-
-pub fn either(alloc: Global, first: Form, second: Form) -> Result<Form, AllocError> {
-    Ok(Form::Alternation(Rc::new(alloc, first)?, Rc::new(alloc, second)?))
-}
-
-pub fn many(
-    alloc: Global,
-    body: Form,
-    lower: u32,
-    upper: Option<u32>,
-    reluctant: bool,
-) -> Result<Form, AllocError> {
-    Ok(Form::Quantified {
-        body: Rc::new(alloc, body)?,
-        lower,
-        upper,
-        reluctant,
-    })
+    Form::variable(1)
 }
 
 pub fn any(alloc: Global, body: Form) -> Result<Form, AllocError> {
-    many(alloc, body, 0, None, false)
-}
-
-pub fn excluded(alloc: Global, body: Form) -> Result<Form, AllocError> {
-    Ok(Form::Exclusion(Rc::new(alloc, body)?))
-}
-
-pub fn permuted(alloc: Global, parts: Vec<Form>) -> Result<Form, AllocError> {
-    let mut shared = Vec::new(alloc);
-    for part in parts {
-        shared.push(Rc::new(alloc, part)?)?;
-    }
-    Ok(Form::Permute(shared))
+    Form::quantified(alloc, body, 0, None, false)
 }
 
 /// What a search from row 1 did.

@@ -4,7 +4,7 @@ ghost use Rattle.rp_pattern.specs.PatternForm.{form_of};
 ghost use Rattle.rp_pattern.specs.Variables.{are_below};
 
 use super::grid::Grid;
-use super::script::{MANY, a, any, b, both, created, decide, either, excluded, many, permuted};
+use super::script::{MANY, a, any, b, created, decide};
 use crate::search::Outcome;
 use crate::steps::Steps;
 use rp_pattern::Seen::{NotTrue, Open, True};
@@ -46,7 +46,7 @@ const WAYS: [[[Seen; 5]; 2]; 6] = [
 ];
 
 fn few(alloc: Global, body: Form) -> Result<Form, AllocError> {
-    many(alloc, body, 0, None, true)
+    Form::quantified(alloc, body, 0, None, true)
 }
 
 /// One row after another, choices and the places that take no row.
@@ -56,18 +56,22 @@ fn plain_forms(alloc: Global) -> Result<Vec<Form>, AllocError> {
     forms.push(Form::Empty)?;
     forms.push(Form::PartitionStart)?;
     forms.push(Form::PartitionEnd)?;
-    forms.push(both(alloc, a(), b())?)?;
-    forms.push(either(alloc, a(), both(alloc, a(), b())?)?)?;
-    forms.push(either(alloc, both(alloc, a(), b())?, a())?)?;
-    forms.push(either(alloc, both(alloc, a(), Form::PartitionEnd)?, a())?)?;
-    forms.push(both(
+    forms.push(Form::concatenation(alloc, a(), b())?)?;
+    forms.push(Form::alternation(alloc, a(), Form::concatenation(alloc, a(), b())?)?)?;
+    forms.push(Form::alternation(alloc, Form::concatenation(alloc, a(), b())?, a())?)?;
+    forms.push(Form::alternation(
+        alloc,
+        Form::concatenation(alloc, a(), Form::PartitionEnd)?,
+        a(),
+    )?)?;
+    forms.push(Form::concatenation(
         alloc,
         Form::PartitionStart,
-        both(alloc, a(), Form::PartitionEnd)?,
+        Form::concatenation(alloc, a(), Form::PartitionEnd)?,
     )?)?;
-    forms.push(both(alloc, a(), Form::PartitionStart)?)?;
-    forms.push(either(alloc, Form::Empty, a())?)?;
-    forms.push(both(alloc, either(alloc, a(), Form::Empty)?, b())?)?;
+    forms.push(Form::concatenation(alloc, a(), Form::PartitionStart)?)?;
+    forms.push(Form::alternation(alloc, Form::Empty, a())?)?;
+    forms.push(Form::concatenation(alloc, Form::alternation(alloc, a(), Form::Empty)?, b())?)?;
     Ok(forms)
 }
 
@@ -76,17 +80,23 @@ fn quantified_forms(alloc: Global) -> Result<Vec<Form>, AllocError> {
     let mut forms = Vec::new(alloc);
     forms.push(any(alloc, a())?)?;
     forms.push(few(alloc, a())?)?;
-    forms.push(many(alloc, a(), 1, None, false)?)?;
-    forms.push(many(alloc, a(), 1, None, true)?)?;
-    forms.push(many(alloc, a(), 0, Some(1), false)?)?;
-    forms.push(many(alloc, a(), 0, Some(1), true)?)?;
-    forms.push(many(alloc, a(), 2, Some(2), false)?)?;
-    forms.push(many(alloc, a(), 1, Some(3), true)?)?;
-    forms.push(many(alloc, a(), 0, Some(0), false)?)?;
-    forms.push(both(alloc, any(alloc, a())?, b())?)?;
-    forms.push(both(alloc, few(alloc, a())?, b())?)?;
-    forms.push(both(alloc, few(alloc, a())?, Form::PartitionEnd)?)?;
-    forms.push(many(alloc, either(alloc, a(), Form::Empty)?, 2, Some(3), false)?)?;
+    forms.push(Form::quantified(alloc, a(), 1, None, false)?)?;
+    forms.push(Form::quantified(alloc, a(), 1, None, true)?)?;
+    forms.push(Form::quantified(alloc, a(), 0, Some(1), false)?)?;
+    forms.push(Form::quantified(alloc, a(), 0, Some(1), true)?)?;
+    forms.push(Form::quantified(alloc, a(), 2, Some(2), false)?)?;
+    forms.push(Form::quantified(alloc, a(), 1, Some(3), true)?)?;
+    forms.push(Form::quantified(alloc, a(), 0, Some(0), false)?)?;
+    forms.push(Form::concatenation(alloc, any(alloc, a())?, b())?)?;
+    forms.push(Form::concatenation(alloc, few(alloc, a())?, b())?)?;
+    forms.push(Form::concatenation(alloc, few(alloc, a())?, Form::PartitionEnd)?)?;
+    forms.push(Form::quantified(
+        alloc,
+        Form::alternation(alloc, a(), Form::Empty)?,
+        2,
+        Some(3),
+        false,
+    )?)?;
     Ok(forms)
 }
 
@@ -94,31 +104,34 @@ fn quantified_forms(alloc: Global) -> Result<Vec<Form>, AllocError> {
 fn nested_forms(alloc: Global) -> Result<Vec<Form>, AllocError> {
     let mut forms = Vec::new(alloc);
     forms.push(any(alloc, any(alloc, a())?)?)?;
-    forms.push(any(alloc, many(alloc, a(), 0, Some(1), true)?)?)?;
-    forms.push(both(alloc, any(alloc, any(alloc, a())?)?, Form::PartitionEnd)?)?;
-    forms.push(few(alloc, few(alloc, either(alloc, a(), b())?)?)?)?;
-    forms.push(many(alloc, any(alloc, a())?, 2, None, false)?)?;
-    forms.push(many(alloc, few(alloc, a())?, 1, Some(2), true)?)?;
-    forms.push(many(alloc, Form::Empty, 3, None, false)?)?;
-    forms.push(any(alloc, either(alloc, Form::PartitionStart, a())?)?)?;
-    forms.push(any(alloc, either(alloc, a(), Form::PartitionEnd)?)?)?;
-    forms.push(both(alloc, any(alloc, either(alloc, a(), a())?)?, b())?)?;
+    forms.push(any(alloc, Form::quantified(alloc, a(), 0, Some(1), true)?)?)?;
+    forms.push(Form::concatenation(alloc, any(alloc, any(alloc, a())?)?, Form::PartitionEnd)?)?;
+    forms.push(few(alloc, few(alloc, Form::alternation(alloc, a(), b())?)?)?)?;
+    forms.push(Form::quantified(alloc, any(alloc, a())?, 2, None, false)?)?;
+    forms.push(Form::quantified(alloc, few(alloc, a())?, 1, Some(2), true)?)?;
+    forms.push(Form::quantified(alloc, Form::Empty, 3, None, false)?)?;
+    forms.push(any(alloc, Form::alternation(alloc, Form::PartitionStart, a())?)?)?;
+    forms.push(any(alloc, Form::alternation(alloc, a(), Form::PartitionEnd)?)?)?;
+    forms.push(Form::concatenation(alloc, any(alloc, Form::alternation(alloc, a(), a())?)?, b())?)?;
     Ok(forms)
 }
 
 /// PERMUTE and exclusion.
 fn other_forms(alloc: Global) -> Result<Vec<Form>, AllocError> {
     let mut forms = Vec::new(alloc);
-    forms.push(permuted(alloc, vec![in alloc; a()]?)?)?;
-    forms.push(permuted(alloc, vec![in alloc; a(), b()]?)?)?;
-    forms.push(permuted(alloc, vec![in alloc; a(), b(), a()]?)?)?;
-    forms.push(permuted(alloc, vec![in alloc; any(alloc, a())?, b()]?)?)?;
-    forms.push(permuted(alloc, vec![in alloc; a(), Form::PartitionEnd]?)?)?;
-    forms.push(any(alloc, permuted(alloc, vec![in alloc; a(), b()]?)?)?)?;
-    forms.push(excluded(alloc, a())?)?;
-    forms.push(both(alloc, excluded(alloc, any(alloc, a())?)?, b())?)?;
-    forms.push(any(alloc, excluded(alloc, either(alloc, a(), b())?)?)?)?;
-    forms.push(excluded(alloc, permuted(alloc, vec![in alloc; a(), b()]?)?)?)?;
+    forms.push(Form::permute(alloc, vec![in alloc; a()]?)?)?;
+    forms.push(Form::permute(alloc, vec![in alloc; a(), b()]?)?)?;
+    forms.push(Form::permute(alloc, vec![in alloc; a(), b(), a()]?)?)?;
+    forms.push(Form::permute(alloc, vec![in alloc; any(alloc, a())?, b()]?)?)?;
+    forms.push(Form::permute(alloc, vec![in alloc; a(), Form::PartitionEnd]?)?)?;
+    forms.push(any(alloc, Form::permute(alloc, vec![in alloc; a(), b()]?)?)?)?;
+    forms.push(Form::exclusion(alloc, a())?)?;
+    forms.push(Form::concatenation(alloc, Form::exclusion(alloc, any(alloc, a())?)?, b())?)?;
+    forms.push(any(
+        alloc,
+        Form::exclusion(alloc, Form::alternation(alloc, a(), b())?)?,
+    )?)?;
+    forms.push(Form::exclusion(alloc, Form::permute(alloc, vec![in alloc; a(), b()]?)?)?)?;
     Ok(forms)
 }
 

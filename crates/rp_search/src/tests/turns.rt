@@ -3,7 +3,7 @@
 //! excluded, repeated or joined with another behind it, its row is the next choice, and joining it takes none.
 
 use super::grid::Grid;
-use super::script::{MANY, a, any, b, both, either, excluded, many, permuted, play};
+use super::script::{MANY, a, any, b, play};
 use rp_pattern::{End, Form, Seen};
 use std::alloc::{AllocError, Global};
 use std::test::Fail;
@@ -37,11 +37,18 @@ fn turns_of_rows_and_choices(rt: HostRuntime) -> Result<(), Fail> {
     assert_eq!(rt; turns(alloc, a(), &FIRST_REFUSED, &[], 1, End::Closed)?, 2);
     // Joined, A, B, the word.
     assert_eq!(rt;
-        turns(alloc, both(alloc, a(), b())?, &[], &[], 2, End::Closed)?,
+        turns(
+            alloc,
+            Form::concatenation(alloc, a(), b())?,
+            &[],
+            &[],
+            2,
+            End::Closed
+        )?,
         4
     );
     // Chosen from, A, B, the word.
-    let choice = either(alloc, a(), b())?;
+    let choice = Form::alternation(alloc, a(), b())?;
     assert_eq!(rt;
         turns(alloc, choice, &FIRST_REFUSED, &[], 1, End::Closed)?,
         4
@@ -56,7 +63,11 @@ fn turns_of_rows_and_choices(rt: HostRuntime) -> Result<(), Fail> {
 fn turns_of_refused_iterations(rt: HostRuntime) -> Result<(), Fail> {
     let alloc = rt.alloc();
     for (rows, count) in [(1, 17), (2, 37), (3, 77)] {
-        let form = both(alloc, any(alloc, either(alloc, a(), a())?)?, b())?;
+        let form = Form::concatenation(
+            alloc,
+            any(alloc, Form::alternation(alloc, a(), a())?)?,
+            b(),
+        )?;
         assert_eq!(rt;
             turns(alloc, form, &[], &[Seen::NotTrue; 4], rows, End::Closed)?,
             count
@@ -74,13 +85,19 @@ fn turns_of_quantifiers(rt: HostRuntime) -> Result<(), Fail> {
         7
     );
     // Another iteration or none, A, B, another or none, an A past the last row, the word.
-    let pairs = any(alloc, both(alloc, a(), b())?)?;
+    let pairs = any(alloc, Form::concatenation(alloc, a(), b())?)?;
     assert_eq!(rt; turns(alloc, pairs, &[], &[], 2, End::Closed)?, 6);
     // A required iteration, A, B, the other one, A, B, none after it, the word.
-    let twice = many(alloc, both(alloc, a(), b())?, 2, Some(2), false)?;
+    let twice = Form::quantified(
+        alloc,
+        Form::concatenation(alloc, a(), b())?,
+        2,
+        Some(2),
+        false,
+    )?;
     assert_eq!(rt; turns(alloc, twice, &[], &[], 4, End::Closed)?, 8);
     // A required iteration and its row, twice, another or none, the word.
-    let some = many(alloc, a(), 2, Some(3), true)?;
+    let some = Form::quantified(alloc, a(), 2, Some(3), true)?;
     assert_eq!(rt; turns(alloc, some, &[], &[], 3, End::Closed)?, 6);
     Ok(())
 }
@@ -89,25 +106,25 @@ fn turns_of_quantifiers(rt: HostRuntime) -> Result<(), Fail> {
 fn turns_of_other_forms(rt: HostRuntime) -> Result<(), Fail> {
     let alloc = rt.alloc();
     // An order, A, B, the word.
-    let orders = permuted(alloc, vec![in alloc; a(), b()]?)?;
+    let orders = Form::permute(alloc, vec![in alloc; a(), b()]?)?;
     assert_eq!(rt; turns(alloc, orders, &[], &[], 2, End::Closed)?, 4);
     // An order, A refused, the next order, B, A, the word.
-    let orders = permuted(alloc, vec![in alloc; a(), b()]?)?;
+    let orders = Form::permute(alloc, vec![in alloc; a(), b()]?)?;
     assert_eq!(rt;
         turns(alloc, orders, &FIRST_REFUSED, &[], 2, End::Closed)?,
         6
     );
     // Joined, the exclusion, A, B, the word.
-    let form = both(alloc, excluded(alloc, a())?, b())?;
+    let form = Form::concatenation(alloc, Form::exclusion(alloc, a())?, b())?;
     assert_eq!(rt; turns(alloc, form, &[], &[], 2, End::Closed)?, 5);
     // The exclusion, A, B, the word.
-    let form = excluded(alloc, both(alloc, a(), b())?)?;
+    let form = Form::exclusion(alloc, Form::concatenation(alloc, a(), b())?)?;
     assert_eq!(rt; turns(alloc, form, &[], &[], 2, End::Closed)?, 4);
     // Joined, the start, joined, A, the end, the word.
-    let whole = both(
+    let whole = Form::concatenation(
         alloc,
         Form::PartitionStart,
-        both(alloc, a(), Form::PartitionEnd)?,
+        Form::concatenation(alloc, a(), Form::PartitionEnd)?,
     )?;
     assert_eq!(rt; turns(alloc, whole, &[], &[], 1, End::Closed)?, 6);
     Ok(())
@@ -117,13 +134,17 @@ fn turns_of_other_forms(rt: HostRuntime) -> Result<(), Fail> {
 fn turns_behind_an_open_test(rt: HostRuntime) -> Result<(), Fail> {
     let alloc = rt.alloc();
     // Joined, A, whose test is open, B past the known row.
-    let form = both(alloc, a(), b())?;
+    let form = Form::concatenation(alloc, a(), b())?;
     assert_eq!(rt; turns(alloc, form, &FIRST_OPEN, &[], 1, End::Open)?, 3);
     // Chosen from, A, the start, which isn't there, B in place of finding nothing behind A, the word.
-    let form = either(alloc, both(alloc, a(), Form::PartitionStart)?, b())?;
+    let form = Form::alternation(
+        alloc,
+        Form::concatenation(alloc, a(), Form::PartitionStart)?,
+        b(),
+    )?;
     assert_eq!(rt; turns(alloc, form, &FIRST_OPEN, &[], 1, End::Open)?, 5);
     // Joined, A, whose test is open, joined, B, B, a word behind it.
-    let form = both(alloc, a(), both(alloc, b(), b())?)?;
+    let form = Form::concatenation(alloc, a(), Form::concatenation(alloc, b(), b())?)?;
     assert_eq!(rt; turns(alloc, form, &FIRST_OPEN, &[], 3, End::Open)?, 6);
     Ok(())
 }

@@ -4,15 +4,15 @@ use Rattle.rp_pattern.specs.LabelLaws.{IsBelow}
 use Rattle.rp_search.specs.Asked.{Asked}
 use Rattle.rp_search.proofs.tests.restarted.Goals as goal
 
-pub run-requires-2-clause-known : goal.run-requires-2-clause-known
-run-requires-2-clause-known g c =
-    let same : c.cut.new.self.known ≡ c.advance.new.self.known = ap (λ (a : Asked). a.known) (c.cut.ensures.subject ∙ c.in_ok-first.ensures.subject) in
+pub run-requires-2 : goal.run-requires-2
+run-requires-2 g c =
+    let restart = c.restart.ensures in
+    let first = c.in_ok-first.ensures in
+    let same : c.cut.new.self.known ≡ c.advance.new.self.known = ap (λ (a : Asked). a.known) (c.cut.ensures.subject ∙ first.subject) in
     let two : c.advance.new.self.known ≡ 2 = search rules in
-    omega (arith, same, two, c.restart.ensures.start)
-
-pub run-requires-2-clause-variables : goal.run-requires-2-clause-variables
-run-requires-2-clause-variables g c = λ n e row.
-    subst (λ ws. AllByRecursion (IsBelow 2) ws) (sym (c.restart.ensures.pattern.words n e row ∙ c.in_ok-first.ensures.same.pattern.words n e row)) (c.in_ok-search.ensures.variables n e row)
-
-pub run-requires-2-clause-entered : goal.run-requires-2-clause-entered
-run-requires-2-clause-entered g c = c.cut.ensures.none refl 2 ∙ sym c.restart.ensures.at_start.labels
+    record {
+      known = omega (arith, same, two, restart.start);
+      variables = λ n e row. subst (λ ws. AllByRecursion (IsBelow 2) ws) (sym (restart.pattern.words n e row ∙ first.same.pattern.words n e row)) (c.in_ok-search.ensures.variables n e row);
+      fits = restart.at_start.fits _;
+      entered = c.cut.ensures.none refl 2 ∙ sym restart.at_start.labels;
+    }

@@ -1,4 +1,4 @@
-use Rattle.std.proofs.Common.{◌∙◌, ap, rules, length, subst, sym}
+use Rattle.std.proofs.Common.{◌∙◌, ap, arith, rules, length, subst, sym}
 use Rattle.std.specs.List.{AllByRecursion}
 use Rattle.rp_pattern.specs.LabelLaws.{IsBelow}
 use Rattle.rp_pattern.specs.PatternForm.{form_of}
@@ -44,9 +44,12 @@ returns g c =
     new.start (new.pattern.same_words (length line) Closed (start_of_search search') ∙ ap (words (length line) Closed form) new.start) found')
     (rw c.labels.ensures at c.push_labels.ensures)
 
-pub find-requires-clause-fits : goal.find-requires-clause-fits
-find-requires-clause-fits g c = c.in_ok-search.ensures.at_start.fits _
-
-pub find-requires-clause-variables : goal.find-requires-clause-variables
-find-requires-clause-variables g c = λ n e row.
-    subst (λ ws. AllByRecursion (IsBelow 26) ws) (sym (c.in_ok-search.ensures.pattern.same_words n e row)) (c.law_labels.ensures 26 (form_of c.args.pattern.now) c.requires.lettered n e row)
+pub find-requires-clause-can_run : goal.find-requires-clause-can_run
+find-requires-clause-can_run g c =
+    let new = c.in_ok-search.ensures in
+    record {
+      known = omega (arith, new.start, ap length c.new-letters.ensures, c.requires.some);
+      variables = λ n e row. subst (λ ws. AllByRecursion (IsBelow 26) ws) (sym (new.pattern.same_words n e row)) (c.law_labels.ensures 26 (form_of c.args.pattern.now) c.requires.lettered n e row);
+      fits = new.at_start.fits _;
+      entered = tt;
+    }

@@ -17,7 +17,7 @@ returns-then-not-is_tested-clause-searches g c =
     let gave = c.give_up.ensures in
     let row = c.requires.row in
     let untested : c.is_tested.result ≡ false = search rules in
-    let none = untested_none old _ _ _ asked.variables c.requires.stands row (λ n e. c.requires.variables n e (start_of old))
+    let none = untested_none old _ _ _ asked.variables c.requires.stands row (λ n e. c.requires.covers.variables n e (start_of old))
     (none_untested asked.variables row.before row.last (entered old) c.is_tested.result row.labels (c.is_tested.ensures row.before row.last row.labels) untested) in
     let goes : Goes old c.give_up.new.self asked.known asked.end (asked.outcome (start_of old)) =
     goes_wordless old c.give_up.new.self _ _ _ c.requires.stands row none gave.whole (record { cut = gave.labels; cut_off = gave.cut_off; words = gave.remaining; turns = gave.left }) in

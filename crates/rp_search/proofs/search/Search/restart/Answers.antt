@@ -1,8 +1,8 @@
-use Rattle.std.proofs.Common.{◌≤◌, refl, subst, sym}
+use Rattle.std.proofs.Common.{arith, refl}
 use Rattle.rp_search.proofs.Turning.{at_start}
 use Rattle.rp_search.proofs.search.Search.restart.Goals as goal
 
 pub returns-clause-at_start : goal.returns-clause-at_start
 returns-clause-at_start c =
     let new = c.restart.ensures in
-    at_start _ refl (subst (λ i. 1 ≤ i) (sym new.start) c.requires) new.labels new.remaining new.left
+    at_start _ refl (omega (arith, new.start, c.requires)) new.labels new.remaining new.left

@@ -1,23 +1,23 @@
 use Rattle.std.proofs.Common.{◌∷◌, ap, sym, ◌∙◌}
 use Rattle.rp_pattern.specs.Continuations.{form_part, node_part, iterations_part, tail_parts}
 use Rattle.rp_pattern.proofs.Steps.{always_splits, same_splits, taken_as}
-use Rattle.rp_pattern.proofs.machine.node.Node.take_up.Goals as goal
+use Rattle.rp_pattern.proofs.machine.node.Node.take_other_apart.Goals as goal
 
 pub returns-in-Variable : goal.returns-in-Variable
 returns-in-Variable c =
     let a = c.args in
     let x = a.self.now.excluded in
     taken_as a.n a.end a.row _ (λ n e. node_part n e a.self.now ∷ tail_parts n e a.then.now)
-    (λ n e. ap (λ f. form_part n e f x ∷ tail_parts n e a.then.now) (sym c.in-Variable.is ∙ c.requires)) c.take_row.new.split c.take_row.result
-    (c.take_row.ensures (λ n e. tail_parts n e a.then.now))
+    (λ n e. ap (λ f. form_part n e f x ∷ tail_parts n e a.then.now) (sym c.in-Variable.is ∙ c.requires.form)) c.take_row-expansion.new.split c.take_row-expansion.result
+    (c.take_row-expansion.ensures (λ n e. tail_parts n e a.then.now))
 
 pub take_permute-requires : goal.take_permute-requires
-take_permute-requires c = (c.in-Permute.field-0, sym c.requires ∙ c.in-Permute.is)
+take_permute-requires c = (c.in-Permute.field-0, sym c.requires.form ∙ c.in-Permute.is)
 
 pub returns-in_ok-split-in-Quantified : goal.returns-in_ok-split-in-Quantified
 returns-in_ok-split-in-Quantified c =
     let a = c.args in
-    let s = c.in_ok-split-in-Quantified.field-0 in
+    let s = c.in_ok-split-in-Quantified.split in
     let it = c.in_ok-iterations-in-Quantified.iterations in
     always_splits a.n a.end a.row (λ n e. node_part n e a.self.now ∷ tail_parts n e a.then.now) s (λ n e.
     let same = c.in_ok-iterations-in-Quantified.ensures n e a.row in
