@@ -9,7 +9,7 @@ use Rattle.rp_pattern.specs.declared.word.Seen.TheVariants.{Open}
 use Rattle.rp_check.specs.declared.plan.Condition.{Condition}
 use Rattle.rp_eval.specs.ValueOf.{Setting, judged, seen_as}
 use Rattle.rp_eval.specs.Closing.{judged_closes}
-use Rattle.rp_tester.specs.Definitions.{definition_of}
+use Rattle.rp_check.specs.Definitions.{definition_of}
 use Rattle.rp_tester.specs.Tested.{Tested, last_row, seen_by, seen_at, outcome_of}
 
 told_decides : (j : Judged) → j ≢ OpenJudgement → seen_as j ≢ Open

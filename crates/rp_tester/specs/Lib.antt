@@ -1,5 +1,4 @@
 -- What contracts cite: what is tested, what a tester has entered, and how its tests go on.
-pub mod Definitions
 pub mod Tested
 pub mod Entered
 pub mod Outlives

@@ -10,7 +10,7 @@ use Rattle.rp_eval.specs.Partition.{Rows}
 use Rattle.rp_eval.specs.ValueOf.{Setting, judged, seen_as}
 use Rattle.rp_eval.specs.Entered.{totals_in}
 use Rattle.rp_search.specs.Asked.{Asked}
-use Rattle.rp_tester.specs.Definitions.{definition_of}
+use Rattle.rp_check.specs.Definitions.{definition_of}
 
 -- what is tested: the rows of a partition, by the definitions of a query's variables
 pub record Tested : Type 0 where

@@ -6,7 +6,6 @@
 //!     let totals = tester.into_totals(); // when rows come, for the tester of the next run
 #![tactic(auto)]
 
-mod definitions;
 mod laws;
 mod tester;
 

@@ -3,7 +3,6 @@ ghost use Rattle.std.specs.Prelude.{◌≡◌};
 ghost use Rattle.rp_check.specs.QueryView.{data_of};
 ghost use Rattle.rp_eval.specs.Entered.{plan_of, totals_in};
 
-use crate::definitions::definition;
 use rp_check::Query;
 use rp_eval::{Rows, Totals, View, condition};
 use rp_pattern::{End, Label, Seen};
@@ -83,7 +82,7 @@ impl<'a, R: Rows> Tests for Tester<'a, R> {
 
     fn test(&self, start: u64, labels: &[Label]) -> Seen {
         let last = labels.len() - 1;
-        match definition(self.query, labels[last].var) {
+        match self.query.definition(labels[last].var) {
             None => Seen::True,
             Some(defined) => {
                 let view = View {
