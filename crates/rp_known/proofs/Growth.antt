@@ -1,16 +1,17 @@
 -- The known answer only grows.
-use Rattle.std.proofs.Common.{◌≡◌, ℕ, zero, suc, ◌+◌, ◌-◌, ◌<◌, ◌≤◌, max, List, [], ◌∷◌, ◌++◌, length, Bool, true, false, cond, refl, sym, ap, ◌∙◌, subst, arith}
+use Rattle.std.proofs.Common.{◌≡◌, ℕ, zero, suc, ◌+◌, ◌-◌, ◌<◌, ◌≤◌, List, [], Bool, true, false, cond, refl, subst, arith}
 use Rattle.std.specs.Prelude.{nat_le}
 use Rattle.std.proofs.lemmas.Bool.Decides.{nat_tests}
 use Rattle.rp_pattern.specs.declared.word.End.{End}
 use Rattle.rp_pattern.specs.declared.word.End.TheVariants.{Open as OpenEnd, Closed as ClosedEnd}
 use Rattle.rp_check.specs.declared.query.QueryData.{QueryData}
+use Rattle.rp_check.specs.Sound.{IsSound}
 use Rattle.rp_known.specs.declared.item.Item.{Item}
 use Rattle.rp_known.specs.declared.place.Place.{Place}
 use Rattle.rp_known.specs.Known.{Known, count, Continues, GoesOnFrom}
-use Rattle.rp_known.specs.Plans.{IsWithinReach, first_read}
+use Rattle.rp_known.specs.Plans.{first_read}
 use Rattle.rp_known.specs.Walk.{Leg, Goes, Pauses, Ends, found_at, at_last, searched, leg, leg_items, and_then, walk, first_place, known, ComesTo, here, on}
-use Rattle.rp_known.specs.WalkLaws.{IsPrefixOf, Stays, LegStays, WalkStays, KnownGrows}
+use Rattle.rp_known.specs.WalkLaws.{IsPrefixOf, Stays, LegStays}
 use Rattle.rp_known.proofs.Prefixes.{prefix_nil, prefix_same, prefix_more, prefix_after}
 use Rattle.rp_known.proofs.Values.{goes_on_later, continues_on}
 use Rattle.rp_known.proofs.Legs.{LeadsOn, leg_on}
@@ -43,7 +44,7 @@ past_last (suc k) q p place is h = go (nat_le place.start (count p)) refl
     go true e = absurd (grind (arith, nat_tests))
     go false e = last_none p.end is (walk k q p)
 
-module _ (law : LegStays) (q : QueryData) (p p' : Known) (reaches : IsWithinReach q) where
+module _ (law : LegStays) (q : QueryData) (p p' : Known) (reaches : IsSound q) where
   pub comes_stays : {d : ℕ} {from to : Place} → 1 ≤ from.start → GoesOnFrom (first_read q from.start) p p' → ComesTo q p from d to → ComesTo q p' from d to
   comes_stays one g here = here
   comes_stays one g (on {place = place} {next = next} {xs = xs} is r) =

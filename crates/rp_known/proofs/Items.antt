@@ -1,5 +1,5 @@
 -- The items of a search that has ended stay where they are ready.
-use Rattle.std.proofs.Common.{◌≡◌, ℕ, suc, ◌+◌, ◌-◌, ◌≤◌, max, List, [], ◌∷◌, length, map, Bool, true, false, cond, Option, Some, None, refl, sym, ap, ◌∙◌, arith}
+use Rattle.std.proofs.Common.{◌≡◌, ℕ, suc, ◌+◌, ◌≤◌, List, [], ◌∷◌, length, Bool, true, false, cond, Option, Some, None, refl, ap, ◌∙◌, arith}
 use Rattle.std.specs.Prelude.{⊤, option_map}
 use Rattle.std.specs.List.{AllByRecursion}
 use Rattle.rp_value.specs.declared.value.Value.{Value}
@@ -9,10 +9,11 @@ use Rattle.rp_pattern.specs.declared.word.Label.{Label}
 use Rattle.rp_search.specs.Found.{Found, Match, NoMatch, Waits}
 use Rattle.rp_check.specs.declared.query.QueryData.{QueryData}
 use Rattle.rp_eval.specs.Laws.{ValuesStay}
+use Rattle.rp_check.specs.Sound.{IsSound}
 use Rattle.rp_known.specs.declared.item.Item.{Item}
 use Rattle.rp_known.specs.declared.place.Place.{Place}
 use Rattle.rp_known.specs.Known.{Known, count, GoesOnFrom}
-use Rattle.rp_known.specs.Plans.{IsWithinReach, first_read, no_measures}
+use Rattle.rp_known.specs.Plans.{first_read, no_measures}
 use Rattle.rp_known.specs.Items.{unexcluded, match_rows, item_rows, row_item, item_at}
 use Rattle.rp_known.proofs.Values.{measures_stay, cells_stay}
 
@@ -66,7 +67,7 @@ of_measures : (f g : List Value → Item) → ((vs : List Value) → g vs ≡ f 
 of_measures f g same None m' h x e = cc
 of_measures f g same (Some vs) m' h x e = ap (option_map g) (h vs refl) ∙ ap (λ z. Some z) (same vs) ∙ e
 
-module _ (law : ValuesStay) (q : QueryData) (p p' : Known) (reaches : IsWithinReach q) (place : Place) (one : 1 ≤ place.start) (g : GoesOnFrom (first_read q place.start) p p') where
+module _ (law : ValuesStay) (q : QueryData) (p p' : Known) (reaches : IsSound q) (place : Place) (one : 1 ≤ place.start) (g : GoesOnFrom (first_read q place.start) p p') where
   row_stays : (r : ℕ) (number : Option ℕ) (vs : List Value) → place.start ≤ r → r ≤ count p → row_item q p' r number vs ≡ row_item q p r number vs
   row_stays r number vs low high = rw (cells_stay q p p' r vs (g.same r (omega (arith, one, low)) high)) refl
 

@@ -1,6 +1,6 @@
 -- What a leg of the walk gives stays, and leads to a later row.
-use Rattle.std.proofs.Common.{◌≡◌, ℕ, zero, suc, ◌+◌, ◌-◌, ◌<◌, ◌≤◌, max, List, [], ◌∷◌, length, map, Bool, true, false, cond, Option, Some, None, refl, sym, ap, ◌∙◌, subst, arith}
-use Rattle.std.specs.Prelude.{◌≢◌, ⊤, nat_le, Result, Ok, Err}
+use Rattle.std.proofs.Common.{◌≡◌, ℕ, zero, suc, ◌-◌, ◌<◌, ◌≤◌, List, [], ◌∷◌, length, map, Bool, true, false, cond, Option, Some, None, refl, sym, ap, subst, arith}
+use Rattle.std.specs.Prelude.{◌≢◌, ⊤, nat_le}
 use Rattle.std.specs.List.{AllByRecursion}
 use Rattle.std.proofs.lemmas.Bool.Decides.{nat_tests}
 use Rattle.rp_pattern.specs.declared.word.Label.{Label}
@@ -15,17 +15,17 @@ use Rattle.rp_pattern.specs.WordLaws.{WordsExtend, WordsEnd, IsLater}
 use Rattle.rp_search.specs.Found.{Test, Found, Match, NoMatch, Waits, tested, status_from, unless_refused, found, AreShort, FoundStays}
 use Rattle.rp_check.specs.declared.query.QueryData.{QueryData}
 use Rattle.rp_eval.specs.Laws.{ValuesStay}
-use Rattle.rp_tester.specs.Tested.{outcome_of, asked_of}
+use Rattle.rp_tester.specs.Tested.{outcome_of}
 use Rattle.rp_tester.specs.Outlives.{TestsGoOn}
+use Rattle.rp_check.specs.Sound.{IsSound}
 use Rattle.rp_known.specs.declared.item.Item.{Item}
-use Rattle.rp_known.specs.declared.item.SkipFault.{SkipFault}
 use Rattle.rp_known.specs.declared.place.Place.{Place}
 use Rattle.rp_known.specs.Known.{Known, count, GoesOnFrom}
-use Rattle.rp_known.specs.Plans.{IsWithinReach, first_read, tested_by}
-use Rattle.rp_known.specs.Skips.{next_start, start_after, skipped}
+use Rattle.rp_known.specs.Plans.{first_read, tested_by}
+use Rattle.rp_known.specs.Skips.{start_after, skipped}
 use Rattle.rp_known.specs.Items.{item_at, item_rows, items_of}
 use Rattle.rp_known.specs.Walk.{Leg, Goes, Pauses, Ends, after_item, after_items, after_match, after_found, found_at, at_last, searched, leg, leg_items}
-use Rattle.rp_known.specs.WalkLaws.{IsPrefixOf, Stays, LegStays}
+use Rattle.rp_known.specs.WalkLaws.{Stays, LegStays}
 use Rattle.rp_known.proofs.Prefixes.{prefix_nil, prefix_same, prefix_item}
 use Rattle.rp_known.proofs.Items.{AreKnown, Settled, rows_within, all_settle}
 
@@ -128,7 +128,7 @@ leg_on q p place = go (nat_le place.start (count p))
 
 -- ---- a leg over rows that go on
 
-module _ (values : ValuesStay) (q : QueryData) (p p' : Known) (reaches : IsWithinReach q) (place : Place) (one : 1 ≤ place.start) (g : GoesOnFrom (first_read q place.start) p p') where
+module _ (values : ValuesStay) (q : QueryData) (p p' : Known) (reaches : IsSound q) (place : Place) (one : 1 ≤ place.start) (g : GoesOnFrom (first_read q place.start) p p') where
   shown_stays : (f : Found) → place.start ≤ count p → AreKnown place.start (count p) f → Stays (searched q p place f) (searched q p' place f)
   shown_stays f h k =
       items_stay (item_at q p place f) (item_at q p' place f) (after_found q place f) (item_rows q.plan.rows place f)
@@ -153,10 +153,10 @@ last_stays p p' later start h other b e = go p.end refl b e
 
 module _ (extend : WordsExtend) (within : WordsEnd) (found_stays : FoundStays) (values : ValuesStay) (tests : TestsGoOn) where
   -- what was found stays
-  found_kept : (q : QueryData) (p p' : Known) (start : ℕ) → IsWithinReach q → 1 ≤ start → GoesOnFrom (first_read q start) p p' → found_at q p start ≢ Waits → found_at q p' start ≡ found_at q p start
+  found_kept : (q : QueryData) (p p' : Known) (start : ℕ) → IsSound q → 1 ≤ start → GoesOnFrom (first_read q start) p p' → found_at q p start ≢ Waits → found_at q p' start ≡ found_at q p start
   found_kept q p p' start reaches one g h =
       found_stays (suc (count p) - start) (outcome_of (tested_by q p) start) (outcome_of (tested_by q p') start) (words (count p) p.end (form_of q.pattern) start) (words (count p') p'.end (form_of q.pattern) start)
-      (tests (tested_by q p) p'.rows p'.end q.reach start one reaches.definitions g).stay (within (form_of q.pattern) (count p) p.end start)
+      (tests (tested_by q p) p'.rows p'.end start one reaches g).stay (within (form_of q.pattern) (count p) p.end start)
       (extend (form_of q.pattern) (count p) (count p') p.end p'.end start g.later) h
 
   pub leg_stays : LegStays

@@ -1,23 +1,23 @@
 -- The values of measures, and the cells of a row, over rows that go on.
 use Rattle.std.proofs.Common.{◌≡◌, ℕ, zero, suc, ◌+◌, ◌-◌, ◌≤◌, max, List, [], ◌∷◌, ◌++◌, map, length, length-append, false, cond, Option, None, Some, refl, sym, ap, ◌∙◌, arith}
-use Rattle.std.specs.Prelude.{slice_get, ◌==◌}
-use Rattle.std.specs.List.{AllByRecursion}
+use Rattle.std.specs.Prelude.{slice_get, ◌==◌, All}
+use Rattle.std.proofs.lemmas.List.Elements.{All-head, All-tail}
 use Rattle.std.proofs.lemmas.Bool.Decides.{nat_tests}
 use Rattle.rp_value.specs.declared.value.Value.{Value}
 use Rattle.rp_pattern.specs.declared.word.End.{End}
 use Rattle.rp_pattern.specs.declared.word.End.TheVariants.{Open as OpenEnd, Closed as ClosedEnd}
 use Rattle.rp_pattern.specs.declared.word.Label.{Label}
-use Rattle.rp_pattern.specs.WordLaws.{IsLater}
 use Rattle.rp_check.specs.declared.plan.Expr.{Expr}
 use Rattle.rp_check.specs.declared.query.QueryData.{QueryData}
 use Rattle.rp_check.specs.Reach.{reach}
+use Rattle.rp_check.specs.Sound.{IsSound}
 use Rattle.rp_eval.specs.declared.cell.Cell.{Cell}
 use Rattle.rp_eval.specs.declared.cell.Cell.TheVariants.{Ready, Open}
 use Rattle.rp_eval.specs.Partition.{Rows, row_at, cell_in, or_null}
 use Rattle.rp_eval.specs.ValueOf.{Setting, value_of}
 use Rattle.rp_eval.specs.Laws.{GoesOn, LiesOnRows, over, CellStays, ValuesStay}
 use Rattle.rp_known.specs.Known.{Known, count, Continues, GoesOnFrom}
-use Rattle.rp_known.specs.Plans.{IsWithinReach, first_read, setting_of, before_ready, values_of, row_cells, leading, trailing, cells_of}
+use Rattle.rp_known.specs.Plans.{first_read, setting_of, before_ready, values_of, leading, trailing, cells_of}
 
 -- fewer rows are looked at
 pub goes_on_later : (first first' : ℕ) (p p' : Known) → first ≤ first' → GoesOnFrom first p p' → GoesOnFrom first' p p'
@@ -59,15 +59,15 @@ goes_on_within : (first first' : ℕ) (p p' : Rows) (e e' : End) → first ≤ f
 goes_on_within first first' p p' e e' le g = record { later = g.later; same = λ row from known. g.same row (omega arith) known }
 
 values_stay : ValuesStay → (s : Setting) (p' : Rows) (e' : End) (k : ℕ) → LiesOnRows s → GoesOn (max 1 (s.start - k)) s.rows s.ending p' e' → (xs : List Expr) →
-    AllByRecursion (λ x. reach x ≤ k) xs → (vs : List Value) → values_of s xs ≡ Some vs → values_of (over s p' e') xs ≡ Some vs
+    All (λ x. reach x ≤ k) xs → (vs : List Value) → values_of s xs ≡ Some vs → values_of (over s p' e') xs ≡ Some vs
 values_stay law s p' e' k on g [] a vs e = e
 values_stay law s p' e' k on g (x ∷ xs) a vs e =
     ready_stays (value_of s x) (value_of (over s p' e') x) (values_of s xs) (values_of (over s p' e') xs)
-    (law s p' e' x on (goes_on_within (max 1 (s.start - k)) (max 1 (s.start - reach x)) s.rows p' s.ending e' (omega (arith, a.0)) g))
-    (values_stay law s p' e' k on g xs a.1) vs e
+    (law s p' e' x on (goes_on_within (max 1 (s.start - k)) (max 1 (s.start - reach x)) s.rows p' s.ending e' (omega (arith, All-head (λ e. reach e ≤ k) x xs a)) g))
+    (values_stay law s p' e' k on g xs (All-tail (λ e. reach e ≤ k) x xs a)) vs e
 
 -- the measures of a match, where they are ready
-pub measures_stay : ValuesStay → (q : QueryData) (p p' : Known) → IsWithinReach q → (start : ℕ) (labels : List Label) (number row : ℕ) →
+pub measures_stay : ValuesStay → (q : QueryData) (p p' : Known) → IsSound q → (start : ℕ) (labels : List Label) (number row : ℕ) →
     1 ≤ start → start + length labels ≤ suc (count p) → GoesOnFrom (first_read q start) p p' → (vs : List Value) →
     values_of (setting_of q p start labels number row) q.plan.measures.items ≡ Some vs → values_of (setting_of q p' start labels number row) q.plan.measures.items ≡ Some vs
 measures_stay law q p p' within start labels number row one known g =

@@ -1,53 +1,38 @@
 -- What a query's plan says of the rows of a partition: its conditions, its measures, and the cells of an item.
-use Rattle.std.specs.Prelude.{ℕ, ◌+◌, ◌-◌, ◌≤◌, max, ◌||◌, Bool, true, false, List, [], ◌∷◌, ◌++◌, map, Option, None, Some, option_map, slice_get, nat_eq, if◌then◌else◌}
-use Rattle.std.specs.List.{AllByRecursion, list_any}
+use Rattle.std.specs.Prelude.{ℕ, ◌+◌, ◌-◌, max, ◌||◌, Bool, true, false, List, [], ◌∷◌, ◌++◌, map, Option, None, Some, option_map, nat_eq, if◌then◌else◌}
+use Rattle.std.specs.List.{list_any}
 use Rattle.rp_value.specs.declared.value.Value.{Value}
 use Rattle.rp_value.specs.declared.value.Value.TheVariants.{Null}
 use Rattle.rp_value.specs.declared.table.Column.{Column}
 use Rattle.rp_syntax.specs.declared.tree.RowsPerMatch.{RowsPerMatch}
 use Rattle.rp_syntax.specs.declared.tree.RowsPerMatch.TheVariants.{One, AllShowEmpty, AllOmitEmpty, AllWithUnmatched}
 use Rattle.rp_pattern.specs.declared.word.Label.{Label}
-use Rattle.rp_check.specs.declared.plan.Condition.{Condition}
 use Rattle.rp_check.specs.declared.plan.Expr.{Expr}
 use Rattle.rp_check.specs.declared.query.QueryData.{QueryData}
-use Rattle.rp_check.specs.Reach.{reach}
 use Rattle.rp_eval.specs.declared.cell.Cell.{Cell}
 use Rattle.rp_eval.specs.declared.cell.Cell.TheVariants.{Ready, Open}
+use Rattle.rp_eval.specs.Entered.{totals_in}
 use Rattle.rp_eval.specs.Partition.{Rows, cell}
 use Rattle.rp_eval.specs.ValueOf.{Setting, value_of}
-use Rattle.rp_tester.specs.Tested.{Tested, outcome_of}
-use Rattle.rp_tester.specs.Outlives.{ReachesAtMost}
+use Rattle.rp_tester.specs.Tested.{Tested}
 use Rattle.rp_known.specs.Known.{Known}
 
 -- ---- conditions
 
-abbrev pub condition_at : List Condition → Option ℕ → Option Condition
-condition_at conditions None = None
-condition_at conditions (Some place) = slice_get conditions place
-
--- by variable, the condition that DEFINE gives it
-abbrev pub definitions_of : QueryData → List (Option Condition)
-definitions_of q = map (condition_at q.plan.conditions.items) q.plan.definitions.items
-
 -- the query's conditions over a known partition
 abbrev pub tested_by : QueryData → Known → Tested
-tested_by q p = record { rows = p.rows; ending = p.end; definitions = definitions_of q; plan = q.plan.totals.value.items }
+tested_by q p = record { rows = p.rows; ending = p.end; query = q }
 
 -- the first row that is read for a match from this row on
 abbrev pub first_read : QueryData → ℕ → ℕ
 first_read q start = max 1 (start - q.reach)
-
--- No condition and no measure reaches further back than the query says.
-pub record IsWithinReach (q : QueryData) : Type 0 where
-  pub definitions : AllByRecursion (ReachesAtMost q.reach) (definitions_of q)
-  pub measures : AllByRecursion (λ x. reach x ≤ q.reach) q.plan.measures.items
 
 -- ---- measures
 
 -- a match of this number from a start row on, looked at from one of its rows
 abbrev pub setting_of : QueryData → Known → ℕ → List Label → ℕ → ℕ → Setting
 setting_of q p start labels number row =
-    record { rows = p.rows; ending = p.end; start = start; labels = labels; current = row; number = number; totals = q.plan.totals.value.items }
+    record { rows = p.rows; ending = p.end; start = start; labels = labels; current = row; number = number; totals = totals_in q }
 
 abbrev pub before_ready : Cell → Option (List Value) → Option (List Value)
 before_ready Open later = None

@@ -1,13 +1,11 @@
 -- What is known only grows.
-use Rattle.std.specs.Prelude.{◌≡◌, ℕ, ◌+◌, ◌-◌, ◌*◌, ◌^◌, ◌<◌, ◌≤◌, List, ◌++◌, length}
-use Rattle.rp_pattern.specs.declared.word.End.{End}
-use Rattle.rp_pattern.specs.declared.word.End.TheVariants.{Open as OpenEnd}
-use Rattle.rp_eval.specs.Partition.{Rows}
+use Rattle.std.specs.Prelude.{◌≡◌, ℕ, ◌-◌, ◌^◌, ◌<◌, ◌≤◌, List, ◌++◌, length}
 use Rattle.rp_check.specs.declared.query.QueryData.{QueryData}
+use Rattle.rp_check.specs.Sound.{IsSound}
 use Rattle.rp_known.specs.declared.item.Item.{Item}
 use Rattle.rp_known.specs.declared.place.Place.{Place}
 use Rattle.rp_known.specs.Known.{Known, count, Continues, GoesOnFrom}
-use Rattle.rp_known.specs.Plans.{IsWithinReach, first_read}
+use Rattle.rp_known.specs.Plans.{first_read}
 use Rattle.rp_known.specs.Walk.{Leg, Goes, Pauses, Ends, leg, leg_items, known, ComesTo}
 
 pub record IsPrefixOf (xs ys : List Item) : Type 0 where
@@ -16,7 +14,7 @@ pub record IsPrefixOf (xs ys : List Item) : Type 0 where
 
 -- What is known of an open partition is a prefix of what is known of every continuation, its answer too.
 abbrev pub KnownGrows : Type 0
-KnownGrows = (q : QueryData) (p p' : Known) → IsWithinReach q → Continues p p' → IsPrefixOf (known q p) (known q p')
+KnownGrows = (q : QueryData) (p p' : Known) → IsSound q → Continues p p' → IsPrefixOf (known q p) (known q p')
 
 -- a leg that goes on or ends stays, and one that pauses has given what it will give first
 abbrev pub Stays : Leg → Leg → Type 0
@@ -26,11 +24,11 @@ Stays (Ends xs) new = new ≡ Ends xs
 
 -- What a start row gives stays over rows that go on, whatever becomes of the rows that are out of its reach.
 abbrev pub LegStays : Type 0
-LegStays = (q : QueryData) (p p' : Known) (place : Place) → IsWithinReach q → 1 ≤ place.start → GoesOnFrom (first_read q place.start) p p' → Stays (leg q p place) (leg q p' place)
+LegStays = (q : QueryData) (p p' : Known) (place : Place) → IsSound q → 1 ≤ place.start → GoesOnFrom (first_read q place.start) p p' → Stays (leg q p place) (leg q p' place)
 
 -- Where a walk comes to, it comes to over rows that go on.
 abbrev pub WalkStays : Type 0
-WalkStays = (q : QueryData) (p p' : Known) (d : ℕ) (from to : Place) → IsWithinReach q → 1 ≤ from.start → GoesOnFrom (first_read q from.start) p p' →
+WalkStays = (q : QueryData) (p p' : Known) (d : ℕ) (from to : Place) → IsSound q → 1 ≤ from.start → GoesOnFrom (first_read q from.start) p p' →
     ComesTo q p from d to → ComesTo q p' from d to
 
 -- An answer has fewer items than places can tell.

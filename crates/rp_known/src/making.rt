@@ -2,7 +2,7 @@
 ghost use Rattle.std.specs.Prelude.{◌≡◌, ◌+◌, ◌-◌, ◌^◌, ◌≤◌, ◌<◌, ◌++◌, length, option_map, IfOk, OnOk, Some, None, if◌then◌else◌};
 ghost use Rattle.rp_check.specs.QueryView.{data_of};
 ghost use Rattle.rp_search.specs.Found.{Match, NoMatch};
-ghost use Rattle.rp_eval.specs.Entered.{AreTotals, plan_of};
+ghost use Rattle.rp_eval.specs.Entered.{AreTotals, plan_of, totals_in};
 ghost use Rattle.rp_eval.specs.Looks.{setting_of, Looks};
 ghost use Rattle.rp_known.specs.Items.{item_at};
 ghost use Rattle.rp_known.specs.Known.{known_in};
@@ -104,7 +104,7 @@ pub fn match_item<R: Rows>(
     requires on_rows { place.start + length labels.now ≤ length (R.known rows.now) + 1 }
     requires current { place.start ≤ row }
     requires few { place.matches < 2 ^ 64 - 1 }
-    requires plan { plan_of totals.now ≡ (data_of query.now).plan.totals.value.items }
+    requires plan { plan_of totals.now ≡ totals_in (data_of query.now) }
     requires totals { AreTotals totals.now (R.known rows.now) place.start labels.now }
     ensures { IfOk result (λ item. item ≡ item_at (data_of query.now) (known_in R.known R.ending rows.now) place (Match labels.now) row) }
 {

@@ -1,4 +1,4 @@
-use Rattle.std.proofs.Common.{◌≡◌, ◌+◌, ◌<◌, ◌++◌, List, length, sym, ap, ◌∙◌, arith}
+use Rattle.std.proofs.Common.{◌≡◌, ◌<◌, List, length, sym, ap, ◌∙◌, arith}
 use Rattle.rp_value.specs.declared.table.Column.{Column}
 use Rattle.rp_check.specs.QueryView.{data_of}
 use Rattle.rp_known.specs.Plans.{is_key}

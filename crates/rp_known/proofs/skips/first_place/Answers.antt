@@ -1,5 +1,4 @@
 use Rattle.std.proofs.Common.{◌∙◌, sym, false, add-one}
-use Rattle.rp_pattern.specs.declared.word.Label.{Label}
 use Rattle.rp_known.specs.Skips.{is_of}
 use Rattle.rp_known.proofs.Places.{first_here, first_not_here}
 use Rattle.rp_known.proofs.skips.first_place.Goals as goal

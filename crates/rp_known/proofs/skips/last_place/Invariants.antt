@@ -1,4 +1,4 @@
-use Rattle.std.proofs.Common.{◌≡◌, ◌≤◌, ◌<◌, length, take, IfSome}
+use Rattle.std.proofs.Common.{◌≡◌, ◌<◌, length, take, IfSome}
 use Rattle.rp_known.specs.Skips.{is_of, last_place}
 use Rattle.rp_known.proofs.skips.last_place.Given as goal
 
