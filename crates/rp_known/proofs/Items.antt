@@ -14,16 +14,11 @@ use Rattle.rp_known.specs.declared.item.Item.{Item}
 use Rattle.rp_known.specs.declared.place.Place.{Place}
 use Rattle.rp_known.specs.Known.{Known, count, GoesOnFrom}
 use Rattle.rp_known.specs.Plans.{first_read, no_measures}
+use Rattle.rp_known.specs.WalkLaws.{AreKnown}
 use Rattle.rp_known.specs.Items.{unexcluded, match_rows, item_rows, row_item, item_at}
 use Rattle.rp_known.proofs.Values.{measures_stay, cells_stay}
 
 -- ---- the rows of a search's items are known
-
--- the labels of a match are of known rows
-abbrev pub AreKnown : ℕ → ℕ → Found → Type 0
-AreKnown start n (Match ls) = start + length ls ≤ suc n
-AreKnown start n NoMatch = ⊤
-AreKnown start n Waits = ⊤
 
 abbrev pub AreWithin : ℕ → ℕ → List ℕ → Type 0
 AreWithin low high rows = AllByRecursion (λ r. (low ≤ r) × (r ≤ high)) rows

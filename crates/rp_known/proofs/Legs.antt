@@ -25,9 +25,9 @@ use Rattle.rp_known.specs.Plans.{first_read, tested_by}
 use Rattle.rp_known.specs.Skips.{start_after, skipped}
 use Rattle.rp_known.specs.Items.{item_at, item_rows, items_of}
 use Rattle.rp_known.specs.Walk.{Leg, Goes, Pauses, Ends, after_item, after_items, after_match, after_found, found_at, at_last, searched, leg, leg_items}
-use Rattle.rp_known.specs.WalkLaws.{Stays, LegStays}
+use Rattle.rp_known.specs.WalkLaws.{Stays, LegStays, LeadsOn, LegsLeadOn, SearchesLeadOn, AreKnown}
 use Rattle.rp_known.proofs.Prefixes.{prefix_nil, prefix_same, prefix_item}
-use Rattle.rp_known.proofs.Items.{AreKnown, Settled, rows_within, all_settle}
+use Rattle.rp_known.proofs.Items.{Settled, rows_within, all_settle}
 
 -- ---- items before what follows
 
@@ -85,46 +85,41 @@ match_known within test q p start h (Match ls) e =
 
 -- ---- where a leg leads
 
-abbrev pub LeadsOn : ℕ → Leg → Type 0
-LeadsOn start (Goes xs next) = start < next.start
-LeadsOn start (Pauses xs) = ⊤
-LeadsOn start (Ends xs) = ⊤
+item_on : (from : Place) (x : Item) (t : Leg) → LeadsOn from t → LeadsOn from (after_item x t)
+item_on from x (Goes xs next) h = h
+item_on from x (Pauses xs) h = tt
+item_on from x (Ends xs) h = tt
 
-item_on : (start : ℕ) (x : Item) (t : Leg) → LeadsOn start t → LeadsOn start (after_item x t)
-item_on start x (Goes xs next) h = h
-item_on start x (Pauses xs) h = tt
-item_on start x (Ends xs) h = tt
+items_on : (from : Place) (xs : List (Option Item)) (t : Leg) → LeadsOn from t → LeadsOn from (after_items xs t)
+items_on from [] t h = h
+items_on from (Some x ∷ xs) t h = item_on from x (after_items xs t) (items_on from xs t h)
+items_on from (None ∷ xs) t h = tt
 
-items_on : (start : ℕ) (xs : List (Option Item)) (t : Leg) → LeadsOn start t → LeadsOn start (after_items xs t)
-items_on start [] t h = h
-items_on start (Some x ∷ xs) t h = item_on start x (after_items xs t) (items_on start xs t h)
-items_on start (None ∷ xs) t h = tt
-
-match_on : (place : Place) (labels : List Label) (k : Option ℕ) → LeadsOn place.start (after_match place labels (start_after place.start k))
+match_on : (place : Place) (labels : List Label) (k : Option ℕ) → LeadsOn place (after_match place labels (start_after place.start k))
 match_on place labels None = tt
 match_on place labels (Some zero) = tt
-match_on place labels (Some (suc k)) = omega arith
+match_on place labels (Some (suc k)) = (omega arith, omega arith)
 
-found_on : (q : QueryData) (place : Place) (f : Found) → LeadsOn place.start (after_found q place f)
+pub found_on : SearchesLeadOn
 found_on q place Waits = tt
-found_on q place NoMatch = omega arith
-found_on q place (Match []) = omega arith
+found_on q place NoMatch = (omega arith, omega arith)
+found_on q place (Match []) = (omega arith, omega arith)
 found_on q place (Match (l ∷ ls)) = match_on place (l ∷ ls) (skipped q.plan.skip (l ∷ ls))
 
-last_on : (start : ℕ) (e : End) → LeadsOn start (at_last e)
-last_on start OpenEnd = tt
-last_on start ClosedEnd = tt
+last_on : (from : Place) (e : End) → LeadsOn from (at_last e)
+last_on from OpenEnd = tt
+last_on from ClosedEnd = tt
 
-pub searched_on : (q : QueryData) (p : Known) (place : Place) (f : Found) → LeadsOn place.start (searched q p place f)
-searched_on q p place f = items_on place.start (items_of q p place f) (after_found q place f) (found_on q place f)
+searched_on : (q : QueryData) (p : Known) (place : Place) (f : Found) → LeadsOn place (searched q p place f)
+searched_on q p place f = items_on place (items_of q p place f) (after_found q place f) (found_on q place f)
 
 -- a leg goes on to a later row, if at all
-pub leg_on : (q : QueryData) (p : Known) (place : Place) → LeadsOn place.start (leg q p place)
+pub leg_on : LegsLeadOn
 leg_on q p place = go (nat_le place.start (count p))
   where
-    go : (b : Bool) → LeadsOn place.start (cond b (searched q p place (found_at q p place.start)) (at_last p.end))
+    go : (b : Bool) → LeadsOn place (cond b (searched q p place (found_at q p place.start)) (at_last p.end))
     go true = searched_on q p place (found_at q p place.start)
-    go false = last_on place.start p.end
+    go false = last_on place p.end
 
 -- ---- a leg over rows that go on
 

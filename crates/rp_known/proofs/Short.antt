@@ -20,7 +20,7 @@ use Rattle.rp_known.specs.Plans.{tested_by}
 use Rattle.rp_known.specs.Skips.{next_start}
 use Rattle.rp_known.specs.Items.{unexcluded, match_rows, item_rows, item_at, items_of}
 use Rattle.rp_known.specs.Walk.{Leg, Goes, Pauses, Ends, after_item, after_items, after_match, after_found, found_at, at_last, searched, leg, leg_items, and_then, walk, first_place, known}
-use Rattle.rp_known.proofs.Items.{AreKnown}
+use Rattle.rp_known.specs.WalkLaws.{AreKnown}
 use Rattle.rp_known.proofs.Legs.{match_known}
 
 one_more : (x : Item) (t : Leg) → length (leg_items (after_item x t)) ≡ suc (length (leg_items t))

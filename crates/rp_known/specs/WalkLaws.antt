@@ -1,12 +1,13 @@
 -- What is known only grows.
-use Rattle.std.specs.Prelude.{◌≡◌, ℕ, ◌-◌, ◌^◌, ◌<◌, ◌≤◌, List, ◌++◌, length}
+use Rattle.std.specs.Prelude.{◌≡◌, ℕ, ◌-◌, ◌^◌, ◌<◌, ◌≤◌, List, ◌++◌, length, suc, ⊤, ◌+◌}
 use Rattle.rp_check.specs.declared.query.QueryData.{QueryData}
+use Rattle.rp_search.specs.Found.{Found, Match, NoMatch, Waits}
 use Rattle.rp_check.specs.Sound.{IsSound}
 use Rattle.rp_known.specs.declared.item.Item.{Item}
 use Rattle.rp_known.specs.declared.place.Place.{Place}
 use Rattle.rp_known.specs.Known.{Known, count, Continues, GoesOnFrom}
 use Rattle.rp_known.specs.Plans.{first_read}
-use Rattle.rp_known.specs.Walk.{Leg, Goes, Pauses, Ends, leg, leg_items, known, ComesTo}
+use Rattle.rp_known.specs.Walk.{Leg, Goes, Pauses, Ends, after_found, found_at, leg, leg_items, known, ComesTo}
 
 pub record IsPrefixOf (xs ys : List Item) : Type 0 where
   pub rest : List Item
@@ -34,3 +35,25 @@ WalkStays = (q : QueryData) (p p' : Known) (d : ℕ) (from to : Place) → IsSou
 -- An answer has fewer items than places can tell.
 abbrev pub KnownIsShort : Type 0
 KnownIsShort = (q : QueryData) (p : Known) → count p < 2 ^ 64 - 1 → length (known q p) < 2 ^ 128 - 1
+
+-- a leg that goes on leads to a later row, and counts one match more at most
+abbrev pub LeadsOn : Place → Leg → Type 0
+LeadsOn from (Goes xs next) = (from.start < next.start) × (next.matches ≤ suc from.matches)
+LeadsOn from (Pauses xs) = ⊤
+LeadsOn from (Ends xs) = ⊤
+
+abbrev pub LegsLeadOn : Type 0
+LegsLeadOn = (q : QueryData) (p : Known) (place : Place) → LeadsOn place (leg q p place)
+
+-- what follows a search leads on too
+abbrev pub SearchesLeadOn : Type 0
+SearchesLeadOn = (q : QueryData) (place : Place) (result : Found) → LeadsOn place (after_found q place result)
+
+-- the labels of a match are of known rows
+abbrev pub AreKnown : ℕ → ℕ → Found → Type 0
+AreKnown start n (Match ls) = start + length ls ≤ suc n
+AreKnown start n NoMatch = ⊤
+AreKnown start n Waits = ⊤
+
+abbrev pub MatchesAreKnown : Type 0
+MatchesAreKnown = (q : QueryData) (p : Known) (start : ℕ) → start ≤ count p → AreKnown start (count p) (found_at q p start)
