@@ -183,11 +183,12 @@ pub fn check(alloc: Global, clause: Clause, table: &Table) -> Result<Query, Chec
         &clause,
     )?;
     allow_output(columns, &clause)?;
-    let query = assembled(alloc, clause, table, named, listed, planned)?;
+    let data = assembled(alloc, clause, table, named, listed, planned)?;
+    let query = Query::new(alloc, data)?;
     Ok(query)
 }
 
-/// The query of what was found.
+/// The data of the query, of what was found.
 fn assembled(
     alloc: Global,
     clause: Clause,
@@ -195,8 +196,8 @@ fn assembled(
     named: Named,
     listed: Listed,
     planned: Planned,
-) -> Result<Query, AllocError>
-    ensures { IfOk result (λ query. IsMadeOf (clause_tree clause) clause.text table.now named listed planned (data_of query)) }
+) -> Result<QueryData, AllocError>
+    ensures { IfOk result (IsMadeOf (clause_tree clause) clause.text table.now named listed planned) }
 {
     let output = output_names(
         alloc,
@@ -217,17 +218,14 @@ fn assembled(
         definitions: listed.definitions,
         totals,
     };
-    Query::new(
-        alloc,
-        QueryData {
-            text: clause.text,
-            table,
-            pattern: named.pattern,
-            output,
-            reach,
-            partition: listed.partition,
-            order: listed.order,
-            plan,
-        },
-    )
+    Ok(QueryData {
+        text: clause.text,
+        table,
+        pattern: named.pattern,
+        output,
+        reach,
+        partition: listed.partition,
+        order: listed.order,
+        plan,
+    })
 }

@@ -1,5 +1,7 @@
 //! Queries.
 
+ghost use Rattle.rp_check.specs.Sound.{IsSound};
+
 use crate::lists::OrderColumn;
 use crate::plan::{Condition, Expr, Total, Variables};
 use rp_pattern::Pattern;
@@ -59,16 +61,32 @@ pub struct QueryData {
 #[derive(Debug, Drop)]
 pub struct Query {
     parts: Rc<QueryData>,
+    ghost sound: { IsSound parts.value },
+}
+
+impl Plan {
+    ghost use Rattle.std.specs.Prelude.{◌≡◌, option_map};
+    ghost use Rattle.rp_check.specs.Definitions.{definition_of};
+
+    /// The condition of the pattern variable of this number; none: it admits every row.
+    pub fn definition(&self, variable: usize) -> Option<&Condition>
+        ensures { option_map (λ c. c.now) result ≡ definition_of self.now variable }
+    {
+        let place = self.definitions.as_slice().get(variable)?;
+        let place = (*place)?;
+        self.conditions.as_slice().get(place)
+    }
 }
 
 #[tactic(auto, unfolding(crate::specs::QueryView::data_of))]
 impl Query {
-    ghost use Rattle.std.specs.Prelude.{◌≡◌, IfOk};
-    ghost use Rattle.rp_pattern.specs.PatternForm.{form_of};
+    ghost use Rattle.std.specs.Prelude.{◌≡◌, IfOk, option_map};
+    ghost use Rattle.rp_check.specs.Definitions.{definition_of};
     ghost use Rattle.rp_check.specs.QueryView.{data_of};
 
     /// The query of this data.
     pub(crate) fn new(alloc: Global, parts: QueryData) -> Result<Query, AllocError>
+        requires { IsSound parts }
         ensures { IfOk result (λ query. data_of query ≡ parts) }
     {
         let parts = Rc::new(alloc, parts)?;
@@ -126,9 +144,17 @@ impl Query {
 
     /// The measures, rows per match, the skip rule and the variables' definitions.
     pub fn plan(&self) -> &Plan
-        ensures { result.now ≡ (data_of self.now).plan }
+        ensures plan { result.now ≡ (data_of self.now).plan }
+        ensures sound { IsSound (data_of self.now) }
     {
         &self.parts.plan
+    }
+
+    /// The condition that DEFINE gives the pattern variable of this number; none: it admits every row.
+    pub fn definition(&self, variable: usize) -> Option<&Condition>
+        ensures { option_map (λ c. c.now) result ≡ definition_of (data_of self.now).plan variable }
+    {
+        self.parts.plan.definition(variable)
     }
 
     /// What is kept of the rows for navigation and aggregates.

@@ -2,11 +2,16 @@
 use Rattle.std.specs.Prelude.{◌≡◌, ℕ, ◌≤◌, List, [], ◌∷◌, ◌++◌, map, length}
 use Rattle.rp_pattern.specs.declared.word.Label.{Label}
 use Rattle.rp_check.specs.declared.plan.Total.{Total}
+use Rattle.rp_check.specs.declared.query.QueryData.{QueryData}
 use Rattle.rp_eval.specs.declared.totals.Totals.{Totals}
 use Rattle.rp_eval.specs.Partition.{Rows}
 use Rattle.rp_eval.specs.Kept.{Kept, kept_of}
 
--- the plan's totals
+-- the totals of a query's plan
+abbrev pub totals_in : QueryData → List Total
+totals_in q = q.plan.totals.value.items
+
+-- what totals are kept of: the totals of a plan
 unfoldable pub plan_of : Totals → List Total
 plan_of t = t.plan.value.items
 

@@ -1,60 +1,70 @@
 //! Tests by conditions.
-use rp_check::{Condition, Total};
+ghost use Rattle.std.specs.Prelude.{◌≡◌};
+ghost use Rattle.rp_check.specs.QueryView.{data_of};
+ghost use Rattle.rp_eval.specs.Entered.{plan_of, totals_in};
+
+use rp_check::Query;
 use rp_eval::{Rows, Totals, View, condition};
 use rp_pattern::{End, Label, Seen};
 use rp_search::Tests;
-use std::alloc::{AllocError, Global};
-use std::rc::Rc;
+use std::alloc::AllocError;
 
-/// The conditions of a plan over the rows of a partition.
+/// The conditions of a query over the rows of a partition, which it borrows.
 #[derive(Drop)]
-pub struct Tester<R: Rows + Drop> {
-    rows: R,
-    /// By variable. None admits each row.
-    definitions: Vec<Option<Condition>>,
+pub struct Tester<'a, R: Rows> {
+    rows: &'a R,
+    query: &'a Query,
     totals: Totals,
     entries: u64,
+    ghost for_query: { plan_of totals ≡ totals_in (data_of query.now) },
 }
 
-impl<R: Rows + Drop> Tester<R> {
-    ghost use Rattle.std.specs.Prelude.{◌≡◌, ℕ, [], IfOk};
-    ghost use Rattle.rp_eval.specs.Entered.{AreTotals, plan_of};
+#[tactic(auto, unfolding(crate::specs::Entered::tested_by, crate::specs::Entered::HasEntered))]
+impl<'a, R: Rows> Tester<'a, R> {
+    ghost use Rattle.std.specs.Prelude.{ℕ, List};
+    ghost use Rattle.rp_pattern.specs.declared.word.Label.{Label as Marked};
+    ghost use Rattle.rp_eval.specs.Entered.{AreTotals};
+    ghost use Rattle.rp_tester.specs.Entered.{tested_by, HasEntered};
 
-    /// Tests of no label yet.
-    pub fn new(
-        alloc: Global,
-        rows: R,
-        definitions: Vec<Option<Condition>>,
-        plan: &Rc<Vec<Total>>,
-    ) -> Result<Tester<R>, AllocError>
-        ensures known { IfOk result (λ t. R.known t.rows ≡ R.known rows) }
-        ensures ending { IfOk result (λ t. R.ending t.rows ≡ R.ending rows) }
-        ensures definitions { IfOk result (λ t. t.definitions.items ≡ definitions.items) }
-        ensures plan { IfOk result (λ t. plan_of t.totals ≡ plan.now.value.items) }
-        ensures none { IfOk result (λ t. (start : ℕ) → AreTotals t.totals (R.known t.rows) start []) }
+    /// Tests by totals of the query's plan. The labels of the totals are entered.
+    pub fn new(rows: &'a R, query: &'a Query, totals: Totals) -> Tester<'a, R>
+        requires totals { plan_of totals ≡ totals_in (data_of query.now) }
+        ensures subject { tested_by result ≡
+            record { rows = R.known rows.now; ending = R.ending rows.now; query = data_of query.now } }
+        ensures entered { (start : ℕ) (labels : List Marked) →
+            AreTotals totals (R.known rows.now) start labels → HasEntered result start labels }
     {
-        Ok(Tester {
+        Tester {
             rows,
-            definitions,
-            totals: Totals::new(alloc, plan)?,
+            query,
+            totals,
             entries: 0,
-        })
+        }
+    }
+
+    /// The totals of the labels that are entered.
+    pub fn into_totals(self) -> Totals
+        ensures totals { plan_of result ≡ totals_in (tested_by self.entry).query }
+        ensures entered { (start : ℕ) (labels : List Marked) →
+            HasEntered self.entry start labels → AreTotals result (tested_by self.entry).rows start labels }
+    {
+        self.totals
     }
 }
 
-impl<R: Rows + Drop> Tests for Tester<R> {
-    ghost use Rattle.std.specs.Prelude.{◌≡◌, ℕ, length};
-    ghost use Rattle.rp_eval.specs.Entered.{AreTotals, plan_of};
+#[tactic(auto, unfolding(crate::specs::Entered::tested_by, crate::specs::Entered::HasEntered))]
+impl<'a, R: Rows> Tests for Tester<'a, R> {
     ghost use Rattle.rp_tester.specs.Tested.{Tested, asked_of};
+    ghost use Rattle.rp_tester.specs.Entered.{tested_by, HasEntered, few_are_asked};
     ghost use Rattle.rp_tester.specs.Decided.{tested_decides};
 
     ghost Subject = { Tested };
 
-    ghost subject = { λ t. record { rows = R.known t.rows; ending = R.ending t.rows; definitions = t.definitions.items; plan = plan_of t.totals } };
+    ghost subject = { λ t. tested_by t };
 
     ghost asked = { asked_of };
 
-    ghost entered = { λ t start labels. AreTotals t.totals (R.known t.rows) start labels };
+    ghost entered = { λ t start labels. HasEntered t start labels };
 
     ghost entries = { λ t. t.entries };
 
@@ -67,40 +77,37 @@ impl<R: Rows + Drop> Tests for Tester<R> {
     }
 
     fn variables(&self) -> usize {
-        self.definitions.len()
+        self.query.plan().definitions.len()
     }
 
     fn test(&self, start: u64, labels: &[Label]) -> Seen {
         let last = labels.len() - 1;
-        match self.definitions.get(labels[last].var) {
+        match self.query.definition(labels[last].var) {
             None => Seen::True,
-            Some(definition) => match definition {
-                None => Seen::True,
-                Some(defined) => {
-                    let view = View {
-                        rows: &self.rows,
-                        start,
-                        labels,
-                        current: start + last as u64,
-                        number: 0,
-                        totals: &self.totals,
-                    };
-                    condition(defined, &view)
-                }
-            },
+            Some(defined) => {
+                let view = View {
+                    rows: self.rows,
+                    start,
+                    labels,
+                    current: start + last as u64,
+                    number: 0,
+                    totals: &self.totals,
+                };
+                condition(defined, &view)
+            }
         }
     }
 
     fn enter(&mut self, start: u64, labels: &[Label]) -> Result<(), AllocError> {
         self.entries = self.entries.saturating_add(1);
-        self.totals.enter(&self.rows, start, labels)
+        self.totals.enter(self.rows, start, labels)
     }
 
     fn cut(&mut self, depth: usize) {
         self.totals.cut(depth);
     }
 
-    ghost few = { λ t. R.few t.rows };
+    ghost few = { λ t. few_are_asked t (R.few t.rows.now) };
 
-    ghost decided = { λ t start labels closed. tested_decides (record { rows = R.known t.rows; ending = R.ending t.rows; definitions = t.definitions.items; plan = plan_of t.totals }) start labels closed };
+    ghost decided = { λ t start labels closed. tested_decides (tested_by t) start labels closed };
 }

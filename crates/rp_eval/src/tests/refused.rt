@@ -20,9 +20,9 @@ fn entered_again<R: Rows>(
     requires { length labels.now ≤ length (R.known rows.now) }
     ensures { IfOk result (λ totals. AreTotals totals (R.known rows.now) 1 labels.now) }
 {
-    let mut totals = match Totals::new(alloc, plan) {
+    let mut totals = match Totals::of_plan(alloc, plan) {
         Ok(totals) => totals,
-        Err(_) => Totals::new(alloc, plan)?,
+        Err(_) => Totals::of_plan(alloc, plan)?,
     };
     for depth in 0..labels.len() {
         match totals.enter(rows, 1, &labels[..depth + 1]) {

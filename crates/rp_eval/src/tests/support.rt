@@ -138,7 +138,7 @@ pub fn entered<R: Rows>(
     requires on_rows { start + length labels.now ≤ length (R.known rows.now) + 1 }
     ensures { IfOk result (λ totals. AreTotals totals (R.known rows.now) start labels.now) }
 {
-    let mut totals = Totals::new(alloc, plan)?;
+    let mut totals = Totals::of_plan(alloc, plan)?;
     for depth in 0..labels.len() {
         totals.enter(rows, start, &labels[..depth + 1])?;
     }

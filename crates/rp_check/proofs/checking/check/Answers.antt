@@ -1,8 +1,10 @@
 use Rattle.std.proofs.Common.{rules, ◌≡◌, [], false, true}
 use Rattle.rp_syntax.specs.Clauses.{clause_tree}
+use Rattle.rp_check.specs.Asked.{IsQueryOf}
 use Rattle.rp_check.specs.Checked.{Tells}
 use Rattle.rp_check.specs.Checking.{IsListed, IsPlanned, spoken}
 use Rattle.rp_check.specs.ClauseFaults.{faults, name_faults, listing_faults, expression_faults, shown_faults}
+use Rattle.rp_check.proofs.Soundness.{sound}
 use Rattle.rp_check.proofs.Telling.{telling, tells_front}
 use Rattle.rp_check.proofs.Whole.{planned_in, is_query, list_wrong, plan_wrong, output_wrong, none_wrong}
 use Rattle.rp_check.proofs.checking.check.Goals as goal
@@ -39,8 +41,25 @@ returns-in_err-allow_output c =
     let told = output_wrong t c.args.table.now n c.in_err-allow_output.field-0.0 c.in_ok-named.ensures.0 c.in_ok-named.ensures.1 listed planned here in
     search (rules, told)
 
+pub returns-in_err-data : goal.returns-in_err-data
+returns-in_err-data c = search (rules, telling)
+
 pub returns-in_err-query : goal.returns-in_err-query
 returns-in_err-query c = search (rules, telling)
+
+pub new-requires : goal.new-requires
+new-requires c =
+    let t = clause_tree c.args.clause in
+    let columns = c.args.table.now in
+    let n = c.in_ok-named.named in
+    let listed : listing_faults n.variables.items columns t ≡ [] = rw (← c.as_slice.ensures.value, ← c.columns-columns.ensures.columns) c.in_ok-listed.ensures.0 in
+    let planned : expression_faults (spoken n.sets.items columns n.classes false) (spoken n.sets.items columns n.classes true) t ≡ [] = rw (← c.as_slice-2.ensures.value, ← c.columns-columns.ensures.columns) c.in_ok-planned.ensures.0 in
+    let shown : shown_faults columns t ≡ [] = rw (← c.columns-columns.ensures.columns) c.in_ok-allow_output.ensures.0 in
+    let is_listed : IsListed n.variables.items columns t c.in_ok-listed.listed = rw (← c.as_slice.ensures.value, ← c.columns-columns.ensures.columns) c.in_ok-listed.ensures.1 in
+    let is_planned : IsPlanned (spoken n.sets.items columns n.classes false) (spoken n.sets.items columns n.classes true) t c.in_ok-planned.planned = rw (← c.as_slice-2.ensures.value, ← c.columns-columns.ensures.columns) c.in_ok-planned.ensures.1 in
+    let clean : faults t columns ≡ [] = none_wrong t columns n c.in_ok-named.ensures.0 c.in_ok-named.ensures.1 listed planned shown in
+    let is : IsQueryOf t c.args.clause.text columns c.in_ok-data.data = is_query t c.args.clause.text columns n c.in_ok-listed.listed c.in_ok-planned.planned c.in_ok-data.data c.in_ok-named.ensures.1 is_listed (planned_in t columns n c.in_ok-planned.planned c.in_ok-named.ensures.1 is_planned) c.in_ok-data.ensures in
+    sound t columns c.args.clause.text c.in_ok-data.data clean is
 
 pub returns : goal.returns
 returns c =
@@ -51,7 +70,7 @@ returns c =
     let planned : expression_faults (spoken n.sets.items columns n.classes false) (spoken n.sets.items columns n.classes true) t ≡ [] = rw (← c.as_slice-2.ensures.value, ← c.columns-columns.ensures.columns) c.in_ok-planned.ensures.0 in
     let shown : shown_faults columns t ≡ [] = rw (← c.columns-columns.ensures.columns) c.in_ok-allow_output.ensures.0 in
     let is_listed : IsListed n.variables.items columns t c.in_ok-listed.listed = rw (← c.as_slice.ensures.value, ← c.columns-columns.ensures.columns) c.in_ok-listed.ensures.1 in
-    let is_planned : IsPlanned (spoken n.sets.items columns n.classes false) (spoken n.sets.items columns n.classes true) t c.in_ok-planned.planned = rw (← c.as_slice-2.ensures.value, ← c.columns-columns.ensures.columns) c.in_ok-planned.ensures.1 in (
-      none_wrong t columns n c.in_ok-named.ensures.0 c.in_ok-named.ensures.1 listed planned shown,
-      is_query t c.args.clause.text columns n c.in_ok-listed.listed c.in_ok-planned.planned _ c.in_ok-named.ensures.1 is_listed (planned_in t columns n c.in_ok-planned.planned c.in_ok-named.ensures.1 is_planned) c.in_ok-query.ensures,
-    )
+    let is_planned : IsPlanned (spoken n.sets.items columns n.classes false) (spoken n.sets.items columns n.classes true) t c.in_ok-planned.planned = rw (← c.as_slice-2.ensures.value, ← c.columns-columns.ensures.columns) c.in_ok-planned.ensures.1 in
+    let clean : faults t columns ≡ [] = none_wrong t columns n c.in_ok-named.ensures.0 c.in_ok-named.ensures.1 listed planned shown in
+    let is : IsQueryOf t c.args.clause.text columns c.in_ok-data.data = is_query t c.args.clause.text columns n c.in_ok-listed.listed c.in_ok-planned.planned c.in_ok-data.data c.in_ok-named.ensures.1 is_listed (planned_in t columns n c.in_ok-planned.planned c.in_ok-named.ensures.1 is_planned) c.in_ok-data.ensures in
+    (clean, rw c.in_ok-query.ensures is)

@@ -1,4 +1,6 @@
+use Rattle.rp_tester.specs.Entered.{HasEntered}
 use Rattle.rp_tester.proofs.tester.TesterTests.cut.Goals as goal
 
 pub returns-clause-none : goal.returns-clause-none
-returns-clause-none g c = λ zero start. c.cut.ensures.none zero (g.R.Rows.known c.args.self.now.rows) start
+unfolding HasEntered
+returns-clause-none g c = λ zero start. c.cut.ensures.none zero (g.R.Rows.known c.args.self.now.rows.now) start

@@ -1,0 +1,15 @@
+use Rattle.std.proofs.Common.{refl}
+use Rattle.rp_known.specs.Plans.{tested_by}
+use Rattle.rp_known.specs.Walk.{found_at}
+use Rattle.rp_tester.specs.Tested.{outcome_of}
+use Rattle.rp_known.proofs.Legs.{leg_on, found_on, match_known}
+use Rattle.rp_known.proofs.laws.law_legs.Goals as goal
+
+pub returns-clause-lead : goal.returns-clause-lead
+returns-clause-lead c = leg_on
+
+pub returns-clause-searches : goal.returns-clause-searches
+returns-clause-searches c = found_on
+
+pub returns-clause-known : goal.returns-clause-known
+returns-clause-known c = λ q p start known. match_known c.law_words.ensures.within (outcome_of (tested_by q p) start) q p start known (found_at q p start) refl

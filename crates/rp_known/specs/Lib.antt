@@ -1,0 +1,6 @@
+pub mod Known
+pub mod Plans
+pub mod Skips
+pub mod Items
+pub mod Walk
+pub mod WalkLaws

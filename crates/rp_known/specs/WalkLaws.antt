@@ -1,0 +1,59 @@
+-- What is known only grows.
+use Rattle.std.specs.Prelude.{◌≡◌, ℕ, ◌-◌, ◌^◌, ◌<◌, ◌≤◌, List, ◌++◌, length, suc, ⊤, ◌+◌}
+use Rattle.rp_check.specs.declared.query.QueryData.{QueryData}
+use Rattle.rp_search.specs.Found.{Found, Match, NoMatch, Waits}
+use Rattle.rp_check.specs.Sound.{IsSound}
+use Rattle.rp_known.specs.declared.item.Item.{Item}
+use Rattle.rp_known.specs.declared.place.Place.{Place}
+use Rattle.rp_known.specs.Known.{Known, count, Continues, GoesOnFrom}
+use Rattle.rp_known.specs.Plans.{first_read}
+use Rattle.rp_known.specs.Walk.{Leg, Goes, Pauses, Ends, after_found, found_at, leg, leg_items, known, ComesTo}
+
+pub record IsPrefixOf (xs ys : List Item) : Type 0 where
+  pub rest : List Item
+  pub is : xs ++ rest ≡ ys
+
+-- What is known of an open partition is a prefix of what is known of every continuation, its answer too.
+abbrev pub KnownGrows : Type 0
+KnownGrows = (q : QueryData) (p p' : Known) → IsSound q → Continues p p' → IsPrefixOf (known q p) (known q p')
+
+-- a leg that goes on or ends stays, and one that pauses has given what it will give first
+abbrev pub Stays : Leg → Leg → Type 0
+Stays (Goes xs next) new = new ≡ Goes xs next
+Stays (Pauses xs) new = IsPrefixOf xs (leg_items new)
+Stays (Ends xs) new = new ≡ Ends xs
+
+-- What a start row gives stays over rows that go on, whatever becomes of the rows that are out of its reach.
+abbrev pub LegStays : Type 0
+LegStays = (q : QueryData) (p p' : Known) (place : Place) → IsSound q → 1 ≤ place.start → GoesOnFrom (first_read q place.start) p p' → Stays (leg q p place) (leg q p' place)
+
+-- Where a walk comes to, it comes to over rows that go on.
+abbrev pub WalkStays : Type 0
+WalkStays = (q : QueryData) (p p' : Known) (d : ℕ) (from to : Place) → IsSound q → 1 ≤ from.start → GoesOnFrom (first_read q from.start) p p' →
+    ComesTo q p from d to → ComesTo q p' from d to
+
+-- An answer has fewer items than places can tell.
+abbrev pub KnownIsShort : Type 0
+KnownIsShort = (q : QueryData) (p : Known) → count p < 2 ^ 64 - 1 → length (known q p) < 2 ^ 128 - 1
+
+-- a leg that goes on leads to a later row, and counts one match more at most
+abbrev pub LeadsOn : Place → Leg → Type 0
+LeadsOn from (Goes xs next) = (from.start < next.start) × (next.matches ≤ suc from.matches)
+LeadsOn from (Pauses xs) = ⊤
+LeadsOn from (Ends xs) = ⊤
+
+abbrev pub LegsLeadOn : Type 0
+LegsLeadOn = (q : QueryData) (p : Known) (place : Place) → LeadsOn place (leg q p place)
+
+-- what follows a search leads on too
+abbrev pub SearchesLeadOn : Type 0
+SearchesLeadOn = (q : QueryData) (place : Place) (result : Found) → LeadsOn place (after_found q place result)
+
+-- the labels of a match are of known rows
+abbrev pub AreKnown : ℕ → ℕ → Found → Type 0
+AreKnown start n (Match ls) = start + length ls ≤ suc n
+AreKnown start n NoMatch = ⊤
+AreKnown start n Waits = ⊤
+
+abbrev pub MatchesAreKnown : Type 0
+MatchesAreKnown = (q : QueryData) (p : Known) (start : ℕ) → start ≤ count p → AreKnown start (count p) (found_at q p start)

@@ -1,0 +1,25 @@
+//! Laws over the definitions alone. A call does nothing, and its caller may then use them.
+ghost use Rattle.rp_known.specs.WalkLaws.{KnownGrows, WalkStays, LegStays, KnownIsShort, LegsLeadOn, SearchesLeadOn, MatchesAreKnown};
+
+/// The laws of the known answer. What is known of an open partition begins what is known of every continuation, its answer
+/// too; where a walk comes to, it comes to over every continuation; and what a start row gives stays.
+pub fn law_known()
+    ensures grows { KnownGrows }
+    ensures walk { WalkStays }
+    ensures leg { LegStays }
+    ensures short { KnownIsShort }
+{
+    rp_pattern::law_words();
+    rp_search::law_found();
+    rp_eval::law_values();
+    rp_tester::law_tests();
+}
+
+/// The laws of one leg of the walk: it leads to a later row, if at all, and a match is of known rows.
+pub fn law_legs()
+    ensures lead { LegsLeadOn }
+    ensures searches { SearchesLeadOn }
+    ensures known { MatchesAreKnown }
+{
+    rp_pattern::law_words();
+}
