@@ -4,3 +4,5 @@ pub mod Entered
 pub mod Outlives
 -- What the tests owe their trait.
 pub mod Decided
+-- What the tests alone cite.
+pub mod Searched

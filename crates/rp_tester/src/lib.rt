@@ -11,3 +11,6 @@ mod tester;
 
 pub use laws::law_tests;
 pub use tester::Tester;
+
+#[cfg(test)]
+mod tests;

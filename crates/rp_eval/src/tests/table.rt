@@ -577,8 +577,18 @@ fn labels_of_table(alloc: Global) -> Result<Vec<Label>, Fail> {
     Ok(labels)
 }
 
+/// A value of the whole match, as it is seen from each of its six rows.
+fn at_each_row(alloc: Global, whole: &str) -> Result<String, Fail> {
+    let mut values = String::from_str(alloc, whole)?;
+    for _row in 1..LABELS.len() {
+        values.push(' ')?;
+        values.push_str(whole)?;
+    }
+    Ok(values)
+}
+
 #[test]
-fn running_at_each_row(rt: HostRuntime) -> Result<(), Fail> {
+fn values_at_each_row(rt: HostRuntime) -> Result<(), Fail> {
     let alloc = rt.alloc();
     let rows = rows_of_cells(alloc, &CELLS, End::Open)?;
     let labels = labels_of_table(alloc)?;
@@ -596,8 +606,9 @@ fn running_at_each_row(rt: HostRuntime) -> Result<(), Fail> {
     for line in &NAVIGATIONS {
         let values = shown(alloc, &navigation(line, false), &view, 7)?;
         assert_eq!(rt; values.as_str(), line.running, "{}", line.what);
-        let values = shown(alloc, &navigation(line, true), &view, 2)?;
-        assert_eq!(rt; values.as_str(), line.whole, "FINAL {}", line.what);
+        let values = shown(alloc, &navigation(line, true), &view, 7)?;
+        let whole = at_each_row(alloc, line.whole)?;
+        assert_eq!(rt; values.as_str(), whole.as_str(), "FINAL {}", line.what);
     }
     for (i, line) in AGGREGATES.iter().enumerate() {
         let number = 4 + i;
@@ -605,8 +616,9 @@ fn running_at_each_row(rt: HostRuntime) -> Result<(), Fail> {
         let values = shown(alloc, &Expr::Aggregate { number, is_final }, &view, 7)?;
         assert_eq!(rt; values.as_str(), line.running, "{}", line.what);
         let is_final = true;
-        let values = shown(alloc, &Expr::Aggregate { number, is_final }, &view, 2)?;
-        assert_eq!(rt; values.as_str(), line.whole, "FINAL {}", line.what);
+        let values = shown(alloc, &Expr::Aggregate { number, is_final }, &view, 7)?;
+        let whole = at_each_row(alloc, line.whole)?;
+        assert_eq!(rt; values.as_str(), whole.as_str(), "FINAL {}", line.what);
     }
     Ok(())
 }
