@@ -7,7 +7,7 @@ ghost use Rattle.rp_grammar.specs.Reading.{Gives, starts};
 ghost use Rattle.rp_syntax.specs.Names.{unquoted, behind_first};
 ghost use Rattle.rp_grammar.specs.Grammar.{gives, one_of};
 ghost use Rattle.rp_syntax.specs.Terms.{IsNull, Negative, Not, Literal, Number, Operate, from_left, from_right, operand_of, term_of};
-ghost use Rattle.rp_syntax.specs.ExprGrammar.{aggregate, comparison, conjunction, counted, deeper_expr, expr, inside_expr, negation, nullness, operation, over_column, product, scoped, sign, sign_kinds, comparison_kinds, signed, sum, test, value};
+ghost use Rattle.rp_syntax.specs.ExprGrammar.{aggregate, aggregated, comparison, conjunction, counted, deeper_expr, expr, inside_expr, negation, nullness, operation, over_column, product, scoped, sign, sign_kinds, comparison_kinds, signed, sum, test, value};
 
 use crate::name::name;
 use crate::navigation::{begins_plain, column, edge, plain, scope};
@@ -134,6 +134,17 @@ fn over_column<'a>(
     Ok((at, column, rest))
 }
 
+/// The aggregate of this function, whose word stands at the offset.
+fn under(scope: Option<Scope>, at: usize, function: AggregateFunction) -> Aggregate
+    ensures { result ≡ aggregated function at scope }
+{
+    Aggregate {
+        scope,
+        at,
+        function,
+    }
+}
+
 /// An aggregate under this scope, and what follows.
 #[tactic(auto, unfolding(crate::specs::ExprGrammar::aggregate))]
 fn aggregate<'a>(
@@ -155,44 +166,24 @@ fn aggregate<'a>(
         let (argument, rest) = counted(alloc, text, rest)?;
         let (_, rest) = word(text, rest, TokenKind::Mark(Mark::RightParenthesis))?;
         let function = AggregateFunction::Count(argument);
-        let aggregate = Aggregate {
-            scope,
-            at,
-            function,
-        };
-        return Ok((aggregate, rest));
+        return Ok((under(scope, at, function), rest));
     }
     let sum = TokenKind::Keyword(Keyword::Sum);
     if begins(tokens, sum) {
         let (at, column, rest) = over_column(alloc, text, tokens, room, sum)?;
         let function = AggregateFunction::Sum(column);
-        let aggregate = Aggregate {
-            scope,
-            at,
-            function,
-        };
-        return Ok((aggregate, rest));
+        return Ok((under(scope, at, function), rest));
     }
     let min = TokenKind::Keyword(Keyword::Min);
     if begins(tokens, min) {
         let (at, column, rest) = over_column(alloc, text, tokens, room, min)?;
         let function = AggregateFunction::Min(column);
-        let aggregate = Aggregate {
-            scope,
-            at,
-            function,
-        };
-        return Ok((aggregate, rest));
+        return Ok((under(scope, at, function), rest));
     }
     let max = TokenKind::Keyword(Keyword::Max);
     let (at, column, rest) = over_column(alloc, text, tokens, room, max)?;
     let function = AggregateFunction::Max(column);
-    let aggregate = Aggregate {
-        scope,
-        at,
-        function,
-    };
-    Ok((aggregate, rest))
+    Ok((under(scope, at, function), rest))
 }
 
 /// A navigation or an aggregate that may have a scope, and what follows.

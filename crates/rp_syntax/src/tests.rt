@@ -460,54 +460,57 @@ fn repeated(
     Ok(text)
 }
 
+/// A front, a part of it so many times, what stands behind, and the fault.
+const BRACKETS: [(&str, &str, usize, &str, ParseFault); 12] = [
+    ("PATTERN ", "(", 101, "", ParseFault::Deep(108)),
+    ("PATTERN ", "(", 100, "{-", ParseFault::Deep(108)),
+    ("PATTERN ", "(", 100, "()", ParseFault::Deep(108)),
+    ("PATTERN ", "(", 100, "PERMUTE(", ParseFault::Deep(115)),
+    ("PATTERN ", "(", 100, "A{(", ParseFault::Expected(110)),
+    ("PATTERN ", "(", 100, "A", ParseFault::Expected(109)),
+    ("PATTERN (", "{-", 100, "A", ParseFault::Deep(207)),
+    (
+        "MATCH_RECOGNIZE(PATTERN ",
+        "(",
+        100,
+        "A",
+        ParseFault::Deep(123),
+    ),
+    (
+        "PATTERN (A) DEFINE A AS ",
+        "(",
+        101,
+        "",
+        ParseFault::Deep(124),
+    ),
+    (
+        "PATTERN (A) DEFINE A AS ",
+        "(",
+        100,
+        "COUNT(",
+        ParseFault::Deep(129),
+    ),
+    (
+        "PATTERN (A) DEFINE A AS ",
+        "(",
+        100,
+        "p (",
+        ParseFault::Expected(126),
+    ),
+    (
+        "PATTERN (A) DEFINE A AS ",
+        "PREV(",
+        101,
+        "",
+        ParseFault::Deep(528),
+    ),
+];
+
 /// A bracket above the hundredth is Deep where it may stand, else Expected.
 #[test]
 fn deep_brackets(rt: HostRuntime) -> Result<(), Fail> {
     let alloc = rt.alloc();
-    for (before, part, times, behind, fault) in [
-        ("PATTERN ", "(", 101, "", ParseFault::Deep(108)),
-        ("PATTERN ", "(", 100, "{-", ParseFault::Deep(108)),
-        ("PATTERN ", "(", 100, "()", ParseFault::Deep(108)),
-        ("PATTERN ", "(", 100, "PERMUTE(", ParseFault::Deep(115)),
-        ("PATTERN ", "(", 100, "A{(", ParseFault::Expected(110)),
-        ("PATTERN ", "(", 100, "A", ParseFault::Expected(109)),
-        ("PATTERN (", "{-", 100, "A", ParseFault::Deep(207)),
-        (
-            "MATCH_RECOGNIZE(PATTERN ",
-            "(",
-            100,
-            "A",
-            ParseFault::Deep(123),
-        ),
-        (
-            "PATTERN (A) DEFINE A AS ",
-            "(",
-            101,
-            "",
-            ParseFault::Deep(124),
-        ),
-        (
-            "PATTERN (A) DEFINE A AS ",
-            "(",
-            100,
-            "COUNT(",
-            ParseFault::Deep(129),
-        ),
-        (
-            "PATTERN (A) DEFINE A AS ",
-            "(",
-            100,
-            "p (",
-            ParseFault::Expected(126),
-        ),
-        (
-            "PATTERN (A) DEFINE A AS ",
-            "PREV(",
-            101,
-            "",
-            ParseFault::Deep(528),
-        ),
-    ] {
+    for (before, part, times, behind, fault) in BRACKETS {
         let text = repeated(alloc, before, part, times, behind)?;
         match parsed(alloc, text.as_str())? {
             Ok(_) => assert!(rt; false, "{text}"),
