@@ -25,7 +25,7 @@ use Rattle.rp_known.specs.Plans.{first_read, tested_by}
 use Rattle.rp_known.specs.Skips.{start_after, skipped}
 use Rattle.rp_known.specs.Items.{item_at, item_rows, items_of}
 use Rattle.rp_known.specs.Walk.{Leg, Goes, Pauses, Ends, after_item, after_items, after_match, after_found, found_at, at_last, searched, leg, leg_items}
-use Rattle.rp_known.specs.WalkLaws.{Stays, LegStays, LeadsOn, LegsLeadOn, SearchesLeadOn, AreKnown}
+use Rattle.rp_known.specs.WalkLaws.{Stays, LegStays, LeadsOn, LegsLeadOn, SearchesLeadOn, AreKnown, FindingsStay}
 use Rattle.rp_known.proofs.Prefixes.{prefix_nil, prefix_same, prefix_item}
 use Rattle.rp_known.proofs.Items.{Settled, rows_within, all_settle}
 
@@ -148,7 +148,7 @@ last_stays p p' later start h other b e = go p.end refl b e
 
 module _ (extend : WordsExtend) (within : WordsEnd) (found_stays : FoundStays) (values : ValuesStay) (tests : TestsGoOn) where
   -- what was found stays
-  found_kept : (q : QueryData) (p p' : Known) (start : ℕ) → IsSound q → 1 ≤ start → GoesOnFrom (first_read q start) p p' → found_at q p start ≢ Waits → found_at q p' start ≡ found_at q p start
+  pub found_kept : FindingsStay
   found_kept q p p' start reaches one g h =
       found_stays (suc (count p) - start) (outcome_of (tested_by q p) start) (outcome_of (tested_by q p') start) (words (count p) p.end (form_of q.pattern) start) (words (count p') p'.end (form_of q.pattern) start)
       (tests (tested_by q p) p'.rows p'.end start one reaches g).stay (within (form_of q.pattern) (count p) p.end start)

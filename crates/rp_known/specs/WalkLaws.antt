@@ -1,5 +1,5 @@
 -- What is known only grows.
-use Rattle.std.specs.Prelude.{◌≡◌, ℕ, ◌-◌, ◌^◌, ◌<◌, ◌≤◌, List, ◌++◌, length, suc, ⊤, ◌+◌}
+use Rattle.std.specs.Prelude.{◌≡◌, ◌≢◌, ℕ, ◌-◌, ◌^◌, ◌<◌, ◌≤◌, List, ◌++◌, length, suc, ⊤, ◌+◌}
 use Rattle.rp_check.specs.declared.query.QueryData.{QueryData}
 use Rattle.rp_search.specs.Found.{Found, Match, NoMatch, Waits}
 use Rattle.rp_check.specs.Sound.{IsSound}
@@ -57,3 +57,11 @@ AreKnown start n Waits = ⊤
 
 abbrev pub MatchesAreKnown : Type 0
 MatchesAreKnown = (q : QueryData) (p : Known) (start : ℕ) → start ≤ count p → AreKnown start (count p) (found_at q p start)
+
+-- What a search has found stays over rows that go on, unless it waits.
+abbrev pub FindingsStay : Type 0
+FindingsStay = (q : QueryData) (p p' : Known) (start : ℕ) → IsSound q → 1 ≤ start → GoesOnFrom (first_read q start) p p' → found_at q p start ≢ Waits → found_at q p' start ≡ found_at q p start
+
+-- Over a continuation all rows go on.
+abbrev pub ContinuationsGoOn : Type 0
+ContinuationsGoOn = (p p' : Known) → Continues p p' → GoesOnFrom 1 p p'

@@ -1,12 +1,14 @@
 //! Laws over the definitions alone. A call does nothing, and its caller may then use them.
-ghost use Rattle.rp_known.specs.WalkLaws.{KnownGrows, WalkStays, LegStays, KnownIsShort, LegsLeadOn, SearchesLeadOn, MatchesAreKnown};
+ghost use Rattle.rp_known.specs.WalkLaws.{KnownGrows, WalkStays, LegStays, KnownIsShort, LegsLeadOn, SearchesLeadOn, MatchesAreKnown, FindingsStay, ContinuationsGoOn};
 
 /// The laws of the known answer. What is known of an open partition begins what is known of every continuation, its answer
-/// too; where a walk comes to, it comes to over every continuation; and what a start row gives stays.
+/// too; where a walk comes to, it comes to over every continuation; and what a start row finds
+/// and gives stays.
 pub fn law_known()
     ensures grows { KnownGrows }
     ensures walk { WalkStays }
     ensures leg { LegStays }
+    ensures found { FindingsStay }
     ensures short { KnownIsShort }
 {
     rp_pattern::law_words();
@@ -20,6 +22,7 @@ pub fn law_legs()
     ensures lead { LegsLeadOn }
     ensures searches { SearchesLeadOn }
     ensures known { MatchesAreKnown }
+    ensures continuing { ContinuationsGoOn }
 {
     rp_pattern::law_words();
 }

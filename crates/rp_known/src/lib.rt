@@ -16,3 +16,6 @@ pub use laws::{law_known, law_legs};
 pub use making::{match_item, unmatched_item};
 pub use place::Place;
 pub use skips::next_start;
+
+#[cfg(test)]
+mod tests;

@@ -1,0 +1,14 @@
+mod Shown
+mod Moving
+mod Steps
+mod Ends
+mod Begins
+mod Running
+mod Passing
+mod Polling
+mod Agreeing
+mod Fitting
+mod Later
+mod Public
+mod Continuing
+mod Lefts

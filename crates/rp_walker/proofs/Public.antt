@@ -1,0 +1,69 @@
+-- What a poll means for each partition that the record fits.
+use Rattle.std.proofs.Common.{◌≡◌, ℕ, suc, ◌+◌, ◌-◌, ◌^◌, ◌<◌, ◌≤◌, ◌⊎◌, inl, inr, List, ◌++◌, length, length-append, Bool, true, false, Some, Result, Ok, Err, refl, sym, ap, ◌∙◌, subst, arith}
+use Rattle.std.specs.Prelude.{slice_get, OnErr}
+use Rattle.rp_check.specs.declared.query.QueryData.{QueryData}
+use Rattle.rp_check.specs.Sound.{IsSound}
+use Rattle.rp_known.specs.declared.item.Item.{Item}
+use Rattle.rp_known.specs.declared.place.Place.{Place}
+use Rattle.rp_known.specs.Known.{Known, count}
+use Rattle.rp_known.specs.Walk.{Leg, Goes, Pauses, Ends, leg, leg_items, and_then, walk, walk_from, known}
+use Rattle.rp_known.specs.WalkLaws.{LegsLeadOn, KnownIsShort}
+use Rattle.rp_walker.specs.declared.poll.Poll.{Poll}
+use Rattle.rp_walker.specs.declared.poll.Poll.TheVariants.{Item as ItemPoll, Idle as IdlePoll, Paused as PausedPoll}
+use Rattle.rp_walker.specs.declared.record.MatcherState.{MatcherState}
+use Rattle.rp_walker.specs.Records.{place_of, IsWithin, IsOnWalk, IsOver, Fits, fits_by}
+use Rattle.rp_walker.specs.Steps.{IsDone, Moves}
+use Rattle.rp_walker.specs.FitLaws.{AgreesFrom, Meant, StepsMean}
+use Rattle.rp_walker.specs.Polls.{Polled, PollIs, AnswerIs, Answers, StillFits}
+use Rattle.rp_walker.proofs.Moving.{comes_after}
+
+-- no more items than known were given
+given_known : LegsLeadOn → (b : Bool) (q : QueryData) (r : MatcherState) (p : Known) → fits_by b q r p → r.given ≤ length (known q p)
+given_known leads true q r p h = omega (arith, h.counted)
+given_known leads false q r p h =
+    let b = comes_after leads q p h.comes in
+    omega (arith, h.counted, h.within, b.many, ap length b.is, length-append b.front (walk_from q p (place_of r)), leg_in_walk q p (place_of r))
+  where
+    leg_in_walk : (q : QueryData) (p : Known) (place : Place) → length (leg_items (leg q p place)) ≤ length (walk_from q p place)
+    leg_in_walk q p place = go (leg q p place)
+      where
+        go : (t : Leg) → length (leg_items t) ≤ length (and_then t (walk (suc (count p) - place.start) q p))
+        go (Goes xs next) = omega (arith, length-append xs (walk (suc (count p) - place.start) q p next))
+        go (Pauses xs) = omega arith
+        go (Ends xs) = omega arith
+
+same_count : {first : ℕ} {k p : Known} → AgreesFrom first k p → count p ≡ count k
+same_count {k = k} {p = p} a = let x : count k ≤ count p = a.on.later.0 in let y : count p ≤ count k = a.back.later.0 in omega (arith, x, y)
+
+module _ (means : StepsMean) (leads : LegsLeadOn) (short : KnownIsShort) (q : QueryData) (sound : IsSound q) (k : Known) (few : count k < 2 ^ 64 - 1) (old new : MatcherState) (going : old.over ≡ false) (from_one : 1 ≤ old.at) where
+  on_kept : (p : Known) → AgreesFrom old.first k p → Fits q old p → IsWithin q k old × (Moves q k old new → Meant q old new k p)
+  on_kept p are fits = means q old new k p sound from_one are (subst (λ b. fits_by b q old p) going fits)
+
+  idle_is : (p : Known) → AgreesFrom old.first k p → Meant q old new k p → new.given ≡ old.given → IsDone q k new ⊎ (new.given ≡ 2 ^ 128 - 1) → length (known q p) ≡ old.given
+  idle_is p are h same (inl d) = h.done d ∙ same
+  idle_is p are h same (inr e) = absurd (omega (arith, e, short q p (subst (λ n. n < 2 ^ 64 - 1) (sym (same_count are)) few), given_known leads new.over q new p h.fits))
+
+  answer_is : (p : Known) → AgreesFrom old.first k p → (answer : Poll) → Meant q old new k p → PollIs q k old new answer → AnswerIs q p old new answer
+  answer_is p are (ItemPoll i x) h is = (is.0 ∙ is.1, is.1, h.next x is.2)
+  answer_is p are IdlePoll h is = (is.0, idle_is p are h is.0 is.1)
+  answer_is p are PausedPoll h is = is
+
+  pub answers : (answer : Poll) → (IsWithin q k old → Polled q k old new answer) → Answers q k old new answer
+  answers answer polled p are fits =
+      let h = on_kept p are fits in
+      let a = polled h.0 in
+      let meant = h.1 a.moves in
+      (meant.fits, answer_is p are answer meant a.is)
+
+  pub still_fits : (IsWithin q k old → Moves q k old new) → StillFits q k old new
+  still_fits moved p are fits = let h = on_kept p are fits in (h.1 (moved h.0)).fits
+
+-- where the answer is over, all that is known was given
+pub over_answers : (q : QueryData) (k : Known) (r : MatcherState) → r.over ≡ true → Answers q k r r IdlePoll
+over_answers q k r over p are fits =
+    let h : IsOver q r p = subst (λ b. fits_by b q r p) over fits in
+    (fits, (refl, sym h.counted))
+
+pub on_err_map : {A E : Type 0} (P Q : Type 0) (r : Result A E) → (P → Q) → OnErr r P → OnErr r Q
+on_err_map P Q (Ok x) h k = k
+on_err_map P Q (Err e) h k = h k

@@ -1,0 +1,140 @@
+-- What one step over the rows ahead does.
+use Rattle.std.proofs.Common.{◌≡◌, ℕ, zero, suc, ◌+◌, ◌-◌, ◌<◌, ◌≤◌, List, [], ◌∷◌, ◌++◌, length, length-append, append_assoc, map, Bool, true, false, cond, Option, Some, None, refl, sym, ap, ◌∙◌, subst, arith}
+use Rattle.std.specs.Prelude.{slice_get, nat_le}
+use Rattle.std.proofs.lemmas.Bool.Decides.{nat_tests}
+use Rattle.rp_pattern.specs.Turns.{starts_turns}
+use Rattle.rp_search.specs.Found.{Found}
+use Rattle.rp_known.specs.Walk.{Leg, Goes, Pauses, Ends, after_item, after_items, after_match, after_found, found_at, at_last, searched, leg, leg_items, and_then, walk, walk_from, known, first_place, ComesTo, here, on}
+use Rattle.rp_walker.specs.Records.{place_of, IsWithin, IsOnWalk, IsOver, IsLast, Fits, fits_by, first_state}
+use Rattle.rp_walker.specs.Steps.{IsDone, IsStop, IsEnd, HasEnded, ended_by, Moves}
+use Rattle.rp_check.specs.declared.query.QueryData.{QueryData}
+use Rattle.rp_known.specs.Known.{Known, count}
+use Rattle.rp_pattern.specs.PatternForm.{form_of}
+use Rattle.rp_known.specs.declared.item.Item.{Item}
+use Rattle.rp_walker.specs.declared.ahead.Ahead.{Ahead}
+use Rattle.rp_walker.specs.declared.walker.Walker.{Walker}
+use Rattle.rp_walker.specs.declared.record.MatcherState.{MatcherState}
+use Rattle.rp_walker.specs.declared.stage.Stage.{Stage}
+use Rattle.rp_known.specs.declared.place.Place.{Place}
+use Rattle.rp_known.specs.Items.{item_at, item_rows, items_of}
+use Rattle.rp_walker.specs.Given.{is_hidden, shown_from}
+use Rattle.rp_walker.specs.Stages.{Gives, rows_ahead, IsGoing, StageStands, stage_left, starts_to, left_with}
+use Rattle.rp_walker.specs.Walking.{stands_by}
+use Rattle.rp_walker.proofs.Shown.{IsHere, StopsAt, Adds, item_here, none_here, all_here}
+
+-- ---- rows ahead
+
+shown_step : (hidden : ℕ → Bool) (next end : ℕ) → next < end →
+    shown_from hidden (end - next) next ≡ cond (hidden next) (shown_from hidden (end - (next + 1)) (next + 1)) (next ∷ shown_from hidden (end - (next + 1)) (next + 1))
+shown_step hidden next end h =
+    let more : end - next ≡ suc (end - (next + 1)) = omega (arith, h) in
+    let one : suc next ≡ next + 1 = omega arith in
+    ap (λ k. shown_from hidden k next) more
+    ∙ ap (λ r. cond (hidden next) (shown_from hidden (end - (next + 1)) r) (next ∷ shown_from hidden (end - (next + 1)) r)) one
+
+pub hidden_step : (hidden : ℕ → Bool) (next end : ℕ) → next < end → hidden next ≡ true → shown_from hidden (end - next) next ≡ shown_from hidden (end - (next + 1)) (next + 1)
+hidden_step hidden next end h e = shown_step hidden next end h ∙ ap (λ b. cond b (shown_from hidden (end - (next + 1)) (next + 1)) (next ∷ shown_from hidden (end - (next + 1)) (next + 1))) e
+
+pub visible_step : (hidden : ℕ → Bool) (next end : ℕ) → next < end → hidden next ≡ false → shown_from hidden (end - next) next ≡ next ∷ shown_from hidden (end - (next + 1)) (next + 1)
+visible_step hidden next end h e = shown_step hidden next end h ∙ ap (λ b. cond b (shown_from hidden (end - (next + 1)) (next + 1)) (next ∷ shown_from hidden (end - (next + 1)) (next + 1))) e
+
+abbrev pub past_hidden : Ahead → Ahead
+past_hidden a = record { next = a.next + 1; end = a.end; seen = a.seen }
+
+abbrev pub past_shown : Ahead → Ahead
+past_shown a = record { next = a.next + 1; end = a.end; seen = a.seen + 1 }
+
+module _ (q : QueryData) (p : Known) (place : Place) (result : Found) (a : Ahead) (g : Gives q p place result a) (more : a.next < a.end) where
+  abbrev hides : ℕ → Bool
+  hides = is_hidden q.plan.rows place.start result
+
+  pub gives_hidden : is_hidden q.plan.rows place.start result a.next ≡ true → Gives q p place result (past_hidden a)
+  gives_hidden e =
+      record {
+        known = g.known;
+        found = g.found;
+        in_rows = g.in_rows;
+        passed = g.passed;
+        rows = g.rows ∙ ap (λ rs. g.passed ++ rs) (hidden_step hides a.next a.end more e);
+        seen = g.seen;
+        fewer = omega (arith, g.fewer);
+        low = omega (arith, g.low);
+        ordered = omega (arith, more);
+        high = g.high;
+      }
+
+  pub rows_here : is_hidden q.plan.rows place.start result a.next ≡ false → item_rows q.plan.rows place result ≡ g.passed ++ a.next ∷ rows_ahead q place.start result (past_shown a)
+  rows_here e = g.rows ∙ ap (λ rs. g.passed ++ rs) (visible_step hides a.next a.end more e)
+
+  pub gives_shown : is_hidden q.plan.rows place.start result a.next ≡ false → Gives q p place result (past_shown a)
+  gives_shown e =
+      record {
+        known = g.known;
+        found = g.found;
+        in_rows = g.in_rows;
+        passed = g.passed ++ a.next ∷ [];
+        rows = rows_here e ∙ sym (append_assoc g.passed (a.next ∷ []) (rows_ahead q place.start result (past_shown a)));
+        seen = omega (arith, g.seen, length-append g.passed (a.next ∷ []));
+        fewer = omega (arith, g.fewer);
+        low = omega (arith, g.low);
+        ordered = omega (arith, more);
+        high = g.high;
+      }
+
+-- ---- the leg of a search that has ended
+
+pub leg_of : (q : QueryData) (p : Known) (place : Place) (result : Found) (rows : List ℕ) → place.start ≤ count p → found_at q p place.start ≡ result → item_rows q.plan.rows place result ≡ rows →
+    leg q p place ≡ after_items (map (item_at q p place result) rows) (after_found q place result)
+leg_of q p place result rows h found is =
+    let known : nat_le place.start (count p) ≡ true = grind (arith, nat_tests) in
+    ap (λ b. cond b (searched q p place (found_at q p place.start)) (at_last p.end)) known
+    ∙ ap (λ f. after_items (items_of q p place f) (after_found q place f)) found
+    ∙ ap (λ rs. after_items (map (item_at q p place result) rs) (after_found q place result)) is
+
+module _ (q : QueryData) (p : Known) (r : MatcherState) (result : Found) (a : Ahead) (g : Gives q p (place_of r) result a) (more : a.next < a.end)
+    (shown : is_hidden q.plan.rows r.at result a.next ≡ false) (due : a.seen ≡ r.here) (within : IsWithin q p r) where
+  abbrev rest : List ℕ
+  rest = rows_ahead q r.at result (past_shown a)
+
+  leg_here : leg q p (place_of r) ≡ after_items (map (item_at q p (place_of r) result) (g.passed ++ a.next ∷ rest)) (after_found q (place_of r) result)
+  leg_here = leg_of q p (place_of r) result (g.passed ++ a.next ∷ rest) g.known g.found (rows_here q p (place_of r) result a g more shown)
+
+  passed_all : length g.passed ≡ r.here
+  passed_all = sym g.seen ∙ due
+
+  within_here : length g.passed ≤ length (leg_items (after_items (map (item_at q p (place_of r) result) (g.passed ++ a.next ∷ rest)) (after_found q (place_of r) result)))
+  within_here = subst (λ k. k ≤ length (leg_items (after_items (map (item_at q p (place_of r) result) (g.passed ++ a.next ∷ rest)) (after_found q (place_of r) result)))) (sym passed_all)
+      (subst (λ t. r.here ≤ length (leg_items t)) leg_here within)
+
+  pub gave : (x : Item) → item_at q p (place_of r) result a.next ≡ Some x → IsHere (leg q p (place_of r)) r.here x
+  gave x e =
+      subst (λ t. IsHere t r.here x) (sym leg_here)
+      (subst (λ k. IsHere (after_items (map (item_at q p (place_of r) result) (g.passed ++ a.next ∷ rest)) (after_found q (place_of r) result)) k x) passed_all
+      (item_here (item_at q p (place_of r) result) (after_found q (place_of r) result) g.passed rest a.next x e within_here))
+
+  pub not_yet : item_at q p (place_of r) result a.next ≡ None → IsDone q p r
+  not_yet e =
+      let s = none_here (item_at q p (place_of r) result) (after_found q (place_of r) result) g.passed rest a.next e within_here in
+      record {
+        stops = subst (λ t. IsStop t) (sym leg_here) s.stops;
+        all = sym passed_all ∙ s.all ∙ ap (λ t. length (leg_items t)) (sym leg_here);
+      }
+
+-- ---- what is left
+
+-- where the answer goes on at a known row
+pub left_going : (q : QueryData) (p : Known) (r : MatcherState) (stage : Stage) → r.over ≡ false → r.at ≤ count p →
+    left_with q p r stage ≡ 1 + (stage_left q p r stage + (starts_to q p (count p) - starts_to q p r.at))
+left_going q p r stage going h =
+    let known : nat_le r.at (count p) ≡ true = grind (arith, nat_tests) in
+    ap (λ b. cond b 0 (1 + cond (nat_le r.at (count p)) (stage_left q p r stage + (starts_to q p (count p) - starts_to q p r.at)) 0)) going
+    ∙ ap (λ b. 1 + cond b (stage_left q p r stage + (starts_to q p (count p) - starts_to q p r.at)) 0) known
+
+-- ---- a step that stays at its place
+
+pub stays_put : (q : QueryData) (p : Known) (r : MatcherState) → r.over ≡ false → IsWithin q p r → Moves q p r r
+stays_put q p r going w =
+    record { before = 0; comes = here; counted = omega arith; within = w; ended = subst (λ b. ended_by b q p r) (sym going) tt; first = refl }
+
+pub stands_going : (q : QueryData) (p : Known) (w : Walker) → IsGoing q w.state → StageStands q p w.state w.stage → stands_by w.state.over q p w
+stands_going q p w g s = subst (λ b. stands_by b q p w) (sym g.going) (record { going = g; stands = s })

@@ -1,0 +1,9 @@
+use Rattle.rp_walker.proofs.Continuing.{fits_later, first_fits}
+use Rattle.rp_walker.proofs.laws.law_records.Goals as goal
+
+pub returns-clause-stay : goal.returns-clause-stay
+returns-clause-stay c = λ q r p p' sound k f.
+    fits_later c.law_known.ensures.leg c.law_known.ensures.walk c.law_legs.ensures.lead q sound p p' k (c.law_legs.ensures.continuing p p' k) r f
+
+pub returns-clause-first : goal.returns-clause-first
+returns-clause-first c = λ q p. first_fits q p

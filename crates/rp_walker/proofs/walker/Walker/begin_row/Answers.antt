@@ -1,0 +1,16 @@
+use Rattle.std.proofs.Common.{◌≡◌, ◌≤◌}
+use Rattle.rp_check.specs.QueryView.{data_of}
+use Rattle.rp_known.specs.Known.{known_in}
+use Rattle.rp_walker.specs.declared.stage.Stage.TheVariants.{Begin, Searching}
+use Rattle.rp_walker.specs.Walking.{KeepsGoing}
+use Rattle.rp_walker.proofs.Begins.{from_more, search_begins, if_ok_map}
+use Rattle.rp_walker.proofs.walker.Walker.begin_row.Goals as goal
+
+pub returns-clause-keeps : goal.returns-clause-keeps
+returns-clause-keeps g c =
+    let w = c.args.self.now in
+    let q = data_of c.args.query.now in
+    let p = known_in g.R.Rows.known g.R.Rows.ending c.args.rows.now in
+    let run = c.in_ok-run.run' in
+    if_ok_map (KeepsGoing q p w.state (Searching run) c.search.new.self) (KeepsGoing q p w.state Begin c.search.new.self) c.search.result
+    (λ s k. from_more q p w.state c.search.new.self (Searching run) Begin s (search_begins c.law_search.ensures.bounded q p w.state run c.requires.going c.in_ok-run.ensures) k) c.search.ensures.keeps

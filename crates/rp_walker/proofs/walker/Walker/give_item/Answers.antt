@@ -1,0 +1,53 @@
+use Rattle.std.proofs.Common.{◌≡◌, ◌+◌, ◌-◌, ◌<◌, ◌≤◌, Some, None, length, refl, sym, ap, ◌∙◌, subst, arith}
+use Rattle.rp_check.specs.QueryView.{data_of}
+use Rattle.rp_known.specs.declared.place.Place.{Place}
+use Rattle.rp_known.specs.Items.{item_at}
+use Rattle.rp_known.specs.Known.{known_in}
+use Rattle.rp_known.specs.Walk.{here}
+use Rattle.rp_walker.specs.declared.record.MatcherState.{MatcherState}
+use Rattle.rp_walker.specs.declared.stage.Stage.TheVariants.{Giving as GivingStage}
+use Rattle.rp_walker.specs.Given.{result_of}
+use Rattle.rp_walker.specs.Records.{place_of}
+use Rattle.rp_walker.specs.Steps.{ended_by}
+use Rattle.rp_walker.specs.Stages.{IsGoing}
+use Rattle.rp_walker.proofs.Steps.{past_shown, gives_shown, gave, not_yet, left_going, stays_put, stands_going}
+use Rattle.rp_walker.proofs.walker.Walker.give_item.Goals as goal
+
+pub returns-in-None-clause-keeps : goal.returns-in-None-clause-keeps
+returns-in-None-clause-keeps g c =
+    let w = c.args.self.now in
+    let h = c.requires.going in
+    let a = c.args.ahead in
+    let q = data_of c.args.query.now in
+    let p = known_in g.R.Rows.known g.R.Rows.ending c.args.rows.now in
+    let result = result_of c.args.found in
+    let none : item_at q p (place_of w.state) result a.next ≡ None = ap (λ (x : Place). item_at q p x result a.next) (sym c.place_of-place.ensures) ∙ sym c.in_ok-make_item.ensures ∙ c.in-None.is in
+    record {
+      given = refl;
+      stands = stands_going q p (record w { stage = GivingStage c.args.found a }) h (c.requires.gives, omega (arith, c.requires.due), c.requires.totals);
+      lowers = omega arith;
+      follows = λ within. record { moves = stays_put q p w.state h.going within; is = (refl, not_yet q p w.state result a c.requires.gives c.requires.more c.requires.shown c.requires.due within none) };
+    }
+
+pub returns-in-Some-clause-keeps : goal.returns-in-Some-clause-keeps
+returns-in-Some-clause-keeps g c =
+    let w = c.args.self.now in
+    let h = c.requires.going in
+    let a = c.args.ahead in
+    let q = data_of c.args.query.now in
+    let p = known_in g.R.Rows.known g.R.Rows.ending c.args.rows.now in
+    let result = result_of c.args.found in
+    let r : MatcherState = record w.state { here = a.seen + 1; given = w.state.given + 1 } in
+    let going : IsGoing q r = record { going = h.going; from_one = h.from_one; fewer = h.fewer; kept = h.kept; enough = omega (arith, h.enough, c.requires.due) } in
+    let some : item_at q p (place_of w.state) result a.next ≡ Some c.in-Some.item = ap (λ (x : Place). item_at q p x result a.next) (sym c.place_of-place.ensures) ∙ sym c.in_ok-make_item.ensures ∙ c.in-Some.is in
+    record {
+      given = refl;
+      stands = stands_going q p (record w { state = r; stage = GivingStage c.args.found (past_shown a) }) going (gives_shown q p (place_of w.state) result a c.requires.gives c.requires.more c.requires.shown, omega arith, c.requires.totals);
+      lowers = omega (arith, c.requires.more, left_going q p w.state (GivingStage c.args.found a) h.going c.requires.gives.known, left_going q p r (GivingStage c.args.found (past_shown a)) h.going c.requires.gives.known);
+      follows = λ within.
+          let is_here = gave q p w.state result a c.requires.gives c.requires.more c.requires.shown c.requires.due within c.in-Some.item some in
+          record {
+            moves = record { before = 0; comes = here; counted = omega (arith, c.requires.due); within = omega (arith, is_here.more, c.requires.due); ended = subst (λ b. ended_by b q p r) (sym h.going) tt; first = refl };
+            is = (refl, is_here.at);
+          };
+    }

@@ -1,0 +1,19 @@
+use Rattle.std.proofs.Common.{◌≡◌, ◌+◌, ◌≤◌}
+use Rattle.rp_check.specs.QueryView.{data_of}
+use Rattle.rp_known.specs.Known.{known_in}
+use Rattle.rp_walker.specs.Records.{IsWithin}
+use Rattle.rp_walker.specs.Steps.{Moves}
+use Rattle.rp_walker.specs.Walking.{stands_by}
+use Rattle.rp_walker.specs.Stages.{left_with}
+use Rattle.rp_walker.proofs.walker.Walker.go_on.Given as goal
+
+abbrev pub invariant-loop-turn : goal.invariant-loop-turn
+invariant-loop-turn g l = record {
+  stands : stands_by l.self.state.over (data_of l.query) (known_in g.R.Rows.known g.R.Rows.ending l.rows) l.self;
+  given : l.self.state.given ≡ l.fn.self.state.given;
+  lowered : left_with (data_of l.query) (known_in g.R.Rows.known g.R.Rows.ending l.rows) l.self.state l.self.stage + l._turn
+      ≤ left_with (data_of l.query) (known_in g.R.Rows.known g.R.Rows.ending l.rows) l.fn.self.state l.fn.self.stage;
+  moved : IsWithin (data_of l.query) (known_in g.R.Rows.known g.R.Rows.ending l.rows) l.fn.self.state →
+      Moves (data_of l.query) (known_in g.R.Rows.known g.R.Rows.ending l.rows) l.fn.self.state l.self.state;
+  counted : l.steps ≡ l.fn.steps + l._turn;
+}

@@ -1,0 +1,21 @@
+use Rattle.std.proofs.Common.{◌≡◌, ◌+◌, ◌≤◌, sym, ap, ◌∙◌, subst}
+use Rattle.rp_search.specs.declared.search.Outcome.TheVariants.{Waits, Paused}
+use Rattle.rp_check.specs.QueryView.{data_of}
+use Rattle.rp_known.specs.Known.{known_in}
+use Rattle.rp_walker.specs.Runs.{Ran}
+use Rattle.rp_walker.proofs.Begins.{searches_on, search_waits}
+use Rattle.rp_walker.proofs.walker.Walker.search.Goals as goal
+
+pub returns-in-Paused-clause-keeps : goal.returns-in-Paused-clause-keeps
+returns-in-Paused-clause-keeps g c =
+    let w = c.args.self.now in
+    let ran = c.in_ok-outcome.ensures.ran in
+    searches_on (data_of c.args.query.now) (known_in g.R.Rows.known g.R.Rows.ending c.args.rows.now) w c.args.run c.in_ok-outcome.run' c.requires.going ran.searches (ran.paused c.in-Paused.is)
+
+pub returns-in-Waits-clause-keeps : goal.returns-in-Waits-clause-keeps
+returns-in-Waits-clause-keeps g c =
+    let w = c.args.self.now in
+    let q = data_of c.args.query.now in
+    let p = known_in g.R.Rows.known g.R.Rows.ending c.args.rows.now in
+    let ran = subst (λ o. Ran q p w.state.at c.args.run c.in_ok-outcome.run' o) c.in-Waits.is c.in_ok-outcome.ensures.ran in
+    search_waits q p w c.args.run c.in_ok-outcome.run' c.requires.going ran.searches ran.came ran.left

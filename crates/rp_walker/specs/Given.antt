@@ -1,0 +1,29 @@
+-- What is still to be looked at of a search's rows, once it has ended.
+use Rattle.std.specs.Prelude.{ℕ, zero, suc, ◌+◌, ◌-◌, Bool, true, false, List, [], ◌∷◌, length, Option, Some, None, slice_get, if◌then◌else◌}
+use Rattle.rp_syntax.specs.declared.tree.RowsPerMatch.{RowsPerMatch}
+use Rattle.rp_syntax.specs.declared.tree.RowsPerMatch.TheVariants.{One, AllShowEmpty, AllOmitEmpty, AllWithUnmatched}
+use Rattle.rp_pattern.specs.declared.word.Label.{Label}
+use Rattle.rp_search.specs.Found.{Found, Match, NoMatch, Waits}
+use Rattle.rp_search.specs.Search.{labels_of_search}
+use Rattle.rp_walker.specs.declared.run.Run.{Run}
+
+abbrev pub is_excluded : Option Label → Bool
+is_excluded None = false
+is_excluded (Some l) = l.excluded
+
+-- a row of a match that isn't shown
+abbrev pub is_hidden : RowsPerMatch → ℕ → Found → ℕ → Bool
+is_hidden One start result row = false
+is_hidden _ start (Match labels) row = is_excluded (slice_get labels (row - start))
+is_hidden _ start NoMatch row = false
+is_hidden _ start Waits row = false
+
+-- so many rows from one on, without the hidden ones
+abbrev pub shown_from : (ℕ → Bool) → ℕ → ℕ → List ℕ
+shown_from hidden zero row = []
+shown_from hidden (suc k) row = if hidden row then shown_from hidden k (suc row) else row ∷ shown_from hidden k (suc row)
+
+-- what an ended search has found
+abbrev pub result_of : Option Run → Found
+result_of None = NoMatch
+result_of (Some run) = Match (labels_of_search run.search)

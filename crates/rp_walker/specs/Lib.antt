@@ -1,0 +1,10 @@
+pub mod Records
+pub mod Steps
+pub mod FitLaws
+pub mod Given
+pub mod Stages
+pub mod Runs
+pub mod Nexts
+pub mod Walking
+pub mod Polls
+pub mod LeftLaw

@@ -1,0 +1,53 @@
+-- What a poll comes to.
+use Rattle.std.specs.Prelude.{◌≡◌, ℕ, ◌+◌, ◌-◌, ◌^◌, ◌<◌, ◌≤◌, ◌⊎◌, length, Some, slice_get}
+use Rattle.rp_check.specs.declared.query.QueryData.{QueryData}
+use Rattle.rp_known.specs.declared.item.Item.{Item}
+use Rattle.rp_known.specs.Known.{Known}
+use Rattle.rp_known.specs.Walk.{walk_from, known}
+use Rattle.rp_walker.specs.declared.poll.Poll.{Poll}
+use Rattle.rp_walker.specs.declared.poll.Poll.TheVariants.{Item as ItemPoll, Idle as IdlePoll, Paused as PausedPoll}
+use Rattle.rp_walker.specs.declared.record.MatcherState.{MatcherState}
+use Rattle.rp_walker.specs.declared.walker.Walker.{Walker}
+use Rattle.rp_walker.specs.FitLaws.{AgreesFrom}
+use Rattle.rp_walker.specs.Records.{place_of, Fits}
+use Rattle.rp_walker.specs.Steps.{IsDone, Moves}
+use Rattle.rp_walker.specs.Stages.{left_with}
+
+-- the item comes next from the record's search on
+abbrev pub IsNext : QueryData → Known → MatcherState → Item → Type 0
+IsNext q p r x = slice_get (walk_from q p (place_of r)) r.here ≡ Some x
+
+-- what is answered, where the walk moved from one record to another
+abbrev pub PollIs : QueryData → Known → MatcherState → MatcherState → Poll → Type 0
+PollIs q p old new (ItemPoll k x) = (k ≡ new.given) × (new.given ≡ old.given + 1) × IsNext q p old x
+PollIs q p old new IdlePoll = (new.given ≡ old.given) × (IsDone q p new ⊎ (new.given ≡ 2 ^ 128 - 1))
+PollIs q p old new PausedPoll = new.given ≡ old.given
+
+-- at most so many turns a walker has left over these rows
+unfoldable pub left_in : QueryData → Known → Walker → ℕ
+left_in q p w = left_with q p w.state w.stage
+
+-- so many turns at least are taken off what is left
+abbrev pub PollLowers : ℕ → ℕ → ℕ → Poll → Type 0
+PollLowers budget before after (ItemPoll k x) = after < before
+PollLowers budget before after IdlePoll = after ≤ before
+PollLowers budget before after PausedPoll = after + budget ≤ before
+
+-- the walk's part of a poll, where the answer wasn't over
+pub record Polled (q : QueryData) (p : Known) (old new : MatcherState) (answer : Poll) : Type 0 where
+  pub moves : Moves q p old new
+  pub is : PollIs q p old new answer
+
+-- what is answered, by what is known of a partition that the record fitted
+abbrev pub AnswerIs : QueryData → Known → MatcherState → MatcherState → Poll → Type 0
+AnswerIs q p old new (ItemPoll k x) = (k ≡ old.given + 1) × (new.given ≡ old.given + 1) × (slice_get (known q p) old.given ≡ Some x)
+AnswerIs q p old new IdlePoll = (new.given ≡ old.given) × (length (known q p) ≡ old.given)
+AnswerIs q p old new PausedPoll = new.given ≡ old.given
+
+-- What a poll over lent rows answers, for each partition that the rows are of and the record fits.
+abbrev pub Answers : QueryData → Known → MatcherState → MatcherState → Poll → Type 0
+Answers q k old new answer = (p : Known) → AgreesFrom old.first k p → Fits q old p → Fits q new p × AnswerIs q p old new answer
+
+-- A refused poll leaves a record that fits what it fitted.
+abbrev pub StillFits : QueryData → Known → MatcherState → MatcherState → Type 0
+StillFits q k old new = (p : Known) → AgreesFrom old.first k p → Fits q old p → Fits q new p

@@ -1,0 +1,54 @@
+-- The record of a matcher, and when it fits a known partition.
+use Rattle.std.specs.Prelude.{◌≡◌, ℕ, ◌+◌, ◌≤◌, Bool, true, false, List, [], ◌∷◌, ◌++◌, length, ⊤, if◌then◌else◌}
+use Rattle.rp_check.specs.declared.query.QueryData.{QueryData}
+use Rattle.rp_known.specs.declared.item.Item.{Item}
+use Rattle.rp_known.specs.declared.item.Item.TheVariants.{Row as RowItem, Fault as FaultItem, End as EndItem}
+use Rattle.rp_known.specs.declared.place.Place.{Place}
+use Rattle.rp_known.specs.Known.{Known, count}
+use Rattle.rp_known.specs.Plans.{first_read}
+use Rattle.rp_known.specs.Walk.{leg, leg_items, walk_from, first_place, known, ComesTo}
+use Rattle.rp_walker.specs.declared.record.MatcherState.{MatcherState}
+
+abbrev pub place_of : MatcherState → Place
+place_of r = record { start = r.at; matches = r.matches; covered = r.covered }
+
+-- no more items of its search were given than there are
+abbrev pub IsWithin : QueryData → Known → MatcherState → Type 0
+IsWithin q p r = r.here ≤ length (leg_items (leg q p (place_of r)))
+
+-- The walk comes to the record's search, of whose items so many as `here` were given.
+pub record IsOnWalk (q : QueryData) (r : MatcherState) (p : Known) : Type 0 where
+  pub before : ℕ
+  pub comes : ComesTo q p first_place before (place_of r)
+  pub counted : r.given ≡ before + r.here
+  pub within : IsWithin q p r
+  pub kept : r.first ≤ first_read q r.at
+
+abbrev pub IsLast : Item → Type 0
+IsLast (RowItem number cells) = ⊥
+IsLast (FaultItem fault) = ⊤
+IsLast EndItem = ⊤
+
+-- Each item was given, and the last is the end or a fault.
+pub record IsOver (q : QueryData) (r : MatcherState) (p : Known) : Type 0 where
+  pub front : List Item
+  pub last : Item
+  pub is : known q p ≡ front ++ last ∷ []
+  pub ends : IsLast last
+  pub counted : r.given ≡ length (known q p)
+
+abbrev pub fits_by : Bool → QueryData → MatcherState → Known → Type 0
+fits_by true q r p = IsOver q r p
+fits_by false q r p = IsOnWalk q r p
+
+-- a record fits a known partition
+abbrev pub Fits : QueryData → MatcherState → Known → Type 0
+Fits q r p = fits_by r.over q r p
+
+-- the record of a matcher that has known nothing
+abbrev pub first_state : MatcherState
+first_state = record { first = 1; at = 1; matches = 0; covered = 0; here = 0; given = 0; over = false }
+
+-- the first row that is still read
+abbrev pub horizon_of : QueryData → Known → MatcherState → ℕ
+horizon_of q p r = if r.over then count p + 1 else first_read q r.at

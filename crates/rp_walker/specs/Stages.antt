@@ -1,0 +1,108 @@
+-- How the stage of a walker stands to known rows, and what it has left.
+use Rattle.std.specs.Prelude.{◌≡◌, ℕ, suc, ◌+◌, ◌-◌, ◌<◌, ◌≤◌, Bool, true, false, List, ◌++◌, length, Option, Some, None, ⊤, nat_le, slice_get, if◌then◌else◌}
+use Rattle.rp_pattern.specs.PatternForm.{form_of}
+use Rattle.rp_pattern.specs.Words.{words}
+use Rattle.rp_pattern.specs.Turns.{turns, starts_turns}
+use Rattle.rp_search.specs.Asked.{Asked}
+use Rattle.rp_search.specs.Fits.{left_by, Fits as SearchFits}
+use Rattle.rp_search.specs.Found.{Found, Match, NoMatch, Waits}
+use Rattle.rp_search.specs.Search.{IsFor, start_of_search, labels_of_search}
+use Rattle.rp_check.specs.declared.query.QueryData.{QueryData}
+use Rattle.rp_eval.specs.Entered.{AreTotals, plan_of, totals_in}
+use Rattle.rp_tester.specs.Tested.{asked_of}
+use Rattle.rp_known.specs.declared.item.Item.{Item}
+use Rattle.rp_known.specs.declared.place.Place.{Place}
+use Rattle.rp_known.specs.Known.{Known, count}
+use Rattle.rp_known.specs.Plans.{tested_by, first_read}
+use Rattle.rp_known.specs.Items.{item_rows}
+use Rattle.rp_known.specs.Walk.{leg, leg_items, found_at}
+use Rattle.rp_known.specs.WalkLaws.{AreKnown}
+use Rattle.rp_walker.specs.declared.ahead.Ahead.{Ahead}
+use Rattle.rp_walker.specs.declared.record.MatcherState.{MatcherState}
+use Rattle.rp_walker.specs.declared.run.Run.{Run}
+use Rattle.rp_walker.specs.declared.stage.Stage.{Stage}
+use Rattle.rp_walker.specs.declared.stage.Stage.TheVariants.{Begin, Searching, Giving}
+use Rattle.rp_walker.specs.declared.stage.Step.{Step}
+use Rattle.rp_walker.specs.declared.stage.Step.TheVariants.{Went, Gave, Idle}
+use Rattle.rp_walker.specs.Given.{is_hidden, shown_from, result_of}
+use Rattle.rp_walker.specs.Records.{place_of}
+use Rattle.rp_walker.specs.Steps.{IsDone}
+
+-- what a search asks of a query over a known partition
+abbrev pub asked_by : QueryData → Known → Asked
+asked_by q p = asked_of (tested_by q p)
+
+-- A run's totals are those of the labels of its search.
+pub record Totalled (q : QueryData) (p : Known) (start : ℕ) (run : Run) : Type 0 where
+  pub plan : plan_of run.totals ≡ totals_in q
+  pub totals : AreTotals run.totals p.rows start (labels_of_search run.search)
+
+-- a run for the query's pattern from a row
+pub record Searches (q : QueryData) (p : Known) (start : ℕ) (run : Run) : Type 0 where
+  pub known : start ≤ count p
+  pub begins : start_of_search run.search ≡ start
+  pub pattern : IsFor (form_of q.pattern) run.search
+  pub fits : SearchFits run.search (asked_by q p)
+  pub totalled : Totalled q p start run
+
+-- the rows of these that are shown
+abbrev pub rows_ahead : QueryData → ℕ → Found → Ahead → List ℕ
+rows_ahead q start result ahead = shown_from (is_hidden q.plan.rows start result) (ahead.end - ahead.next) ahead.next
+
+abbrev pub MatchTotalled : QueryData → Known → ℕ → Option Run → Type 0
+MatchTotalled q p start None = ⊤
+MatchTotalled q p start (Some run) = Totalled q p start run
+
+-- The search at a place has ended, and the items of the rows ahead are still to come.
+pub record Gives (q : QueryData) (p : Known) (place : Place) (result : Found) (ahead : Ahead) : Type 0 where
+  pub known : place.start ≤ count p
+  pub found : found_at q p place.start ≡ result
+  pub in_rows : AreKnown place.start (count p) result
+  pub passed : List ℕ
+  pub rows : item_rows q.plan.rows place result ≡ passed ++ rows_ahead q place.start result ahead
+  pub seen : ahead.seen ≡ length passed
+  pub fewer : place.start + ahead.seen ≤ ahead.next
+  pub low : place.start ≤ ahead.next
+  pub ordered : ahead.next ≤ ahead.end
+  pub high : ahead.end ≤ suc (count p)
+
+-- A record whose answer goes on.
+pub record IsGoing (q : QueryData) (r : MatcherState) : Type 0 where
+  pub going : r.over ≡ false
+  pub from_one : 1 ≤ r.at
+  pub fewer : r.matches < r.at
+  pub kept : r.first ≤ first_read q r.at
+  pub enough : r.here ≤ r.given
+
+abbrev pub StageStands : QueryData → Known → MatcherState → Stage → Type 0
+StageStands q p r Begin = ⊤
+StageStands q p r (Searching run) = Searches q p r.at run
+StageStands q p r (Giving found ahead) = Gives q p (place_of r) (result_of found) ahead × (ahead.seen ≤ r.here) × MatchTotalled q p r.at found
+
+-- turns of the present start row
+abbrev pub stage_left : QueryData → Known → MatcherState → Stage → ℕ
+stage_left q p r Begin = turns (count p) p.end (form_of q.pattern) r.at + length (words (count p) p.end (form_of q.pattern) r.at) + (count p - r.at) + 4
+stage_left q p r (Searching run) = left_by run.search (asked_by q p) + (count p - r.at) + 4
+stage_left q p r (Giving found ahead) = ahead.end - ahead.next + 2
+
+-- the turns of the starts up to a row
+abbrev pub starts_to : QueryData → Known → ℕ → ℕ
+starts_to q p row = starts_turns (count p) p.end (form_of q.pattern) row
+
+-- at most so many turns are left
+abbrev pub left_with : QueryData → Known → MatcherState → Stage → ℕ
+left_with q p r stage =
+    if r.over then 0
+    else 1 + (if nat_le r.at (count p) then stage_left q p r stage + (starts_to q p (count p) - starts_to q p r.at) else 0)
+
+-- what a step came to
+abbrev pub StepIs : QueryData → Known → MatcherState → MatcherState → Step → Type 0
+StepIs q p old new Went = new.given ≡ old.given
+StepIs q p old new (Gave x) = (new.given ≡ old.given + 1) × (slice_get (leg_items (leg q p (place_of old))) old.here ≡ Some x)
+StepIs q p old new Idle = (new.given ≡ old.given) × IsDone q p new
+
+-- a step lowers what is left, unless it comes to nothing
+abbrev pub Lowers : Step → ℕ → ℕ → Type 0
+Lowers Went before after = after < before
+Lowers (Gave x) before after = after < before
+Lowers Idle before after = after ≤ before

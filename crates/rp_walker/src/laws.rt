@@ -1,0 +1,40 @@
+//! Laws over the definitions alone. A call does nothing, and its caller may then use them.
+ghost use Rattle.rp_walker.specs.FitLaws.{StepsMean, FitsStay, FirstFits};
+ghost use Rattle.rp_walker.specs.LeftLaw.{LeftIsBounded};
+ghost use Rattle.rp_walker.specs.Walking.{StandsStays};
+
+/// What steps over the rows that are kept of a partition mean for the partition.
+pub fn law_steps()
+    ensures { StepsMean }
+{
+    rp_known::law_known();
+    rp_known::law_legs();
+}
+
+/// A record that fits what is known of an open partition fits what is known of it later, and the first record fits every
+/// partition.
+pub fn law_records()
+    ensures stay { FitsStay }
+    ensures first { FirstFits }
+{
+    rp_known::law_known();
+    rp_known::law_legs();
+}
+
+/// A walker stands over rows that go on as it stood before.
+pub fn law_walkers()
+    ensures { StandsStays }
+{
+    rp_known::law_known();
+    rp_known::law_legs();
+    rp_search::law_search();
+    rp_tester::law_tests();
+    rp_eval::law_totals();
+}
+
+/// A walker never has more turns left than all starts of the known rows take.
+pub fn law_left()
+    ensures { LeftIsBounded }
+{
+    rp_search::law_search();
+}

@@ -1,0 +1,420 @@
+//! A walker gives the items of a partition's known answer, one after another, over rows that are lent.
+ghost use Rattle.std.specs.Prelude.{◌≡◌, ◌≢◌, ◌+◌, ◌-◌, ◌^◌, ◌<◌, ◌≤◌, Bool, true, false, length, OnOk, OnErr, IfOk};
+ghost use Rattle.rp_check.specs.QueryView.{data_of};
+ghost use Rattle.rp_check.specs.declared.query.QueryData.{QueryData};
+ghost use Rattle.rp_known.specs.Known.{Known, known_in};
+ghost use Rattle.rp_known.specs.Plans.{first_read};
+ghost use Rattle.rp_known.specs.Walk.{found_at};
+ghost use Rattle.rp_walker.specs.declared.stage.Stage.TheVariants.{Begin as BeginStage, Searching as SearchingStage, Giving as GivingStage};
+ghost use Rattle.rp_walker.specs.Given.{is_hidden, result_of};
+ghost use Rattle.rp_walker.specs.Records.{place_of, first_state, horizon_of, IsWithin};
+ghost use Rattle.rp_walker.specs.Steps.{Moves};
+ghost use Rattle.rp_walker.specs.Stages.{left_with, IsGoing, Searches, Gives, MatchTotalled, StageStands};
+ghost use Rattle.rp_walker.specs.Walking.{KeepsGoing, GoesOnWell, stands_by, Stands, CanGoOn, record_of};
+ghost use Rattle.rp_walker.specs.Polls.{left_in, PollLowers, Polled, Answers, StillFits};
+
+use crate::ahead::Ahead;
+use crate::giving::{ahead_of, is_hidden, make_item, next_of, place_of};
+use crate::laws::law_steps;
+use crate::poll::Poll;
+use crate::record::MatcherState;
+use crate::run::{Run, begin, run_one};
+use crate::stage::{Stage, Step};
+use rp_check::Query;
+use rp_eval::Rows;
+use rp_known::{Item, Place};
+use rp_pattern::End;
+use rp_search::{Outcome, Steps};
+use std::alloc::{AllocError, Global};
+use std::mem;
+use std::sync::ledger::Ledger;
+
+/// Where it stands in a partition's answer. It holds no rows.
+#[derive(Drop)]
+pub struct Walker {
+    alloc: Global,
+    state: MatcherState,
+    stage: Stage,
+}
+
+impl Walker {
+    /// The next row gives no item: it isn't shown, or its item was given before.
+    fn pass(&mut self, found: Option<Run>, ahead: Ahead, seen: u64) -> Step
+        requires { ahead.next < 2 ^ 64 - 1 }
+        ensures went { result ≡ Step.Went }
+        ensures now { self.new ≡ record self.old { stage = GivingStage found (record { next = ahead.next + 1; end = ahead.end; seen = seen }) } }
+    {
+        let next = ahead.next + 1;
+        self.stage = Stage::Giving(
+            found,
+            Ahead {
+                next,
+                end: ahead.end,
+                seen,
+            },
+        );
+        Step::Went
+    }
+
+    /// The next row's item.
+    fn give_item<R: Rows>(
+        &mut self,
+        query: &Query,
+        rows: &R,
+        found: Option<Run>,
+        ahead: Ahead,
+    ) -> Result<Step, AllocError>
+        requires going { IsGoing (data_of query.now) self.old.state }
+        requires gives { Gives (data_of query.now) (known_in R.known R.ending rows.now) (place_of self.old.state) (result_of found) ahead }
+        requires totals { MatchTotalled (data_of query.now) (known_in R.known R.ending rows.now) self.old.state.at found }
+        requires due { ahead.seen ≡ self.old.state.here }
+        requires more { ahead.next < ahead.end }
+        requires shown { is_hidden (data_of query.now).plan.rows self.old.state.at (result_of found) ahead.next ≡ false }
+        requires few { self.old.state.given < 2 ^ 128 - 1 }
+        ensures kept { OnErr result (self.new ≡ self.old) }
+        ensures keeps { IfOk result (KeepsGoing (data_of query.now) (known_in R.known R.ending rows.now) self.old.state (GivingStage found ahead) self.new) }
+    {
+        let _last = rows.last();
+        let place = place_of(&self.state);
+        match make_item(self.alloc, query, rows, place, &found, ahead.next)? {
+            None => {
+                self.stage = Stage::Giving(found, ahead);
+                Ok(Step::Idle)
+            }
+            Some(item) => {
+                let next = ahead.next + 1;
+                let seen = ahead.seen + 1;
+                self.state.here = seen;
+                self.state.given += 1;
+                self.stage = Stage::Giving(
+                    found,
+                    Ahead {
+                        next,
+                        end: ahead.end,
+                        seen,
+                    },
+                );
+                Ok(Step::Gave(item))
+            }
+        }
+    }
+
+    /// The present start row has ended.
+    fn end_row<R: Rows>(
+        &mut self,
+        query: &Query,
+        rows: &R,
+        found: Option<Run>,
+        ahead: Ahead,
+    ) -> Step
+        requires going { IsGoing (data_of query.now) self.old.state }
+        requires gives { Gives (data_of query.now) (known_in R.known R.ending rows.now) (place_of self.old.state) (result_of found) ahead }
+        requires not_past { ahead.seen ≤ self.old.state.here }
+        requires all { ahead.next ≡ ahead.end }
+        requires few { self.old.state.given < 2 ^ 128 - 1 }
+        ensures { KeepsGoing (data_of query.now) (known_in R.known R.ending rows.now) self.old.state (GivingStage found ahead) self.new result }
+    {
+        rp_known::law_legs();
+        let place = place_of(&self.state);
+        match next_of(query, place, rows.last(), &found) {
+            Ok(next) => self.go_to(next),
+            Err(fault) => self.end_with(Item::Fault(fault), ahead.seen),
+        }
+    }
+
+    /// The search from another row is next.
+    fn go_to(&mut self, next: Place) -> Step
+        ensures went { result ≡ Step.Went }
+        ensures now { self.new ≡ record self.old { state = record self.old.state { at = next.start; matches = next.matches; covered = next.covered; here = 0 }; stage = BeginStage } }
+    {
+        self.state.at = next.start;
+        self.state.matches = next.matches;
+        self.state.covered = next.covered;
+        self.state.here = 0;
+        self.stage = Stage::Begin;
+        Step::Went
+    }
+
+    /// The answer ends with this item, which comes after so many of the present search.
+    fn end_with(&mut self, item: Item, before: u64) -> Step
+        requires few { self.old.state.given < 2 ^ 128 - 1 }
+        requires room { before < 2 ^ 64 - 1 }
+        ensures given { self.old.state.here ≢ before → (result ≡ Step.Idle) × (self.new ≡ record self.old { state = record self.old.state { over = true }; stage = BeginStage }) }
+        ensures gives { self.old.state.here ≡ before → (result ≡ Step.Gave item) × (self.new ≡ record self.old { state = record self.old.state { here = before + 1; given = self.old.state.given + 1; over = true }; stage = BeginStage }) }
+    {
+        self.stage = Stage::Begin;
+        self.state.over = true;
+        if self.state.here != before {
+            return Step::Idle;
+        }
+        self.state.here = before + 1;
+        self.state.given += 1;
+        Step::Gave(item)
+    }
+
+    /// Takes up the next row of a search that has ended.
+    fn give<R: Rows, L: Ledger>(
+        &mut self,
+        query: &Query,
+        rows: &R,
+        found: Option<Run>,
+        ahead: Ahead,
+        steps: &mut Steps<L>,
+    ) -> Result<Step, AllocError>
+        requires going { IsGoing (data_of query.now) self.old.state }
+        requires gives { Gives (data_of query.now) (known_in R.known R.ending rows.now) (place_of self.old.state) (result_of found) ahead }
+        requires totals { MatchTotalled (data_of query.now) (known_in R.known R.ending rows.now) self.old.state.at found }
+        requires not_past { ahead.seen ≤ self.old.state.here }
+        requires few { self.old.state.given < 2 ^ 128 - 1 }
+        ensures kept { OnErr result (self.new ≡ self.old) }
+        ensures keeps { IfOk result (KeepsGoing (data_of query.now) (known_in R.known R.ending rows.now) self.old.state (GivingStage found ahead) self.new) }
+        ensures steps { steps.new ≡ steps.old + 1 }
+    {
+        let _last = rows.last();
+        steps.tick();
+        if ahead.next == ahead.end {
+            return Ok(self.end_row(query, rows, found, ahead));
+        }
+        if is_hidden(query, self.state.at, &found, ahead.next) {
+            return Ok(self.pass(found, ahead, ahead.seen));
+        }
+        if ahead.seen < self.state.here {
+            return Ok(self.pass(found, ahead, ahead.seen + 1));
+        }
+        self.give_item(query, rows, found, ahead)
+    }
+
+    /// The search has ended.
+    fn begin_giving<R: Rows>(&mut self, query: &Query, rows: &R, found: Option<Run>) -> Step
+        requires going { IsGoing (data_of query.now) self.old.state }
+        requires known { self.old.state.at ≤ length (R.known rows.now) }
+        requires found { found_at (data_of query.now) (known_in R.known R.ending rows.now) self.old.state.at ≡ result_of found }
+        requires totals { MatchTotalled (data_of query.now) (known_in R.known R.ending rows.now) self.old.state.at found }
+        ensures { (run : Run) → KeepsGoing (data_of query.now) (known_in R.known R.ending rows.now) self.old.state (SearchingStage run) self.new result }
+    {
+        rp_known::law_legs();
+        let place = place_of(&self.state);
+        let ahead = ahead_of(query, place, rows.last(), &found);
+        self.stage = Stage::Giving(found, ahead);
+        Step::Went
+    }
+
+    /// Takes a turn of the search.
+    fn search<R: Rows, L: Ledger>(
+        &mut self,
+        query: &Query,
+        rows: &R,
+        run: Run,
+        steps: &mut Steps<L>,
+    ) -> Result<Step, AllocError>
+        requires going { IsGoing (data_of query.now) self.old.state }
+        requires searches { Searches (data_of query.now) (known_in R.known R.ending rows.now) self.old.state.at run }
+        ensures kept { OnErr result (self.new ≡ self.old) }
+        ensures keeps { IfOk result (KeepsGoing (data_of query.now) (known_in R.known R.ending rows.now) self.old.state (SearchingStage run) self.new) }
+        ensures steps { steps.new ≤ steps.old + 1 }
+        ensures ticked { OnOk result (steps.new ≡ steps.old + 1) }
+    {
+        let (outcome, run) = run_one(query, rows, self.state.at, run, steps)?;
+        match outcome {
+            Outcome::Paused => {
+                self.stage = Stage::Searching(run);
+                Ok(Step::Went)
+            }
+            Outcome::Waits => {
+                self.stage = Stage::Searching(run);
+                Ok(Step::Idle)
+            }
+            Outcome::Match => Ok(self.begin_giving(query, rows, Some(run))),
+            Outcome::NoMatch => Ok(self.begin_giving(query, rows, None)),
+        }
+    }
+
+    /// Past the last start row.
+    fn at_last<R: Rows>(&mut self, query: &Query, rows: &R) -> Step
+        requires going { IsGoing (data_of query.now) self.old.state }
+        requires stage { self.old.stage ≡ BeginStage }
+        requires past { length (R.known rows.now) < self.old.state.at }
+        requires few { self.old.state.given < 2 ^ 128 - 1 }
+        ensures { KeepsGoing (data_of query.now) (known_in R.known R.ending rows.now) self.old.state BeginStage self.new result }
+    {
+        let _query = query;
+        match rows.end() {
+            End::Open => Step::Idle,
+            End::Closed => self.end_with(Item::End, 0),
+        }
+    }
+
+    /// Begins at a start row.
+    fn begin_row<R: Rows, L: Ledger>(
+        &mut self,
+        query: &Query,
+        rows: &R,
+        steps: &mut Steps<L>,
+    ) -> Result<Step, AllocError>
+        requires going { IsGoing (data_of query.now) self.old.state }
+        requires stage { self.old.stage ≡ BeginStage }
+        requires few { self.old.state.given < 2 ^ 128 - 1 }
+        ensures kept { OnErr result (self.new ≡ self.old) }
+        ensures keeps { IfOk result (KeepsGoing (data_of query.now) (known_in R.known R.ending rows.now) self.old.state BeginStage self.new) }
+        ensures steps { steps.new ≤ steps.old + 1 }
+        ensures ticked { OnOk result (steps.new ≡ steps.old + 1) }
+    {
+        rp_search::law_search();
+        if rows.last() < self.state.at {
+            steps.tick();
+            return Ok(self.at_last(query, rows));
+        }
+        let run = begin(self.alloc, query, rows, self.state.at)?;
+        self.search(query, rows, run, steps)
+    }
+
+    /// Takes one turn.
+    fn turn<R: Rows, L: Ledger>(
+        &mut self,
+        query: &Query,
+        rows: &R,
+        steps: &mut Steps<L>,
+    ) -> Result<Step, AllocError>
+        requires stands { GoesOnWell (data_of query.now) (known_in R.known R.ending rows.now) self.old }
+        requires few { self.old.state.given < 2 ^ 128 - 1 }
+        ensures kept { OnErr result (self.new ≡ record self.old { stage = BeginStage }) }
+        ensures keeps { IfOk result (KeepsGoing (data_of query.now) (known_in R.known R.ending rows.now) self.old.state self.old.stage self.new) }
+        ensures steps { steps.new ≤ steps.old + 1 }
+        ensures ticked { OnOk result (steps.new ≡ steps.old + 1) }
+    {
+        match mem::replace(&mut self.stage, Stage::Begin) {
+            Stage::Begin => self.begin_row(query, rows, steps),
+            Stage::Searching(run) => self.search(query, rows, run, steps),
+            Stage::Giving(found, ahead) => self.give(query, rows, found, ahead, steps),
+        }
+    }
+
+    /// Takes at most so many turns, until an item comes or there is nothing to do.
+    fn go_on<R: Rows, L: Ledger>(
+        &mut self,
+        query: &Query,
+        rows: &R,
+        budget: u32,
+        steps: &mut Steps<L>,
+    ) -> Result<Poll, AllocError>
+        requires stands { GoesOnWell (data_of query.now) (known_in R.known R.ending rows.now) self.old }
+        ensures stands { stands_by self.new.state.over (data_of query.now) (known_in R.known R.ending rows.now) self.new }
+        ensures kept { OnErr result (self.new.state.given ≡ self.old.state.given) }
+        ensures lowers { IfOk result (PollLowers budget (left_with (data_of query.now) (known_in R.known R.ending rows.now) self.old.state self.old.stage) (left_with (data_of query.now) (known_in R.known R.ending rows.now) self.new.state self.new.stage)) }
+        ensures polled { IfOk result (λ answer. IsWithin (data_of query.now) (known_in R.known R.ending rows.now) self.old.state →
+            Polled (data_of query.now) (known_in R.known R.ending rows.now) self.old.state self.new.state answer) }
+        ensures refused { OnErr result (IsWithin (data_of query.now) (known_in R.known R.ending rows.now) self.old.state →
+            Moves (data_of query.now) (known_in R.known R.ending rows.now) self.old.state self.new.state) }
+        ensures turns { steps.new ≤ steps.old + budget }
+        ensures spent { result ≡ Ok Poll.Paused → steps.new ≡ steps.old + budget }
+    {
+        rp_known::law_legs();
+        for _turn in 0..budget {
+            if self.state.over || self.state.given == u128::MAX {
+                return Ok(Poll::Idle);
+            }
+            match self.turn(query, rows, steps)? {
+                Step::Went => {}
+                Step::Gave(item) => return Ok(Poll::Item(self.state.given, item)),
+                Step::Idle => return Ok(Poll::Idle),
+            }
+        }
+        Ok(Poll::Paused)
+    }
+}
+
+#[tactic(auto, unfolding(crate::specs::Walking::record_of, crate::specs::Walking::Stands, crate::specs::Polls::left_in))]
+impl Walker {
+    /// A walker that has known nothing.
+    pub fn new(alloc: Global) -> Walker
+        ensures record { record_of result ≡ first_state }
+        ensures stands { (q : QueryData) (p : Known) → Stands q p result }
+    {
+        Walker {
+            alloc,
+            state: MatcherState {
+                first: 1,
+                at: 1,
+                matches: 0,
+                covered: 0,
+                here: 0,
+                given: 0,
+                over: false,
+            },
+            stage: Stage::Begin,
+        }
+    }
+
+    /// A walker that goes on from a record.
+    pub fn resume(alloc: Global, state: MatcherState) -> Walker
+        ensures record { record_of result ≡ state }
+        ensures stands { (q : QueryData) (p : Known) → CanGoOn q state → Stands q p result }
+    {
+        Walker {
+            alloc,
+            state,
+            stage: Stage::Begin,
+        }
+    }
+
+    /// The record.
+    pub fn state(&self) -> MatcherState
+        ensures { result ≡ record_of self.now }
+    {
+        self.state
+    }
+
+    /// Rows were dropped: this is the first that is kept now.
+    pub fn dropped(&mut self, first: u64)
+        ensures record { record_of self.new ≡ record (record_of self.old) { first = first } }
+        ensures stands { (q : QueryData) (p : Known) →
+            ((record_of self.old).over ≡ false → first ≤ first_read q (record_of self.old).at) → Stands q p self.old → Stands q p self.new }
+        ensures left { (q : QueryData) (p : Known) → left_in q p self.new ≡ left_in q p self.old }
+    {
+        self.state.first = first;
+    }
+
+    /// The first row that is still read.
+    pub fn horizon<R: Rows>(&self, query: &Query, rows: &R) -> u64
+        ensures { result ≡ horizon_of (data_of query.now) (known_in R.known R.ending rows.now) (record_of self.now) }
+    {
+        if self.state.over {
+            return rows.last() + 1;
+        }
+        self.state.at.saturating_sub(query.reach()).max(1)
+    }
+
+    /// Takes at most `budget` turns, until an item comes or nothing is left to give. A turn is one choice taken up, one start
+    /// row ended or one item looked at. A budget of 0 answers `Paused`, changes nothing and takes no memory. After
+    /// `AllocError` the same item is still to come.
+    pub fn poll<R: Rows, L: Ledger>(
+        &mut self,
+        query: &Query,
+        rows: &R,
+        budget: u32,
+        steps: &mut Steps<L>,
+    ) -> Result<Poll, AllocError>
+        requires stands { Stands (data_of query.now) (known_in R.known R.ending rows.now) self.old }
+        ensures stands { Stands (data_of query.now) (known_in R.known R.ending rows.now) self.new }
+        ensures answers { IfOk result (Answers (data_of query.now) (known_in R.known R.ending rows.now) (record_of self.old) (record_of self.new)) }
+        ensures refused { OnErr result (StillFits (data_of query.now) (known_in R.known R.ending rows.now) (record_of self.old) (record_of self.new)) }
+        ensures given { OnErr result ((record_of self.new).given ≡ (record_of self.old).given) }
+        ensures lowers { IfOk result (PollLowers budget
+            (left_in (data_of query.now) (known_in R.known R.ending rows.now) self.old)
+            (left_in (data_of query.now) (known_in R.known R.ending rows.now) self.new)) }
+        ensures turns { steps.new ≤ steps.old + budget }
+        ensures nothing { budget ≡ 0 → (result ≡ Ok Poll.Paused) × (self.new ≡ self.old) × (steps.new ≡ steps.old) }
+    {
+        if budget == 0 {
+            return Ok(Poll::Paused);
+        }
+        if self.state.over {
+            return Ok(Poll::Idle);
+        }
+        rp_known::law_known();
+        rp_known::law_legs();
+        law_steps();
+        let _plan = query.plan();
+        self.go_on(query, rows, budget, steps)
+    }
+}
