@@ -55,7 +55,8 @@ impl Node {
         Node::of(&self.form, self.excluded)
     }
 
-    /// Taken up at a row, before later parts. `form` is its own, as it stands in memory.
+    /// Taken up at a row, before later parts. `form` is its own, as it stands in memory. What comes up most often is taken up
+    /// in place. The rest has a call of its own, since the whole is too large to be inlined.
     #[inline(always)]
     pub(crate) fn take_up(
         &self,
@@ -146,7 +147,7 @@ impl Node {
                 let mut split = Split::none();
                 let expansion = take_row(*var, self.excluded, row, n, end, &mut split);
                 Ok((expansion, split))
-            },
+            }
             Form::Empty => Ok((Expansion::Split, self.take_empty(then, row)?)),
             Form::PartitionStart => Ok((Expansion::Split, self.take_start(then, row)?)),
             Form::PartitionEnd => self.take_end(then, row, n, end),
