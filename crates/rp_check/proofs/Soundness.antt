@@ -3,7 +3,7 @@ use Rattle.std.proofs.Common.{◌≡◌, ◌∙◌, ℕ, ◌<◌, ◌≤◌, Boo
 use Rattle.std.specs.Prelude.{is_some, option_map, slice_get, nat_lt, All}
 use Rattle.std.specs.List.{AllByRecursion, position, position_or_len}
 use Rattle.std.proofs.lemmas.Bool.Decides.{nat_tests}
-use Rattle.std.proofs.lemmas.List.{length-map}
+use Rattle.std.proofs.lemmas.List.{length-map, append-nil}
 use Rattle.std.proofs.lemmas.List.Elements.{All-from_recursion, All-get_or}
 use Rattle.std.proofs.lemmas.Option.{slice_get-map, slice_get_within, get_or_from_slice_get, cond_some, same_Some}
 use Rattle.rp_value.specs.declared.table.Column.{Column}
@@ -14,38 +14,21 @@ use Rattle.rp_check.specs.declared.fault.Fault.{Fault}
 use Rattle.rp_check.specs.declared.fault.CheckKind.{CheckKind}
 use Rattle.rp_check.specs.declared.plan.Condition.{Condition}
 use Rattle.rp_check.specs.declared.query.QueryData.{QueryData}
-use Rattle.rp_check.specs.QueryOf.{IsQueryOf, measured_totals, defining}
-use Rattle.rp_check.specs.ClauseFaults.{faults, each_after, each, name_faults, listing_faults, partition_faults, order_faults}
+use Rattle.rp_check.specs.QueryOf.{IsQueryOf, measured_totals, measuring, defining}
+use Rattle.rp_check.specs.ClauseFaults.{faults, each, name_faults, listing_faults, expression_faults, partition_faults, order_faults, measure_faults, definition_faults}
+use Rattle.rp_check.specs.Kinds.{is_value, is_truth, is_running}
 use Rattle.rp_check.specs.Context.{Context, column_named, is_name}
 use Rattle.rp_check.specs.Definitions.{condition_at}
 use Rattle.rp_check.specs.ExprFaults.{unless}
-use Rattle.rp_check.specs.Formulas.{PlainTotal, condition_formula}
-use Rattle.rp_check.specs.Queries.{formulas, terms_of_definitions, definition_place, order_column, greatest}
+use Rattle.rp_check.specs.Formulas.{PlainTotal, plain_total, value_formula, condition_formula}
+use Rattle.rp_check.specs.Queries.{formulas, totals_of, terms_of_definitions, definition_place, order_column, greatest}
 use Rattle.rp_check.specs.Reach.{reach, condition_reach}
 use Rattle.rp_check.specs.Resolved.{number_at, totals}
 use Rattle.rp_check.specs.Sound.{IsSound, IsColumn}
 use Rattle.rp_check.specs.Variables.{variables_of}
+use Rattle.rp_check.proofs.Clean.{none_left, none_right, holds, each_clean, found_within}
+use Rattle.rp_check.proofs.KindsAgree.{measures_well, definitions_well, definitions_run}
 use Rattle.rp_check.proofs.VariablesBelow.{variables_below}
-
--- no fault of two lists is none of either
-pub none_left : {A : Type 0} (fs gs : List A) → fs ++ gs ≡ [] → fs ≡ []
-none_left [] gs e = refl
-none_left (f ∷ fs) gs e = cc
-
-pub none_right : {A : Type 0} (fs gs : List A) → fs ++ gs ≡ [] → gs ≡ []
-none_right [] gs e = e
-none_right (f ∷ fs) gs e = cc
-
-pub holds : (b : Bool) (kind : CheckKind) (at : ℕ) → unless b kind at ≡ [] → b ≡ true
-holds true kind at e = refl
-holds false kind at e = cc
-
--- what no fault says of an element holds of each
-pub each_clean : {A : Type 0} (P : A → Type 0) (look : List A → A → List Fault) → ((earlier : List A) (x : A) → look earlier x ≡ [] → P x)
-    → (earlier xs : List A) → each_after look earlier xs ≡ [] → AllByRecursion P xs
-each_clean P look clean earlier [] e = tt
-each_clean P look clean earlier (x ∷ xs) e =
-    (clean earlier x (none_left (look earlier x) _ e), each_clean P look clean (earlier ++ x ∷ []) xs (none_right (look earlier x) _ e))
 
 each_made : {A B : Type 0} (P : B → Type 0) (f : A → B) (xs : List A) → AllByRecursion (λ x. P (f x)) xs → AllByRecursion P (map f xs)
 each_made P f [] h = tt
@@ -54,13 +37,6 @@ each_made P f (x ∷ xs) h = (h.0, each_made P f xs h.1)
 each_before : {A B : Type 0} (P : B → Type 0) (f : A → B) (xs : List A) → AllByRecursion P (map f xs) → AllByRecursion (λ x. P (f x)) xs
 each_before P f [] h = tt
 each_before P f (x ∷ xs) h = (h.0, each_before P f xs h.1)
-
--- a place that is found lies in the list
-pub found_within : {A : Type 0} (p : A → Bool) (xs : List A) (place : ℕ) → position p xs ≡ Some place → place < length xs
-found_within p xs place e =
-    let found = cond_some (nat_lt (position_or_len p xs) (length xs)) (position_or_len p xs) place e in
-    let below : position_or_len p xs < length xs = grind (arith, nat_tests, found.0) in
-    omega (arith, below, found.1)
 
 pub column_there : (columns : List Column) (name : List ℕ) → is_some (column_named name columns) ≡ true → IsColumn columns (number_at (column_named name columns))
 column_there columns name e = go (column_named name columns) refl e
@@ -97,6 +73,25 @@ module _ (c : ClauseTree) (columns : List Column) (written : List ℕ) (d : Quer
   listing : listing_faults (variables_of c.pattern) columns c ≡ []
   listing = none_left (listing_faults (variables_of c.pattern) columns c) _ (none_right (name_faults c) _ clean)
 
+  expressions : expression_faults (measuring c columns) (defining c columns) c ≡ []
+  expressions =
+      none_left (expression_faults (measuring c columns) (defining c columns) c) _
+      (none_right (listing_faults (variables_of c.pattern) columns c) _ (none_right (name_faults c) _ clean))
+
+  definitions_clean : each (definition_faults (defining c columns)) c.definitions ≡ []
+  definitions_clean = none_left (each (definition_faults (defining c columns)) c.definitions) _ (none_right (each (measure_faults (measuring c columns)) c.measures) _ expressions)
+
+  values : AllByRecursion (λ f. is_value columns (map plain_total d.plan.totals.value.items) f ≡ true) (map value_formula d.plan.measures.items)
+  values = rw is.measures (measures_well (measuring c columns) (totals_of (defining c columns) (terms_of_definitions c.definitions)) (map plain_total d.plan.totals.value.items) c.measures [] []
+      (none_left (each (measure_faults (measuring c columns)) c.measures) _ expressions) is.totals)
+
+  truths : AllByRecursion (λ f. is_truth columns (map plain_total d.plan.totals.value.items) f ≡ true) (map condition_formula d.plan.conditions.items)
+  truths = rw is.conditions (definitions_well (defining c columns) [] (map plain_total d.plan.totals.value.items) c.definitions [] (measured_totals c columns) definitions_clean
+      (is.totals ∙ ap (λ ts. measured_totals c columns ++ ts) (sym (append-nil (totals_of (defining c columns) (terms_of_definitions c.definitions))))))
+
+  running : AllByRecursion (λ f. is_running f ≡ true) (map condition_formula d.plan.conditions.items)
+  running = rw is.conditions (definitions_run (defining c columns) refl c.definitions [] (measured_totals c columns) definitions_clean)
+
   partition_clean : AllByRecursion (λ n. IsColumn columns (number_at (column_named n.text columns))) c.partition
   partition_clean = each_clean (λ n. IsColumn columns (number_at (column_named n.text columns))) (partition_faults columns)
       (λ earlier n e. column_there columns n.text (holds _ _ _ (none_left _ _ e))) [] c.partition (none_left (each (partition_faults columns) c.partition) _ listing)
@@ -126,4 +121,10 @@ module _ (c : ClauseTree) (columns : List Column) (written : List ℕ) (d : Quer
     partition = rw (is.table, is.partition) (All-from_recursion (IsColumn columns) _ (each_made (IsColumn columns) (λ n. number_at (column_named n.text columns)) c.partition partition_clean));
     order = rw (is.table, is.order) (All-from_recursion (λ o. IsColumn columns o.column) _ (each_made (λ o. IsColumn columns o.column) (order_column columns) c.order
         (each_before (λ n. IsColumn columns (number_at (column_named n.text columns))) (λ o. o.name) c.order order_clean)));
+    values = rw is.table (All-from_recursion (λ e. is_value columns (map plain_total d.plan.totals.value.items) (value_formula e) ≡ true) d.plan.measures.items
+        (each_before (λ f. is_value columns (map plain_total d.plan.totals.value.items) f ≡ true) value_formula d.plan.measures.items values));
+    truths = rw is.table (All-from_recursion (λ p. is_truth columns (map plain_total d.plan.totals.value.items) (condition_formula p) ≡ true) d.plan.conditions.items
+        (each_before (λ f. is_truth columns (map plain_total d.plan.totals.value.items) f ≡ true) condition_formula d.plan.conditions.items truths));
+    running = All-from_recursion (λ p. is_running (condition_formula p) ≡ true) d.plan.conditions.items
+        (each_before (λ f. is_running f ≡ true) condition_formula d.plan.conditions.items running);
   }

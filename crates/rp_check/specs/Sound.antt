@@ -1,16 +1,22 @@
 -- What holds of each query, so that the layers above need not look again.
-use Rattle.std.specs.Prelude.{◌≡◌, ℕ, ◌<◌, ◌≤◌, true, List, length, All, Some, slice_get}
+use Rattle.std.specs.Prelude.{◌≡◌, ℕ, ◌<◌, ◌≤◌, true, List, map, length, All, Some, slice_get}
 use Rattle.rp_value.specs.declared.table.Column.{Column}
 use Rattle.rp_pattern.specs.PatternForm.{form_of}
 use Rattle.rp_pattern.specs.Variables.{are_below}
 use Rattle.rp_check.specs.declared.plan.Condition.{Condition}
+use Rattle.rp_check.specs.declared.query.Plan.{Plan}
 use Rattle.rp_check.specs.declared.query.QueryData.{QueryData}
 use Rattle.rp_check.specs.Definitions.{definition_of}
+use Rattle.rp_check.specs.Formulas.{PlainTotal, plain_total, value_formula, condition_formula}
+use Rattle.rp_check.specs.Kinds.{is_value, is_truth, is_running}
 use Rattle.rp_check.specs.Reach.{reach, condition_reach}
 
 -- this is the number, from 1, of one of these columns
 abbrev pub IsColumn : List Column → ℕ → Type 0
 IsColumn columns number = (1 ≤ number) × (number ≤ length columns)
+
+abbrev pub plain_totals : Plan → List PlainTotal
+plain_totals plan = map plain_total plan.totals.value.items
 
 pub record IsSound (q : QueryData) : Type 0 where
   -- each variable of the pattern has a place among the definitions
@@ -25,3 +31,8 @@ pub record IsSound (q : QueryData) : Type 0 where
   -- the table has the columns that are named
   pub partition : All (IsColumn q.table) q.partition.items
   pub order : All (λ o. IsColumn q.table o.column) q.order.items
+  -- measures are values and definitions truth values, of columns and totals that are there and of kinds that agree
+  pub values : All (λ e. is_value q.table (plain_totals q.plan) (value_formula e) ≡ true) q.plan.measures.items
+  pub truths : All (λ c. is_truth q.table (plain_totals q.plan) (condition_formula c) ≡ true) q.plan.conditions.items
+  -- no definition sees the whole match
+  pub running : All (λ c. is_running (condition_formula c) ≡ true) q.plan.conditions.items
