@@ -10,21 +10,21 @@ use Rattle.rp_check.specs.Formulas as formula
 use Rattle.rp_check.specs.declared.fault.CheckKind.TheVariants.{KindMismatch}
 use Rattle.rp_check.specs.declared.fault.CheckFault.{CheckFault}
 use Rattle.rp_check.specs.declared.resolved.Resolved.{Resolved}
-use Rattle.rp_check.specs.Formulas.{Kept}
+use Rattle.rp_check.specs.Formulas.{PlainTotal}
 use Rattle.rp_check.specs.Context.{Context}
-use Rattle.rp_check.specs.Sorts.{Valued, Judged, takes, operator_sort, may_be_number, may_be_condition, may_be_value}
+use Rattle.rp_check.specs.Sorts.{Valued, Truth, takes, operator_sort, may_be_number, may_be_condition, may_be_value}
 use Rattle.rp_check.specs.ExprFaults.{unless, expr_faults}
 use Rattle.rp_check.specs.Resolved.{operated, nullness, totals}
-use Rattle.rp_check.specs.Checked.{Tells, Answers, Checks, Resolves, sort_in, formula_in}
+use Rattle.rp_check.specs.Checked.{Tells, FirstFaultOr, Checks, Resolves, sort_in, formula_in}
 use Rattle.rp_check.specs.Grouping.{wrapped, AreLefts}
 use Rattle.rp_check.proofs.Telling.{tells_front, tells_behind, none_in_both}
 
 -- what an operator makes of two operands
 abbrev pub Operated : Operation → Resolved → Resolved → Result Resolved CheckFault → Type 0
 Operated o a b result =
-    Answers (unless (takes o.operator (Some (sort_in a)) (Some (sort_in b))) KindMismatch o.at) (λ r. (sort_in r ≡ operator_sort o.operator) × (formula_in r ≡ operated o.operator (formula_in a) (formula_in b))) result
+    FirstFaultOr (unless (takes o.operator (Some (sort_in a)) (Some (sort_in b))) KindMismatch o.at) (λ r. (sort_in r ≡ operator_sort o.operator) × (formula_in r ≡ operated o.operator (formula_in a) (formula_in b))) result
 
-pub operate : (x : Context) (before mid now : List Kept) (t u : Term) (o : Operation) (a b r : Resolved)
+pub operate : (x : Context) (before mid now : List PlainTotal) (t u : Term) (o : Operation) (a b r : Resolved)
     → Resolves x before t a mid → Resolves x mid u b now → Operated o a b (Ok r) → Resolves x before (Operate t o u) r now
 operate x before mid now t u o a b r left right done = record {
   clean = none_in_both (expr_faults x t) _ left.clean (none_in_both (expr_faults x u) _ right.clean (rw (left.sort, right.sort) done.0));
@@ -33,13 +33,13 @@ operate x before mid now t u o a b r left right done = record {
   totals = right.totals ∙ rw left.totals (append_assoc before (totals x t) (totals x u));
 }
 
-pub operate_fails : (x : Context) (before mid now : List Kept) (t u : Term) (o : Operation) (a b : Resolved) (e : CheckFault)
+pub operate_fails : (x : Context) (before mid now : List PlainTotal) (t u : Term) (o : Operation) (a b : Resolved) (e : CheckFault)
     → Resolves x before t a mid → Resolves x mid u b now → Operated o a b (Err e) → Tells e (expr_faults x (Operate t o u))
 operate_fails x before mid now t u o a b e left right told =
     tells_behind e (expr_faults x t) _ left.clean (tells_behind e (expr_faults x u) _ right.clean (rw (left.sort, right.sort) told))
 
 -- a right operand's first fault, where the left has none
-pub right_fails : (x : Context) (before mid : List Kept) (t u : Term) (o : Operation) (a : Resolved) (e : CheckFault)
+pub right_fails : (x : Context) (before mid : List PlainTotal) (t u : Term) (o : Operation) (a : Resolved) (e : CheckFault)
     → Resolves x before t a mid → Tells e (expr_faults x u) → Tells e (expr_faults x (Operate t o u))
 right_fails x before mid t u o a e left told = tells_behind e (expr_faults x t) _ left.clean (tells_front e (expr_faults x u) _ told)
 
@@ -49,16 +49,16 @@ chain_fails x e t [] told = told
 chain_fails x e t (p ∷ ps) told = chain_fails x e (Operate t p.0 p.1) ps (tells_front e (expr_faults x t) _ told)
 
 -- a fault on the right of what is resolved
-pub wrapped_fails : (x : Context) (before : List Kept) (e : CheckFault) (ps : List (Term × Operation)) (lefts : List (Resolved × Operation)) (mid : List Kept) (t : Term)
+pub wrapped_fails : (x : Context) (before : List PlainTotal) (e : CheckFault) (ps : List (Term × Operation)) (lefts : List (Resolved × Operation)) (mid : List PlainTotal) (t : Term)
     → AreLefts x before ps lefts mid → Tells e (expr_faults x t) → Tells e (expr_faults x (wrapped ps t))
 wrapped_fails x before e [] lefts mid t are told = told
 wrapped_fails x before e (p ∷ ps) lefts mid t are told =
     wrapped_fails x before e ps are.0 are.2 (Operate p.0 p.1 t) are.4 (tells_behind e (expr_faults x p.0) _ are.5.clean (tells_front e (expr_faults x t) _ told))
 
 -- what is still to be done
-pub record GoesOn (x : Context) (before : List Kept) (whole : Term) (lefts : List (Resolved × Operation)) (right : Resolved) (now : List Kept) : Type 0 where
+pub record GoesOn (x : Context) (before : List PlainTotal) (whole : Term) (lefts : List (Resolved × Operation)) (right : Resolved) (now : List PlainTotal) : Type 0 where
   pub ps : List (Term × Operation)
-  pub mid : List Kept
+  pub mid : List PlainTotal
   pub t : Term
   pub are : AreLefts x before ps lefts mid
   pub stands : Resolves x mid t right now
@@ -79,7 +79,7 @@ same_snoc (a ∷ as') (b ∷ bs) x y e =
     (rw (h, g.0) refl, g.1)
 
 -- the nearest on the left is taken
-pub goes_on : (x : Context) (before now : List Kept) (whole : Term) (items others : List (Resolved × Operation)) (l right r : Resolved) (o : Operation)
+pub goes_on : (x : Context) (before now : List PlainTotal) (whole : Term) (items others : List (Resolved × Operation)) (l right r : Resolved) (o : Operation)
     → GoesOn x before whole items right now → items ≡ others ++ (l, o) ∷ [] → Operated o l right (Ok r) → GoesOn x before whole others r now
 goes_on x before now whole items others l right r o g is done = go g.ps g.are g.is_whole
   where
@@ -98,7 +98,7 @@ goes_on x before now whole items others l right r o g is done = go g.ps g.are g.
           is_whole = w;
         }
 
-pub goes_wrong : (x : Context) (before now : List Kept) (whole : Term) (items others : List (Resolved × Operation)) (l right : Resolved) (e : CheckFault) (o : Operation)
+pub goes_wrong : (x : Context) (before now : List PlainTotal) (whole : Term) (items others : List (Resolved × Operation)) (l right : Resolved) (e : CheckFault) (o : Operation)
     → GoesOn x before whole items right now → items ≡ others ++ (l, o) ∷ [] → Operated o l right (Err e) → Tells e (expr_faults x whole)
 goes_wrong x before now whole items others l right e o g is told = go g.ps g.are g.is_whole
   where
@@ -115,7 +115,7 @@ no_length [] e = refl
 no_length (x ∷ xs) e = absurd (omega arith)
 
 -- nothing is left of it
-pub goes_home : (x : Context) (before now : List Kept) (whole : Term) (items : List (Resolved × Operation)) (right : Resolved)
+pub goes_home : (x : Context) (before now : List PlainTotal) (whole : Term) (items : List (Resolved × Operation)) (right : Resolved)
     → GoesOn x before whole items right now → length items ≡ 0 → Resolves x before whole right now
 goes_home x before now whole items right g none = go g.ps g.are g.is_whole
   where
@@ -127,26 +127,26 @@ goes_home x before now whole items right g none = go g.ps g.are g.is_whole
     go (p ∷ ps) are w = absurd (no_snoc are.0 (are.1, p.1) (sym are.3 ∙ is))
 
 -- one more on the left
-pub one_more : (x : Context) (before mid now : List Kept) (ps : List (Term × Operation)) (items : List (Resolved × Operation)) (t : Term) (o : Operation) (r : Resolved)
+pub one_more : (x : Context) (before mid now : List PlainTotal) (ps : List (Term × Operation)) (items : List (Resolved × Operation)) (t : Term) (o : Operation) (r : Resolved)
     → AreLefts x before ps items mid → Resolves x mid t r now → AreLefts x before ((t, o) ∷ ps) (items ++ (r, o) ∷ []) now
 one_more x before mid now ps items t o r are stands = (items, r, mid, refl, are, stands)
 
 -- a chain from the right, of which so much was gone through
-pub record GoneThrough (x : Context) (before : List Kept) (whole : Term) (lefts : List (Resolved × Operation)) (last : Resolved) (now : List Kept) (rest : List (Operation × Term)) : Type 0 where
+pub record GoneThrough (x : Context) (before : List PlainTotal) (whole : Term) (lefts : List (Resolved × Operation)) (last : Resolved) (now : List PlainTotal) (rest : List (Operation × Term)) : Type 0 where
   pub ps : List (Term × Operation)
-  pub mid : List Kept
+  pub mid : List PlainTotal
   pub t : Term
   pub are : AreLefts x before ps lefts mid
   pub stands : Resolves x mid t last now
   pub is_whole : whole ≡ wrapped ps (from_right t rest)
 
 -- a chain from the left, of which so much was gone through
-pub record SoFar (x : Context) (before : List Kept) (whole : Term) (sum : Resolved) (now : List Kept) (rest : List (Operation × Term)) : Type 0 where
+pub record SoFar (x : Context) (before : List PlainTotal) (whole : Term) (sum : Resolved) (now : List PlainTotal) (rest : List (Operation × Term)) : Type 0 where
   pub t : Term
   pub stands : Resolves x before t sum now
   pub is_whole : whole ≡ from_left t rest
 
-pub next_sum : (x : Context) (before mid now : List Kept) (whole : Term) (sum right r : Resolved) (o : Operation) (u : Term) (rest : List (Operation × Term))
+pub next_sum : (x : Context) (before mid now : List PlainTotal) (whole : Term) (sum right r : Resolved) (o : Operation) (u : Term) (rest : List (Operation × Term))
     → SoFar x before whole sum mid ((o, u) ∷ rest) → Resolves x mid u right now → Operated o sum right (Ok r) → SoFar x before whole r now rest
 next_sum x before mid now whole sum right r o u rest s stands done = record {
   t = Operate s.t o u;
@@ -154,15 +154,15 @@ next_sum x before mid now whole sum right r o u rest s stands done = record {
   is_whole = s.is_whole;
 }
 
-pub operand_fails : (x : Context) (before mid : List Kept) (whole : Term) (sum : Resolved) (o : Operation) (u : Term) (rest : List (Operation × Term)) (e : CheckFault)
+pub operand_fails : (x : Context) (before mid : List PlainTotal) (whole : Term) (sum : Resolved) (o : Operation) (u : Term) (rest : List (Operation × Term)) (e : CheckFault)
     → SoFar x before whole sum mid ((o, u) ∷ rest) → Tells e (expr_faults x u) → Tells e (expr_faults x whole)
 operand_fails x before mid whole sum o u rest e s told = rw s.is_whole (chain_fails x e (Operate s.t o u) rest (right_fails x before mid s.t u o sum e s.stands told))
 
-pub sum_fails : (x : Context) (before mid now : List Kept) (whole : Term) (sum right : Resolved) (o : Operation) (u : Term) (rest : List (Operation × Term)) (e : CheckFault)
+pub sum_fails : (x : Context) (before mid now : List PlainTotal) (whole : Term) (sum right : Resolved) (o : Operation) (u : Term) (rest : List (Operation × Term)) (e : CheckFault)
     → SoFar x before whole sum mid ((o, u) ∷ rest) → Resolves x mid u right now → Operated o sum right (Err e) → Tells e (expr_faults x whole)
 sum_fails x before mid now whole sum right o u rest e s stands told = rw s.is_whole (chain_fails x e (Operate s.t o u) rest (operate_fails x before mid now s.t u o sum right e s.stands stands told))
 
-pub next_last : (x : Context) (before mid now : List Kept) (whole : Term) (lefts : List (Resolved × Operation)) (last next : Resolved) (o : Operation) (u : Term) (rest : List (Operation × Term))
+pub next_last : (x : Context) (before mid now : List PlainTotal) (whole : Term) (lefts : List (Resolved × Operation)) (last next : Resolved) (o : Operation) (u : Term) (rest : List (Operation × Term))
     → GoneThrough x before whole lefts last mid ((o, u) ∷ rest) → Resolves x mid u next now → GoneThrough x before whole (lefts ++ (last, o) ∷ []) next now rest
 next_last x before mid now whole lefts last next o u rest g stands = record {
   ps = (g.t, o) ∷ g.ps;
@@ -177,7 +177,7 @@ right_chain_fails : (x : Context) (e : CheckFault) (t : Term) (rest : List (Oper
 right_chain_fails x e t [] told = told
 right_chain_fails x e t (p ∷ ps) told = tells_front e (expr_faults x t) _ told
 
-pub last_fails : (x : Context) (before mid : List Kept) (whole : Term) (lefts : List (Resolved × Operation)) (last : Resolved) (o : Operation) (u : Term) (rest : List (Operation × Term)) (e : CheckFault)
+pub last_fails : (x : Context) (before mid : List PlainTotal) (whole : Term) (lefts : List (Resolved × Operation)) (last : Resolved) (o : Operation) (u : Term) (rest : List (Operation × Term)) (e : CheckFault)
     → GoneThrough x before whole lefts last mid ((o, u) ∷ rest) → Tells e (expr_faults x u) → Tells e (expr_faults x whole)
 last_fails x before mid whole lefts last o u rest e g told =
     rw g.is_whole (wrapped_fails x before e g.ps lefts g.mid (Operate g.t o (from_right u rest)) g.are
@@ -202,13 +202,13 @@ first_fails x t rest e told = chain_fails x e t rest told
 pub first_of_right_fails : (x : Context) (t : Term) (rest : List (Operation × Term)) (e : CheckFault) → Tells e (expr_faults x t) → Tells e (expr_faults x (from_right t rest))
 first_of_right_fails x t rest e told = right_chain_fails x e t rest told
 
-pub operator_checks : (x : Context) (before mid now : List Kept) (t u : Term) (o : Operation) (a b : Resolved) (result : Result Resolved CheckFault)
+pub operator_checks : (x : Context) (before mid now : List PlainTotal) (t u : Term) (o : Operation) (a b : Resolved) (result : Result Resolved CheckFault)
     → Resolves x before t a mid → Resolves x mid u b now → Operated o a b result → Checks x before (Operate t o u) result now
 operator_checks x before mid now t u o a b (Ok r) left right done = operate x before mid now t u o a b r left right done
 operator_checks x before mid now t u o a b (Err e) left right told = operate_fails x before mid now t u o a b e left right told
 
-pub negative_checks : (x : Context) (before now : List Kept) (at : ℕ) (t : Term) (b : Resolved) (result : Result Resolved CheckFault) → Resolves x before t b now
-    → Answers (unless (may_be_number (Some (sort_in b))) KindMismatch at) (λ r. (sort_in r ≡ Valued kind.Int) × (formula_in r ≡ formula.Arithmetic Minus (formula.Literal (value.Int (pos 0))) (formula_in b))) result
+pub negative_checks : (x : Context) (before now : List PlainTotal) (at : ℕ) (t : Term) (b : Resolved) (result : Result Resolved CheckFault) → Resolves x before t b now
+    → FirstFaultOr (unless (may_be_number (Some (sort_in b))) KindMismatch at) (λ r. (sort_in r ≡ Valued kind.Int) × (formula_in r ≡ formula.Arithmetic Minus (formula.Literal (value.Int (pos 0))) (formula_in b))) result
     → Checks x before (Negative at t) result now
 negative_checks x before now at t b (Ok r) body done = record {
   clean = none_in_both (expr_faults x t) _ body.clean (rw body.sort done.0);
@@ -218,8 +218,8 @@ negative_checks x before now at t b (Ok r) body done = record {
 }
 negative_checks x before now at t b (Err e) body told = tells_behind e (expr_faults x t) _ body.clean (rw body.sort told)
 
-pub not_checks : (x : Context) (before now : List Kept) (at : ℕ) (t : Term) (b : Resolved) (result : Result Resolved CheckFault) → Resolves x before t b now
-    → Answers (unless (may_be_condition (Some (sort_in b))) KindMismatch at) (λ r. (sort_in r ≡ Judged) × (formula_in r ≡ formula.Not (formula_in b))) result
+pub not_checks : (x : Context) (before now : List PlainTotal) (at : ℕ) (t : Term) (b : Resolved) (result : Result Resolved CheckFault) → Resolves x before t b now
+    → FirstFaultOr (unless (may_be_condition (Some (sort_in b))) KindMismatch at) (λ r. (sort_in r ≡ Truth) × (formula_in r ≡ formula.Not (formula_in b))) result
     → Checks x before (Not at t) result now
 not_checks x before now at t b (Ok r) body done = record {
   clean = none_in_both (expr_faults x t) _ body.clean (rw body.sort done.0);
@@ -229,8 +229,8 @@ not_checks x before now at t b (Ok r) body done = record {
 }
 not_checks x before now at t b (Err e) body told = tells_behind e (expr_faults x t) _ body.clean (rw body.sort told)
 
-pub null_checks : (x : Context) (before now : List Kept) (at : ℕ) (negated : Bool) (t : Term) (b : Resolved) (result : Result Resolved CheckFault) → Resolves x before t b now
-    → Answers (unless (may_be_value (Some (sort_in b))) KindMismatch at) (λ r. (sort_in r ≡ Judged) × (formula_in r ≡ nullness negated (formula_in b))) result
+pub null_checks : (x : Context) (before now : List PlainTotal) (at : ℕ) (negated : Bool) (t : Term) (b : Resolved) (result : Result Resolved CheckFault) → Resolves x before t b now
+    → FirstFaultOr (unless (may_be_value (Some (sort_in b))) KindMismatch at) (λ r. (sort_in r ≡ Truth) × (formula_in r ≡ nullness negated (formula_in b))) result
     → Checks x before (IsNull at negated t) result now
 null_checks x before now at negated t b (Ok r) body done = record {
   clean = none_in_both (expr_faults x t) _ body.clean (rw body.sort done.0);

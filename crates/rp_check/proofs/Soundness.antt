@@ -14,12 +14,12 @@ use Rattle.rp_check.specs.declared.fault.Fault.{Fault}
 use Rattle.rp_check.specs.declared.fault.CheckKind.{CheckKind}
 use Rattle.rp_check.specs.declared.plan.Condition.{Condition}
 use Rattle.rp_check.specs.declared.query.QueryData.{QueryData}
-use Rattle.rp_check.specs.Asked.{IsQueryOf, measured_totals, defining}
+use Rattle.rp_check.specs.QueryOf.{IsQueryOf, measured_totals, defining}
 use Rattle.rp_check.specs.ClauseFaults.{faults, each_after, each, name_faults, listing_faults, partition_faults, order_faults}
 use Rattle.rp_check.specs.Context.{Context, column_named, is_name}
 use Rattle.rp_check.specs.Definitions.{condition_at}
 use Rattle.rp_check.specs.ExprFaults.{unless}
-use Rattle.rp_check.specs.Formulas.{Kept, condition_formula}
+use Rattle.rp_check.specs.Formulas.{PlainTotal, condition_formula}
 use Rattle.rp_check.specs.Queries.{formulas, terms_of_definitions, definition_place, order_column, greatest}
 use Rattle.rp_check.specs.Reach.{reach, condition_reach}
 use Rattle.rp_check.specs.Resolved.{number_at, totals}
@@ -73,7 +73,7 @@ covered : {A : Type 0} (f : A → ℕ) (xs : List A) (most : ℕ) → greatest (
 covered f [] most h = tt
 covered f (x ∷ xs) most h = (omega arith, covered f xs most (omega arith))
 
-formulas_length : (x : Context) (before : List Kept) (ts : List Term) → length (formulas x before ts) ≡ length ts
+formulas_length : (x : Context) (before : List PlainTotal) (ts : List Term) → length (formulas x before ts) ≡ length ts
 formulas_length x before [] = refl
 formulas_length x before (t ∷ ts) = rw (formulas_length x (before ++ totals x t) ts) refl
 

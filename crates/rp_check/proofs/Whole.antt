@@ -11,12 +11,12 @@ use Rattle.rp_check.specs.declared.checking.Listed.{Listed}
 use Rattle.rp_check.specs.declared.checking.Planned.{Planned}
 use Rattle.rp_check.specs.declared.fault.CheckFault.{CheckFault}
 use Rattle.rp_check.specs.declared.query.QueryData.{QueryData}
-use Rattle.rp_check.specs.Asked.{IsQueryOf, measuring, defining}
+use Rattle.rp_check.specs.QueryOf.{IsQueryOf, measuring, defining}
 use Rattle.rp_check.specs.Checked.{Tells}
 use Rattle.rp_check.specs.Checking.{IsNamed, IsListed, IsPlanned, IsMadeOf, spoken}
 use Rattle.rp_check.specs.ClauseFaults.{faults, name_faults, listing_faults, expression_faults, shown_faults}
 use Rattle.rp_check.specs.Context.{naming_of}
-use Rattle.rp_check.specs.Formulas.{value_formula, condition_formula, kept_of}
+use Rattle.rp_check.specs.Formulas.{value_formula, condition_formula, plain_total}
 use Rattle.rp_check.specs.Queries.{rule_of}
 use Rattle.rp_check.specs.Reading.{Reads}
 use Rattle.rp_check.specs.Shapes.{shape_of, shaped}
@@ -54,7 +54,7 @@ is_query c written columns n l p d named listed planned made = record {
   skip = ap rule_of made.skip ∙ planned.skip;
   conditions = ap (λ v. map condition_formula v.items) made.conditions ∙ planned.conditions;
   definitions = ap (λ v. v.items) made.definitions ∙ rw (← named.variables) listed.definitions;
-  totals = ap (λ v. map kept_of v.items) made.totals ∙ planned.totals;
+  totals = ap (λ v. map plain_total v.items) made.totals ∙ planned.totals;
 }
 
 module _ (c : ClauseTree) (columns : List Column) (n : Named) (e : CheckFault) where

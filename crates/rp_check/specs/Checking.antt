@@ -14,7 +14,7 @@ use Rattle.rp_check.specs.declared.checking.Planned.{Planned}
 use Rattle.rp_check.specs.declared.query.QueryData.{QueryData}
 use Rattle.rp_check.specs.declared.names.NamedSet.{NamedSet}
 use Rattle.rp_check.specs.Context.{Context, naming_of, column_named}
-use Rattle.rp_check.specs.Formulas.{value_formula, condition_formula, kept_of}
+use Rattle.rp_check.specs.Formulas.{value_formula, condition_formula, plain_total}
 use Rattle.rp_check.specs.Queries.{formulas, totals_of, terms_of_measures, terms_of_definitions, rule_of, rule_meant, definition_place, output_of, order_column, greatest}
 use Rattle.rp_check.specs.Reach.{reach, condition_reach}
 use Rattle.rp_check.specs.Resolved.{number_at}
@@ -23,12 +23,14 @@ use Rattle.rp_check.specs.Variables.{variables_of, numbered, union_of}
 
 -- what may be named, with these sets and classes
 abbrev pub spoken : List NamedSet → List Column → Rc (Vec Value Global) Global → Bool → Context
-spoken sets columns classes in_define = record { sets = map naming_of sets; columns = columns; in_define = in_define; classes = classes.value.items }
+spoken sets columns classes in_define =
+    record { sets = map naming_of sets; columns = columns; in_define = in_define; classes = classes.value.items }
 
 pub record IsNamed (c : ClauseTree) (n : Named) : Type 0 where
   pub pattern : shape_of (form_of n.pattern) ≡ shaped (variables_of c.pattern) c.pattern
   pub variables : n.variables.items ≡ variables_of c.pattern
-  pub sets : map naming_of n.sets.items ≡ numbered 0 (variables_of c.pattern) ++ map (union_of (variables_of c.pattern)) c.subsets
+  pub sets : map naming_of n.sets.items
+      ≡ numbered 0 (variables_of c.pattern) ++ map (union_of (variables_of c.pattern)) c.subsets
   pub classes : n.classes.value.items ≡ map value.Text (variables_of c.pattern)
 
 pub record IsListed (variables : List (List ℕ)) (columns : List Column) (c : ClauseTree) (l : Listed) : Type 0 where
@@ -39,11 +41,14 @@ pub record IsListed (variables : List (List ℕ)) (columns : List Column) (c : C
 pub record IsPlanned (measuring defining : Context) (c : ClauseTree) (p : Planned) : Type 0 where
   pub measures : map value_formula p.measures.items ≡ formulas measuring [] (terms_of_measures c.measures)
   pub skip : rule_of p.skip ≡ rule_meant measuring c.skip
-  pub conditions : map condition_formula p.conditions.items ≡ formulas defining (totals_of measuring (terms_of_measures c.measures)) (terms_of_definitions c.definitions)
-  pub totals : map kept_of p.totals.items ≡ totals_of measuring (terms_of_measures c.measures) ++ totals_of defining (terms_of_definitions c.definitions)
+  pub conditions : map condition_formula p.conditions.items
+      ≡ formulas defining (totals_of measuring (terms_of_measures c.measures)) (terms_of_definitions c.definitions)
+  pub totals : map plain_total p.totals.items
+      ≡ totals_of measuring (terms_of_measures c.measures) ++ totals_of defining (terms_of_definitions c.definitions)
 
 -- the data is put together of what was found
-pub record IsMadeOf (c : ClauseTree) (written : List ℕ) (columns : List Column) (n : Named) (l : Listed) (p : Planned) (d : QueryData) : Type 0 where
+pub record IsMadeOf (c : ClauseTree) (written : List ℕ) (columns : List Column) (n : Named) (l : Listed) (p : Planned)
+    (d : QueryData) : Type 0 where
   pub text : d.text ≡ written
   pub table : d.table ≡ columns
   pub pattern : d.pattern ≡ n.pattern

@@ -19,7 +19,7 @@ use Rattle.rp_check.specs.declared.compiling.CompileFault.{CompileFault}
 use Rattle.rp_check.specs.declared.compiling.CompileFault.TheVariants as fault
 use Rattle.rp_check.specs.declared.query.QueryData.{QueryData}
 use Rattle.rp_check.specs.ClauseFaults.{faults}
-use Rattle.rp_check.specs.Asked.{IsQueryOf}
+use Rattle.rp_check.specs.QueryOf.{IsQueryOf}
 
 -- the query is that of the clause which the text's tokens derive, and this has no fault
 pub record IsCompiled (text : List ℕ) (columns : List Column) (query : QueryData) : Type 0 where

@@ -16,7 +16,7 @@ use Rattle.rp_check.specs.declared.plan.Condition.TheOpen as C
 use Rattle.rp_check.specs.declared.plan.Condition.TheFolds.{fold-Condition}
 
 -- what is kept of the rows of variables, by the numbers of these; none: the universal variable
-pub record Kept : Type 0 where
+pub record PlainTotal : Type 0 where
   pub members : Option (List ℕ)
   pub function : Function
 
@@ -38,8 +38,8 @@ abbrev pub members_of : Variables → Option (List ℕ)
 members_of Universal = None
 members_of (Among members) = Some members.items
 
-abbrev pub kept_of : Total → Kept
-kept_of t = record { members = members_of t.variables; function = t.function }
+abbrev pub plain_total : Total → PlainTotal
+plain_total t = record { members = members_of t.variables; function = t.function }
 
 abbrev pub value_step : E.Expr-F Formula → Formula
 value_step (E.Literal v) = Literal v

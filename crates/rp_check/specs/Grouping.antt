@@ -3,7 +3,7 @@ use Rattle.std.specs.Prelude.{◌≡◌, List, [], ◌∷◌, ◌++◌}
 use Rattle.rp_syntax.specs.declared.tree.Operation.{Operation}
 use Rattle.rp_syntax.specs.Terms.{Term, Operate}
 use Rattle.rp_check.specs.declared.resolved.Resolved.{Resolved}
-use Rattle.rp_check.specs.Formulas.{Kept}
+use Rattle.rp_check.specs.Formulas.{PlainTotal}
 use Rattle.rp_check.specs.Context.{Context}
 use Rattle.rp_check.specs.Checked.{Resolves}
 
@@ -13,8 +13,9 @@ wrapped [] t = t
 wrapped (p ∷ ps) t = wrapped ps (Operate p.0 p.1 t)
 
 -- what stands left is resolved, in a list that has the nearest last
-abbrev pub AreLefts : Context → List Kept → List (Term × Operation) → List (Resolved × Operation) → List Kept → Type 0
+abbrev pub AreLefts : Context → List PlainTotal → List (Term × Operation) → List (Resolved × Operation) → List PlainTotal
+    → Type 0
 AreLefts x before [] lefts now = (lefts ≡ []) × (now ≡ before)
 AreLefts x before (p ∷ ps) lefts now =
-    (others : List (Resolved × Operation)) × (r : Resolved) × (mid : List Kept)
+    (others : List (Resolved × Operation)) × (r : Resolved) × (mid : List PlainTotal)
     × (lefts ≡ others ++ (r, p.1) ∷ []) × AreLefts x before ps others mid × Resolves x mid p.0 r now

@@ -1,7 +1,8 @@
 -- What the query of a clause is made of.
-use Rattle.std.specs.Prelude.{ℕ, max, ◌||◌, List, [], ◌∷◌, ◌++◌, map, Option, cond}
+use Rattle.std.specs.Prelude.{◌≡◌, ℕ, max, ◌||◌, List, [], ◌∷◌, ◌++◌, map, Option, cond}
 use Rattle.std.specs.List.{position}
 use Rattle.rp_value.specs.declared.table.Column.{Column}
+use Rattle.rp_syntax.specs.declared.tree.Name.{Name}
 use Rattle.rp_syntax.specs.declared.tree.Order.{Order}
 use Rattle.rp_syntax.specs.declared.tree.RowsPerMatch.{RowsPerMatch}
 use Rattle.rp_syntax.specs.declared.tree.RowsPerMatch.TheVariants.{One, AllShowEmpty, AllOmitEmpty, AllWithUnmatched}
@@ -12,19 +13,27 @@ use Rattle.rp_syntax.specs.Clauses.{ClauseTree, MeasureTree, DefinitionTree}
 use Rattle.rp_check.specs.declared.query.SkipTo.{SkipTo}
 use Rattle.rp_check.specs.declared.query.SkipTo.TheVariants as skip
 use Rattle.rp_check.specs.declared.lists.OrderColumn.{OrderColumn}
-use Rattle.rp_check.specs.Formulas.{Formula, Kept, members_of}
+use Rattle.rp_check.specs.Formulas.{Formula, PlainTotal, members_of}
 use Rattle.rp_check.specs.Context.{Context, members_named, column_named, is_name}
 use Rattle.rp_check.specs.Resolved.{resolved, totals, number_at}
 use Rattle.rp_check.specs.Variables.{is_among}
 
 -- expressions after these totals, from the left, and their totals
-abbrev pub formulas : Context → List Kept → List Term → List Formula
+abbrev pub formulas : Context → List PlainTotal → List Term → List Formula
 formulas x before [] = []
 formulas x before (t ∷ ts) = resolved x before t ∷ formulas x (before ++ totals x t) ts
 
-abbrev pub totals_of : Context → List Term → List Kept
+abbrev pub totals_of : Context → List Term → List PlainTotal
 totals_of x [] = []
 totals_of x (t ∷ ts) = totals x t ++ totals_of x ts
+
+-- an expression behind these totals has this formula, and its totals stand behind them
+abbrev pub IsResolved : Context → List PlainTotal → Term → Formula → List PlainTotal → Type 0
+IsResolved x before t f now = (f ≡ resolved x before t) × (now ≡ before ++ totals x t)
+
+-- the same of expressions one after another
+abbrev pub AreResolved : Context → List PlainTotal → List Term → List Formula → List PlainTotal → Type 0
+AreResolved x before ts fs now = (fs ≡ formulas x before ts) × (now ≡ before ++ totals_of x ts)
 
 abbrev pub terms_of_measures : List MeasureTree → List Term
 terms_of_measures ms = map (λ m. m.term) ms
@@ -73,8 +82,14 @@ output_names AllShowEmpty partition order measures columns = whole_output partit
 output_names AllOmitEmpty partition order measures columns = whole_output partition order measures columns
 output_names AllWithUnmatched partition order measures columns = whole_output partition order measures columns
 
+abbrev pub texts : List Name → List (List ℕ)
+texts names = map (λ n. n.text) names
+
 abbrev pub output_of : ClauseTree → List Column → List (List ℕ)
-output_of c columns = output_names c.rows (map (λ n. n.text) c.partition) (map (λ n. n.text) (map (λ o. o.name) c.order)) (map (λ m. m.name.text) c.measures) columns
+output_of c columns =
+    let partition = texts c.partition in
+    let order = texts (map (λ o. o.name) c.order) in
+    output_names c.rows partition order (map (λ m. m.name.text) c.measures) columns
 
 abbrev pub greatest : List ℕ → ℕ
 greatest [] = 0

@@ -25,8 +25,12 @@ use Rattle.rp_check.specs.declared.plan.Function.TheVariants as function
 use Rattle.rp_check.specs.declared.plan.Operation.TheVariants.{Plus, Minus, Times}
 use Rattle.rp_value.specs.declared.comparison.Comparison.TheVariants as comparison
 use Rattle.rp_check.specs.Formulas as formula
-use Rattle.rp_check.specs.Formulas.{Formula, Kept}
+use Rattle.rp_check.specs.Formulas.{Formula, PlainTotal}
 use Rattle.rp_check.specs.Context.{Context, members_named, column_named}
+
+-- a column by its name alone
+abbrev pub unqualified : Name → Column
+unqualified name = record { qualifier = None; name = name }
 
 -- the members of a qualifier; none: the universal variable
 abbrev pub members_meant : Context → Option Name → Option (List ℕ)
@@ -55,9 +59,9 @@ column_in (At c) = c
 column_in (Move movement at argument offset) = column_in argument
 
 -- the rows of named variables have a total that lists them, the next one; those of the universal variable need none
-abbrev pub listed : Option (List ℕ) → List Kept
-listed None = []
-listed (Some members) = record { members = Some members; function = function.Listed } ∷ []
+abbrev pub listing_total : Option (List ℕ) → List PlainTotal
+listing_total None = []
+listing_total (Some members) = record { members = Some members; function = function.Listed } ∷ []
 
 abbrev pub rows_meant : ℕ → Option (List ℕ) → RowsOf
 rows_meant count None = Universal
@@ -71,29 +75,42 @@ path_members x path = members_meant x (column_in path).qualifier
 abbrev pub moved : Movement → Option Offset → Place → Place
 moved movement.Prev offset inner = record inner { step = Back (rows_or 1 offset) }
 moved movement.Next offset inner = record inner { step = Ahead (rows_or 1 offset) }
-moved (movement.First scope) offset inner = record inner { edge = First; places = rows_or 0 offset; is_final = is_final scope }
-moved (movement.Last scope) offset inner = record inner { edge = Last; places = rows_or 0 offset; is_final = is_final scope }
+moved (movement.First scope) offset inner =
+    record inner { edge = First; places = rows_or 0 offset; is_final = is_final scope }
+moved (movement.Last scope) offset inner =
+    record inner { edge = Last; places = rows_or 0 offset; is_final = is_final scope }
 
 -- a column alone is that of the last row
 abbrev pub column_place : Context → ℕ → Column → Place
-column_place x count c = record { rows_of = rows_meant count (members_meant x c.qualifier); is_final = false; edge = Last; places = 0; step = Ahead 0; column = column_number x c }
+column_place x count c = record {
+  rows_of = rows_meant count (members_meant x c.qualifier);
+  is_final = false;
+  edge = Last;
+  places = 0;
+  step = Ahead 0;
+  column = column_number x c;
+}
 
 -- a navigation that stands after so many totals
 abbrev pub place_of : Context → ℕ → Path → Place
 place_of x count (At c) = column_place x count c
 place_of x count (Move movement at argument offset) = moved movement offset (place_of x count argument)
 
-abbrev pub total_counted : Context → Counted → Kept
+abbrev pub total_counted : Context → Counted → PlainTotal
 total_counted x counted.Rows = record { members = None; function = function.Rows }
 total_counted x (counted.RowsOf name) = record { members = members_named name.text x.sets; function = function.Rows }
-total_counted x (counted.Column c) = record { members = members_meant x c.qualifier; function = function.Count (column_number x c) }
+total_counted x (counted.Column c) =
+    record { members = members_meant x c.qualifier; function = function.Count (column_number x c) }
 
 -- the total of an aggregate
-abbrev pub total_over : Context → AggregateFunction → Kept
+abbrev pub total_over : Context → AggregateFunction → PlainTotal
 total_over x (computed.Count counted) = total_counted x counted
-total_over x (computed.Sum c) = record { members = members_meant x c.qualifier; function = function.Sum (column_number x c) }
-total_over x (computed.Min c) = record { members = members_meant x c.qualifier; function = function.Least (column_number x c) }
-total_over x (computed.Max c) = record { members = members_meant x c.qualifier; function = function.Greatest (column_number x c) }
+total_over x (computed.Sum c) =
+    record { members = members_meant x c.qualifier; function = function.Sum (column_number x c) }
+total_over x (computed.Min c) =
+    record { members = members_meant x c.qualifier; function = function.Least (column_number x c) }
+total_over x (computed.Max c) =
+    record { members = members_meant x c.qualifier; function = function.Greatest (column_number x c) }
 
 abbrev pub operated : Operator → Formula → Formula → Formula
 operated operator.Or = formula.Or
@@ -113,10 +130,10 @@ nullness false p = formula.IsNull p
 nullness true p = formula.Not (formula.IsNull p)
 
 -- the totals of an expression, from the left: one for each aggregate and for each navigation among named variables
-abbrev pub totals : Context → Term → List Kept
+abbrev pub totals : Context → Term → List PlainTotal
 totals x (Number at value) = []
 totals x (Literal at text) = []
-totals x (Navigation path) = listed (path_members x path)
+totals x (Navigation path) = listing_total (path_members x path)
 totals x (Aggregated a) = total_over x a.function ∷ []
 totals x (MatchNumber at) = []
 totals x (Classifier at) = []
@@ -126,14 +143,15 @@ totals x (IsNull at negated body) = totals x body
 totals x (Operate a o b) = totals x a ++ totals x b
 
 -- the formula of an expression that stands after these totals
-abbrev pub resolved : Context → List Kept → Term → Formula
+abbrev pub resolved : Context → List PlainTotal → Term → Formula
 resolved x before (Number at value) = formula.Literal (fitted (pos value))
 resolved x before (Literal at text) = formula.Literal (value.Text text)
 resolved x before (Navigation path) = formula.Cell (place_of x (length before) path)
 resolved x before (Aggregated a) = formula.Aggregated (length before) (is_final a.scope)
 resolved x before (MatchNumber at) = formula.MatchNumber
 resolved x before (Classifier at) = formula.Classifier x.classes
-resolved x before (Negative at body) = formula.Arithmetic Minus (formula.Literal (value.Int (pos 0))) (resolved x before body)
+resolved x before (Negative at body) =
+    formula.Arithmetic Minus (formula.Literal (value.Int (pos 0))) (resolved x before body)
 resolved x before (Not at body) = formula.Not (resolved x before body)
 resolved x before (IsNull at negated body) = nullness negated (resolved x before body)
 resolved x before (Operate a o b) = operated o.operator (resolved x before a) (resolved x (before ++ totals x a) b)

@@ -16,7 +16,8 @@ pub record IsSound (q : QueryData) : Type 0 where
   -- each variable of the pattern has a place among the definitions
   pub variables : are_below (length q.plan.definitions.items) (form_of q.pattern) ≡ true
   -- where a variable is defined, its condition is there
-  pub definitions : (variable place : ℕ) → slice_get q.plan.definitions.items variable ≡ Some (Some place) → place < length q.plan.conditions.items
+  pub definitions : (variable place : ℕ) → slice_get q.plan.definitions.items variable ≡ Some (Some place)
+      → place < length q.plan.conditions.items
   -- nothing looks further back than the reach
   pub measures : All (λ e. reach e ≤ q.reach) q.plan.measures.items
   pub conditions : All (λ c. condition_reach c ≤ q.reach) q.plan.conditions.items

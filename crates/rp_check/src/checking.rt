@@ -1,10 +1,10 @@
 //! A clause is checked, and becomes a query.
 
-ghost use Rattle.std.specs.Prelude.{true, false, IfOk};
+ghost use Rattle.std.specs.Prelude.{◌≡◌, [], true, false, IfOk, IfErr};
 ghost use Rattle.rp_syntax.specs.Clauses.{clause_tree};
-ghost use Rattle.rp_check.specs.Checked.{Answers};
+ghost use Rattle.rp_check.specs.Checked.{FirstFaultOr, Tells};
 ghost use Rattle.rp_check.specs.ClauseFaults.{faults, name_faults, listing_faults, expression_faults, shown_faults, unmatched_faults};
-ghost use Rattle.rp_check.specs.Asked.{IsQueryOf};
+ghost use Rattle.rp_check.specs.QueryOf.{IsQueryOf};
 ghost use Rattle.rp_check.specs.QueryView.{data_of};
 ghost use Rattle.rp_check.specs.Checking.{IsNamed, IsListed, IsPlanned, IsMadeOf, spoken};
 ghost use Rattle.rp_syntax.specs.Tree.{tree_of};
@@ -54,7 +54,7 @@ pub(crate) struct Planned {
 }
 
 fn name_all(alloc: Global, clause: &Clause) -> Result<Named, CheckFault>
-    ensures { Answers (name_faults (clause_tree clause.now)) (IsNamed (clause_tree clause.now)) result }
+    ensures { FirstFaultOr (name_faults (clause_tree clause.now)) (IsNamed (clause_tree clause.now)) result }
 {
     let mut variables = Vec::new(alloc);
     let form = read(alloc, &mut variables, &clause.pattern)?;
@@ -82,7 +82,8 @@ fn list_all(
     columns: &[Column],
     clause: &Clause,
 ) -> Result<Listed, CheckFault>
-    ensures { Answers (listing_faults variables.now columns.now (clause_tree clause.now)) (IsListed variables.now columns.now (clause_tree clause.now)) result }
+    ensures { FirstFaultOr (listing_faults variables.now columns.now (clause_tree clause.now))
+        (IsListed variables.now columns.now (clause_tree clause.now)) result }
 {
     let partition = partition_columns(alloc, columns, clause.partition.as_slice())?;
     let order = order_columns(
@@ -107,8 +108,10 @@ fn plan_all(
     classes: &Rc<Vec<Value>>,
     clause: &Clause,
 ) -> Result<Planned, CheckFault>
-    ensures { Answers (expression_faults (spoken sets.now columns.now classes.now false) (spoken sets.now columns.now classes.now true) (clause_tree clause.now))
-        (IsPlanned (spoken sets.now columns.now classes.now false) (spoken sets.now columns.now classes.now true) (clause_tree clause.now)) result }
+    ensures { let measuring = spoken sets.now columns.now classes.now false in
+        let defining = spoken sets.now columns.now classes.now true in
+        FirstFaultOr (expression_faults measuring defining (clause_tree clause.now))
+        (IsPlanned measuring defining (clause_tree clause.now)) result }
 {
     let measuring = Names {
         sets,
@@ -136,7 +139,7 @@ fn plan_all(
 
 /// Rows that no match has aren't given beside rows that aren't shown.
 fn allow_unmatched(rows: RowsPerMatch, pattern: &Written) -> Result<(), CheckFault>
-    ensures { Answers (unmatched_faults rows (tree_of pattern.now)) (λ u. Unit {0}) result }
+    ensures { FirstFaultOr (unmatched_faults rows (tree_of pattern.now)) (λ u. Unit {0}) result }
 {
     match rows {
         RowsPerMatch::One => Ok(()),
@@ -151,7 +154,7 @@ fn allow_unmatched(rows: RowsPerMatch, pattern: &Written) -> Result<(), CheckFau
 
 /// What the output has is named once, and unmatched rows and exclusion don't stand together.
 fn allow_output(columns: &[Column], clause: &Clause) -> Result<(), CheckFault>
-    ensures { Answers (shown_faults columns.now (clause_tree clause.now)) (λ u. Unit {0}) result }
+    ensures { FirstFaultOr (shown_faults columns.now (clause_tree clause.now)) (λ u. Unit {0}) result }
 {
     allow_unmatched(clause.rows, &clause.pattern)?;
     allow_measures(
@@ -169,8 +172,9 @@ fn allow_output(columns: &[Column], clause: &Clause) -> Result<(), CheckFault>
 /// names of DEFINE; the expressions of MEASURES and then of DEFINE; the skip's variable; exclusion with unmatched rows;
 /// the names of measures. `OutOfMemory` may come before any of them.
 pub fn check(alloc: Global, clause: Clause, table: &Table) -> Result<Query, CheckFault>
-    ensures { Answers (faults (clause_tree clause) table.now)
-        (λ query. IsQueryOf (clause_tree clause) clause.text table.now (data_of query)) result }
+    ensures clean { IfOk result (λ query. faults (clause_tree clause) table.now ≡ []) }
+    ensures query { IfOk result (λ query. IsQueryOf (clause_tree clause) clause.text table.now (data_of query)) }
+    ensures refused { IfErr result (λ fault. Tells fault (faults (clause_tree clause) table.now)) }
 {
     let columns = table.columns();
     let named = name_all(alloc, &clause)?;

@@ -15,17 +15,22 @@ use rp_lexer::{LexFault, Token, lex};
 use rp_syntax::{Clause, ParseFault, parse};
 use rp_value::Table;
 use std::alloc::Global;
+use thiserror::Error;
 
 /// Why a text is no clause over a table, the first reason in the order of the variants.
-#[derive(Clone, Copy, Debug, PartialEq, Eq)]
+#[derive(Clone, Copy, Debug, PartialEq, Eq, Error)]
 pub enum CompileFault {
     /// The text has no tokens, for this first fault.
+    #[error("{0}")]
     Lex(LexFault),
     /// Its tokens derive no clause.
+    #[error("{0}")]
     Parse(ParseFault),
     /// The clause has faults, and this is the first.
+    #[error("{0}")]
     Check(Fault),
     /// No memory was left. It says nothing of the text.
+    #[error("out of memory")]
     OutOfMemory,
 }
 

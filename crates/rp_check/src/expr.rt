@@ -4,7 +4,7 @@ ghost use Rattle.std.specs.Prelude.{◌≡◌, true, Some, map, pos, List};
 ghost use Rattle.rp_value.specs.Arithmetic.{fitted};
 ghost use Rattle.rp_syntax.specs.Paths.{path_of};
 ghost use Rattle.rp_syntax.specs.Terms.{Term, Literal, Navigation, Aggregated, MatchNumber, Classifier, Negative, Not, IsNull, Operate, term_of, from_left, from_right, operand_of};
-ghost use Rattle.rp_check.specs.Formulas.{Kept, kept_of, value_formula};
+ghost use Rattle.rp_check.specs.Formulas.{PlainTotal, plain_total, value_formula};
 ghost use Rattle.rp_check.specs.Formulas as formula;
 ghost use Rattle.rp_check.specs.Context.{Context, context_of};
 ghost use Rattle.rp_check.specs.Grouping.{AreLefts, wrapped};
@@ -38,7 +38,8 @@ fn text_literal(
     at: usize,
     text: &Text,
 ) -> Result<Resolved, CheckFault>
-    ensures { Checks (context_of names.now) (map kept_of totals.now.items) (Literal at text.now) result (map kept_of totals.now.items) }
+    ensures { Checks (context_of names.now) (map plain_total totals.now.items) (Literal at text.now)
+        result (map plain_total totals.now.items) }
 {
     let text = text.share(alloc)?;
     Ok(Resolved::Value(Expr::Literal(Value::Text(text)), Kind::Text))
@@ -51,7 +52,8 @@ fn placed(
     totals: &mut Vec<Total>,
     path: &Path,
 ) -> Result<Resolved, CheckFault>
-    ensures { Checks (context_of names.now) (map kept_of totals.old.items) (Navigation (path_of path.now)) result (map kept_of totals.new.items) }
+    ensures { Checks (context_of names.now) (map plain_total totals.old.items) (Navigation (path_of path.now))
+        result (map plain_total totals.new.items) }
 {
     let (place, kind) = navigation(alloc, names, totals, path)?;
     Ok(Resolved::Value(Expr::Navigation(place), kind))
@@ -71,7 +73,8 @@ fn aggregate(
     totals: &mut Vec<Total>,
     written: &Computed,
 ) -> Result<Resolved, CheckFault>
-    ensures { Checks (context_of names.now) (map kept_of totals.old.items) (Aggregated written.now) result (map kept_of totals.new.items) }
+    ensures { Checks (context_of names.now) (map plain_total totals.old.items) (Aggregated written.now)
+        result (map plain_total totals.new.items) }
 {
     allow_scope(names, written.scope)?;
     let (total, kind) = totalled(alloc, names, written.at, &written.function)?;
@@ -83,7 +86,8 @@ fn aggregate(
 
 /// `MATCH_NUMBER()`
 fn match_number(names: &Names, totals: &Vec<Total>, at: usize) -> Result<Resolved, CheckFault>
-    ensures { Checks (context_of names.now) (map kept_of totals.now.items) (MatchNumber at) result (map kept_of totals.now.items) }
+    ensures { Checks (context_of names.now) (map plain_total totals.now.items) (MatchNumber at)
+        result (map plain_total totals.now.items) }
 {
     require(!names.in_define, CheckKind::MeasureOnly, at)?;
     Ok(Resolved::Value(Expr::MatchNumber, Kind::Int))
@@ -91,7 +95,8 @@ fn match_number(names: &Names, totals: &Vec<Total>, at: usize) -> Result<Resolve
 
 /// `CLASSIFIER()`
 fn classifier(names: &Names, totals: &Vec<Total>, at: usize) -> Result<Resolved, CheckFault>
-    ensures { Checks (context_of names.now) (map kept_of totals.now.items) (Classifier at) result (map kept_of totals.now.items) }
+    ensures { Checks (context_of names.now) (map plain_total totals.now.items) (Classifier at)
+        result (map plain_total totals.now.items) }
 {
     require(!names.in_define, CheckKind::MeasureOnly, at)?;
     let classes = names.classes.clone()?;
@@ -104,7 +109,9 @@ fn grouped(
     lefts: Vec<(Resolved, Operation)>,
     last: Resolved,
 ) -> Result<Resolved, CheckFault>
-    ensures { (x : Context) (before : List Kept) (ps : List (Term × Operation)) (mid : List Kept) (t : Term) (now : List Kept) → AreLefts x before ps lefts.items mid → Resolves x mid t last now → Checks x before (wrapped ps t) result now }
+    ensures { (x : Context) (before : List PlainTotal) (ps : List (Term × Operation)) (mid : List PlainTotal)
+        (t : Term) (now : List PlainTotal) → AreLefts x before ps lefts.items mid
+        → Resolves x mid t last now → Checks x before (wrapped ps t) result now }
 {
     let mut lefts = lefts;
     let mut right = last;
@@ -121,7 +128,8 @@ pub(crate) fn resolve(
     totals: &mut Vec<Total>,
     expr: &Written,
 ) -> Result<Resolved, CheckFault>
-    ensures { Checks (context_of names.now) (map kept_of totals.old.items) (term_of expr.now) result (map kept_of totals.new.items) }
+    ensures { Checks (context_of names.now) (map plain_total totals.old.items) (term_of expr.now)
+        result (map plain_total totals.new.items) }
 {
     match expr {
         Written::Number { value, .. } => Ok(Resolved::Value(number_literal(*value), Kind::Int)),

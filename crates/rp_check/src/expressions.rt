@@ -1,18 +1,13 @@
 //! The expressions of MEASURES and DEFINE, and the skip's variable.
 
-ghost use Rattle.std.specs.Prelude.{◌≡◌, ◌++◌, Some, map};
+ghost use Rattle.std.specs.Prelude.{◌≡◌, map};
 ghost use Rattle.rp_syntax.specs.Terms.{term_of};
 ghost use Rattle.rp_syntax.specs.Clauses.{measure_tree, definition_tree};
-ghost use Rattle.rp_check.specs.Formulas.{kept_of, value_formula, condition_formula};
+ghost use Rattle.rp_check.specs.Formulas.{plain_total, value_formula, condition_formula};
 ghost use Rattle.rp_check.specs.Context.{context_of};
-ghost use Rattle.rp_check.specs.Sorts.{sort_of, may_be_value, may_be_condition};
-ghost use Rattle.rp_check.specs.ExprFaults.{unless, expr_faults};
-ghost use Rattle.rp_check.specs.ClauseFaults.{each, measure_faults, definition_faults, skip_faults};
-ghost use Rattle.rp_check.specs.Resolved.{resolved};
-ghost use Rattle.rp_check.specs.Resolved.{totals as totals_in};
-ghost use Rattle.rp_check.specs.Queries.{formulas, totals_of, terms_of_measures, terms_of_definitions, rule_of, rule_meant};
-ghost use Rattle.rp_check.specs.Checked.{Answers};
-ghost use Rattle.rp_check.specs.declared.fault.CheckKind.TheVariants.{KindMismatch};
+ghost use Rattle.rp_check.specs.ClauseFaults.{each, value_faults, condition_faults, measure_faults, definition_faults, skip_faults};
+ghost use Rattle.rp_check.specs.Queries.{IsResolved, AreResolved, terms_of_measures, terms_of_definitions, rule_of, rule_meant};
+ghost use Rattle.rp_check.specs.Checked.{FirstFaultOr};
 
 use crate::expr::resolve;
 use crate::fault::{CheckFault, CheckKind};
@@ -32,8 +27,9 @@ fn measured(
     at: usize,
     expr: &Written,
 ) -> Result<Expr, CheckFault>
-    ensures { Answers (expr_faults (context_of names.now) (term_of expr.now) ++ unless (may_be_value (sort_of (context_of names.now) (term_of expr.now))) KindMismatch at)
-        (λ e. (value_formula e ≡ resolved (context_of names.now) (map kept_of totals.old.items) (term_of expr.now)) × (map kept_of totals.new.items ≡ map kept_of totals.old.items ++ totals_in (context_of names.now) (term_of expr.now))) result }
+    ensures { FirstFaultOr (value_faults (context_of names.now) (term_of expr.now) at)
+        (λ e. IsResolved (context_of names.now) (map plain_total totals.old.items) (term_of expr.now)
+        (value_formula e) (map plain_total totals.new.items)) result }
 {
     let found = resolve(alloc, names, totals, expr)?;
     match value(found) {
@@ -50,8 +46,9 @@ fn defined(
     at: usize,
     expr: &Written,
 ) -> Result<Condition, CheckFault>
-    ensures { Answers (expr_faults (context_of names.now) (term_of expr.now) ++ unless (may_be_condition (sort_of (context_of names.now) (term_of expr.now))) KindMismatch at)
-        (λ c. (condition_formula c ≡ resolved (context_of names.now) (map kept_of totals.old.items) (term_of expr.now)) × (map kept_of totals.new.items ≡ map kept_of totals.old.items ++ totals_in (context_of names.now) (term_of expr.now))) result }
+    ensures { FirstFaultOr (condition_faults (context_of names.now) (term_of expr.now) at)
+        (λ c. IsResolved (context_of names.now) (map plain_total totals.old.items) (term_of expr.now)
+        (condition_formula c) (map plain_total totals.new.items)) result }
 {
     let found = resolve(alloc, names, totals, expr)?;
     match condition(found) {
@@ -67,8 +64,10 @@ pub(crate) fn measures(
     totals: &mut Vec<Total>,
     written: &[Measure],
 ) -> Result<Vec<Expr>, CheckFault>
-    ensures { Answers (each (measure_faults (context_of names.now)) (map measure_tree written.now))
-        (λ es. (map value_formula es.items ≡ formulas (context_of names.now) (map kept_of totals.old.items) (terms_of_measures (map measure_tree written.now))) × (map kept_of totals.new.items ≡ map kept_of totals.old.items ++ totals_of (context_of names.now) (terms_of_measures (map measure_tree written.now)))) result }
+    ensures { FirstFaultOr (each (measure_faults (context_of names.now)) (map measure_tree written.now))
+        (λ es. AreResolved (context_of names.now) (map plain_total totals.old.items)
+        (terms_of_measures (map measure_tree written.now)) (map value_formula es.items)
+        (map plain_total totals.new.items)) result }
 {
     let mut exprs = Vec::new(alloc);
     for i in 0..written.len() {
@@ -86,8 +85,10 @@ pub(crate) fn conditions(
     totals: &mut Vec<Total>,
     written: &[Definition],
 ) -> Result<Vec<Condition>, CheckFault>
-    ensures { Answers (each (definition_faults (context_of names.now)) (map definition_tree written.now))
-        (λ cs. (map condition_formula cs.items ≡ formulas (context_of names.now) (map kept_of totals.old.items) (terms_of_definitions (map definition_tree written.now))) × (map kept_of totals.new.items ≡ map kept_of totals.old.items ++ totals_of (context_of names.now) (terms_of_definitions (map definition_tree written.now)))) result }
+    ensures { FirstFaultOr (each (definition_faults (context_of names.now)) (map definition_tree written.now))
+        (λ cs. AreResolved (context_of names.now) (map plain_total totals.old.items)
+        (terms_of_definitions (map definition_tree written.now)) (map condition_formula cs.items)
+        (map plain_total totals.new.items)) result }
 {
     let mut conditions = Vec::new(alloc);
     for i in 0..written.len() {
@@ -100,7 +101,8 @@ pub(crate) fn conditions(
 
 /// The skip rule, with its name resolved.
 pub(crate) fn skip_to(alloc: Global, names: &Names, skip: &Skip) -> Result<SkipTo, CheckFault>
-    ensures { Answers (skip_faults (context_of names.now) skip.now) (λ s. rule_of s ≡ rule_meant (context_of names.now) skip.now) result }
+    ensures { FirstFaultOr (skip_faults (context_of names.now) skip.now)
+        (λ s. rule_of s ≡ rule_meant (context_of names.now) skip.now) result }
 {
     match skip {
         Skip::PastLastRow => Ok(SkipTo::PastLastRow),

@@ -4,7 +4,7 @@ ghost use Rattle.std.specs.Prelude.{◌≡◌, ◌++◌, ◌||◌, length, map, 
 ghost use Rattle.std.specs.List.{list_any};
 ghost use Rattle.rp_syntax.specs.Clauses.{union_tree, definition_tree, measure_tree};
 ghost use Rattle.rp_check.specs.Context.{naming_of, column_named, is_name};
-ghost use Rattle.rp_check.specs.Checked.{Answers};
+ghost use Rattle.rp_check.specs.Checked.{FirstFaultOr};
 ghost use Rattle.rp_check.specs.ClauseFaults.{each, member_faults, union_faults, partition_faults, order_faults, defined_faults, output_faults, shown_names};
 ghost use Rattle.rp_check.specs.ExprFaults.{unless};
 ghost use Rattle.rp_check.specs.Queries.{order_column};
@@ -64,7 +64,7 @@ fn is_variable(name: &Text, variables: &[Text]) -> bool
 
 /// The number of a variable.
 fn member(variables: &[Text], name: &Name) -> Result<usize, CheckFault>
-    ensures { Answers (unless (is_among name.now.text variables.now) UnknownVariable name.now.at)
+    ensures { FirstFaultOr (unless (is_among name.now.text variables.now) UnknownVariable name.now.at)
         (λ number. number ≡ number_of name.now.text variables.now) result }
 {
     require(
@@ -78,7 +78,8 @@ fn member(variables: &[Text], name: &Name) -> Result<usize, CheckFault>
 /// A number behind those before it, unless it is one of them.
 fn add_number(numbers: &mut Vec<usize>, number: usize) -> Result<(), AllocError>
     ensures { OnOk result (numbers.new.items
-        ≡ (if list_any (λ k. nat_eq k number) numbers.old.items then numbers.old.items else (numbers.old.items ++ number ∷ []))) }
+        ≡ (if list_any (λ k. nat_eq k number) numbers.old.items then numbers.old.items
+        else (numbers.old.items ++ number ∷ []))) }
 {
     if numbers.contains(&number) {
         return Ok(());
@@ -89,7 +90,7 @@ fn add_number(numbers: &mut Vec<usize>, number: usize) -> Result<(), AllocError>
 
 /// The numbers of a union's members, each once.
 fn members(alloc: Global, variables: &[Text], names: &[Name]) -> Result<Vec<usize>, CheckFault>
-    ensures { Answers (each (member_faults variables.now) names.now)
+    ensures { FirstFaultOr (each (member_faults variables.now) names.now)
         (λ numbers. numbers.items ≡ with_members variables.now [] names.now) result }
 {
     let mut numbers = Vec::new(alloc);
@@ -115,7 +116,8 @@ fn is_union(name: &Text, unions: &[Union]) -> bool
 
 /// Whether a variable or one of these unions has the name.
 fn is_known(name: &Text, variables: &[Text], unions: &[Union]) -> bool
-    ensures { result ≡ (is_among name.now variables.now || is_among name.now (map (λ u. u.name.text) (map union_tree unions.now))) }
+    ensures { result ≡ (is_among name.now variables.now
+        || is_among name.now (map (λ u. u.name.text) (map union_tree unions.now))) }
 {
     is_variable(name, variables) || is_union(name, unions)
 }
@@ -127,7 +129,7 @@ fn union_set(
     earlier: &[Union],
     union: &Union,
 ) -> Result<NamedSet, CheckFault>
-    ensures { Answers (union_faults variables.now (map union_tree earlier.now) (union_tree union.now))
+    ensures { FirstFaultOr (union_faults variables.now (map union_tree earlier.now) (union_tree union.now))
         (λ s. naming_of s ≡ union_of variables.now (union_tree union.now)) result }
 {
     let is_double = is_known(&union.name.text, variables, earlier);
@@ -144,8 +146,9 @@ pub(crate) fn add_unions(
     sets: &mut Vec<NamedSet>,
     unions: &[Union],
 ) -> Result<(), CheckFault>
-    ensures { Answers (each (union_faults variables.now) (map union_tree unions.now))
-        (λ u. map naming_of sets.new.items ≡ map naming_of sets.old.items ++ map (union_of variables.now) (map union_tree unions.now)) result }
+    ensures { FirstFaultOr (each (union_faults variables.now) (map union_tree unions.now))
+        (λ u. map naming_of sets.new.items
+        ≡ map naming_of sets.old.items ++ map (union_of variables.now) (map union_tree unions.now)) result }
 {
     for i in 0..unions.len() {
         let set = union_set(alloc, variables, &unions[..i], &unions[i])?;
@@ -156,7 +159,8 @@ pub(crate) fn add_unions(
 
 /// The number of a column, from 1, which isn't listed twice.
 fn listed_column(columns: &[Column], name: &Name, is_double: bool) -> Result<usize, CheckFault>
-    ensures { Answers (unless (is_some (column_named name.now.text columns.now)) UnknownColumn name.now.at ++ unless (not is_double) DoubleName name.now.at)
+    ensures { FirstFaultOr (unless (is_some (column_named name.now.text columns.now)) UnknownColumn name.now.at
+        ++ unless (not is_double) DoubleName name.now.at)
         (λ number. number ≡ number_at (column_named name.now.text columns.now)) result }
 {
     match column_named(&name.text, columns) {
@@ -170,7 +174,8 @@ fn listed_column(columns: &[Column], name: &Name, is_double: bool) -> Result<usi
 
 /// A column of PARTITION BY behind these.
 fn partition_column(columns: &[Column], earlier: &[Name], name: &Name) -> Result<usize, CheckFault>
-    ensures { Answers (partition_faults columns.now earlier.now name.now) (λ number. number ≡ number_at (column_named name.now.text columns.now)) result }
+    ensures { FirstFaultOr (partition_faults columns.now earlier.now name.now)
+        (λ number. number ≡ number_at (column_named name.now.text columns.now)) result }
 {
     let is_double = is_among(&name.text, earlier);
     listed_column(columns, name, is_double)
@@ -182,7 +187,7 @@ pub(crate) fn partition_columns(
     columns: &[Column],
     partition: &[Name],
 ) -> Result<Vec<usize>, CheckFault>
-    ensures { Answers (each (partition_faults columns.now) partition.now)
+    ensures { FirstFaultOr (each (partition_faults columns.now) partition.now)
         (λ numbers. numbers.items ≡ map (λ n. number_at (column_named n.text columns.now)) partition.now) result }
 {
     let mut numbers = Vec::new(alloc);
@@ -217,7 +222,8 @@ fn is_ordered(name: &Text, order: &[Order]) -> bool
 
 /// Whether the partition or one of these has the column.
 pub(crate) fn is_taken(name: &Text, partition: &[Name], order: &[Order]) -> bool
-    ensures { result ≡ (is_among name.now (map (λ n. n.text) partition.now) || is_among name.now (map (λ n. n.text) (map (λ o. o.name) order.now))) }
+    ensures { result ≡ (is_among name.now (map (λ n. n.text) partition.now)
+        || is_among name.now (map (λ n. n.text) (map (λ o. o.name) order.now))) }
 {
     is_among(name, partition) || is_ordered(name, order)
 }
@@ -229,7 +235,8 @@ fn ordered_by(
     earlier: &[Order],
     order: &Order,
 ) -> Result<OrderColumn, CheckFault>
-    ensures { Answers (order_faults columns.now partition.now (map (λ o. o.name) earlier.now) order.now.name) (λ o. o ≡ order_column columns.now order.now) result }
+    ensures { FirstFaultOr (order_faults columns.now partition.now (map (λ o. o.name) earlier.now) order.now.name)
+        (λ o. o ≡ order_column columns.now order.now) result }
 {
     let is_double = is_taken(&order.name.text, partition, earlier);
     let column = listed_column(columns, &order.name, is_double)?;
@@ -244,7 +251,7 @@ pub(crate) fn order_columns(
     partition: &[Name],
     order: &[Order],
 ) -> Result<Vec<OrderColumn>, CheckFault>
-    ensures { Answers (each (order_faults columns.now partition.now) (map (λ o. o.name) order.now))
+    ensures { FirstFaultOr (each (order_faults columns.now partition.now) (map (λ o. o.name) order.now))
         (λ os. os.items ≡ map (order_column columns.now) order.now) result }
 {
     let mut numbers = Vec::new(alloc);
@@ -274,7 +281,9 @@ fn allow_definition(
     earlier: &[Definition],
     definition: &Definition,
 ) -> Result<(), CheckFault>
-    ensures { Answers (defined_faults variables.now (map definition_tree earlier.now) (definition_tree definition.now)) (λ u. Unit {0}) result }
+    ensures { FirstFaultOr
+        (defined_faults variables.now (map definition_tree earlier.now) (definition_tree definition.now))
+        (λ u. Unit {0}) result }
 {
     member(variables, &definition.name)?;
     let is_double = is_defined(&definition.name.text, earlier);
@@ -287,7 +296,8 @@ pub(crate) fn allow_definitions(
     variables: &[Text],
     definitions: &[Definition],
 ) -> Result<(), CheckFault>
-    ensures { Answers (each (defined_faults variables.now) (map definition_tree definitions.now)) (λ u. Unit {0}) result }
+    ensures { FirstFaultOr (each (defined_faults variables.now) (map definition_tree definitions.now))
+        (λ u. Unit {0}) result }
 {
     for i in 0..definitions.len() {
         allow_definition(variables, &definitions[..i], &definitions[i])?;
@@ -341,7 +351,10 @@ fn allow_measure(
     earlier: &[Measure],
     measure: &Measure,
 ) -> Result<(), CheckFault>
-    ensures { Answers (output_faults (shown_names rows partition.now columns.now) (map measure_tree earlier.now) (measure_tree measure.now)) (λ u. Unit {0}) result }
+    ensures { FirstFaultOr
+        (output_faults (shown_names rows partition.now columns.now) (map measure_tree earlier.now)
+        (measure_tree measure.now))
+        (λ u. Unit {0}) result }
 {
     let name = &measure.name;
     let is_double = is_given(&name.text, rows, partition, columns, earlier);
@@ -357,7 +370,8 @@ fn is_given(
     columns: &[Column],
     earlier: &[Measure],
 ) -> bool
-    ensures { result ≡ (is_among name.now (shown_names rows partition.now columns.now) || is_among name.now (map (λ m. m.name.text) (map measure_tree earlier.now))) }
+    ensures { result ≡ (is_among name.now (shown_names rows partition.now columns.now)
+        || is_among name.now (map (λ m. m.name.text) (map measure_tree earlier.now))) }
 {
     is_shown(name, rows, partition, columns) || is_measure(name, earlier)
 }
@@ -369,7 +383,9 @@ pub(crate) fn allow_measures(
     columns: &[Column],
     measures: &[Measure],
 ) -> Result<(), CheckFault>
-    ensures { Answers (each (output_faults (shown_names rows partition.now columns.now)) (map measure_tree measures.now)) (λ u. Unit {0}) result }
+    ensures { FirstFaultOr
+        (each (output_faults (shown_names rows partition.now columns.now)) (map measure_tree measures.now))
+        (λ u. Unit {0}) result }
 {
     for i in 0..measures.len() {
         allow_measure(rows, partition, columns, &measures[..i], &measures[i])?;

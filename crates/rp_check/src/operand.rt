@@ -1,14 +1,14 @@
 //! Operators.
 
-ghost use Rattle.std.specs.Prelude.{◌≡◌, true, false, Some, IfOk, MatchOption, pos};
+ghost use Rattle.std.specs.Prelude.{◌≡◌, true, false, IfOk, MatchOption, pos};
 ghost use Rattle.rp_value.specs.declared.value.Value.TheVariants as value;
 ghost use Rattle.rp_value.specs.declared.value.Kind.TheVariants as kind_as;
 ghost use Rattle.rp_check.specs.Formulas.{value_formula, condition_formula};
 ghost use Rattle.rp_check.specs.Formulas as formula;
-ghost use Rattle.rp_check.specs.Sorts.{Valued, Judged, may_be_number, may_be_text, may_be_value, may_be_condition, numbers, conditions, comparable, takes, operator_sort};
+ghost use Rattle.rp_check.specs.Sorts.{Valued, Truth, may_be_number, may_be_text, may_be_value, may_be_condition, numbers, conditions, comparable, takes, operator_sort};
 ghost use Rattle.rp_check.specs.ExprFaults.{unless};
 ghost use Rattle.rp_check.specs.Resolved.{operated, nullness};
-ghost use Rattle.rp_check.specs.Checked.{Answers, sort_in, formula_in};
+ghost use Rattle.rp_check.specs.Checked.{FirstFaultOr, Is, formula_in, sort_known};
 ghost use Rattle.rp_check.specs.declared.fault.CheckKind.TheVariants.{KindMismatch};
 ghost use Rattle.rp_check.specs.declared.plan.Operation.TheVariants.{Minus};
 
@@ -22,7 +22,8 @@ use std::alloc::{AllocError, Global};
 
 /// The expression of a value.
 pub(crate) fn value(operand: Resolved) -> Option<Expr>
-    ensures { MatchOption result (may_be_value (Some (sort_in operand)) ≡ false) (λ e. (may_be_value (Some (sort_in operand)) ≡ true) × (value_formula e ≡ formula_in operand)) }
+    ensures { MatchOption result (may_be_value (sort_known operand) ≡ false)
+        (λ e. (may_be_value (sort_known operand) ≡ true) × (value_formula e ≡ formula_in operand)) }
 {
     match operand {
         Resolved::Value(expr, _) => Some(expr),
@@ -32,7 +33,8 @@ pub(crate) fn value(operand: Resolved) -> Option<Expr>
 
 /// The expression of a whole number.
 fn number(operand: Resolved) -> Option<Expr>
-    ensures { MatchOption result (may_be_number (Some (sort_in operand)) ≡ false) (λ e. (may_be_number (Some (sort_in operand)) ≡ true) × (value_formula e ≡ formula_in operand)) }
+    ensures { MatchOption result (may_be_number (sort_known operand) ≡ false)
+        (λ e. (may_be_number (sort_known operand) ≡ true) × (value_formula e ≡ formula_in operand)) }
 {
     match operand {
         Resolved::Value(expr, Kind::Int) => Some(expr),
@@ -43,7 +45,8 @@ fn number(operand: Resolved) -> Option<Expr>
 
 /// The condition, if it is one.
 pub(crate) fn condition(operand: Resolved) -> Option<Condition>
-    ensures { MatchOption result (may_be_condition (Some (sort_in operand)) ≡ false) (λ c. (may_be_condition (Some (sort_in operand)) ≡ true) × (condition_formula c ≡ formula_in operand)) }
+    ensures { MatchOption result (may_be_condition (sort_known operand) ≡ false)
+        (λ c. (may_be_condition (sort_known operand) ≡ true) × (condition_formula c ≡ formula_in operand)) }
 {
     match operand {
         Resolved::Value(_, _) => None,
@@ -57,7 +60,8 @@ fn calculated(
     left: Expr,
     right: Expr,
 ) -> Result<Expr, AllocError>
-    ensures { IfOk result (λ e. value_formula e ≡ formula.Arithmetic operation (value_formula left) (value_formula right)) }
+    ensures { IfOk result
+        (λ e. value_formula e ≡ formula.Arithmetic operation (value_formula left) (value_formula right)) }
 {
     let left = Box::new(alloc, left)?;
     let right = Box::new(alloc, right)?;
@@ -95,7 +99,9 @@ fn arithmetic(
     left: Resolved,
     right: Resolved,
 ) -> Result<Resolved, CheckFault>
-    ensures { Answers (unless (numbers (Some (sort_in left)) (Some (sort_in right))) KindMismatch at) (λ r. (sort_in r ≡ Valued kind_as.Int) × (formula_in r ≡ formula.Arithmetic operation (formula_in left) (formula_in right))) result }
+    ensures { FirstFaultOr (unless (numbers (sort_known left) (sort_known right)) KindMismatch at)
+        (Is (Valued kind_as.Int) (formula.Arithmetic operation (formula_in left) (formula_in right)))
+        result }
 {
     let Some(left) = number(left) else {
         return Err(fault(CheckKind::KindMismatch, at));
@@ -113,7 +119,9 @@ fn conjunction(
     left: Resolved,
     right: Resolved,
 ) -> Result<Resolved, CheckFault>
-    ensures { Answers (unless (conditions (Some (sort_in left)) (Some (sort_in right))) KindMismatch at) (λ r. (sort_in r ≡ Judged) × (formula_in r ≡ formula.And (formula_in left) (formula_in right))) result }
+    ensures { FirstFaultOr (unless (conditions (sort_known left) (sort_known right)) KindMismatch at)
+        (Is Truth (formula.And (formula_in left) (formula_in right)))
+        result }
 {
     let Some(left) = condition(left) else {
         return Err(fault(CheckKind::KindMismatch, at));
@@ -131,7 +139,9 @@ fn disjunction(
     left: Resolved,
     right: Resolved,
 ) -> Result<Resolved, CheckFault>
-    ensures { Answers (unless (conditions (Some (sort_in left)) (Some (sort_in right))) KindMismatch at) (λ r. (sort_in r ≡ Judged) × (formula_in r ≡ formula.Or (formula_in left) (formula_in right))) result }
+    ensures { FirstFaultOr (unless (conditions (sort_known left) (sort_known right)) KindMismatch at)
+        (Is Truth (formula.Or (formula_in left) (formula_in right)))
+        result }
 {
     let Some(left) = condition(left) else {
         return Err(fault(CheckKind::KindMismatch, at));
@@ -143,7 +153,7 @@ fn disjunction(
 }
 
 fn is_number(operand: &Resolved) -> bool
-    ensures { result ≡ may_be_number (Some (sort_in operand.now)) }
+    ensures { result ≡ may_be_number (sort_known operand.now) }
 {
     match operand {
         Resolved::Value(_, Kind::Int) => true,
@@ -153,7 +163,7 @@ fn is_number(operand: &Resolved) -> bool
 }
 
 fn is_text(operand: &Resolved) -> bool
-    ensures { result ≡ may_be_text (Some (sort_in operand.now)) }
+    ensures { result ≡ may_be_text (sort_known operand.now) }
 {
     match operand {
         Resolved::Value(_, Kind::Int) => false,
@@ -164,7 +174,7 @@ fn is_text(operand: &Resolved) -> bool
 
 /// Whether both are whole numbers, or both texts.
 fn are_comparable(left: &Resolved, right: &Resolved) -> bool
-    ensures { result ≡ comparable (Some (sort_in left.now)) (Some (sort_in right.now)) }
+    ensures { result ≡ comparable (sort_known left.now) (sort_known right.now) }
 {
     (is_number(left) && is_number(right)) || (is_text(left) && is_text(right))
 }
@@ -176,7 +186,9 @@ fn compared(
     left: Resolved,
     right: Resolved,
 ) -> Result<Resolved, CheckFault>
-    ensures { Answers (unless (comparable (Some (sort_in left)) (Some (sort_in right))) KindMismatch at) (λ r. (sort_in r ≡ Judged) × (formula_in r ≡ formula.Compare comparison (formula_in left) (formula_in right))) result }
+    ensures { FirstFaultOr (unless (comparable (sort_known left) (sort_known right)) KindMismatch at)
+        (Is Truth (formula.Compare comparison (formula_in left) (formula_in right)))
+        result }
 {
     require(are_comparable(&left, &right), CheckKind::KindMismatch, at)?;
     let Some(left) = value(left) else {
@@ -195,7 +207,10 @@ pub(crate) fn operated(
     left: Resolved,
     right: Resolved,
 ) -> Result<Resolved, CheckFault>
-    ensures { Answers (unless (takes operation.operator (Some (sort_in left)) (Some (sort_in right))) KindMismatch operation.at) (λ r. (sort_in r ≡ operator_sort operation.operator) × (formula_in r ≡ operated operation.operator (formula_in left) (formula_in right))) result }
+    ensures { FirstFaultOr
+        (unless (takes operation.operator (sort_known left) (sort_known right)) KindMismatch operation.at)
+        (Is (operator_sort operation.operator) (operated operation.operator (formula_in left) (formula_in right)))
+        result }
 {
     match operation.operator {
         Operator::Or => disjunction(alloc, operation.at, left, right),
@@ -219,7 +234,9 @@ pub(crate) fn operated(
 
 /// Zero less the operand.
 pub(crate) fn negative(alloc: Global, at: usize, body: Resolved) -> Result<Resolved, CheckFault>
-    ensures { Answers (unless (may_be_number (Some (sort_in body))) KindMismatch at) (λ r. (sort_in r ≡ Valued kind_as.Int) × (formula_in r ≡ formula.Arithmetic Minus (formula.Literal (value.Int (pos 0))) (formula_in body))) result }
+    ensures { FirstFaultOr (unless (may_be_number (sort_known body)) KindMismatch at)
+        (Is (Valued kind_as.Int) (formula.Arithmetic Minus (formula.Literal (value.Int (pos 0))) (formula_in body)))
+        result }
 {
     let Some(body) = number(body) else {
         return Err(fault(CheckKind::KindMismatch, at));
@@ -230,7 +247,8 @@ pub(crate) fn negative(alloc: Global, at: usize, body: Resolved) -> Result<Resol
 
 /// NOT of a condition.
 pub(crate) fn inverted(alloc: Global, at: usize, body: Resolved) -> Result<Resolved, CheckFault>
-    ensures { Answers (unless (may_be_condition (Some (sort_in body))) KindMismatch at) (λ r. (sort_in r ≡ Judged) × (formula_in r ≡ formula.Not (formula_in body))) result }
+    ensures { FirstFaultOr (unless (may_be_condition (sort_known body)) KindMismatch at)
+        (Is Truth (formula.Not (formula_in body))) result }
 {
     let Some(body) = condition(body) else {
         return Err(fault(CheckKind::KindMismatch, at));
@@ -245,7 +263,8 @@ pub(crate) fn null_test(
     negate: bool,
     body: Resolved,
 ) -> Result<Resolved, CheckFault>
-    ensures { Answers (unless (may_be_value (Some (sort_in body))) KindMismatch at) (λ r. (sort_in r ≡ Judged) × (formula_in r ≡ nullness negate (formula_in body))) result }
+    ensures { FirstFaultOr (unless (may_be_value (sort_known body)) KindMismatch at)
+        (Is Truth (nullness negate (formula_in body))) result }
 {
     let Some(body) = value(body) else {
         return Err(fault(CheckKind::KindMismatch, at));

@@ -13,7 +13,7 @@ ghost use Rattle.rp_check.specs.Shapes.{shape_of};
 ghost use Rattle.rp_check.specs.Joints.{tree_joint, shape_joint};
 ghost use Rattle.rp_check.specs.Reading.{Reads, ReadsAll, all_faults, exclusion_among, one_at_least};
 ghost use Rattle.rp_check.specs.Context.{is_name};
-ghost use Rattle.rp_check.specs.Checked.{Answers};
+ghost use Rattle.rp_check.specs.Checked.{FirstFaultOr};
 
 use crate::fault::{CheckFault, CheckKind};
 use crate::place::require;
@@ -47,7 +47,7 @@ pub(crate) fn number_of(name: &Text, names: &[Text]) -> usize
 
 /// A variable, whose name is put behind those before it where it isn't among them.
 fn variable(alloc: Global, names: &mut Vec<Text>, name: &Name) -> Result<Form, CheckFault>
-    ensures { Answers [] (Reads names.old.items (tree.Variable name.now) names.new.items) result }
+    ensures { FirstFaultOr [] (Reads names.old.items (tree.Variable name.now) names.new.items) result }
 {
     let number = number_of(&name.text, names.as_slice());
     if number < names.len() {
@@ -118,7 +118,8 @@ fn one_at_least(parts: Vec<Form>) -> Result<Vec<Form>, AllocError>
 /// The parts in any order. PERMUTE of nothing is that of the empty pattern.
 fn in_any_order(alloc: Global, parts: Vec<Form>) -> Result<Form, AllocError>
     requires { length parts.items ≤ 8 }
-    ensures shape { IfOk result (λ f. shape_of f ≡ shape.Permute (shape.joined_all shape.Beside (map shape_of parts.items))) }
+    ensures shape { IfOk result
+        (λ f. shape_of f ≡ shape.Permute (shape.joined_all shape.Beside (map shape_of parts.items))) }
     ensures allowed { IfOk result (λ f. all_true (map is_allowed parts.items) ≡ true → is_allowed f ≡ true) }
 {
     let some = one_at_least(parts)?;
@@ -147,7 +148,8 @@ fn bounds_hold(lower: u64, upper: Option<Bound>) -> bool
 /// The body again and again.
 fn repeated(alloc: Global, body: Form, quantifier: Quantifier) -> Result<Form, AllocError>
     requires { bounds_hold quantifier.lower.count (option_map (λ b. b.count) quantifier.upper) ≡ true }
-    ensures shape { IfOk result (λ f. shape_of f ≡ shape.Quantified (shape_of body) quantifier.lower.count (option_map (λ b. b.count) quantifier.upper) quantifier.reluctant) }
+    ensures shape { let upper = option_map (λ b. b.count) quantifier.upper in IfOk result
+        (λ f. shape_of f ≡ shape.Quantified (shape_of body) quantifier.lower.count upper quantifier.reluctant) }
     ensures allowed { IfOk result (λ f. is_allowed f ≡ is_allowed body) }
 {
     let body = Rc::new(alloc, body)?;
@@ -174,7 +176,7 @@ fn read_all(
     names: &mut Vec<Text>,
     parts: &[Written],
 ) -> Result<Vec<Form>, CheckFault>
-    ensures { Answers (all_faults (map tree_of parts.now))
+    ensures { FirstFaultOr (all_faults (map tree_of parts.now))
         (λ fs. ReadsAll names.old.items (map tree_of parts.now) names.new.items fs.items) result }
 {
     let mut forms = Vec::new(alloc);
@@ -193,7 +195,7 @@ fn joined(
     parts: &[Written],
 ) -> Result<Form, CheckFault>
     ensures { let whole = tree.joined_all (tree_joint joint) (map tree_of parts.now) in
-        Answers (pattern_faults whole) (Reads names.old.items whole names.new.items) result }
+        FirstFaultOr (pattern_faults whole) (Reads names.old.items whole names.new.items) result }
 {
     let forms = read_all(alloc, names, parts)?;
     let form = join_all(alloc, joint, forms)?;
@@ -208,7 +210,7 @@ fn permutation(
     parts: &[Written],
 ) -> Result<Form, CheckFault>
     ensures { let whole = tree.Permute at (tree.joined_all tree.Beside (map tree_of parts.now)) in
-        Answers (pattern_faults whole) (Reads names.old.items whole names.new.items) result }
+        FirstFaultOr (pattern_faults whole) (Reads names.old.items whole names.new.items) result }
 {
     require(parts.len() <= MAX_PARTS, CheckKind::TooManyPermuted, at)?;
     let forms = read_all(alloc, names, parts)?;
@@ -224,7 +226,7 @@ fn exclusion(
     body: &Written,
 ) -> Result<Form, CheckFault>
     ensures { let whole = tree.Exclusion at (tree_of body.now) in
-        Answers (pattern_faults whole) (Reads names.old.items whole names.new.items) result }
+        FirstFaultOr (pattern_faults whole) (Reads names.old.items whole names.new.items) result }
 {
     let body = read(alloc, names, body)?;
     let form = hidden(alloc, body)?;
@@ -239,7 +241,7 @@ fn quantified(
     quantifier: Quantifier,
 ) -> Result<Form, CheckFault>
     ensures { let whole = tree.Quantified quantifier (tree_of body.now) in
-        Answers (pattern_faults whole) (Reads names.old.items whole names.new.items) result }
+        FirstFaultOr (pattern_faults whole) (Reads names.old.items whole names.new.items) result }
 {
     let body = read(alloc, names, body)?;
     let holds = bounds_hold(quantifier.lower.count, quantifier.upper);
@@ -255,7 +257,7 @@ pub(crate) fn read(
     names: &mut Vec<Text>,
     pattern: &Written,
 ) -> Result<Form, CheckFault>
-    ensures { Answers (pattern_faults (tree_of pattern.now))
+    ensures { FirstFaultOr (pattern_faults (tree_of pattern.now))
         (Reads names.old.items (tree_of pattern.now) names.new.items) result }
 {
     match pattern {

@@ -2,13 +2,12 @@
 
 ghost use Rattle.std.specs.Prelude.{◌≡◌, ◌++◌, true, map, length, Some, IsTrue, IfOk, IfErr, OnOk, nat_le};
 ghost use Rattle.rp_syntax.specs.Paths.{path_of, At, Move};
-ghost use Rattle.rp_check.specs.Formulas.{members_of, kept_of};
+ghost use Rattle.rp_check.specs.Formulas.{members_of, plain_total};
 ghost use Rattle.rp_check.specs.Context.{context_of, members_named};
-ghost use Rattle.rp_check.specs.Sorts.{Valued, column_sort, aggregate_sort, may_be_number};
-ghost use Rattle.rp_check.specs.ExprFaults.{unless, variable_faults, qualifier_faults, column_faults, scope_faults, nesting_faults, offset_faults, path_faults, counted_faults, function_faults, is_step, may_hold, scope_in};
-ghost use Rattle.rp_check.specs.Resolved.{members_meant, column_number, column_place, moved, rows_or, is_final, listed, rows_meant, total_counted, total_over};
-ghost use Rattle.rp_check.specs.Checked.{Answers, Navigates};
-ghost use Rattle.rp_check.specs.declared.fault.CheckKind.TheVariants.{KindMismatch};
+ghost use Rattle.rp_check.specs.Sorts.{Valued, column_sort, aggregate_sort};
+ghost use Rattle.rp_check.specs.ExprFaults.{unless, variable_faults, qualifier_faults, column_faults, scope_faults, nesting_faults, offset_faults, path_faults, counted_faults, sum_faults, function_faults, is_step, may_hold, scope_in};
+ghost use Rattle.rp_check.specs.Resolved.{unqualified, members_meant, column_number, column_place, moved, rows_or, is_final, listing_total, rows_meant, total_counted, total_over};
+ghost use Rattle.rp_check.specs.Checked.{FirstFaultOr, Navigates};
 
 use crate::fault::{CheckFault, CheckKind, Fault};
 use crate::names::{Names, among, column_named, set_named};
@@ -31,7 +30,7 @@ pub(crate) fn fault(kind: CheckKind, offset: usize) -> CheckFault
 
 /// A fault unless the test holds.
 pub(crate) fn require(test: bool, kind: CheckKind, offset: usize) -> Result<(), CheckFault>
-    ensures { Answers (unless test kind offset) (λ u. test ≡ true) result }
+    ensures { FirstFaultOr (unless test kind offset) (λ u. test ≡ true) result }
 {
     if test {
         return Ok(());
@@ -41,7 +40,8 @@ pub(crate) fn require(test: bool, kind: CheckKind, offset: usize) -> Result<(), 
 
 /// The rows of a pattern variable or a union.
 pub(crate) fn variables(alloc: Global, names: &Names, name: &Name) -> Result<Variables, CheckFault>
-    ensures { Answers (variable_faults (context_of names.now) name.now) (λ v. members_of v ≡ members_named name.now.text (context_of names.now).sets) result }
+    ensures { FirstFaultOr (variable_faults (context_of names.now) name.now)
+        (λ v. members_of v ≡ members_named name.now.text (context_of names.now).sets) result }
 {
     match set_named(&name.text, names.sets) {
         Some(set) => Ok(among(alloc, set)?),
@@ -55,7 +55,8 @@ fn qualified(
     names: &Names,
     qualifier: &Option<Name>,
 ) -> Result<Variables, CheckFault>
-    ensures { Answers (qualifier_faults (context_of names.now) qualifier.now) (λ v. members_of v ≡ members_meant (context_of names.now) qualifier.now) result }
+    ensures { FirstFaultOr (qualifier_faults (context_of names.now) qualifier.now)
+        (λ v. members_of v ≡ members_meant (context_of names.now) qualifier.now) result }
 {
     match qualifier {
         Some(name) => variables(alloc, names, name),
@@ -65,7 +66,10 @@ fn qualified(
 
 /// The number of a column, from 1, and its kind.
 fn column_of(names: &Names, name: &Name) -> Result<(usize, Kind), CheckFault>
-    ensures { Answers (column_faults (context_of names.now) (record { qualifier = None; name = name.now })) (λ c. (c.0 ≡ column_number (context_of names.now) (record { qualifier = None; name = name.now })) × (column_sort (context_of names.now) (record { qualifier = None; name = name.now }) ≡ Some (Valued c.1))) result }
+    ensures { let x = context_of names.now in
+        FirstFaultOr (column_faults x (unqualified name.now))
+        (λ c. (c.0 ≡ column_number x (unqualified name.now))
+        × (column_sort x (unqualified name.now) ≡ Some (Valued c.1))) result }
 {
     match column_named(&name.text, names.columns) {
         Some(k) => Ok((k + 1, names.columns[k].kind)),
@@ -79,7 +83,10 @@ fn column(
     names: &Names,
     column: &Column,
 ) -> Result<(Variables, usize, Kind), CheckFault>
-    ensures { Answers (column_faults (context_of names.now) column.now) (λ c. (members_of c.0 ≡ members_meant (context_of names.now) column.now.qualifier) × (c.1 ≡ column_number (context_of names.now) column.now) × (column_sort (context_of names.now) column.now ≡ Some (Valued c.2))) result }
+    ensures { let x = context_of names.now in
+        FirstFaultOr (column_faults x column.now)
+        (λ c. (members_of c.0 ≡ members_meant x column.now.qualifier)
+        × (c.1 ≡ column_number x column.now) × (column_sort x column.now ≡ Some (Valued c.2))) result }
 {
     let variables = qualified(alloc, names, &column.qualifier)?;
     let (number, kind) = column_of(names, &column.name)?;
@@ -88,7 +95,7 @@ fn column(
 
 /// FINAL may not stand in DEFINE.
 pub(crate) fn allow_scope(names: &Names, scope: Option<Scope>) -> Result<(), CheckFault>
-    ensures { Answers (scope_faults (context_of names.now) scope) (λ u. Unit {0}) result }
+    ensures { FirstFaultOr (scope_faults (context_of names.now) scope) (λ u. Unit {0}) result }
 {
     match scope {
         Some(scope) => {
@@ -123,7 +130,7 @@ fn is_step(movement: Movement) -> bool
 
 /// FIRST and LAST alone may stand in a navigation, and in PREV and NEXT alone.
 fn allow_nesting(outer: Movement, argument: &Path) -> Result<(), CheckFault>
-    ensures { Answers (nesting_faults outer (path_of argument.now)) (λ u. Unit {0}) result }
+    ensures { FirstFaultOr (nesting_faults outer (path_of argument.now)) (λ u. Unit {0}) result }
 {
     match argument {
         Path::Column(_) => Ok(()),
@@ -137,7 +144,7 @@ fn allow_nesting(outer: Movement, argument: &Path) -> Result<(), CheckFault>
 
 /// Offsets are at most 1,000.
 fn allow_offset(offset: Option<Offset>) -> Result<(), CheckFault>
-    ensures { Answers (offset_faults offset) (λ u. Unit {0}) result }
+    ensures { FirstFaultOr (offset_faults offset) (λ u. Unit {0}) result }
 {
     match offset {
         Some(offset) => {
@@ -205,8 +212,9 @@ fn moved_path(
     offset: Option<Offset>,
 ) -> Result<(Navigation, Kind), CheckFault>
     ensures { let path = Move movement 0 (path_of argument.now) offset in
-        Answers (path_faults (context_of names.now) path)
-        (Navigates (context_of names.now) (map kept_of totals.old.items) path (map kept_of totals.new.items)) result }
+        FirstFaultOr (path_faults (context_of names.now) path)
+        (Navigates (context_of names.now) (map plain_total totals.old.items) path (map plain_total totals.new.items))
+        result }
 {
     allow_scope(names, scope_in(movement))?;
     allow_nesting(movement, argument)?;
@@ -217,8 +225,10 @@ fn moved_path(
 
 /// The rows among which a navigation goes. Those of named variables get a total that lists them.
 fn rows_of(totals: &mut Vec<Total>, variables: Variables) -> Result<RowsOf, CheckFault>
-    ensures rows { IfOk result (λ rows. rows ≡ rows_meant (length (map kept_of totals.old.items)) (members_of variables)) }
-    ensures totals { OnOk result (map kept_of totals.new.items ≡ map kept_of totals.old.items ++ listed (members_of variables)) }
+    ensures rows { IfOk result
+        (λ rows. rows ≡ rows_meant (length (map plain_total totals.old.items)) (members_of variables)) }
+    ensures totals { OnOk result
+        (map plain_total totals.new.items ≡ map plain_total totals.old.items ++ listing_total (members_of variables)) }
     ensures refused { IfErr result (λ e. e ≡ CheckFault.OutOfMemory) }
 {
     match variables {
@@ -241,8 +251,9 @@ fn plain(
     totals: &mut Vec<Total>,
     reference: &Column,
 ) -> Result<(Navigation, Kind), CheckFault>
-    ensures { Answers (column_faults (context_of names.now) reference.now)
-        (Navigates (context_of names.now) (map kept_of totals.old.items) (At reference.now) (map kept_of totals.new.items)) result }
+    ensures { FirstFaultOr (column_faults (context_of names.now) reference.now)
+        (Navigates (context_of names.now) (map plain_total totals.old.items) (At reference.now)
+        (map plain_total totals.new.items)) result }
 {
     let (variables, column, kind) = column(alloc, names, reference)?;
     let rows_of = rows_of(totals, variables)?;
@@ -265,8 +276,9 @@ pub(crate) fn navigation(
     totals: &mut Vec<Total>,
     path: &Path,
 ) -> Result<(Navigation, Kind), CheckFault>
-    ensures { Answers (path_faults (context_of names.now) (path_of path.now))
-        (Navigates (context_of names.now) (map kept_of totals.old.items) (path_of path.now) (map kept_of totals.new.items)) result }
+    ensures { FirstFaultOr (path_faults (context_of names.now) (path_of path.now))
+        (Navigates (context_of names.now) (map plain_total totals.old.items) (path_of path.now)
+        (map plain_total totals.new.items)) result }
 {
     match path {
         Path::Column(reference) => plain(alloc, names, totals, reference),
@@ -281,8 +293,8 @@ pub(crate) fn navigation(
 
 /// What COUNT goes over.
 fn counted(alloc: Global, names: &Names, argument: &Counted) -> Result<Total, CheckFault>
-    ensures { Answers (counted_faults (context_of names.now) argument.now)
-        (λ t. kept_of t ≡ total_counted (context_of names.now) argument.now) result }
+    ensures { FirstFaultOr (counted_faults (context_of names.now) argument.now)
+        (λ t. plain_total t ≡ total_counted (context_of names.now) argument.now) result }
 {
     match argument {
         Counted::Rows => Ok(Total {
@@ -310,8 +322,9 @@ fn counted(alloc: Global, names: &Names, argument: &Counted) -> Result<Total, Ch
 
 /// SUM of a column, which must be of whole numbers.
 fn summed(alloc: Global, names: &Names, at: usize, reference: &Column) -> Result<Total, CheckFault>
-    ensures { Answers (column_faults (context_of names.now) reference.now ++ unless (may_be_number (column_sort (context_of names.now) reference.now)) KindMismatch at)
-        (λ t. (members_of t.variables ≡ members_meant (context_of names.now) reference.now.qualifier) × (t.function ≡ Function.Sum (column_number (context_of names.now) reference.now))) result }
+    ensures { FirstFaultOr (sum_faults (context_of names.now) at reference.now)
+        (λ t. (members_of t.variables ≡ members_meant (context_of names.now) reference.now.qualifier)
+        × (t.function ≡ Function.Sum (column_number (context_of names.now) reference.now))) result }
 {
     let (variables, number, kind) = column(alloc, names, reference)?;
     require(kind == Kind::Int, CheckKind::KindMismatch, at)?;
@@ -329,8 +342,9 @@ pub(crate) fn totalled(
     at: usize,
     function: &AggregateFunction,
 ) -> Result<(Total, Kind), CheckFault>
-    ensures { Answers (function_faults (context_of names.now) at function.now)
-        (λ t. (kept_of t.0 ≡ total_over (context_of names.now) function.now) × (aggregate_sort (context_of names.now) function.now ≡ Some (Valued t.1))) result }
+    ensures { FirstFaultOr (function_faults (context_of names.now) at function.now)
+        (λ t. (plain_total t.0 ≡ total_over (context_of names.now) function.now)
+        × (aggregate_sort (context_of names.now) function.now ≡ Some (Valued t.1))) result }
 {
     match function {
         AggregateFunction::Count(argument) => Ok((counted(alloc, names, argument)?, Kind::Int)),

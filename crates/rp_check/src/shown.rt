@@ -4,7 +4,7 @@ ghost use Rattle.std.specs.Prelude.{◌≡◌, ◌++◌, map, max, IfOk, OnOk};
 ghost use Rattle.std.specs.List.{position};
 ghost use Rattle.rp_value.specs.declared.value.Value.TheVariants as value;
 ghost use Rattle.rp_syntax.specs.Clauses.{measure_tree, definition_tree};
-ghost use Rattle.rp_check.specs.Queries.{definition_place, other, others, output_names, greatest};
+ghost use Rattle.rp_check.specs.Queries.{definition_place, other, others, output_names, texts, greatest};
 ghost use Rattle.rp_check.specs.Reach.{reach, condition_reach, rows_back};
 ghost use Rattle.rp_check.specs.Context.{is_name};
 
@@ -48,7 +48,8 @@ pub(crate) fn definition_places(
     variables: &[Text],
     definitions: &[Definition],
 ) -> Result<Vec<Option<usize>>, AllocError>
-    ensures { IfOk result (λ ps. ps.items ≡ map (definition_place (map definition_tree definitions.now)) variables.now) }
+    ensures { IfOk result
+        (λ ps. ps.items ≡ map (definition_place (map definition_tree definitions.now)) variables.now) }
 {
     let mut places = Vec::new(alloc);
     for name in variables {
@@ -80,7 +81,8 @@ fn add_measures(
     output: &mut Vec<Text>,
     measures: &[Measure],
 ) -> Result<(), AllocError>
-    ensures { OnOk result (output.new.items ≡ output.old.items ++ map (λ m. m.name.text) (map measure_tree measures.now)) }
+    ensures { OnOk result
+        (output.new.items ≡ output.old.items ++ map (λ m. m.name.text) (map measure_tree measures.now)) }
 {
     for measure in measures {
         output.push(measure.name.text.share(alloc)?)?;
@@ -96,7 +98,8 @@ fn add_other(
     order: &[Order],
     column: &Column,
 ) -> Result<(), AllocError>
-    ensures { OnOk result (output.new.items ≡ output.old.items ++ other (map (λ n. n.text) partition.now) (map (λ n. n.text) (map (λ o. o.name) order.now)) column.now) }
+    ensures { OnOk result (output.new.items
+        ≡ output.old.items ++ other (texts partition.now) (texts (map (λ o. o.name) order.now)) column.now) }
 {
     if is_taken(&column.name, partition, order) {
         return Ok(());
@@ -113,7 +116,8 @@ fn add_others(
     order: &[Order],
     columns: &[Column],
 ) -> Result<(), AllocError>
-    ensures { OnOk result (output.new.items ≡ output.old.items ++ others (map (λ n. n.text) partition.now) (map (λ n. n.text) (map (λ o. o.name) order.now)) columns.now) }
+    ensures { OnOk result (output.new.items
+        ≡ output.old.items ++ others (texts partition.now) (texts (map (λ o. o.name) order.now)) columns.now) }
 {
     for column in columns {
         add_other(alloc, output, partition, order, column)?;
@@ -130,7 +134,8 @@ pub(crate) fn output_names(
     measures: &[Measure],
     columns: &[Column],
 ) -> Result<Vec<Text>, AllocError>
-    ensures { IfOk result (λ names. names.items ≡ output_names rows (map (λ n. n.text) partition.now) (map (λ n. n.text) (map (λ o. o.name) order.now)) (map (λ m. m.name.text) (map measure_tree measures.now)) columns.now) }
+    ensures { let named = map (λ m. m.name.text) (map measure_tree measures.now) in IfOk result (λ names. names.items
+        ≡ output_names rows (texts partition.now) (texts (map (λ o. o.name) order.now)) named columns.now) }
 {
     let mut output = Vec::new(alloc);
     add_names(alloc, &mut output, partition)?;

@@ -1,6 +1,6 @@
 use Rattle.std.proofs.Common.{map, drop}
 use Rattle.rp_syntax.specs.Terms.{term_of, operand_of}
-use Rattle.rp_check.specs.Formulas.{kept_of}
+use Rattle.rp_check.specs.Formulas.{plain_total}
 use Rattle.rp_check.specs.Context.{context_of}
 use Rattle.rp_check.proofs.Chains.{SoFar, GoneThrough}
 use Rattle.rp_check.proofs.expr.+resolve.Given as goal
@@ -9,7 +9,7 @@ abbrev pub decreases-resolve : goal.decreases-resolve
 decreases-resolve l = goal.size-resolve l
 
 abbrev pub invariant-sums : goal.invariant-sums
-invariant-sums l = SoFar (context_of l.names) (map kept_of l.fn.totals.items) (term_of l.expr) l.sum (map kept_of l.totals.items) (map operand_of (drop l.operation-index l.operation-items))
+invariant-sums l = SoFar (context_of l.names) (map plain_total l.fn.totals.items) (term_of l.expr) l.sum (map plain_total l.totals.items) (map operand_of (drop l.operation-index l.operation-items))
 
 abbrev pub invariant-lasts : goal.invariant-lasts
-invariant-lasts l = GoneThrough (context_of l.names) (map kept_of l.fn.totals.items) (term_of l.expr) l.lefts.items l.last (map kept_of l.totals.items) (map operand_of (drop l.operation-index l.operation-items))
+invariant-lasts l = GoneThrough (context_of l.names) (map plain_total l.fn.totals.items) (term_of l.expr) l.lefts.items l.last (map plain_total l.totals.items) (map operand_of (drop l.operation-index l.operation-items))

@@ -1,6 +1,6 @@
 use Rattle.std.proofs.Common.{rules, ◌≡◌, ◌∙◌, map, [], ◌∷◌, ◌++◌, ap, refl, length}
 use Rattle.std.proofs.lemmas.List.{map_push, length-map}
-use Rattle.rp_check.specs.Formulas.{kept_of}
+use Rattle.rp_check.specs.Formulas.{plain_total}
 use Rattle.rp_check.specs.Context.{context_of}
 use Rattle.rp_check.specs.Resolved.{total_over}
 use Rattle.rp_check.proofs.Telling.{telling}
@@ -17,12 +17,12 @@ returns-in_err-push c = search (rules, telling)
 
 pub returns : goal.returns
 returns c =
-    let pushed : map kept_of c.push.new.self.items ≡ map kept_of c.args.totals.now.items ++ kept_of c.in_ok-total.total ∷ [] = rw c.in_ok-push.ensures.items (map_push kept_of c.args.totals.now.items c.in_ok-total.total) in
-    let is : kept_of c.in_ok-total.total ≡ total_over (context_of c.args.names.now) c.args.written.now.function = search rules in
-    let many : length (map kept_of c.args.totals.now.items) ≡ c.len-number.result = search (rules, length-map c.args.totals.now.items kept_of) in
+    let pushed : map plain_total c.push.new.self.items ≡ map plain_total c.args.totals.now.items ++ plain_total c.in_ok-total.total ∷ [] = rw c.in_ok-push.ensures.items (map_push plain_total c.args.totals.now.items c.in_ok-total.total) in
+    let is : plain_total c.in_ok-total.total ≡ total_over (context_of c.args.names.now) c.args.written.now.function = search rules in
+    let many : length (map plain_total c.args.totals.now.items) ≡ c.len-number.result = search (rules, length-map c.args.totals.now.items plain_total) in
     record {
       clean = search (rules, telling);
       sort = search rules;
       formula = c.numbered.ensures ∙ rw (many, c.is_final-is_final.ensures) refl;
-      totals = pushed ∙ ap (λ t. map kept_of c.args.totals.now.items ++ t ∷ []) is;
+      totals = pushed ∙ ap (λ t. map plain_total c.args.totals.now.items ++ t ∷ []) is;
     }

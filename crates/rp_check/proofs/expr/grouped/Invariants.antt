@@ -1,7 +1,7 @@
 use Rattle.std.proofs.Common.{length, List}
 use Rattle.rp_syntax.specs.declared.tree.Operation.{Operation}
 use Rattle.rp_syntax.specs.Terms.{Term}
-use Rattle.rp_check.specs.Formulas.{Kept}
+use Rattle.rp_check.specs.Formulas.{PlainTotal}
 use Rattle.rp_check.specs.Context.{Context}
 use Rattle.rp_check.specs.Checked.{Resolves}
 use Rattle.rp_check.specs.Grouping.{wrapped, AreLefts}
@@ -9,7 +9,7 @@ use Rattle.rp_check.proofs.Chains.{GoesOn}
 use Rattle.rp_check.proofs.expr.grouped.Given as goal
 
 abbrev pub invariant-loop-left : goal.invariant-loop-left
-invariant-loop-left l = (x : Context) (before : List Kept) (ps : List (Term × Operation)) (mid : List Kept) (t : Term) (now : List Kept) → AreLefts x before ps l.fn.lefts.items mid → Resolves x mid t l.fn.last now → GoesOn x before (wrapped ps t) l.lefts.items l.right now
+invariant-loop-left l = (x : Context) (before : List PlainTotal) (ps : List (Term × Operation)) (mid : List PlainTotal) (t : Term) (now : List PlainTotal) → AreLefts x before ps l.fn.lefts.items mid → Resolves x mid t l.fn.last now → GoesOn x before (wrapped ps t) l.lefts.items l.right now
 
 abbrev pub decreases-loop-left : goal.decreases-loop-left
 decreases-loop-left l = length l.lefts.items

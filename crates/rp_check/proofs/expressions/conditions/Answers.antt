@@ -5,7 +5,7 @@ use Rattle.rp_syntax.specs.Clauses.{definition_tree}
 use Rattle.rp_syntax.specs.Terms.{term_of}
 use Rattle.rp_check.specs.ClauseFaults.{definition_faults}
 use Rattle.rp_check.specs.Context.{context_of}
-use Rattle.rp_check.specs.Formulas.{kept_of, condition_formula}
+use Rattle.rp_check.specs.Formulas.{plain_total, condition_formula}
 use Rattle.rp_check.specs.Queries.{terms_of_definitions}
 use Rattle.rp_check.proofs.Each.{begins, cut, goes_on, goes_wrong, ends}
 use Rattle.rp_check.proofs.Terms.{none_done, one_done, all_done}
@@ -14,7 +14,7 @@ use Rattle.rp_check.proofs.expressions.conditions.Goals as goal
 pub loop-i-init : goal.loop-i-init
 loop-i-init c =
     let x = context_of c.args.names.now in
-    record { clean = begins definition_tree (definition_faults x) c.args.written.now; done = rw c.new-conditions.ensures.items (none_done x (map kept_of c.args.totals.now.items) (terms_of_definitions (map definition_tree c.args.written.now))) }
+    record { clean = begins definition_tree (definition_faults x) c.args.written.now; done = rw c.new-conditions.ensures.items (none_done x (map plain_total c.args.totals.now.items) (terms_of_definitions (map definition_tree c.args.written.now))) }
 
 pub returns-in_err-condition : goal.returns-in_err-condition
 returns-in_err-condition c =
@@ -35,7 +35,7 @@ loop-i-preserved c =
     record {
       clean = goes_on definition_tree (definition_faults x) xs i m c.loop-i-test.true c.index-written-i.is c.loop-i.invariant.clean c.in_ok-condition.ensures.0;
       done = rw (c.in_ok-push.ensures.items, map_push condition_formula c.loop-i.conditions.items c.in_ok-condition.condition)
-          (one_done x (map kept_of c.args.totals.now.items) (terms_of_definitions (map definition_tree xs)) (map condition_formula c.loop-i.conditions.items) (map kept_of c.loop-i.totals.items) (map kept_of c.defined.new.totals.items) (term_of m.expr) (terms_of_definitions (map definition_tree (drop (i + 1) xs))) (condition_formula c.in_ok-condition.condition) so c.in_ok-condition.ensures.1.0 c.in_ok-condition.ensures.1.1);
+          (one_done x (map plain_total c.args.totals.now.items) (terms_of_definitions (map definition_tree xs)) (map condition_formula c.loop-i.conditions.items) (map plain_total c.loop-i.totals.items) (map plain_total c.defined.new.totals.items) (term_of m.expr) (terms_of_definitions (map definition_tree (drop (i + 1) xs))) (condition_formula c.in_ok-condition.condition) so c.in_ok-condition.ensures.1.0 c.in_ok-condition.ensures.1.1);
     }
 
 pub returns : goal.returns
@@ -44,5 +44,5 @@ returns c =
     let xs = c.args.written.now in
     let so = rw (drop_all c.loop-i.i xs c.loop-i-test.false) at c.loop-i.invariant.done in (
       ends definition_tree (definition_faults x) xs c.loop-i.i c.loop-i-test.false c.loop-i.invariant.clean,
-      all_done x (map kept_of c.args.totals.now.items) (terms_of_definitions (map definition_tree xs)) (map condition_formula c.loop-i.conditions.items) (map kept_of c.loop-i.totals.items) so,
+      all_done x (map plain_total c.args.totals.now.items) (terms_of_definitions (map definition_tree xs)) (map condition_formula c.loop-i.conditions.items) (map plain_total c.loop-i.totals.items) so,
     )

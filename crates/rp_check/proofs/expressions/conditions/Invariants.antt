@@ -2,7 +2,7 @@ use Rattle.std.proofs.Common.{map, drop}
 use Rattle.rp_syntax.specs.Clauses.{definition_tree}
 use Rattle.rp_check.specs.Context.{context_of}
 use Rattle.rp_check.specs.ClauseFaults.{definition_faults}
-use Rattle.rp_check.specs.Formulas.{kept_of, condition_formula}
+use Rattle.rp_check.specs.Formulas.{plain_total, condition_formula}
 use Rattle.rp_check.specs.Queries.{terms_of_definitions}
 use Rattle.rp_check.proofs.Each.{IsLeft}
 use Rattle.rp_check.proofs.Terms.{AreDone}
@@ -11,5 +11,5 @@ use Rattle.rp_check.proofs.expressions.conditions.Given as goal
 abbrev pub invariant-loop-i : goal.invariant-loop-i
 invariant-loop-i l = record {
   clean : IsLeft definition_tree (definition_faults (context_of l.names)) l.written l.i;
-  done : AreDone (context_of l.names) (map kept_of l.fn.totals.items) (terms_of_definitions (map definition_tree l.written)) (map condition_formula l.conditions.items) (map kept_of l.totals.items) (terms_of_definitions (map definition_tree (drop l.i l.written)));
+  done : AreDone (context_of l.names) (map plain_total l.fn.totals.items) (terms_of_definitions (map definition_tree l.written)) (map condition_formula l.conditions.items) (map plain_total l.totals.items) (terms_of_definitions (map definition_tree (drop l.i l.written)));
 }

@@ -5,7 +5,7 @@ use Rattle.rp_syntax.specs.Clauses.{measure_tree}
 use Rattle.rp_syntax.specs.Terms.{term_of}
 use Rattle.rp_check.specs.ClauseFaults.{measure_faults}
 use Rattle.rp_check.specs.Context.{context_of}
-use Rattle.rp_check.specs.Formulas.{kept_of, value_formula}
+use Rattle.rp_check.specs.Formulas.{plain_total, value_formula}
 use Rattle.rp_check.specs.Queries.{terms_of_measures}
 use Rattle.rp_check.proofs.Each.{begins, cut, goes_on, goes_wrong, ends}
 use Rattle.rp_check.proofs.Terms.{none_done, one_done, all_done}
@@ -14,7 +14,7 @@ use Rattle.rp_check.proofs.expressions.measures.Goals as goal
 pub loop-i-init : goal.loop-i-init
 loop-i-init c =
     let x = context_of c.args.names.now in
-    record { clean = begins measure_tree (measure_faults x) c.args.written.now; done = rw c.new-exprs.ensures.items (none_done x (map kept_of c.args.totals.now.items) (terms_of_measures (map measure_tree c.args.written.now))) }
+    record { clean = begins measure_tree (measure_faults x) c.args.written.now; done = rw c.new-exprs.ensures.items (none_done x (map plain_total c.args.totals.now.items) (terms_of_measures (map measure_tree c.args.written.now))) }
 
 pub returns-in_err-expr : goal.returns-in_err-expr
 returns-in_err-expr c =
@@ -35,7 +35,7 @@ loop-i-preserved c =
     record {
       clean = goes_on measure_tree (measure_faults x) xs i m c.loop-i-test.true c.index-written-i.is c.loop-i.invariant.clean c.in_ok-expr.ensures.0;
       done = rw (c.in_ok-push.ensures.items, map_push value_formula c.loop-i.exprs.items c.in_ok-expr.expr)
-          (one_done x (map kept_of c.args.totals.now.items) (terms_of_measures (map measure_tree xs)) (map value_formula c.loop-i.exprs.items) (map kept_of c.loop-i.totals.items) (map kept_of c.measured.new.totals.items) (term_of m.expr) (terms_of_measures (map measure_tree (drop (i + 1) xs))) (value_formula c.in_ok-expr.expr) so c.in_ok-expr.ensures.1.0 c.in_ok-expr.ensures.1.1);
+          (one_done x (map plain_total c.args.totals.now.items) (terms_of_measures (map measure_tree xs)) (map value_formula c.loop-i.exprs.items) (map plain_total c.loop-i.totals.items) (map plain_total c.measured.new.totals.items) (term_of m.expr) (terms_of_measures (map measure_tree (drop (i + 1) xs))) (value_formula c.in_ok-expr.expr) so c.in_ok-expr.ensures.1.0 c.in_ok-expr.ensures.1.1);
     }
 
 pub returns : goal.returns
@@ -44,5 +44,5 @@ returns c =
     let xs = c.args.written.now in
     let so = rw (drop_all c.loop-i.i xs c.loop-i-test.false) at c.loop-i.invariant.done in (
       ends measure_tree (measure_faults x) xs c.loop-i.i c.loop-i-test.false c.loop-i.invariant.clean,
-      all_done x (map kept_of c.args.totals.now.items) (terms_of_measures (map measure_tree xs)) (map value_formula c.loop-i.exprs.items) (map kept_of c.loop-i.totals.items) so,
+      all_done x (map plain_total c.args.totals.now.items) (terms_of_measures (map measure_tree xs)) (map value_formula c.loop-i.exprs.items) (map plain_total c.loop-i.totals.items) so,
     )
