@@ -1,7 +1,7 @@
 -- What is kept of a total, depth by depth.
 use Rattle.std.proofs.Common.{◌≡◌, ℕ, zero, suc, ◌+◌, ◌-◌, ◌≤◌, ◌<◌, ◌==◌, Bool, true, false, cond, List, [], ◌∷◌, ◌++◌, map, length, take, drop, get_or, set, Result, Ok, Err, Option, None, Some, refl, sym, ap, ◌∙◌, subst, arith, append-nil}
 use Rattle.std.specs.Prelude.{slice_get, option_map, OnOk}
-use Rattle.std.proofs.lemmas.List.{take-append-le, take_all, take-take, length-append, length-take-le, get_or-append-add, get_or_append_left, map-append, length-map}
+use Rattle.std.proofs.lemmas.List.{take-append-le, take_all, take-take, length-append, length-take-le, get_or-append-add, get_or_append_left}
 use Rattle.std.proofs.lemmas.Option.{slice_get-map}
 use Rattle.std.proofs.lemmas.Bool.Decides.{nat_tests}
 use Rattle.std.proofs.lemmas.List.Sums.{fold-append}

@@ -1,15 +1,13 @@
 -- Places among the rows that a total lists.
-use Rattle.std.proofs.Common.{◌≡◌, ℕ, ◌≤◌, Bool, List, [], length, take, Option, None, Some, refl, sym, ap, ◌∙◌, subst, arith}
+use Rattle.std.proofs.Common.{◌≡◌, ℕ, ◌≤◌, Bool, [], length, take, None, Some, refl, sym, ap, ◌∙◌, subst}
 use Rattle.std.specs.Prelude.{slice_get, IfSome}
-use Rattle.rp_pattern.specs.declared.word.Label.{Label}
 use Rattle.rp_check.specs.declared.plan.Edge.{Edge}
 use Rattle.rp_check.specs.declared.plan.Edge.TheVariants.{First, Last}
 use Rattle.rp_check.specs.declared.plan.RowsOf.{RowsOf}
 use Rattle.rp_check.specs.declared.plan.RowsOf.TheVariants.{Listed as ListedBy}
-use Rattle.rp_check.specs.declared.plan.Total.{Total}
 use Rattle.rp_eval.specs.Mapped.{rows_of, place_in, listed}
 use Rattle.rp_eval.specs.ValueOf.{Setting, seen_labels, rows_listed, rows_among}
-use Rattle.rp_eval.specs.Kept.{Kept, kept_of, tally_at}
+use Rattle.rp_eval.specs.Kept.{Kept, tally_at}
 use Rattle.rp_eval.specs.Laws.{LiesOnRows}
 use Rattle.rp_eval.proofs.MappedRows.{place_each}
 use Rattle.rp_eval.proofs.Growing.{reaches_among}

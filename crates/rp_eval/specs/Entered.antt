@@ -1,5 +1,5 @@
 -- The totals of labels.
-use Rattle.std.specs.Prelude.{◌≡◌, ℕ, ◌≤◌, List, [], ◌∷◌, ◌++◌, map, length}
+use Rattle.std.specs.Prelude.{◌≡◌, ℕ, List, [], ◌∷◌, ◌++◌, map}
 use Rattle.rp_pattern.specs.declared.word.Label.{Label}
 use Rattle.rp_check.specs.declared.plan.Total.{Total}
 use Rattle.rp_check.specs.declared.query.QueryData.{QueryData}

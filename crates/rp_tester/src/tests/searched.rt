@@ -79,10 +79,10 @@ fn run<L: Ledger>(
     told: &mut String,
 ) -> Result<Totals, AllocError>
     requires some { 0 < length (⟦<Growing as Rows>⟧.known rows.now) }
-    requires stands { StandsOver (⟦<Growing as Rows>⟧.known rows.now) (⟦<Growing as Rows>⟧.ending rows.now)
-        (data_of query.now) search.old totals }
-    ensures { IfOk result (λ totals. StandsOver (⟦<Growing as Rows>⟧.known rows.now) (⟦<Growing as Rows>⟧.ending rows.now)
-        (data_of query.now) search.new totals) }
+    requires stands { StandsOver (⟦<Growing as Rows>⟧.known rows.now)
+        (⟦<Growing as Rows>⟧.ending rows.now) (data_of query.now) search.old totals }
+    ensures { IfOk result (λ totals. StandsOver (⟦<Growing as Rows>⟧.known rows.now)
+        (⟦<Growing as Rows>⟧.ending rows.now) (data_of query.now) search.new totals) }
 {
     let mut tester = Tester::new(rows, query, totals);
     let outcome = search.run(&mut tester, 1_000, steps)?;

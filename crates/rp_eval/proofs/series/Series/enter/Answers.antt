@@ -1,4 +1,4 @@
-use Rattle.std.proofs.Common.{◌≡◌, ◌<◌, ◌+◌, ◌-◌, ◌^◌, ◌++◌, ◌∷◌, [], true, false, length, refl, sym, ap, ◌∙◌, arith, append-nil, length-append}
+use Rattle.std.proofs.Common.{◌≡◌, ◌<◌, ◌+◌, ◌-◌, ◌^◌, ◌∷◌, [], true, false, length, refl, sym, ap, ◌∙◌, arith, append-nil, length-append}
 use Rattle.rp_pattern.specs.declared.word.Label.{Label}
 use Rattle.rp_check.specs.Scopes.{includes}
 use Rattle.rp_eval.specs.Kept.{Kept}
