@@ -1,0 +1,84 @@
+-- What is answered to a row and to a close, and what they leave behind.
+use Rattle.std.specs.Prelude.{◌≡◌, ℕ, ◌+◌, ◌≤◌, ◌==◌, Bool, false, List, Option, None, Some, Result, Ok, Err, nat_lt, ◌||◌, if◌then◌else◌}
+use Rattle.std.specs.List.{list_any}
+use Rattle.rp_value.specs.declared.value.Value.{Value}
+use Rattle.rp_feed.specs.declared.answer.Taken.{Taken}
+use Rattle.rp_feed.specs.declared.answer.Taken.TheVariants.{New, Repeat, Old}
+use Rattle.rp_feed.specs.declared.answer.FeedFault.{FeedFault}
+use Rattle.rp_feed.specs.declared.answer.FeedFault.TheVariants.{NumberRange, PastClose, Conflict, TooFar, CloseDiffers, CloseBelow, OutOfMemory}
+use Rattle.rp_feed.specs.declared.answer.TheConstants.{MAX_NUMBER, MAX_BEYOND}
+use Rattle.rp_feed.specs.Fed.{Fed, IsFree, row_at, front_of}
+
+abbrev pub Answer : Type 0
+Answer = Result Taken FeedFault
+
+-- whether a number is above the close's count
+abbrev pub is_past : Option ℕ → ℕ → Bool
+is_past None n = false
+is_past (Some count) n = nat_lt count n
+
+-- whether the row that is held at a number is the same as another; nothing where none is held
+abbrev pub compared : (List Value → List Value → Bool) → Option (List Value) → List Value → Option Bool
+compared same None row = None
+compared same (Some held) row = Some (same held row)
+
+-- a row whose number has one repeats it or conflicts with it
+abbrev pub held_answer : Option Bool → Answer → Answer
+held_answer None later = later
+held_answer (Some same) later = if same then Ok Repeat else Err Conflict
+
+-- the answer to a row: the first that fits
+abbrev pub row_answer : (List Value → List Value → Bool) → Fed → ℕ → List Value → Answer
+row_answer same fed n row =
+    if n == 0 || nat_lt MAX_NUMBER n then Err NumberRange
+    else (if is_past fed.closed n then Err PastClose
+    else (if nat_lt n fed.first then Ok Old
+    else held_answer (compared same (row_at fed.rows n) row)
+    (if nat_lt (front_of fed + MAX_BEYOND) n then Err TooFar else Ok New)))
+
+-- a close after another repeats it or differs from it
+abbrev pub closed_answer : Option ℕ → ℕ → Answer → Answer
+closed_answer None count later = later
+closed_answer (Some earlier) count later = if earlier == count then Ok Repeat else Err CloseDiffers
+
+-- whether a number above this one was taken
+abbrev pub has_above : Fed → ℕ → Bool
+has_above fed n = nat_lt (n + 1) fed.first || list_any (λ e. nat_lt n e.0) fed.rows
+
+-- the answer to a close: the first that fits
+abbrev pub close_answer : Fed → ℕ → Answer
+close_answer fed count =
+    if nat_lt MAX_NUMBER count then Err NumberRange
+    else closed_answer fed.closed count (if has_above fed count then Err CloseBelow else Ok New)
+
+-- What an answer says of the row: want of memory says that it would have been New.
+abbrev pub due : Answer → Answer
+due (Err OutOfMemory) = Ok New
+due answer = answer
+
+-- what an answer leaves behind: only New changes the feed
+abbrev pub after : Answer → Fed → Fed → Fed
+after (Ok New) changed fed = changed
+after answer changed fed = fed
+
+-- a row of that number can be taken
+pub record IsDue (fed : Fed) (n : ℕ) : Type 0 where
+  pub least : 1 ≤ n
+  pub greatest : n ≤ MAX_NUMBER
+  pub within : is_past fed.closed n ≡ false
+  pub free : IsFree fed n
+  pub near : n ≤ front_of fed + MAX_BEYOND
+
+-- a close with that count can be taken
+pub record IsDueClose (fed : Fed) (count : ℕ) : Type 0 where
+  pub greatest : count ≤ MAX_NUMBER
+  pub unclosed : fed.closed ≡ None
+  pub within : has_above fed count ≡ false
+
+-- only such rows and closes are New
+abbrev pub NewRowsAreDue : Type 0
+NewRowsAreDue = (same : List Value → List Value → Bool) (fed : Fed) (n : ℕ) (row : List Value)
+    → row_answer same fed n row ≡ Ok New → IsDue fed n
+
+abbrev pub NewClosesAreDue : Type 0
+NewClosesAreDue = (fed : Fed) (count : ℕ) → close_answer fed count ≡ Ok New → IsDueClose fed count

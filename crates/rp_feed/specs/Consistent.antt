@@ -1,0 +1,17 @@
+-- What is true of a feed's fields.
+use Rattle.std.specs.Prelude.{◌≡◌, ℕ, ◌+◌, ◌≤◌, length, Option, None, Some, ⊤}
+use Rattle.rp_feed.specs.declared.answer.TheConstants.{MAX_NUMBER, MAX_BEYOND}
+use Rattle.rp_feed.specs.Slots.{Slots, leading, EndsFilled}
+
+-- no number from `next` on was taken, and so many rows the close counts at least
+abbrev pub EndsBy : ℕ → Option ℕ → Type 0
+EndsBy next None = ⊤
+EndsBy next (Some count) = (next ≤ count + 1) × (count ≤ MAX_NUMBER)
+
+pub record IsConsistent (first ready : ℕ) (slots : Slots) (closed : Option ℕ) : Type 0 where
+  pub least : 1 ≤ first
+  pub greatest : first + length slots ≤ MAX_NUMBER + 1
+  pub run : ready ≡ leading slots
+  pub filled : EndsFilled slots
+  pub near : length slots ≤ ready + MAX_BEYOND
+  pub within : EndsBy (first + length slots) closed

@@ -1,0 +1,5 @@
+pub mod Answers
+pub mod Consistent
+pub mod Fed
+pub mod FedLaws
+pub mod Slots

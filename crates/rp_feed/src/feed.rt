@@ -1,0 +1,186 @@
+//! The feed of a partition.
+ghost use Rattle.std.specs.Prelude.{◌≡◌, ◌+◌, ◌≤◌, IfOk, option_copied, if◌then◌else◌};
+ghost use Rattle.rp_feed.specs.Fed.{IsFeed, IsFront, fed_from, forgotten, front_of, row_at, with_close, with_taken};
+ghost use Rattle.rp_feed.specs.Answers.{after, close_answer, due, is_past, row_answer};
+
+use crate::slots::{compare_at, drop_first, numbered, put_at, row_in, run_on};
+use crate::{FeedFault, MAX_BEYOND, MAX_NUMBER, Taken};
+use rp_value::Row;
+use std::alloc::{AllocError, Global};
+use std::collections::VecDeque;
+use std::marker::Model;
+
+/// The rows of a partition, which come in any order, and its close.
+///
+/// Contracts see it as the rows that it holds with their numbers, the number below which all were taken and dropped,
+/// and the count of its close (`Fed`).
+#[derive(Drop)]
+pub struct Feed {
+    /// The number of the first place.
+    first: u64,
+    /// How many places from the first on have a row.
+    ready: usize,
+    /// A place for each number from `first` to the greatest that was taken.
+    slots: VecDeque<Option<Row>>,
+    /// The count of the close.
+    closed: Option<u64>,
+}
+
+impl Model for Feed {
+    ghost use Rattle.rp_feed.specs.Consistent.{IsConsistent};
+    ghost use Rattle.rp_feed.specs.Fed.{Fed};
+    ghost use Rattle.rp_feed.specs.Slots.{held_from};
+
+    ghost Value = { Fed };
+
+    ghost view = { λ f. record { first = f.first; rows = held_from f.first f.slots.items; closed = f.closed } };
+
+    ghost invariant = { λ f. IsConsistent f.first f.ready f.slots.items f.closed };
+}
+
+impl Feed {
+    /// A feed that has taken nothing. It takes no memory before its first row.
+    pub fn new(alloc: Global) -> Feed
+        ensures { result ≡ fed_from 1 }
+    {
+        Feed::starting(alloc, 1)
+    }
+
+    /// A feed that has taken all numbers below `first` and dropped their rows.
+    pub fn starting(alloc: Global, first: u64) -> Feed
+        requires least { 1 ≤ first }
+        requires greatest { first ≤ MAX_NUMBER + 1 }
+        ensures { result ≡ fed_from first }
+    {
+        Feed {
+            first,
+            ready: 0,
+            slots: VecDeque::new(alloc),
+            closed: None,
+        }
+    }
+
+    /// Takes a row, if its number is in range, not above the close's count, neither dropped nor held, and not too far
+    /// above the front: the first of these that fails decides the answer. `OutOfMemory` comes last.
+    pub fn take(&mut self, number: u64, row: Row) -> Result<Taken, FeedFault>
+        ensures answer { due result ≡ row_answer ⟦<Row as PartialEq>⟧.eq self.old number row }
+        ensures changes { self.new ≡ after result (with_taken number row self.old) self.old }
+    {
+        if number == 0 || number > MAX_NUMBER {
+            return Err(FeedFault::NumberRange);
+        }
+        if is_past(self.closed, number) {
+            return Err(FeedFault::PastClose);
+        }
+        if number < self.first {
+            return Ok(Taken::Old);
+        }
+        let place = (number - self.first) as usize;
+        if let Some(same) = compare_at(&self.slots, place, &row) {
+            return repeat_if(same);
+        }
+        if place as u64 >= self.ready as u64 + MAX_BEYOND {
+            return Err(FeedFault::TooFar);
+        }
+        put_at(&mut self.slots, place, row)?;
+        self.ready = run_on(&self.slots, self.ready);
+        Ok(Taken::New)
+    }
+
+    /// Takes the close, which says how many rows the partition has. It takes no memory.
+    pub fn close(&mut self, count: u64) -> Result<Taken, FeedFault>
+        ensures answer { result ≡ close_answer self.old count }
+        ensures changes { self.new ≡ after result (with_close count self.old) self.old }
+    {
+        if count > MAX_NUMBER {
+            return Err(FeedFault::NumberRange);
+        }
+        if let Some(earlier) = self.closed {
+            if earlier == count {
+                return Ok(Taken::Repeat);
+            }
+            return Err(FeedFault::CloseDiffers);
+        }
+        if count + 1 < self.first + self.slots.len() as u64 {
+            return Err(FeedFault::CloseBelow);
+        }
+        self.closed = Some(count);
+        Ok(Taken::New)
+    }
+
+    /// Drops the rows below a number, which is at most one above the front. They count as taken.
+    pub fn forget(&mut self, before: u64)
+        requires { before ≤ front_of self.old + 1 }
+        ensures none { before ≤ self.old.first → self.new ≡ self.old }
+        ensures dropped { self.old.first ≤ before → self.new ≡ forgotten before self.old }
+    {
+        if before <= self.first {
+            return;
+        }
+        let count = (before - self.first) as usize;
+        drop_first(&mut self.slots, count);
+        self.ready -= count;
+        self.first = before;
+    }
+
+    /// The least number whose row isn't dropped: all below it were taken.
+    pub fn first(&self) -> u64
+        ensures { result ≡ self.now.first }
+    {
+        self.first
+    }
+
+    /// The greatest number to which all from 1 on were taken; 0 where 1 wasn't.
+    pub fn front(&self) -> u64
+        ensures front { result ≡ front_of self.now }
+        ensures run { IsFront self.now result }
+        ensures feed { IsFeed self.now }
+    {
+        self.first - 1 + self.ready as u64
+    }
+
+    /// The count of the close, if it was taken.
+    pub fn closed(&self) -> Option<u64>
+        ensures { result ≡ self.now.closed }
+    {
+        self.closed
+    }
+
+    /// The row of a number, if it is held.
+    pub fn row(&self, number: u64) -> Option<&Row>
+        ensures { option_copied result ≡ row_at self.now.rows number }
+    {
+        if number < self.first {
+            return None;
+        }
+        row_in(&self.slots, (number - self.first) as usize)
+    }
+
+    /// All rows that are held with their numbers, in order, as a save needs them. No cell is copied.
+    pub fn rows(&self, alloc: Global) -> Result<Vec<(u64, Row)>, AllocError>
+        ensures { IfOk result (λ rows. rows.items ≡ self.now.rows) }
+    {
+        numbered(alloc, self.first, &self.slots)
+    }
+}
+
+/// Whether a number is above the close's count.
+fn is_past(closed: Option<u64>, number: u64) -> bool
+    ensures { result ≡ is_past closed number }
+{
+    match closed {
+        Some(count) => number > count,
+        None => false,
+    }
+}
+
+/// The answer to a number whose row is held.
+fn repeat_if(same: bool) -> Result<Taken, FeedFault>
+    ensures { result ≡ (if same then Ok Taken.Repeat else Err FeedFault.Conflict) }
+{
+    if same {
+        Ok(Taken::Repeat)
+    } else {
+        Err(FeedFault::Conflict)
+    }
+}

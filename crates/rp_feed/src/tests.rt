@@ -1,0 +1,174 @@
+//! Feeds at work.
+use crate::{Feed, FeedFault, MAX_NUMBER, Taken};
+use rp_value::{Kind, Row, RowFault, Table, TableFault, Value};
+use std::alloc::{AllocError, Global};
+use std::test::Fail;
+
+mod orders;
+mod refused;
+
+/// A table of one whole number.
+fn price_table(alloc: Global) -> Result<Table, TableFault> {
+    let name = String::from_str(alloc, "P")?;
+    Table::new(alloc, vec![in alloc; (name, Kind::Int)]?)
+}
+
+fn cells(alloc: Global, price: i64) -> Result<Vec<Value>, AllocError> {
+    Ok(vec![in alloc; Value::Int(price)]?)
+}
+
+fn row_of(alloc: Global, table: &Table, price: i64) -> Result<Row, RowFault> {
+    table.row(alloc, cells(alloc, price)?)
+}
+
+/// A feed, and the table of its rows.
+#[derive(Drop)]
+struct Prices {
+    alloc: Global,
+    table: Table,
+    feed: Feed,
+}
+
+impl Prices {
+    fn new(alloc: Global, feed: Feed) -> Result<Prices, TableFault> {
+        let table = price_table(alloc)?;
+        Ok(Prices { alloc, table, feed })
+    }
+
+    /// The answer to a row of this price, unless memory was refused.
+    fn take(&mut self, number: u64, price: i64) -> Result<Result<Taken, FeedFault>, Fail> {
+        let row = row_of(self.alloc, &self.table, price)?;
+        let answer = self.feed.take(number, row);
+        if answer == Err(FeedFault::OutOfMemory) {
+            return Err(FeedFault::OutOfMemory.into());
+        }
+        Ok(answer)
+    }
+
+    /// Whether the row of a number is held, and has this price.
+    fn has(&self, number: u64, price: i64) -> bool {
+        match self.feed.row(number) {
+            Some(row) => row.cell(1) == Some(&Value::Int(price)),
+            None => false,
+        }
+    }
+}
+
+#[test]
+fn conflicting_row(rt: HostRuntime) -> Result<(), Fail> {
+    let alloc = rt.alloc();
+    let mut prices = Prices::new(alloc, Feed::new(alloc))?;
+    assert_eq!(rt; prices.feed.front(), 0);
+    assert_eq!(rt; prices.take(1, 10)?, Ok(Taken::New));
+    assert_eq!(rt; prices.take(3, 6)?, Ok(Taken::New));
+    assert_eq!(rt; prices.take(3, 7)?, Err(FeedFault::Conflict));
+    assert!(rt; prices.has(3, 6));
+    assert_eq!(rt; prices.take(3, 6)?, Ok(Taken::Repeat));
+    assert_eq!(rt; prices.feed.front(), 1);
+    assert_eq!(rt; prices.take(2, 8)?, Ok(Taken::New));
+    assert_eq!(rt; prices.feed.front(), 3);
+    assert!(rt; prices.has(2, 8));
+    assert!(rt; prices.feed.row(4).is_none());
+    assert!(rt; prices.feed.row(0).is_none());
+    Ok(())
+}
+
+#[test]
+fn feed_refusals(rt: HostRuntime) -> Result<(), Fail> {
+    let alloc = rt.alloc();
+    let mut prices = Prices::new(alloc, Feed::new(alloc))?;
+    assert_eq!(rt; prices.take(0, 1)?, Err(FeedFault::NumberRange));
+    assert_eq!(rt;
+        prices.take(1_099_511_627_777, 1)?,
+        Err(FeedFault::NumberRange)
+    );
+    assert_eq!(rt; prices.take(4_097, 1)?, Err(FeedFault::TooFar));
+    assert_eq!(rt; prices.take(4_096, 1)?, Ok(Taken::New));
+    assert_eq!(rt;
+        prices.feed.close(1_099_511_627_777),
+        Err(FeedFault::NumberRange)
+    );
+    assert_eq!(rt; prices.feed.close(4_000), Err(FeedFault::CloseBelow));
+    assert_eq!(rt; prices.feed.closed(), None);
+    assert_eq!(rt; prices.feed.close(4_096), Ok(Taken::New));
+    assert_eq!(rt; prices.feed.close(4_096), Ok(Taken::Repeat));
+    assert_eq!(rt; prices.feed.close(5_000), Err(FeedFault::CloseDiffers));
+    assert_eq!(rt; prices.take(4_097, 1)?, Err(FeedFault::PastClose));
+    assert_eq!(rt; prices.take(4_096, 2)?, Err(FeedFault::Conflict));
+    assert_eq!(rt; prices.feed.closed(), Some(4_096));
+    assert_eq!(rt; prices.feed.front(), 0);
+    Ok(())
+}
+
+#[test]
+fn far_number_in_a_fresh_feed(rt: HostRuntime) -> Result<(), Fail> {
+    let alloc = rt.alloc();
+    let mut prices = Prices::new(alloc, Feed::new(alloc))?;
+    assert_eq!(rt; prices.take(2_147_483_648, 1)?, Err(FeedFault::TooFar));
+    assert_eq!(rt; prices.take(1_099_511_627_776, 1)?, Err(FeedFault::TooFar));
+    assert_eq!(rt; prices.feed.close(1_099_511_627_776), Ok(Taken::New));
+    Ok(())
+}
+
+#[test]
+fn dropped_rows(rt: HostRuntime) -> Result<(), Fail> {
+    let alloc = rt.alloc();
+    let mut prices = Prices::new(alloc, Feed::new(alloc))?;
+    for number in 1..7 {
+        assert_eq!(rt; prices.take(number, 9)?, Ok(Taken::New));
+    }
+    let front = prices.feed.front();
+    assert!(rt; front == 6);
+    prices.feed.forget(5);
+    assert_eq!(rt; prices.feed.rows(alloc)?.len(), 2);
+    assert_eq!(rt; prices.feed.first(), 5);
+    assert_eq!(rt; prices.feed.front(), 6);
+    assert_eq!(rt; prices.take(4, 9)?, Ok(Taken::Old));
+    assert_eq!(rt; prices.take(4, 1)?, Ok(Taken::Old));
+    assert_eq!(rt; prices.take(5, 9)?, Ok(Taken::Repeat));
+    assert_eq!(rt; prices.take(5, 1)?, Err(FeedFault::Conflict));
+    assert_eq!(rt; prices.feed.close(6), Ok(Taken::New));
+    let front = prices.feed.front();
+    assert!(rt; front == 6);
+    prices.feed.forget(7);
+    assert_eq!(rt; prices.feed.first(), 7);
+    assert_eq!(rt; prices.feed.front(), 6);
+    assert!(rt; prices.feed.rows(alloc)?.is_empty());
+    assert_eq!(rt; prices.take(1, 9)?, Ok(Taken::Old));
+    assert_eq!(rt; prices.take(7, 9)?, Err(FeedFault::PastClose));
+    assert_eq!(rt; prices.feed.close(6), Ok(Taken::Repeat));
+    Ok(())
+}
+
+#[test]
+fn later_start(rt: HostRuntime) -> Result<(), Fail> {
+    let alloc = rt.alloc();
+    let mut prices = Prices::new(alloc, Feed::starting(alloc, 1_099_511_627_770))?;
+    assert_eq!(rt; prices.feed.front(), 1_099_511_627_769);
+    assert_eq!(rt; prices.take(5, 9)?, Ok(Taken::Old));
+    assert_eq!(rt; prices.feed.close(5), Err(FeedFault::CloseBelow));
+    assert_eq!(rt; prices.take(1_099_511_627_770, 9)?, Ok(Taken::New));
+    assert_eq!(rt; prices.feed.front(), 1_099_511_627_770);
+    let mut full = Feed::starting(alloc, MAX_NUMBER + 1);
+    assert_eq!(rt; full.front(), 1_099_511_627_776);
+    assert_eq!(rt; full.close(1_099_511_627_775), Err(FeedFault::CloseBelow));
+    assert_eq!(rt; full.close(1_099_511_627_776), Ok(Taken::New));
+    Ok(())
+}
+
+#[test]
+fn fault_texts(rt: HostRuntime) -> Result<(), Fail> {
+    let alloc = rt.alloc();
+    let texts = [
+        (FeedFault::NumberRange, "NumberRange"),
+        (FeedFault::PastClose, "PastClose"),
+        (FeedFault::Conflict, "Conflict"),
+        (FeedFault::TooFar, "TooFar"),
+        (FeedFault::CloseDiffers, "CloseDiffers"),
+        (FeedFault::CloseBelow, "CloseBelow"),
+    ];
+    for (fault, text) in texts {
+        assert_eq!(rt; format!(in alloc; "{fault}")?.as_str(), text);
+    }
+    Ok(())
+}

@@ -1,0 +1,185 @@
+//! A thousand orders of arrival, with repeats, losses and forgetting, beside a plain map of what was taken.
+ghost use Rattle.std.specs.Prelude.{◌<◌, ◌≤◌};
+
+use super::Prices;
+use crate::{Feed, FeedFault, MAX_BEYOND, MAX_NUMBER, Taken};
+use std::alloc::{AllocFailed, Global};
+use std::collections::BTreeMap;
+use std::test::Fail;
+
+/// How many rows the partition has.
+const ROWS: u64 = 30;
+
+/// Numbers that look random (Knuth's MMIX generator).
+#[derive(Drop)]
+struct Dice {
+    state: u64,
+}
+
+impl Dice {
+    /// A number below so many.
+    fn below(&mut self, sides: u64) -> u64
+        requires { 0 < sides }
+        ensures { result < sides }
+    {
+        let product = self.state.wrapping_mul(6_364_136_223_846_793_005);
+        self.state = product.wrapping_add(1_442_695_040_888_963_407);
+        (self.state >> 33) % sides
+    }
+}
+
+/// All rows that were ever taken, with their prices.
+#[derive(Drop)]
+struct Plain {
+    taken: BTreeMap<u64, i64>,
+    first: u64,
+    closed: Option<u64>,
+}
+
+impl Plain {
+    fn new(alloc: Global) -> Plain {
+        Plain {
+            taken: BTreeMap::new(alloc),
+            first: 1,
+            closed: None,
+        }
+    }
+
+    /// The greatest number to which all were taken.
+    fn front(&self) -> u64
+        ensures { result ≤ ROWS }
+    {
+        for number in 1..ROWS + 1 {
+            if !self.taken.contains_key(&number) {
+                return number - 1;
+            }
+        }
+        ROWS
+    }
+
+    /// Takes a row, and says what it is.
+    fn take(
+        &mut self,
+        number: u64,
+        price: i64,
+    ) -> Result<Result<Taken, FeedFault>, AllocFailed<(u64, i64)>> {
+        if number == 0 || number > MAX_NUMBER {
+            return Ok(Err(FeedFault::NumberRange));
+        }
+        if self.closed.is_some_and(|count| number > count) {
+            return Ok(Err(FeedFault::PastClose));
+        }
+        if number < self.first {
+            return Ok(Ok(Taken::Old));
+        }
+        match self.taken.get(&number) {
+            Some(held) if *held == price => return Ok(Ok(Taken::Repeat)),
+            Some(_) => return Ok(Err(FeedFault::Conflict)),
+            None => {}
+        }
+        if number.saturating_sub(MAX_BEYOND) > self.front() {
+            return Ok(Err(FeedFault::TooFar));
+        }
+        self.taken.insert(number, price)?;
+        Ok(Ok(Taken::New))
+    }
+
+    /// Takes the close, and says what it is.
+    fn close(&mut self, count: u64) -> Result<Taken, FeedFault> {
+        if count > MAX_NUMBER {
+            return Err(FeedFault::NumberRange);
+        }
+        match self.closed {
+            Some(earlier) if earlier == count => return Ok(Taken::Repeat),
+            Some(_) => return Err(FeedFault::CloseDiffers),
+            None => {}
+        }
+        if self.taken.keys().any(|number| *number > count) {
+            return Err(FeedFault::CloseBelow);
+        }
+        self.closed = Some(count);
+        Ok(Taken::New)
+    }
+}
+
+/// What comes next.
+#[derive(Clone, Copy)]
+enum Arrival {
+    Row(u64, i64),
+    Close(u64),
+    Forget(u64),
+}
+
+/// A row of the partition, or of other cells, or one that is far beyond the front, as in every fourth order; a close, a
+/// wrong one too; or the caller drops rows.
+fn next_arrival(dice: &mut Dice, order: u64, front: u64) -> Arrival
+    requires { front ≤ ROWS }
+{
+    let number = 1 + dice.below(ROWS);
+    let price = 10 * number as i64;
+    match dice.below(20) {
+        0 => Arrival::Forget(dice.below(front + 2)),
+        1 => Arrival::Close(ROWS + dice.below(2)),
+        2 => Arrival::Close(number),
+        3 => Arrival::Row(MAX_NUMBER + dice.below(2), 0),
+        4 => Arrival::Row(0, 0),
+        5 => Arrival::Row(number, price + 1),
+        6 if order % 4 == 0 => Arrival::Row(front + 4_094 + dice.below(5), 5),
+        _ => Arrival::Row(number, price),
+    }
+}
+
+/// Whether the feed's answer to what comes is that of the map.
+fn agree(prices: &mut Prices, plain: &mut Plain, arrival: Arrival) -> Result<bool, Fail> {
+    match arrival {
+        Arrival::Row(number, price) => {
+            let expected = plain.take(number, price)?;
+            Ok(prices.take(number, price)? == expected)
+        }
+        Arrival::Close(count) => Ok(prices.feed.close(count) == plain.close(count)),
+        Arrival::Forget(before) => {
+            let front = prices.feed.front();
+            if before > front + 1 {
+                return Ok(false);
+            }
+            prices.feed.forget(before);
+            plain.first = plain.first.max(before);
+            Ok(true)
+        }
+    }
+}
+
+/// Whether the feed holds the rows of the map that aren't dropped, and no other.
+fn hold_the_same(prices: &Prices, plain: &Plain) -> Result<bool, Fail> {
+    let rows = prices.feed.rows(prices.alloc)?;
+    let mut held = rows.iter();
+    for (number, price) in plain.taken.iter() {
+        if *number < plain.first {
+            continue;
+        }
+        match held.next() {
+            Some((other, _)) if other == number && prices.has(*number, *price) => {}
+            _ => return Ok(false),
+        }
+    }
+    Ok(held.next().is_none())
+}
+
+#[test]
+fn random_orders(rt: HostRuntime) -> Result<(), Fail> {
+    let alloc = rt.alloc();
+    for order in 0..1_000 {
+        let mut dice = Dice { state: order };
+        let mut prices = Prices::new(alloc, Feed::new(alloc))?;
+        let mut plain = Plain::new(alloc);
+        for _ in 0..150 {
+            let next = next_arrival(&mut dice, order, plain.front());
+            assert!(rt; agree(&mut prices, &mut plain, next)?, "order {order}");
+            assert_eq!(rt; prices.feed.front(), plain.front());
+            assert_eq!(rt; prices.feed.first(), plain.first);
+            assert_eq!(rt; prices.feed.closed(), plain.closed);
+        }
+        assert!(rt; hold_the_same(&prices, &plain)?, "order {order}");
+    }
+    Ok(())
+}
