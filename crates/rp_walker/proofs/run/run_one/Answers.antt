@@ -1,5 +1,6 @@
-use Rattle.std.proofs.Common.{◌≡◌, ◌+◌, ◌-◌, ◌<◌, sym, subst, ap, ◌∙◌, arith}
+use Rattle.std.proofs.Common.{◌≡◌, ◌+◌, ◌-◌, ◌<◌, ◌≤◌, sym, subst, ap, ◌∙◌, arith}
 use Rattle.rp_pattern.specs.PatternForm.{form_of}
+use Rattle.rp_search.specs.Fits.{Fits as SearchFits}
 use Rattle.rp_search.specs.Search.{HasVariablesBelow, labels_of_search, start_of_search}
 use Rattle.rp_check.specs.QueryView.{data_of}
 use Rattle.rp_eval.specs.Entered.{AreTotals, plan_of, totals_in}
@@ -10,11 +11,21 @@ use Rattle.rp_known.specs.Plans.{tested_by}
 use Rattle.rp_walker.proofs.Running.{ran_of}
 use Rattle.rp_walker.proofs.run.run_one.Goals as goal
 
-pub run-requires-clause-variables : goal.run-requires-clause-variables
-run-requires-clause-variables g c =
+pub run-requires : goal.run-requires
+run-requires g c =
     let q = data_of c.args.query.now in
-    subst (λ (t : Tested). HasVariablesBelow (asked_of t).variables c.args.run.search) (sym c.new-tester.ensures.subject)
-    (c.law_search.ensures.variables (form_of q.pattern) c.args.run.search _ c.requires.searches.pattern c.plan-plan.ensures.sound.variables)
+    let p = known_in g.R.Rows.known g.R.Rows.ending c.args.rows.now in
+    let s = c.args.run.search in
+    let h = c.requires.searches in
+    let same : tested_by q p ≡ tester_of c.new-tester.result = sym c.new-tester.ensures.subject in
+    record {
+      known = subst (λ (t : Tested). start_of_search s ≤ (asked_of t).known) same (omega (arith, h.begins, h.known));
+      variables = subst (λ (t : Tested). HasVariablesBelow (asked_of t).variables s) same
+        (c.law_search.ensures.variables (form_of q.pattern) s _ h.pattern c.plan-plan.ensures.sound.variables);
+      fits = subst (λ (t : Tested). SearchFits s (asked_of t)) same h.fits;
+      entered = c.new-tester.ensures.entered (start_of_search s) (labels_of_search s)
+        (subst (λ i. AreTotals c.args.run.totals p.rows i (labels_of_search s)) (sym h.begins) h.totalled.totals);
+    }
 
 pub returns-clause-ran : goal.returns-clause-ran
 returns-clause-ran g c =
