@@ -94,6 +94,7 @@ pub begins_giving : (q : QueryData) (p : Known) (w : Walker) (found : Option Run
 begins_giving q p w found a run g gives seen totals =
     record {
       given = refl;
+      first = refl;
       stands = stands_going q p (record w { stage = Giving found a }) g (gives, omega (arith, seen), totals);
       lowers = omega (arith, gives.low, gives.ordered, gives.high, left_going q p w.state (Giving found a) g.going gives.known, left_going q p w.state (Searching run) g.going gives.known);
       follows = λ within. record { moves = stays_put q p w.state g.going within; is = refl };
@@ -106,6 +107,7 @@ pub searches_on : (q : QueryData) (p : Known) (w : Walker) (old new : Run) → I
 searches_on q p w old new g s fewer =
     record {
       given = refl;
+      first = refl;
       stands = stands_going q p (record w { stage = Searching new }) g s;
       lowers = omega (arith, fewer, left_going q p w.state (Searching old) g.going s.known, left_going q p w.state (Searching new) g.going s.known);
       follows = λ within. record { moves = stays_put q p w.state g.going within; is = refl };
@@ -123,6 +125,7 @@ search_waits q p w old new g s found fewer =
     let none : leg q p (place_of w.state) ≡ Pauses [] = leg_of q p (place_of w.state) Waits [] s.known found refl in
     record {
       given = refl;
+      first = refl;
       stands = stands_going q p (record w { stage = Searching new }) g s;
       lowers = omega (arith, fewer, left_going q p w.state (Searching old) g.going s.known, left_going q p w.state (Searching new) g.going s.known);
       follows = λ within. let h = stops_here q p w.state g none within in record { moves = h.0; is = (refl, h.1) };
@@ -131,7 +134,7 @@ search_waits q p w old new g s found fewer =
 -- ---- a start row that begins
 
 pub from_more : (q : QueryData) (p : Known) (r : MatcherState) (new : Walker) (stage more : Stage) (step : Step) → left_with q p r stage ≤ left_with q p r more → KeepsGoing q p r stage new step → KeepsGoing q p r more new step
-from_more q p r new stage more step h k = record { given = k.given; stands = k.stands; lowers = lower step k.lowers; follows = k.follows }
+from_more q p r new stage more step h k = record { given = k.given; first = k.first; stands = k.stands; lowers = lower step k.lowers; follows = k.follows }
   where
     lower : (s : Step) → Lowers s (left_with q p r stage) (left_with q p new.state new.stage) → Lowers s (left_with q p r more) (left_with q p new.state new.stage)
     lower Went l = omega (arith, h, l)
@@ -164,6 +167,7 @@ waits_past q p w g begun past is_open =
     let none : leg q p (place_of w.state) ≡ Pauses [] = leg_past q p (place_of w.state) past ∙ ap at_last is_open in
     record {
       given = refl;
+      first = refl;
       stands = stands_going q p w g (subst (λ s. StageStands q p w.state s) (sym begun) tt);
       lowers = omega (arith, left_past q p w.state Begin g.going past, left_past q p w.state w.stage g.going past);
       follows = λ within. let h = stops_here q p w.state g none within in record { moves = h.0; is = (refl, h.1) };

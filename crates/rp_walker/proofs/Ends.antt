@@ -129,6 +129,7 @@ module _ (leads : SearchesLeadOn) (q : QueryData) (p : Known) (w : Walker) (foun
   goes_to =
       record {
         given = refl;
+        first = refl;
         stands = stands_going q p (record w { state = moved_on; stage = Begin }) going_on tt;
         lowers = omega (arith, left_going q p w.state (Giving found a) g.going gives.known, left_later q p w.state moved_on g.going later);
         follows = λ within_old. record { moves = moves_on within_old; is = refl };
@@ -163,6 +164,7 @@ module _ (q : QueryData) (p : Known) (w : Walker) (stage : Stage) (x : Item) (k 
   gives_last due =
       record {
         given = refl;
+        first = refl;
         stands = omega (arith, due, g.enough);
         lowers = some;
         follows = λ within_old.
@@ -180,6 +182,7 @@ module _ (q : QueryData) (p : Known) (w : Walker) (stage : Stage) (x : Item) (k 
   gave_last_before other =
       record {
         given = refl;
+        first = refl;
         stands = g.enough;
         lowers = omega arith;
         follows = λ within_old.

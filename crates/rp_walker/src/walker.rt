@@ -299,6 +299,7 @@ impl Walker {
     ) -> Result<Poll, AllocError>
         requires stands { GoesOnWell (data_of query.now) (known_in R.known R.ending rows.now) self.old }
         ensures stands { stands_by self.new.state.over (data_of query.now) (known_in R.known R.ending rows.now) self.new }
+        ensures first { self.new.state.first ≡ self.old.state.first }
         ensures kept { OnErr result (self.new.state.given ≡ self.old.state.given) }
         ensures lowers { IfOk result (PollLowers budget (left_with (data_of query.now) (known_in R.known R.ending rows.now) self.old.state self.old.stage) (left_with (data_of query.now) (known_in R.known R.ending rows.now) self.new.state self.new.stage)) }
         ensures polled { IfOk result (λ answer. IsWithin (data_of query.now) (known_in R.known R.ending rows.now) self.old.state →
@@ -398,6 +399,7 @@ impl Walker {
         ensures stands { Stands (data_of query.now) (known_in R.known R.ending rows.now) self.new }
         ensures answers { IfOk result (Answers (data_of query.now) (known_in R.known R.ending rows.now) (record_of self.old) (record_of self.new)) }
         ensures refused { OnErr result (StillFits (data_of query.now) (known_in R.known R.ending rows.now) (record_of self.old) (record_of self.new)) }
+        ensures first { (record_of self.new).first ≡ (record_of self.old).first }
         ensures given { OnErr result ((record_of self.new).given ≡ (record_of self.old).given) }
         ensures lowers { IfOk result (PollLowers budget
             (left_in (data_of query.now) (known_in R.known R.ending rows.now) self.old)

@@ -14,6 +14,7 @@ loop-turn-init g c =
     let p = known_in g.R.Rows.known g.R.Rows.ending c.args.rows.now in
     record {
       stands = stands_going q p w c.requires.stands.going c.requires.stands.stands;
+      first = refl;
       given = refl;
       lowered = omega arith;
       moved = λ within. stays_put q p w.state c.requires.stands.going.going within;
@@ -53,6 +54,7 @@ loop-turn-preserved g c =
     let leads = c.law_legs.ensures.lead in
     record {
       stands = k.stands;
+      first = k.first ∙ i.first;
       given = k.given ∙ i.given;
       lowered = omega (arith, i.lowered, k.lowers);
       moved = λ within. (further leads q p c.args.self.now.state now next (i.moved within) now.stage Went k).moves;

@@ -10,6 +10,7 @@ use Rattle.rp_walker.proofs.walker.Walker.go_on.Given as goal
 abbrev pub invariant-loop-turn : goal.invariant-loop-turn
 invariant-loop-turn g l = record {
   stands : stands_by l.self.state.over (data_of l.query) (known_in g.R.Rows.known g.R.Rows.ending l.rows) l.self;
+  first : l.self.state.first ≡ l.fn.self.state.first;
   given : l.self.state.given ≡ l.fn.self.state.given;
   lowered : left_with (data_of l.query) (known_in g.R.Rows.known g.R.Rows.ending l.rows) l.self.state l.self.stage + l._turn
       ≤ left_with (data_of l.query) (known_in g.R.Rows.known g.R.Rows.ending l.rows) l.fn.self.state l.fn.self.stage;
