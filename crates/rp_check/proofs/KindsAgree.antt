@@ -1,5 +1,5 @@
 -- An expression without faults becomes one whose columns and totals are there and whose kinds agree.
-use Rattle.std.proofs.Common.{◌≡◌, ◌∙◌, ℕ, zero, suc, ◌+◌, ◌<◌, Bool, true, false, ◌&&◌, ◌||◌, Option, None, Some, List, [], ◌∷◌, ◌++◌, map, length, refl, sym, ap, pos, ℤ, arith, append_assoc, add-one, cond}
+use Rattle.std.proofs.Common.{◌≡◌, ◌∙◌, ℕ, zero, suc, ◌<◌, Bool, true, false, ◌&&◌, ◌||◌, Option, None, Some, List, [], ◌∷◌, ◌++◌, length, refl, sym, ap, pos, ℤ, arith, append_assoc, add-one, cond}
 use Rattle.std.specs.Prelude.{not, is_some, option_map, slice_get, if◌then◌else◌}
 use Rattle.std.specs.List.{AllByRecursion}
 use Rattle.rp_value.specs.declared.table.Column.{Column as Heading}
@@ -8,7 +8,6 @@ use Rattle.rp_value.specs.declared.value.Kind.{Kind}
 use Rattle.rp_value.specs.declared.value.Kind.TheVariants.{Int, Text}
 use Rattle.rp_value.specs.Arithmetic.{fitted, fits_64_bits}
 use Rattle.rp_syntax.specs.declared.tree.Column.{Column}
-use Rattle.rp_syntax.specs.declared.tree.Name.{Name}
 use Rattle.rp_syntax.specs.declared.tree.Scope.{Scope}
 use Rattle.rp_syntax.specs.declared.tree.Aggregate.{Aggregate}
 use Rattle.rp_syntax.specs.declared.tree.AggregateFunction.{AggregateFunction}
@@ -31,11 +30,11 @@ use Rattle.rp_check.specs.declared.fault.Fault.{Fault}
 use Rattle.rp_check.specs.ClauseFaults.{each_after, measure_faults, definition_faults}
 use Rattle.rp_check.specs.Queries.{formulas, totals_of, terms_of_measures, terms_of_definitions}
 use Rattle.rp_check.specs.Context.{Context, column_named, is_name}
-use Rattle.rp_check.specs.ExprFaults.{unless, expr_faults, column_faults, qualifier_faults, path_faults, scope_faults, scope_in, nesting_faults, offset_faults, aggregate_faults, function_faults, counted_faults}
+use Rattle.rp_check.specs.ExprFaults.{expr_faults, column_faults, qualifier_faults, path_faults, scope_faults, scope_in, nesting_faults, offset_faults, aggregate_faults, function_faults, counted_faults}
 use Rattle.rp_check.specs.Formulas as formula
 use Rattle.rp_check.specs.Formulas.{Formula, PlainTotal}
-use Rattle.rp_check.specs.Kinds.{is_kind, may_be, column_kind, function_kind, total_kind, is_listing, are_kept, has_kind, have_kind, is_value, is_truth, is_running}
-use Rattle.rp_check.specs.Resolved.{resolved, totals, operated, nullness, place_of, column_in, column_number, number_at, rows_meant, members_meant, path_members, listing_total, total_over, total_counted, is_final}
+use Rattle.rp_check.specs.Kinds.{is_kind, may_be, column_kind, function_kind, total_kind, is_listing, are_kept, has_kind, is_value, is_truth, is_running}
+use Rattle.rp_check.specs.Resolved.{resolved, totals, operated, nullness, place_of, column_in, column_number, number_at, rows_meant, path_members, listing_total, total_over, total_counted, is_final}
 use Rattle.rp_check.specs.Sorts.{Sort, Valued, Truth, sort_of, path_sort, column_sort, aggregate_sort, kind_at, operator_sort, takes, numbers, conditions, comparable, may_be_number, may_be_condition, may_be_value}
 use Rattle.rp_check.proofs.Clean.{none_left, none_right, holds, found_within}
 

@@ -1,5 +1,5 @@
 -- Faults of the three parts of compiling are told as they are.
-use Rattle.std.proofs.Common.{◌≡◌, ◌≢◌, ℕ, List, [], ◌∷◌, refl}
+use Rattle.std.proofs.Common.{◌≡◌, ◌≢◌, ℕ, List, refl}
 use Rattle.rp_value.specs.declared.table.Column.{Column}
 use Rattle.rp_lexer.specs.Lexes.{Lexes}
 use Rattle.rp_lexer.specs.Faults.{IsFirstFault}
@@ -14,7 +14,6 @@ use Rattle.rp_syntax.specs.ClauseGrammar.{Derives}
 use Rattle.rp_syntax.specs.Derived.{DerivesNone}
 use Rattle.rp_check.specs.declared.fault.Fault.{Fault}
 use Rattle.rp_check.specs.declared.fault.CheckFault.{CheckFault}
-use Rattle.rp_check.specs.declared.fault.CheckFault.TheVariants as check_fault
 use Rattle.rp_check.specs.Checked.{Tells, first_fault, no_memory}
 use Rattle.rp_check.specs.ClauseFaults.{faults}
 use Rattle.rp_check.specs.Compiled.{IsCompileFault, told_lex, told_parse, told_check}

@@ -1,17 +1,14 @@
 -- The query of a clause without faults is sound.
-use Rattle.std.proofs.Common.{◌≡◌, ◌∙◌, ℕ, ◌<◌, ◌≤◌, Bool, true, false, Option, None, Some, List, [], ◌∷◌, ◌++◌, map, length, refl, sym, ap, arith}
-use Rattle.std.specs.Prelude.{is_some, option_map, slice_get, nat_lt, All}
-use Rattle.std.specs.List.{AllByRecursion, position, position_or_len}
-use Rattle.std.proofs.lemmas.Bool.Decides.{nat_tests}
+use Rattle.std.proofs.Common.{◌≡◌, ◌∙◌, ℕ, ◌<◌, ◌≤◌, true, Option, None, Some, List, [], ◌∷◌, ◌++◌, map, length, refl, sym, ap, arith}
+use Rattle.std.specs.Prelude.{is_some, option_map, slice_get, All}
+use Rattle.std.specs.List.{AllByRecursion}
 use Rattle.std.proofs.lemmas.List.{length-map, append-nil}
 use Rattle.std.proofs.lemmas.List.Elements.{All-from_recursion, All-get_or}
-use Rattle.std.proofs.lemmas.Option.{slice_get-map, slice_get_within, get_or_from_slice_get, cond_some, same_Some}
+use Rattle.std.proofs.lemmas.Option.{slice_get-map, slice_get_within, get_or_from_slice_get, same_Some}
 use Rattle.rp_value.specs.declared.table.Column.{Column}
 use Rattle.rp_pattern.specs.PatternForm.{form_of}
 use Rattle.rp_syntax.specs.Terms.{Term}
 use Rattle.rp_syntax.specs.Clauses.{ClauseTree, DefinitionTree}
-use Rattle.rp_check.specs.declared.fault.Fault.{Fault}
-use Rattle.rp_check.specs.declared.fault.CheckKind.{CheckKind}
 use Rattle.rp_check.specs.declared.plan.Condition.{Condition}
 use Rattle.rp_check.specs.declared.query.QueryData.{QueryData}
 use Rattle.rp_check.specs.QueryOf.{IsQueryOf, measured_totals, measuring, defining}
@@ -19,7 +16,6 @@ use Rattle.rp_check.specs.ClauseFaults.{faults, each, name_faults, listing_fault
 use Rattle.rp_check.specs.Kinds.{is_value, is_truth, is_running}
 use Rattle.rp_check.specs.Context.{Context, column_named, is_name}
 use Rattle.rp_check.specs.Definitions.{condition_at}
-use Rattle.rp_check.specs.ExprFaults.{unless}
 use Rattle.rp_check.specs.Formulas.{PlainTotal, plain_total, value_formula, condition_formula}
 use Rattle.rp_check.specs.Queries.{formulas, totals_of, terms_of_definitions, definition_place, order_column, greatest}
 use Rattle.rp_check.specs.Reach.{reach, condition_reach}
