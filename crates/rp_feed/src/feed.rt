@@ -14,7 +14,7 @@ use std::marker::Model;
 ///
 /// Contracts see it as the rows that it holds with their numbers, the number below which all were taken and dropped,
 /// and the count of its close (`Fed`).
-#[derive(Drop)]
+#[derive(Debug, Drop)]
 pub struct Feed {
     /// The number of the first place.
     first: u64,

@@ -1,5 +1,5 @@
 //! Places for consecutive numbers, each with its row or empty.
-ghost use Rattle.std.specs.Prelude.{◌≡◌, ◌+◌, ◌-◌, ◌<◌, ◌≤◌, length, drop, ◌++◌, ◌^◌, IfOk, option_copied, is_some, OnOk, OnErr};
+ghost use Rattle.std.specs.Prelude.{◌≡◌, ◌+◌, ◌<◌, ◌≤◌, length, drop, ◌++◌, ◌^◌, IfOk, option_copied, is_some, OnOk, OnErr};
 ghost use Rattle.rp_feed.specs.Slots.{slot_at, leading, held_from, numbered_row, put_at as with_put};
 ghost use Rattle.rp_feed.specs.Answers.{compared};
 

@@ -1,8 +1,9 @@
 //! A thousand orders of arrival, with repeats, losses and forgetting, beside a plain map of what was taken.
 ghost use Rattle.std.specs.Prelude.{◌<◌, ◌≤◌};
 
-use super::Prices;
+use super::{price_table, row_of};
 use crate::{Feed, FeedFault, MAX_BEYOND, MAX_NUMBER, Taken};
+use rp_value::Row;
 use std::alloc::{AllocFailed, Global};
 use std::collections::BTreeMap;
 use std::test::Fail;
@@ -31,7 +32,7 @@ impl Dice {
 /// All rows that were ever taken, with their prices.
 #[derive(Drop)]
 struct Plain {
-    taken: BTreeMap<u64, i64>,
+    taken: BTreeMap<u64, usize>,
     first: u64,
     closed: Option<u64>,
 }
@@ -61,8 +62,8 @@ impl Plain {
     fn take(
         &mut self,
         number: u64,
-        price: i64,
-    ) -> Result<Result<Taken, FeedFault>, AllocFailed<(u64, i64)>> {
+        price: usize,
+    ) -> Result<Result<Taken, FeedFault>, AllocFailed<(u64, usize)>> {
         if number == 0 || number > MAX_NUMBER {
             return Ok(Err(FeedFault::NumberRange));
         }
@@ -105,7 +106,7 @@ impl Plain {
 /// What comes next.
 #[derive(Clone, Copy)]
 enum Arrival {
-    Row(u64, i64),
+    Row(u64, usize),
     Close(u64),
     Forget(u64),
 }
@@ -116,7 +117,7 @@ fn next_arrival(dice: &mut Dice, order: u64, front: u64) -> Arrival
     requires { front ≤ ROWS }
 {
     let number = 1 + dice.below(ROWS);
-    let price = 10 * number as i64;
+    let price = 2 * number as usize;
     match dice.below(20) {
         0 => Arrival::Forget(dice.below(front + 2)),
         1 => Arrival::Close(ROWS + dice.below(2)),
@@ -129,20 +130,36 @@ fn next_arrival(dice: &mut Dice, order: u64, front: u64) -> Arrival
     }
 }
 
-/// Whether the feed's answer to what comes is that of the map.
-fn agree(prices: &mut Prices, plain: &mut Plain, arrival: Arrival) -> Result<bool, Fail> {
+/// A row for each price below so many, so that a thousand orders make no row of their own.
+fn rows_of_prices(alloc: Global, count: i64) -> Result<Vec<Row>, Fail> {
+    let table = price_table(alloc)?;
+    let mut rows = Vec::new(alloc);
+    for price in 0..count {
+        rows.push(row_of(alloc, &table, price)?)?;
+    }
+    Ok(rows)
+}
+
+/// Whether the feed's answer to what comes is that of the map. Want of memory is no answer.
+fn agree(feed: &mut Feed, plain: &mut Plain, rows: &[Row], arrival: Arrival) -> Result<bool, Fail> {
     match arrival {
         Arrival::Row(number, price) => {
+            let Some(row) = rows.get(price) else {
+                return Ok(false);
+            };
             let expected = plain.take(number, price)?;
-            Ok(prices.take(number, price)? == expected)
+            match feed.take(number, row.share()?) {
+                Err(FeedFault::OutOfMemory) => Err(FeedFault::OutOfMemory.into()),
+                answer => Ok(answer == expected),
+            }
         }
-        Arrival::Close(count) => Ok(prices.feed.close(count) == plain.close(count)),
+        Arrival::Close(count) => Ok(feed.close(count) == plain.close(count)),
         Arrival::Forget(before) => {
-            let front = prices.feed.front();
+            let front = feed.front();
             if before > front + 1 {
                 return Ok(false);
             }
-            prices.feed.forget(before);
+            feed.forget(before);
             plain.first = plain.first.max(before);
             Ok(true)
         }
@@ -150,16 +167,18 @@ fn agree(prices: &mut Prices, plain: &mut Plain, arrival: Arrival) -> Result<boo
 }
 
 /// Whether the feed holds the rows of the map that aren't dropped, and no other.
-fn hold_the_same(prices: &Prices, plain: &Plain) -> Result<bool, Fail> {
-    let rows = prices.feed.rows(prices.alloc)?;
-    let mut held = rows.iter();
+fn hold_the_same(alloc: Global, feed: &Feed, plain: &Plain, rows: &[Row]) -> Result<bool, Fail> {
+    let numbered = feed.rows(alloc)?;
+    let mut held = numbered.iter();
     for (number, price) in plain.taken.iter() {
         if *number < plain.first {
             continue;
         }
-        match held.next() {
-            Some((other, _)) if other == number && prices.has(*number, *price) => {}
-            _ => return Ok(false),
+        let (Some((other, row)), Some(expected)) = (held.next(), rows.get(*price)) else {
+            return Ok(false);
+        };
+        if other != number || !row.same(expected) {
+            return Ok(false);
         }
     }
     Ok(held.next().is_none())
@@ -168,18 +187,22 @@ fn hold_the_same(prices: &Prices, plain: &Plain) -> Result<bool, Fail> {
 #[test]
 fn random_orders(rt: HostRuntime) -> Result<(), Fail> {
     let alloc = rt.alloc();
+    let rows = rows_of_prices(alloc, 62)?;
     for order in 0..1_000 {
         let mut dice = Dice { state: order };
-        let mut prices = Prices::new(alloc, Feed::new(alloc))?;
+        let mut feed = Feed::new(alloc);
         let mut plain = Plain::new(alloc);
         for _ in 0..150 {
             let next = next_arrival(&mut dice, order, plain.front());
-            assert!(rt; agree(&mut prices, &mut plain, next)?, "order {order}");
-            assert_eq!(rt; prices.feed.front(), plain.front());
-            assert_eq!(rt; prices.feed.first(), plain.first);
-            assert_eq!(rt; prices.feed.closed(), plain.closed);
+            assert!(rt; agree(&mut feed, &mut plain, &rows, next)?, "order {order}");
+            assert_eq!(rt; feed.front(), plain.front());
+            assert_eq!(rt; feed.first(), plain.first);
+            assert_eq!(rt; feed.closed(), plain.closed);
         }
-        assert!(rt; hold_the_same(&prices, &plain)?, "order {order}");
+        assert!(rt;
+            hold_the_same(alloc, &feed, &plain, &rows)?,
+            "order {order}"
+        );
     }
     Ok(())
 }
