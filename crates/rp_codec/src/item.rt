@@ -1,0 +1,27 @@
+//! Items of an answer.
+use rp_value::Cells;
+
+/// Why a skip rule names no row that a search could start at.
+#[derive(Clone, Copy, Debug, PartialEq, Eq)]
+pub enum SkipFault {
+    /// No row of the match is mapped to the variable.
+    SkipNoRow,
+    /// The row is the match's first.
+    SkipSame,
+}
+
+/// An item of an answer.
+#[derive(Debug, Drop)]
+pub enum Item {
+    /// A row of output.
+    Row {
+        /// The number of its match, from 1. None where the row is in no match.
+        number: Option<u64>,
+        /// Its cells, in the order of the output columns.
+        cells: Cells,
+    },
+    /// A skip fault ends the answer.
+    Fault(SkipFault),
+    /// The partition's end.
+    End,
+}

@@ -1,0 +1,22 @@
+//! What goes over a line: the packets of a source, and the replies to it.
+//!
+//! A reply's line is compact JSON, its keys in ascending byte order; a place is a text of digits, since readers of JSON
+//! may round a number above 2^53:
+//!
+//!     {"cells":["x",1,10,6,9],"key":["x"],"number":1,"place":"1"}
+//!     {"end":true,"key":["x"],"place":"2"}
+//!
+//! What stands on a line is said in `specs/ReplyLines`.
+#![tactic(auto)]
+
+mod item;
+mod line;
+mod packet;
+mod reply;
+#[cfg(test)]
+mod tests;
+
+pub use item::{Item, SkipFault};
+pub use line::{push_reply_line, reply_line};
+pub use packet::Packet;
+pub use reply::Reply;

@@ -1,0 +1,172 @@
+//! Lines of replies, written a token at a time.
+ghost use Rattle.std.specs.Prelude.{◌≡◌, ◌++◌, ◌∷◌, [], IfOk, OnOk, codes, decimal, string_bytes};
+ghost use Rattle.json.specs.Token.{key, string};
+ghost use Rattle.rp_codec.specs.ReplyLines.{reply_text, item_text, name_of_fault};
+ghost use Rattle.rp_codec.specs.Tokens.{item_tokens, key_tokens, number_token, value_token, values_tokens};
+
+use crate::{Item, Reply, SkipFault};
+use json::Writer;
+use rp_value::{Cells, Value};
+use std::alloc::{AllocError, Global};
+use std::mem;
+
+/// The line of a reply, without its line feed.
+pub fn reply_line(alloc: Global, reply: &Reply) -> Result<String, AllocError>
+    ensures { IfOk result (λ line. string_bytes line ≡ reply_text reply.now) }
+{
+    let mut text = Vec::with_capacity(alloc, 128)?;
+    push_reply_line(alloc, &mut text, reply)?;
+    string_of(text)
+}
+
+/// Adds the line of a reply to a text, without its line feed.
+pub fn push_reply_line(alloc: Global, text: &mut Vec<u8>, reply: &Reply) -> Result<(), AllocError>
+    ensures { OnOk result (text.new.items ≡ text.old.items ++ reply_text reply.now) }
+{
+    match reply {
+        Reply::Item { key, place, item } => push_item_line(alloc, text, key, *place, item),
+    }
+}
+
+fn push_item_line(
+    alloc: Global,
+    text: &mut Vec<u8>,
+    key: &Cells,
+    place: u128,
+    item: &Item,
+) -> Result<(), AllocError>
+    ensures { OnOk result (text.new.items ≡ text.old.items ++ item_text key.now place item.now) }
+{
+    let gathered = mem::replace(text, Vec::new(alloc));
+    let mut writer = Writer::new(gathered);
+    write_item(&mut writer, key, place, item)?;
+    *text = writer.into_inner();
+    Ok(())
+}
+
+fn string_of(bytes: Vec<u8>) -> Result<String, AllocError>
+    ensures { IfOk result (λ text. string_bytes text ≡ bytes.items) }
+{
+    match String::from_utf8(bytes) {
+        Ok(text) => Ok(text),
+        Err(_) => Err(AllocError),
+    }
+}
+
+fn write_item(writer: &mut Writer, key: &Cells, place: u128, item: &Item) -> Result<(), AllocError>
+    ensures ok { OnOk result (writer.new.tokens ≡ writer.old.tokens ++ item_tokens key.now place item.now) }
+    ensures before { writer.new.before ≡ writer.old.before }
+{
+    match item {
+        Item::Row { number, cells } => write_row(writer, key, place, *number, cells),
+        Item::Fault(fault) => write_fault(writer, key, place, *fault),
+        Item::End => write_end(writer, key, place),
+    }
+}
+
+fn write_row(
+    writer: &mut Writer,
+    key: &Cells,
+    place: u128,
+    number: Option<u64>,
+    cells: &Cells,
+) -> Result<(), AllocError>
+    ensures ok { OnOk result (writer.new.tokens ≡ writer.old.tokens ++ item_tokens key.now place (Item.Row number cells.now)) }
+    ensures before { writer.new.before ≡ writer.old.before }
+{
+    writer.begin_object()?;
+    writer.key("cells")?;
+    write_values(writer, cells.as_slice())?;
+    write_key(writer, key)?;
+    writer.key("number")?;
+    write_number(writer, number)?;
+    write_place(writer, place)?;
+    writer.end_object()
+}
+
+fn write_fault(
+    writer: &mut Writer,
+    key: &Cells,
+    place: u128,
+    fault: SkipFault,
+) -> Result<(), AllocError>
+    ensures ok { OnOk result (writer.new.tokens ≡ writer.old.tokens ++ item_tokens key.now place (Item.Fault fault)) }
+    ensures before { writer.new.before ≡ writer.old.before }
+{
+    writer.begin_object()?;
+    writer.key("fault")?;
+    writer.string(fault_name(fault))?;
+    write_key(writer, key)?;
+    write_place(writer, place)?;
+    writer.end_object()
+}
+
+fn write_end(writer: &mut Writer, key: &Cells, place: u128) -> Result<(), AllocError>
+    ensures ok { OnOk result (writer.new.tokens ≡ writer.old.tokens ++ item_tokens key.now place Item.End) }
+    ensures before { writer.new.before ≡ writer.old.before }
+{
+    writer.begin_object()?;
+    writer.key("end")?;
+    writer.boolean(true)?;
+    write_key(writer, key)?;
+    write_place(writer, place)?;
+    writer.end_object()
+}
+
+pub(crate) fn fault_name(fault: SkipFault) -> &'static str
+    ensures { result.now ≡ name_of_fault fault }
+{
+    match fault {
+        SkipFault::SkipNoRow => "SkipNoRow",
+        SkipFault::SkipSame => "SkipSame",
+    }
+}
+
+fn write_number(writer: &mut Writer, number: Option<u64>) -> Result<(), AllocError>
+    ensures ok { OnOk result (writer.new.tokens ≡ writer.old.tokens ++ number_token number ∷ []) }
+    ensures before { writer.new.before ≡ writer.old.before }
+{
+    match number {
+        Some(number) => writer.u64(number),
+        None => writer.null(),
+    }
+}
+
+fn write_place(writer: &mut Writer, place: u128) -> Result<(), AllocError>
+    ensures ok { OnOk result (writer.new.tokens ≡ writer.old.tokens ++ key (codes "place") ∷ string (decimal place) ∷ []) }
+    ensures before { writer.new.before ≡ writer.old.before }
+{
+    writer.key("place")?;
+    let mut buffer = itoa::Buffer::new();
+    writer.string(buffer.format(place))
+}
+
+fn write_key(writer: &mut Writer, key: &Cells) -> Result<(), AllocError>
+    ensures ok { OnOk result (writer.new.tokens ≡ writer.old.tokens ++ key_tokens key.now) }
+    ensures before { writer.new.before ≡ writer.old.before }
+{
+    writer.key("key")?;
+    write_values(writer, key.as_slice())
+}
+
+fn write_values(writer: &mut Writer, values: &[Value]) -> Result<(), AllocError>
+    ensures ok { OnOk result (writer.new.tokens ≡ writer.old.tokens ++ values_tokens values.now) }
+    ensures before { writer.new.before ≡ writer.old.before }
+{
+    writer.begin_array()?;
+    for value in values {
+        write_value(writer, value)?;
+    }
+    writer.end_array()
+}
+
+fn write_value(writer: &mut Writer, value: &Value) -> Result<(), AllocError>
+    ensures ok { OnOk result (writer.new.tokens ≡ writer.old.tokens ++ value_token value.now ∷ []) }
+    ensures before { writer.new.before ≡ writer.old.before }
+{
+    match value {
+        Value::Null => writer.null(),
+        Value::Int(number) => writer.i64(*number),
+        Value::Text(text) => writer.string(text.as_str()),
+    }
+}

@@ -1,0 +1,10 @@
+mod Lists
+mod Headers
+mod CsvRecords
+mod Takes
+mod Taking
+mod Calls
+mod Orders
+mod Numbering
+mod Gathering
+mod Telling

@@ -1,0 +1,105 @@
+-- A record's fields beside the columns, from an index on.
+use Rattle.std.proofs.Common.{◌≡◌, ◌<◌, ◌≤◌, ◌≢◌, ◌+◌, ◌∙◌, ℕ, zero, suc, List, [], ◌∷◌, ◌++◌, map, drop, length, get_or, refl, sym, ap, arith, Bool, true, false, not, position, zip, ◌==◌, true≢false, Option, Some, None, ◌⊎◌, inl, inr, append_assoc, add-one, drop-cons}
+use Rattle.std.proofs.lemmas.List.Quantifiers.{position-Some}
+use Rattle.std.proofs.lemmas.List.{append-nil, drop_all}
+use Rattle.csv.specs.Records.{field_at}
+use Rattle.rp_value.specs.Rows.{admits, row_fault}
+use Rattle.rp_value.specs.Tables.{kinds_of}
+use Rattle.rp_value.specs.declared.table.Column.{Column}
+use Rattle.rp_value.specs.declared.value.Kind.{Kind}
+use Rattle.rp_value.specs.declared.value.Kind.TheVariants as kind
+use Rattle.rp_value.specs.declared.value.Value.{Value}
+use Rattle.rp_value.specs.declared.value.Value.TheVariants.{Null}
+use Rattle.rp_source.specs.Fields.{HasNoField, IsField, IsNoField, IsRow}
+use Rattle.rp_source.specs.CsvRows.{AreRows}
+
+pub at_field : (fs : List (List ℕ)) (i : ℕ) (f : List ℕ) → field_at fs i ≡ Some f → drop i fs ≡ f ∷ drop (suc i) fs
+unfolding field_at
+at_field [] i f e = cc
+at_field (g ∷ fs) zero f e = let same : g ≡ f = cc in ap (λ x. x ∷ fs) same
+at_field (g ∷ fs) (suc i) f e = at_field fs i f e
+
+pub no_field : (fs : List (List ℕ)) (i : ℕ) → field_at fs i ≡ None → length fs ≤ i
+unfolding field_at
+no_field [] i e = omega arith
+no_field (g ∷ fs) zero e = cc
+no_field (g ∷ fs) (suc i) e = let h = no_field fs i e in omega arith
+
+-- the values so far, and those of the fields from an index on
+pub record Continues (kinds : List Kind) (fields : List (List ℕ)) (values : List Value) (i : ℕ) : Type 0 where
+  pub are : (vs : List Value) → IsRow (drop i kinds) (drop i fields) vs → IsRow kinds fields (values ++ vs)
+  pub none : HasNoField (drop i kinds) (drop i fields) → HasNoField kinds fields
+
+pub continues-start : (kinds : List Kind) (fields : List (List ℕ)) → Continues kinds fields [] 0
+continues-start kinds fields = record { are = λ vs h. h; none = λ h. h }
+
+pub continues-step : (kinds : List Kind) (fields : List (List ℕ)) (values : List Value) (i : ℕ) (k : Kind) (f : List ℕ) (v : Value)
+    → drop i kinds ≡ k ∷ drop (i + 1) kinds → drop i fields ≡ f ∷ drop (i + 1) fields → IsField k f v
+    → Continues kinds fields values i → Continues kinds fields (values ++ v ∷ []) (i + 1)
+continues-step kinds fields values i k f v ek ef is c = record {
+  are = λ vs h. rw append_assoc (c.are (v ∷ vs) (rw (ek, ef) (is, h)));
+  none = λ h. c.none (rw (ek, ef) (inr h));
+}
+
+pub continues-none : (kinds : List Kind) (fields : List (List ℕ)) (values : List Value) (i : ℕ) (k : Kind) (f : List ℕ)
+    → drop i kinds ≡ k ∷ drop (i + 1) kinds → drop i fields ≡ f ∷ drop (i + 1) fields → IsNoField k f
+    → Continues kinds fields values i → HasNoField kinds fields
+continues-none kinds fields values i k f ek ef is c = c.none (rw (ek, ef) (inl is))
+
+kind_drop : (cs : List Column) (i : ℕ) (c : Column) → i < length cs → c ≡ get_or cs i c → drop i (kinds_of cs) ≡ c.kind ∷ drop (i + 1) (kinds_of cs)
+kind_drop [] i c h is = absurd (omega arith)
+kind_drop (d ∷ cs) zero c h is = ap (λ (x : Column). x.kind ∷ kinds_of cs) (sym is)
+kind_drop (d ∷ cs) (suc i) c h is = let e : suc i + 1 ≡ suc (i + 1) = omega arith in rw e (kind_drop cs i c (omega arith) is)
+
+pub kinds_step : (cs : List Column) (i : ℕ) (c : Column) → i < length cs → c ≡ get_or cs i c → drop i (kinds_of cs) ≡ c.kind ∷ drop (i + 1) (kinds_of cs)
+kinds_step = kind_drop
+
+-- one more record that is a row
+pub rows_more : (kinds : List Kind) (rs : List (List (List ℕ))) (rows : List (List Value)) (r : List (List ℕ)) (row : List Value)
+    → AreRows kinds rs rows → IsRow kinds r row → AreRows kinds (rs ++ r ∷ []) (rows ++ row ∷ [])
+rows_more kinds [] [] r row h is = (is, tt)
+rows_more kinds [] (x ∷ rows) r row h is = absurd h
+rows_more kinds (s ∷ rs) [] r row h is = absurd h
+rows_more kinds (s ∷ rs) (x ∷ rows) r row h is = (h.0, rows_more kinds rs rows r row h.1 is)
+
+pub continues-end : (kinds : List Kind) (fields : List (List ℕ)) (values : List Value) (i : ℕ) → length kinds ≤ i → length fields ≤ i → Continues kinds fields values i → IsRow kinds fields values
+continues-end kinds fields values i a b c =
+    let none : IsRow (drop i kinds) (drop i fields) [] = rw (drop_all i kinds a, drop_all i fields b) tt in
+    rw (append-nil values) at (c.are [] none)
+
+-- a value of a field is of its column's kind
+admitted : (k : Kind) (f : List ℕ) (v : Value) → IsField k f v → admits k v ≡ true
+admitted kind.Int f v (inl h) = rw h.1 refl
+admitted kind.Int f v (inr h) = rw (h.2.1) refl
+admitted kind.Text f v (inl h) = rw h.1 refl
+admitted kind.Text f v (inr h) = rw h.2 refl
+
+row_length : (ks : List Kind) (fs : List (List ℕ)) (vs : List Value) → IsRow ks fs vs → length vs ≡ length ks
+row_length [] [] [] h = refl
+row_length [] [] (v ∷ vs) h = absurd h
+row_length [] (f ∷ fs) vs h = absurd h
+row_length (k ∷ ks) [] vs h = absurd h
+row_length (k ∷ ks) (f ∷ fs) [] h = absurd h
+row_length (k ∷ ks) (f ∷ fs) (v ∷ vs) h = ap suc (row_length ks fs vs h.1)
+
+no_misfit : (ks : List Kind) (fs : List (List ℕ)) (vs : List Value) → IsRow ks fs vs → (i : ℕ) (d : Kind × Value) → i < length (zip ks vs) → not (admits (get_or (zip ks vs) i d).0 (get_or (zip ks vs) i d).1) ≡ false
+no_misfit [] [] [] h i d lt = absurd (omega arith)
+no_misfit [] [] (v ∷ vs) h i d lt = absurd h
+no_misfit [] (f ∷ fs) vs h i d lt = absurd h
+no_misfit (k ∷ ks) [] vs h i d lt = absurd h
+no_misfit (k ∷ ks) (f ∷ fs) [] h i d lt = absurd h
+no_misfit (k ∷ ks) (f ∷ fs) (v ∷ vs) h zero d lt = rw (admitted k f v h.0) refl
+no_misfit (k ∷ ks) (f ∷ fs) (v ∷ vs) h (suc i) d lt = no_misfit ks fs vs h.1 i d (omega arith)
+
+none_at : {X : Type 0} (p : X → Bool) (xs : List X) → ((i : ℕ) (d : X) → i < length xs → p (get_or xs i d) ≡ false) → (x : X) (r : Option ℕ) → position p xs ≡ r → position p xs ≡ None
+none_at p xs all x None e = e
+none_at p xs all x (Some i) e = let at = position-Some p xs i x e in absurd (true≢false (sym at.1 ∙ all i x at.0))
+
+none_misfits : (ks : List Kind) (fs : List (List ℕ)) (vs : List Value) → IsRow ks fs vs → position (λ (p : Kind × Value). not (admits p.0 p.1)) (zip ks vs) ≡ None
+none_misfits ks fs vs h = none_at (λ (p : Kind × Value). not (admits p.0 p.1)) (zip ks vs) (no_misfit ks fs vs h) (kind.Int, Null) (position (λ (p : Kind × Value). not (admits p.0 p.1)) (zip ks vs)) refl
+
+-- a row of a record fits the table
+pub row_fits : (ks : List Kind) (fs : List (List ℕ)) (vs : List Value) → IsRow ks fs vs → row_fault ks vs ≡ None
+row_fits ks fs vs h =
+    let same : (length vs == length ks) ≡ true = grind (arith, row_length ks fs vs h) in
+    rw (same, none_misfits ks fs vs h) refl

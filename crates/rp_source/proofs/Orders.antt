@@ -1,0 +1,36 @@
+-- The order of rows is an order.
+use Rattle.std.proofs.Common.{◌≡◌, ℕ, Bool, true, false, List, [], ◌∷◌, Option, Some, None, refl, sym, ap, subst, ◌∙◌}
+use Rattle.std.specs.Prelude.{if◌then◌else◌, Result, Ok, Err, OnOk}
+use Rattle.std.specs.Cmp.{IsStrictWeakOrder, IsTotalOrder, on_total, back_total, then_total}
+use Rattle.std.specs.declared.cmp.Ordering.{Ordering}
+use Rattle.std.specs.declared.cmp.Ordering.TheVariants.{Less, Equal, Greater}
+use Rattle.std.specs.Ordering.{is_lt}
+use Rattle.std.proofs.lemmas.List.Sorted.{ranks_by}
+use Rattle.rp_value.specs.Order.{value_order}
+use Rattle.rp_value.specs.declared.value.Value.{Value}
+use Rattle.rp_source.specs.Orders.{column_order, is_before, rows_order, value_at}
+use Rattle.rp_check.specs.declared.lists.OrderColumn.{OrderColumn}
+
+pub value_total : (cmp : Value → Value → Ordering) → IsTotalOrder cmp → ((a b : Value) → cmp a b ≡ value_order a b) → IsTotalOrder value_order
+value_total cmp o is = subst IsTotalOrder (λ i a b. is a b i) o
+
+one_way : IsTotalOrder value_order → (n : ℕ) (b : Bool) → IsTotalOrder (λ (x y : List Value). if b then value_order (value_at n y) (value_at n x) else value_order (value_at n x) (value_at n y))
+one_way o n true = back_total (on_total (λ row. value_at n row) o)
+one_way o n false = on_total (λ row. value_at n row) o
+
+column_total : IsTotalOrder value_order → (c : OrderColumn) → IsTotalOrder (column_order c)
+column_total o c = one_way o c.column c.descending
+
+all_tie : IsTotalOrder {K = List Value} (λ x y. Equal)
+all_tie = record { antisymm = λ x y. refl; trans = λ x y z f g. f; congr = λ x y z e. refl }
+
+pub rows_total : IsTotalOrder value_order → (os : List OrderColumn) → IsTotalOrder (rows_order os)
+rows_total o [] = all_tie
+rows_total o (c ∷ os) = then_total (column_total o c) (rows_total o os)
+
+pub rows_weak : IsTotalOrder value_order → (os : List OrderColumn) → IsStrictWeakOrder (is_before os)
+rows_weak o os = ranks_by (rows_total o os) (λ x. x)
+
+pub on_ok : {A E : Type 0} (P Q : Type 0) (r : Result A E) → OnOk r P → (P → Q) → OnOk r Q
+on_ok P Q (Ok x) h f = f h
+on_ok P Q (Err e) h f = tt

@@ -1,0 +1,10 @@
+use Rattle.std.proofs.Common.{◌≡◌, ◌<◌, ◌≤◌, ◌∙◌, ◌∷◌, ◌+◌, drop, length, sym, arith, add-one, Some, None}
+use Rattle.csv.specs.Records.{field_at, fields_of}
+use Rattle.rp_source.proofs.Lists.{at_field, no_field}
+use Rattle.rp_source.proofs.fields.field_at.Goals as goal
+
+pub returns : goal.returns
+returns c = rw add-one (at_field (fields_of c.args.fields.now) c.args.index c.in-Some.field.now (sym c.in-Some.ensures.value))
+
+pub unreachable-requires : goal.unreachable-requires
+unreachable-requires c = let far = no_field (fields_of c.args.fields.now) c.args.index (sym c.in-None.ensures.value) in omega (arith, far)

@@ -1,0 +1,27 @@
+use Rattle.std.proofs.Common.{◌≡◌, ◌∙◌, ◌++◌, ◌∷◌, [], List, refl, sym, ap, subst, rules, arith, append_assoc}
+use Rattle.std.proofs.lemmas.Grind.{common_steps}
+use Rattle.std.proofs.lemmas.List.{append-nil}
+use Rattle.rp_check.specs.QueryView.{data_of}
+use Rattle.rp_source.specs.Gathering.{parts_of}
+use Rattle.rp_source.specs.Numbered.{AreNumbered, ArePackets, part_packets}
+use Rattle.rp_source.specs.Orders.{IsOrdered}
+use Rattle.rp_source.proofs.number.number_rows.Goals as goal
+
+pub loop-key-preserved : goal.loop-key-preserved
+loop-key-preserved c =
+    let query = data_of c.args.query.now in
+    let ordered = c.order_rows.new.rows.items in
+    let part = part_packets c.in-Some.key ordered in
+    let gives : c.loop-key.key-iterator ≡ (c.in-Some.key, c.in-Some.rows) ∷ c.next.new.self = grind (arith, common_steps, c.in-Some.ensures.steps) in
+    let is : IsOrdered query.order.items c.in-Some.rows.items ordered = subst (λ order. IsOrdered order c.in-Some.rows.items ordered) c.order.ensures c.in_ok-order_rows.ensures in
+    λ later h.
+    let first : ArePackets query.order.items (parts_of c.loop-key.key-iterator) (part ++ later) = subst (λ parts. ArePackets query.order.items (parts_of parts) (part ++ later)) (sym gives) (ordered, later, is, refl, h) in
+    subst (AreNumbered query.partition.items query.order.items c.args.rows.items)
+    (sym (ap (λ packets. packets ++ later) c.in_ok-push_part.ensures ∙ append_assoc c.loop-key.packets.items part later)) (c.loop-key.invariant (part ++ later) first)
+
+pub returns : goal.returns
+returns c =
+    let query = data_of c.args.query.now in
+    let none : c.loop-key.key-iterator ≡ [] = grind (arith, common_steps, c.in-None.ensures.steps) in
+    subst (AreNumbered query.partition.items query.order.items c.args.rows.items) (append-nil c.loop-key.packets.items)
+    (c.loop-key.invariant [] (subst (λ parts. ArePackets query.order.items (parts_of parts) []) (sym none) refl))

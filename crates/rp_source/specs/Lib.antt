@@ -1,0 +1,9 @@
+pub mod Fields
+pub mod Headers
+pub mod CsvRows
+pub mod Devices
+pub mod Standing
+pub mod Orders
+pub mod Partitions
+pub mod Gathering
+pub mod Numbered

@@ -1,0 +1,20 @@
+-- Where a reader of csv stands among the records of a text.
+use Rattle.std.specs.Prelude.{◌≡◌, ℕ, List, Option, Some}
+use Rattle.std.specs.Borrow.{Bor}
+use Rattle.csv.specs.Reading.{AreRecords, Reached, Ready, default_config, reader_config, reader_state, reader_trim, source_of, strip_bom}
+use Rattle.csv.specs.declared.parser.State.TheVariants as st
+use Rattle.csv.specs.declared.reader.Reader.{Reader}
+use Rattle.csv.specs.declared.reader.Trim.TheVariants as trim
+
+-- the records are all of the text, read one after another
+abbrev pub AreAll : List ℕ → List (List (List ℕ)) → Type 0
+AreAll text records = AreRecords default_config st.StartRecord (strip_bom text) records
+
+-- the reader has read these first records of the text, and goes on after them
+pub record Stands (text : List ℕ) (records : List (List (List ℕ))) (r : Reader (Bor (List ℕ))) : Type 0 where
+  pub trims : reader_trim r ≡ trim.None
+  pub ready : Ready r
+  pub config : reader_config r ≡ default_config
+  pub rest : List ℕ
+  pub source : source_of (λ s. Some s.now) r ≡ Some rest
+  pub reached : Reached default_config st.StartRecord (strip_bom text) records (reader_state r) rest

@@ -1,0 +1,26 @@
+//! Where packets come from: a CSV input becomes rows of a table, and rows become the packets of their partitions.
+//!
+//!     sym,t,p         Row 1 of ["x"]: x, 1, 10
+//!     x,2,8           Row 2 of ["x"]: x, 2, 8
+//!     y,1,5           Close of ["x"]: 2
+//!     x,1,10          Row 1 of ["y"]: y, 1, 5
+//!                     Close of ["y"]: 1        by PARTITION BY sym ORDER BY t
+//!
+//! What a text's rows and its first fault are is said in `specs/`: CsvRows, over Headers and Fields; what the packets of
+//! rows are in Numbered, over Partitions and Orders.
+#![tactic(auto)]
+
+mod fields;
+mod header;
+mod input;
+mod number;
+mod order;
+mod partition;
+mod records;
+mod rows;
+#[cfg(test)]
+mod tests;
+
+pub use input::read_rows;
+pub use number::number_rows;
+pub use rows::{CsvFault, MAX_RECORDS, rows_of};

@@ -1,0 +1,55 @@
+//! Rows in the order of some columns.
+ghost use Rattle.std.specs.Prelude.{◌≡◌, OnOk, option_copied, unwrap_or};
+ghost use Rattle.rp_value.specs.Order.{value_order};
+ghost use Rattle.rp_value.specs.declared.value.Value.TheVariants.{Null};
+ghost use Rattle.rp_source.specs.Orders.{IsOrdered, column_order, rows_order};
+
+use rp_check::OrderColumn;
+use rp_value::{Row, Value, law_value_order};
+use std::alloc::AllocError;
+use std::cmp::Ordering;
+
+/// Puts rows into the order of these columns. Rows that tie stay as they came.
+pub(crate) fn order_rows(order: &[OrderColumn], rows: &mut Vec<Row>) -> Result<(), AllocError>
+    ensures { OnOk result (IsOrdered order.now rows.old.items rows.new.items) }
+{
+    law_value_order();
+    rows.sort_by(|left, right| compare_rows(order, left, right))
+}
+
+fn compare_rows(order: &[OrderColumn], left: &Row, right: &Row) -> Ordering
+    ensures { result ≡ rows_order order.now left.now right.now }
+{
+    for column in order {
+        let compared = compare_column(column, left, right);
+        if compared != Ordering::Equal {
+            return compared;
+        }
+    }
+    Ordering::Equal
+}
+
+fn compare_column(column: &OrderColumn, left: &Row, right: &Row) -> Ordering
+    ensures { result ≡ column_order column.now left.now right.now }
+{
+    let left = left.cell(column.column);
+    let right = right.cell(column.column);
+    if column.descending {
+        compare_cells(right, left)
+    } else {
+        compare_cells(left, right)
+    }
+}
+
+/// The order of two cells, where none is null.
+fn compare_cells(left: Option<&Value>, right: Option<&Value>) -> Ordering
+    ensures { result ≡ value_order (unwrap_or (option_copied left.entry) Null) (unwrap_or (option_copied right.entry) Null) }
+{
+    law_value_order();
+    match (left, right) {
+        (Some(left), Some(right)) => left.cmp(right),
+        (Some(left), None) => left.cmp(&Value::Null),
+        (None, Some(right)) => Value::Null.cmp(right),
+        (None, None) => Ordering::Equal,
+    }
+}

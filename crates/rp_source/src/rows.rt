@@ -1,0 +1,112 @@
+//! The rows of a CSV text.
+ghost use Rattle.std.specs.Prelude.{◌≡◌, None, IfOk, IfErr};
+ghost use Rattle.csv.specs.Records.{fields_of};
+ghost use Rattle.rp_value.specs.Rows.{row_fault};
+ghost use Rattle.rp_value.specs.Tables.{kinds_of};
+ghost use Rattle.rp_source.specs.CsvRows.{AreRowsOf, IsRowFault, IsTextFault};
+ghost use Rattle.rp_source.specs.Fields.{IsRow};
+ghost use Rattle.rp_source.specs.declared.rows.CsvFault.TheVariants.{OutOfMemory};
+
+use crate::fields::values_of;
+use crate::header::names_columns;
+use crate::records::{reader_of, take_record};
+use csv::ByteRecord;
+use rp_value::{Row, RowFault, Table, Value};
+use std::alloc::{AllocError, Global};
+use thiserror::Error;
+
+/// The most records that an input may have beside its header.
+pub const MAX_RECORDS: u64 = 1_099_511_627_776;
+
+/// Why an input is no rows of a table: the first reason, in the order of its text.
+#[derive(Clone, Copy, Debug, PartialEq, Eq, Error)]
+pub enum CsvFault {
+    /// There is no header, or it doesn't name the table's columns in order.
+    #[error("Header")]
+    Header,
+    /// This record, from 1, hasn't a field for each column, or is one too many.
+    #[error("Record at record {0}")]
+    Record(u64),
+    /// A field of this record, from 1, is no value of its column.
+    #[error("Field at record {0}")]
+    Field(u64),
+    /// The device failed.
+    #[error("device: read")]
+    Read,
+    /// No further read is allowed, and one is due.
+    #[error("too many turns")]
+    Turns,
+    /// Memory was refused.
+    #[error("out of memory")]
+    OutOfMemory,
+}
+
+impl From<AllocError> for CsvFault {
+    ghost from_gives = { λ _ fault. fault ≡ OutOfMemory };
+
+    fn from(_error: AllocError) -> CsvFault {
+        CsvFault::OutOfMemory
+    }
+}
+
+/// The rows of a CSV text over a table.
+///
+/// The first record is the header. A field is a column's name, or has the form of a name whose upper-case form that is. Of
+/// the records after it an empty field is null, any other UTF-8; that of a column of whole numbers is a sign or none and
+/// digits, within 64 bits. The error is the first of the text: the header's, then the records' in order, where the number
+/// of fields is looked at before what they are.
+pub fn rows_of(alloc: Global, text: &[u8], table: &Table) -> Result<Vec<Row>, CsvFault>
+    ensures ok { IfOk result (λ rows. AreRowsOf table.now text.now rows.items) }
+    ensures err { IfErr result (λ fault. IsTextFault table.now text.now fault) }
+{
+    let mut reader = reader_of(alloc, text);
+    let mut fields = ByteRecord::new(alloc);
+    if !take_record(&mut reader, &mut fields)? {
+        return Err(CsvFault::Header);
+    }
+    if !names_columns(alloc, table.columns(), &fields)? {
+        return Err(CsvFault::Header);
+    }
+    let mut rows = Vec::new(alloc);
+    for number in 1..MAX_RECORDS + 1 {
+        if !take_record(&mut reader, &mut fields)? {
+            return Ok(rows);
+        }
+        let row = row_of(alloc, table, &fields, number)?;
+        if rows.push(row).is_err() {
+            return Err(CsvFault::OutOfMemory);
+        }
+    }
+    if take_record(&mut reader, &mut fields)? {
+        return Err(CsvFault::Record(MAX_RECORDS + 1));
+    }
+    Ok(rows)
+}
+
+/// The row of a record, by its number.
+fn row_of(alloc: Global, table: &Table, fields: &ByteRecord, number: u64) -> Result<Row, CsvFault>
+    ensures ok { IfOk result (λ row. IsRow (kinds_of table.now) (fields_of fields.now) row) }
+    ensures err { IfErr result (λ fault. IsRowFault (kinds_of table.now) (fields_of fields.now) number fault) }
+{
+    let columns = table.columns();
+    if fields.len() != columns.len() {
+        return Err(CsvFault::Record(number));
+    }
+    let Some(values) = values_of(alloc, columns, fields)? else {
+        return Err(CsvFault::Field(number));
+    };
+    let row = fitting_row(alloc, table, values)?;
+    Ok(row)
+}
+
+/// The row of values that fit the table.
+fn fitting_row(alloc: Global, table: &Table, values: Vec<Value>) -> Result<Row, AllocError>
+    requires { row_fault (kinds_of table.now) values.items ≡ None }
+    ensures { IfOk result (λ row. row ≡ values.items) }
+{
+    match table.row(alloc, values) {
+        Ok(row) => Ok(row),
+        Err(RowFault::OutOfMemory) => Err(AllocError),
+        Err(_) => unreachable!(),
+    }
+}

@@ -1,0 +1,317 @@
+//! Rows of CSV texts, and the packets of rows, worked out by hand.
+ghost use Rattle.std.specs.Prelude.{Some};
+
+use crate::{CsvFault, number_rows, read_rows, rows_of};
+use rp_check::{Query, compile};
+use rp_codec::Packet;
+use rp_lines::{Intake, ReadFailed};
+use rp_value::{Kind, Row, Table, Value};
+use std::alloc::{AllocError, Global};
+use std::test::Fail;
+
+/// Bytes that come at most so many at a call. The call of that number, from 1, fails.
+#[derive(Drop)]
+struct Source<'a> {
+    bytes: &'a [u8],
+    piece: usize,
+    failing: u64,
+    calls: u64,
+    failures: u64,
+    ended: bool,
+}
+
+impl<'a> Source<'a> {
+    fn new(bytes: &'a [u8], piece: usize, failing: u64) -> Self {
+        Source {
+            bytes,
+            piece,
+            failing,
+            calls: 0,
+            failures: 0,
+            ended: false,
+        }
+    }
+}
+
+impl Intake for Source<'_> {
+    ghost remaining = { λ source. Some source.bytes.now };
+
+    ghost calls = { λ source. source.calls };
+
+    ghost failures = { λ source. source.failures };
+
+    ghost ended = { λ source. source.ended };
+
+    fn read(&mut self, buffer: &mut [u8]) -> Result<usize, ReadFailed> {
+        self.calls = self.calls.saturating_add(1);
+        if self.calls == self.failing {
+            self.failures = self.failures.saturating_add(1);
+            return Err(ReadFailed);
+        }
+        let count = self.bytes.len().min(buffer.len()).min(self.piece.max(1));
+        let (first, rest) = self.bytes.split_at(count);
+        buffer[..count].copy_from_slice(first);
+        self.bytes = rest;
+        if count == 0 && !buffer.is_empty() {
+            self.ended = true;
+        }
+        Ok(count)
+    }
+}
+
+/// `sym text, t int, p int`.
+fn ticks(alloc: Global) -> Result<Table, Fail> {
+    let mut columns = Vec::new(alloc);
+    columns.push((String::from_str(alloc, "SYM")?, Kind::Text))?;
+    columns.push((String::from_str(alloc, "T")?, Kind::Int))?;
+    columns.push((String::from_str(alloc, "P")?, Kind::Int))?;
+    Table::new(alloc, columns).map_err(|_| Fail::from("table"))
+}
+
+fn query(alloc: Global, clause: &str) -> Result<Query, Fail> {
+    compile(alloc, clause, &ticks(alloc)?).map_err(|_| Fail::from("clause"))
+}
+
+/// Cells with a space before each: a text in quotes, null as `-`.
+fn show_cells(alloc: Global, shown: &mut String, cells: &[Value]) -> Result<(), AllocError> {
+    for cell in cells {
+        let text = match cell {
+            Value::Int(number) => format!(in alloc; " {number}")?,
+            Value::Text(text) => format!(in alloc; " '{}'", text.as_str())?,
+            Value::Null => String::from_str(alloc, " -")?,
+        };
+        shown.push_str(text.as_str())?;
+    }
+    Ok(())
+}
+
+fn show_rows(alloc: Global, rows: &[Row]) -> Result<String, AllocError> {
+    let mut shown = String::new(alloc);
+    for row in rows {
+        show_cells(alloc, &mut shown, row.cells())?;
+        shown.push_str(";")?;
+    }
+    Ok(shown)
+}
+
+fn show_packets(alloc: Global, packets: &[Packet]) -> Result<String, AllocError> {
+    let mut shown = String::new(alloc);
+    for packet in packets {
+        let (number, cells) = match packet {
+            Packet::Row { number, cells } => (*number, cells.cells()),
+            Packet::Close { key, count } => {
+                shown.push_str("close ")?;
+                (*count, key.as_slice())
+            }
+        };
+        let text = format!(in alloc; "{number}")?;
+        shown.push_str(text.as_str())?;
+        show_cells(alloc, &mut shown, cells)?;
+        shown.push_str(";")?;
+    }
+    Ok(shown)
+}
+
+/// The rows of a text, shown.
+fn read(alloc: Global, text: &[u8]) -> Result<String, Fail> {
+    let table = ticks(alloc)?;
+    let rows = rows_of(alloc, text, &table).map_err(|_| Fail::from("rows"))?;
+    Ok(show_rows(alloc, rows.as_slice())?)
+}
+
+/// The packets of a text's rows.
+fn packets_of(alloc: Global, query: &Query, text: &str) -> Result<Vec<Packet>, CsvFault> {
+    let rows = rows_of(alloc, text.as_bytes(), query.table())?;
+    Ok(number_rows(alloc, query, rows)?)
+}
+
+/// The packets of a text's rows by a clause, shown.
+fn numbered(alloc: Global, clause: &str, text: &str) -> Result<String, Fail> {
+    let query = query(alloc, clause)?;
+    let packets = packets_of(alloc, &query, text).map_err(|_| Fail::from("rows"))?;
+    Ok(show_packets(alloc, packets.as_slice())?)
+}
+
+#[test]
+fn first_faults(rt: HostRuntime) -> Result<(), Fail> {
+    let alloc = rt.alloc();
+    let table = ticks(alloc)?;
+    for (text, want) in [
+        ("", Some(CsvFault::Header)),
+        ("\n\n", Some(CsvFault::Header)),
+        ("sym,t", Some(CsvFault::Header)),
+        ("sym,p,t\n", Some(CsvFault::Header)),
+        ("sym,t,p,q\n", Some(CsvFault::Header)),
+        ("s m,t,p\nx,1\n", Some(CsvFault::Header)),
+        ("sym,t,p\n", None),
+        ("sYm,T,_\n", Some(CsvFault::Header)),
+        ("sym,t,p\nx,1", Some(CsvFault::Record(1))),
+        ("sym,t,p\nx,1,2,3\n", Some(CsvFault::Record(1))),
+        ("sym,t,p\nx,1,z\n", Some(CsvFault::Field(1))),
+        (
+            "sym,t,p\nx,1,2\nx,1,9223372036854775808\n",
+            Some(CsvFault::Field(2)),
+        ),
+        ("sym,t,p\nx,1,2\nx,1, 2\n", Some(CsvFault::Field(2))),
+        ("sym,t,p\nx,z\nx,z,z\n", Some(CsvFault::Record(1))),
+        ("sym,t,p\nx,z,1\nx\n", Some(CsvFault::Field(1))),
+        (
+            "sym,t,p\nx,-9223372036854775808,9223372036854775807\n",
+            None,
+        ),
+    ] {
+        assert_eq!(rt; rows_of(alloc, text.as_bytes(), &table).err(), want);
+    }
+    let text = b"sym,t,p\n\xff,1,2\n";
+    assert_eq!(rt;
+        rows_of(alloc, text, &table).err(),
+        Some(CsvFault::Field(1))
+    );
+    Ok(())
+}
+
+#[test]
+fn rows_of_texts(rt: HostRuntime) -> Result<(), Fail> {
+    let alloc = rt.alloc();
+    for (text, want) in [
+        ("sym,t,p\n", ""),
+        ("\u{feff}SYM,T,P\nx,1,2\n", " 'x' 1 2;"),
+        (
+            "\"sYm\",\"t\",P\r\nx,+5,-0\r\n\r\n,,\r\ny,1,2",
+            " 'x' 5 0; - - -; 'y' 1 2;",
+        ),
+        (
+            "sym,t,p\n\"a,\"\"b\"\"\n\",\"1\",\"\"\né ü,1,2\n",
+            " 'a,\"b\"\n' 1 -; 'é ü' 1 2;",
+        ),
+        ("sym,t,p\n x ,1,2\n\" \",1,007\n", " ' x ' 1 2; ' ' 1 7;"),
+    ] {
+        assert_eq!(rt; read(alloc, text.as_bytes())?.as_str(), want);
+    }
+    Ok(())
+}
+
+#[test]
+fn each_read_fails_once(rt: HostRuntime) -> Result<(), Fail> {
+    let alloc = rt.alloc();
+    let table = ticks(alloc)?;
+    let text = b"sym,t,p\nx,1,2\ny,3,4\n";
+    // Twenty bytes by pieces of eight are three reads, and the fourth tells the end.
+    for failing in 1..5u64 {
+        let mut source = Source::new(text, 8, failing);
+        assert_eq!(rt;
+            read_rows(alloc, &mut source, &table, 9).err(),
+            Some(CsvFault::Read)
+        );
+        assert_eq!(rt; source.calls, failing);
+        assert!(rt; !source.ended);
+    }
+    let mut source = Source::new(text, 8, 5);
+    let rows = read_rows(alloc, &mut source, &table, 4).map_err(|_| Fail::from("rows"))?;
+    assert_eq!(rt;
+        show_rows(alloc, rows.as_slice())?.as_str(),
+        " 'x' 1 2; 'y' 3 4;"
+    );
+    assert!(rt; source.ended);
+    Ok(())
+}
+
+#[test]
+fn too_few_turns(rt: HostRuntime) -> Result<(), Fail> {
+    let alloc = rt.alloc();
+    let table = ticks(alloc)?;
+    for turns in 0..4u64 {
+        let mut source = Source::new(b"sym,t,p\nx,1,2\ny,3,4\n", 8, 0);
+        assert_eq!(rt;
+            read_rows(alloc, &mut source, &table, turns).err(),
+            Some(CsvFault::Turns)
+        );
+        assert_eq!(rt; source.calls, turns);
+        assert!(rt; !source.ended);
+    }
+    let mut source = Source::new(b"", 8, 0);
+    assert_eq!(rt;
+        read_rows(alloc, &mut source, &table, 1).err(),
+        Some(CsvFault::Header)
+    );
+    Ok(())
+}
+
+#[test]
+fn partitions_by_first_appearance(rt: HostRuntime) -> Result<(), Fail> {
+    let alloc = rt.alloc();
+    let clause = "PARTITION BY sym ORDER BY t MEASURES LAST(p) AS q PATTERN (A) DEFINE A AS p > 0";
+    let text = "sym,t,p\nx,2,8\n,1,1\ny,1,5\nx,1,10\n,0,2\nx,3,6\n";
+    let want =
+        "1 'x' 1 10;2 'x' 2 8;3 'x' 3 6;close 3 'x';1 - 0 2;2 - 1 1;close 2 -;1 'y' 1 5;close 1 'y';";
+    assert_eq!(rt; numbered(alloc, clause, text)?.as_str(), want);
+    assert_eq!(rt; numbered(alloc, clause, "sym,t,p\n")?.as_str(), "");
+    Ok(())
+}
+
+#[test]
+fn order_with_nulls_and_ties(rt: HostRuntime) -> Result<(), Fail> {
+    let alloc = rt.alloc();
+    let text = "sym,t,p\nx,1,4\nx,,5\nx,1,6\nx,0,4\nx,1,4\n";
+    for (order, want) in [
+        (
+            "",
+            "1 'x' 1 4;2 'x' - 5;3 'x' 1 6;4 'x' 0 4;5 'x' 1 4;close 5;",
+        ),
+        (
+            "ORDER BY t ",
+            "1 'x' 0 4;2 'x' 1 4;3 'x' 1 6;4 'x' 1 4;5 'x' - 5;close 5;",
+        ),
+        (
+            "ORDER BY t DESC ",
+            "1 'x' - 5;2 'x' 1 4;3 'x' 1 6;4 'x' 1 4;5 'x' 0 4;close 5;",
+        ),
+        (
+            "ORDER BY t DESC, p DESC ",
+            "1 'x' - 5;2 'x' 1 6;3 'x' 1 4;4 'x' 1 4;5 'x' 0 4;close 5;",
+        ),
+    ] {
+        let clause = format!(in alloc;
+            "{order}MEASURES LAST(p) AS q PATTERN (A) DEFINE A AS p > 0"
+        )?;
+        assert_eq!(rt; numbered(alloc, clause.as_str(), text)?.as_str(), want);
+    }
+    Ok(())
+}
+
+// A call that is refused memory, made again, gives what it gives with ample memory.
+
+#[test]
+fn refused_rows(rt: HostRuntime) -> Result<(), Fail> {
+    let alloc = rt.alloc();
+    let table = ticks(alloc)?;
+    let text = b"sym,t,p\nx,1,2\ny,3,\n";
+    let mut source = Source::new(text, 8, 0);
+    let rows = match read_rows(alloc, &mut source, &table, 9) {
+        Err(CsvFault::OutOfMemory) => {
+            read_rows(alloc, &mut Source::new(text, 8, 0), &table, 9).map_err(|_| Fail::from(
+                "again",
+            ))?
+        }
+        first => first.map_err(|_| Fail::from("first"))?,
+    };
+    assert_eq!(rt;
+        show_rows(alloc, rows.as_slice())?.as_str(),
+        " 'x' 1 2; 'y' 3 -;"
+    );
+    Ok(())
+}
+
+#[test]
+fn refused_packets(rt: HostRuntime) -> Result<(), Fail> {
+    let alloc = rt.alloc();
+    let clause = "PARTITION BY sym ORDER BY t MEASURES LAST(p) AS q PATTERN (A) DEFINE A AS p > 0";
+    let text = "sym,t,p\nx,2,8\ny,1,5\nx,1,10\n";
+    let want = "1 'x' 1 10;2 'x' 2 8;close 2 'x';1 'y' 1 5;close 1 'y';";
+    let query = query(alloc, clause)?;
+    let packets = packets_of(alloc, &query, text)
+        .or_else(|_| packets_of(alloc, &query, text))
+        .map_err(|_| Fail::from("again"))?;
+    assert_eq!(rt; show_packets(alloc, packets.as_slice())?.as_str(), want);
+    Ok(())
+}
