@@ -1,0 +1,95 @@
+-- A matcher whose first rows are dropped.
+use Rattle.std.proofs.Common.{◌≡◌, ℕ, zero, suc, ◌+◌, ◌-◌, ◌<◌, ◌≤◌, max, List, [], ◌∷◌, length, drop, Bool, true, false, cond, refl, sym, ap, ◌∙◌, subst, inl, inr, ◌⊎◌, arith}
+use Rattle.std.specs.Prelude.{slice_get}
+use Rattle.rp_value.specs.declared.value.Value.{Value}
+use Rattle.rp_pattern.specs.declared.word.End.{End}
+use Rattle.rp_pattern.specs.declared.word.End.TheVariants.{Closed as ClosedEnd}
+use Rattle.rp_eval.specs.Partition.{Rows, row_at}
+use Rattle.rp_check.specs.declared.query.QueryData.{QueryData}
+use Rattle.rp_known.specs.Known.{Known, count, GoesOnFrom}
+use Rattle.rp_known.specs.Plans.{first_read}
+use Rattle.rp_walker.specs.declared.poll.Poll.{Poll}
+use Rattle.rp_walker.specs.declared.poll.Poll.TheVariants.{Item as ItemPoll, Idle as IdlePoll, Paused as PausedPoll}
+use Rattle.rp_walker.specs.declared.record.MatcherState.{MatcherState}
+use Rattle.rp_walker.specs.FitLaws.{AgreesFrom}
+use Rattle.rp_check.specs.Sound.{IsSound}
+use Rattle.rp_walker.specs.declared.walker.Walker.{Walker}
+use Rattle.rp_walker.specs.Walking.{record_of, Stands, stands_by, StandsStays}
+use Rattle.rp_walker.specs.Polls.{Answers, AnswerIs}
+use Rattle.rp_walker.specs.Records.{Fits, fits_by, IsOnWalk, IsOver, horizon_of}
+use Rattle.rp_answer.specs.declared.kept.Kept.{Kept}
+use Rattle.rp_answer.specs.Kept.{kept_rows, kept_count}
+use Rattle.rp_answer.specs.Matching.{known_by}
+use Rattle.rp_answer.proofs.Keeping.{kept_at}
+
+get_drop : (d i : ℕ) (xs : Rows) → slice_get (drop d xs) i ≡ slice_get xs (d + i)
+get_drop zero i xs = ap (slice_get xs) (let z : i ≡ 0 + i = omega arith in z)
+get_drop (suc d) i [] = refl
+get_drop (suc d) i (x ∷ xs) = get_drop d i xs ∙ ap (slice_get (x ∷ xs)) (let z : suc (d + i) ≡ suc d + i = omega arith in z)
+
+module _ (k n : Kept) (low : k.first ≤ n.first) (rows : n.rows.items ≡ drop (n.first - k.first) k.rows.items) (last : n.first + length n.rows.items ≡ k.first + length k.rows.items) (end : n.end ≡ k.end) where
+  same_count : length (kept_rows n) ≡ length (kept_rows k)
+  same_count = omega (arith, kept_count n, kept_count k, last, n.from_one, k.from_one)
+
+  same_row : (row : ℕ) → n.first ≤ row → row_at (kept_rows n) row ≡ row_at (kept_rows k) row
+  same_row row h =
+      kept_at n row h ∙ ap (λ xs. slice_get xs (row - n.first)) rows ∙ get_drop (n.first - k.first) (row - n.first) k.rows.items
+      ∙ ap (slice_get k.rows.items) (let z : n.first - k.first + (row - n.first) ≡ row - k.first = omega (arith, low, h) in z) ∙ sym (kept_at k row (omega (arith, low, h)))
+
+  pub drops_agree : AgreesFrom n.first (known_by k) (known_by n)
+  drops_agree =
+      record {
+        on = record { later = (omega (arith, same_count), λ c. (same_count, end ∙ c)); same = λ row from known. same_row row from };
+        back = record { later = (omega (arith, same_count), λ c. (sym same_count, sym end ∙ c)); same = λ row from known. sym (same_row row from) };
+      }
+
+-- rows that agree from a row on agree from a later one on
+goes_from : (first later : ℕ) (p p' : Known) → first ≤ later → GoesOnFrom first p p' → GoesOnFrom later p p'
+goes_from first later p p' le g = record { later = g.later; same = λ row from known. g.same row (omega (arith, le, from)) known }
+
+goes_both : (first : ℕ) (p p' p'' : Known) → GoesOnFrom first p p' → GoesOnFrom first p' p'' → GoesOnFrom first p p''
+goes_both first p p' p'' g h =
+    let x : count p ≤ count p' = g.later.0 in
+    let y : count p' ≤ count p'' = h.later.0 in
+    record {
+      later = (omega (arith, x, y), λ c. (let u = g.later.1 c in let v = h.later.1 u.1 in (v.0 ∙ u.0, v.1)));
+      same = λ row from known. h.same row from (omega (arith, x, known)) ∙ g.same row from known;
+    }
+
+pub agrees_on : (first later : ℕ) (k n p : Known) → first ≤ later → AgreesFrom later k n → AgreesFrom first k p → AgreesFrom later n p
+agrees_on first later k n p le a b =
+    record { on = goes_both later n k p a.back (goes_from first later k p le b.on); back = goes_both later p k n (goes_from first later p k le b.back) a.on }
+
+-- ---- what is answered
+
+fits_dropped : (q : QueryData) (r : MatcherState) (f : ℕ) (p : Known) (b : Bool) → (b ≡ false → f ≤ first_read q r.at) → fits_by b q r p → fits_by b q (record r { first = f }) p
+fits_dropped q r f p true needed h = record { front = h.front; last = h.last; is = h.is; ends = h.ends; counted = h.counted }
+fits_dropped q r f p false needed h = record { before = h.before; comes = h.comes; counted = h.counted; within = h.within; kept = needed refl }
+
+answer_dropped : (q : QueryData) (p : Known) (old r : MatcherState) (f : ℕ) (answer : Poll) → AnswerIs q p old r answer → AnswerIs q p old (record r { first = f }) answer
+answer_dropped q p old r f (ItemPoll i x) h = h
+answer_dropped q p old r f IdlePoll h = h
+answer_dropped q p old r f PausedPoll h = h
+
+pub answers_dropped : (q : QueryData) (k : Known) (old r new : MatcherState) (f : ℕ) (answer : Poll) → new ≡ record r { first = f } → (r.over ≡ false → f ≤ first_read q r.at) → Answers q k old r answer → Answers q k old new answer
+answers_dropped q k old r new f answer is needed h =
+    subst (λ n. Answers q k old n answer) (sym is) (λ p are fits. (let a = h p are fits in (fits_dropped q r f p r.over needed a.0, answer_dropped q p old r f answer a.1)))
+
+-- ---- the walker over the rows that are left
+
+pub forget_bound : (q : QueryData) (k n : Kept) (r : MatcherState) (horizon : ℕ) → n.first ≤ max k.first horizon → horizon ≡ horizon_of q (known_by k) r → (r.over ≡ false → k.first ≤ first_read q r.at) → r.over ≡ false → n.first ≤ first_read q r.at
+forget_bound q k n r horizon past is needed going =
+    let h : horizon ≡ first_read q r.at = is ∙ ap (λ b. cond b (count (known_by k) + 1) (first_read q r.at)) going in
+    least n.first k.first horizon (first_read q r.at) past h (needed going)
+  where
+    least : (a b c d : ℕ) → a ≤ max b c → c ≡ d → b ≤ d → a ≤ d
+    least a b c d x y z = omega (arith, x, y, z)
+
+pub stands_dropped : StandsStays → (q : QueryData) (k n : Kept) (w : Walker) → IsSound q → AgreesFrom n.first (known_by k) (known_by n) → ((record_of w).over ≡ false → n.first ≤ first_read q (record_of w).at) →
+    Stands q (known_by k) w → Stands q (known_by n) w
+unfolding Stands record_of
+stands_dropped stays q k n w sound a bound h = go w.state.over refl
+  where
+    go : (b : Bool) → w.state.over ≡ b → Stands q (known_by n) w
+    go true e = subst (λ b. stands_by b q (known_by n) w) (sym e) (subst (λ b. stands_by b q (known_by k) w) e h)
+    go false e = stays q (known_by k) (known_by n) w sound (goes_from n.first (first_read q w.state.at) (known_by k) (known_by n) (bound e) a.on) h

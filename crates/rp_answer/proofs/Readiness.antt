@@ -1,0 +1,30 @@
+-- A matcher whose rows go on.
+use Rattle.std.proofs.Common.{◌≡◌, ℕ, ◌≤◌, ◌-◌, max, false, refl, sym, ap, ◌∙◌, subst, arith}
+use Rattle.rp_check.specs.declared.query.QueryData.{QueryData}
+use Rattle.rp_check.specs.Sound.{IsSound}
+use Rattle.rp_known.specs.Known.{Known, Continues, GoesOnFrom}
+use Rattle.rp_known.specs.Plans.{first_read}
+use Rattle.rp_known.specs.WalkLaws.{ContinuationsGoOn}
+use Rattle.rp_walker.specs.declared.walker.Walker.{Walker}
+use Rattle.rp_walker.specs.Walking.{record_of, Stands, stands_by, StandsStays}
+use Rattle.rp_answer.specs.declared.kept.Kept.{Kept}
+use Rattle.rp_answer.specs.Matching.{known_by, Ready}
+
+later_from : (first later : ℕ) (p p' : Known) → first ≤ later → GoesOnFrom first p p' → GoesOnFrom later p p'
+later_from first later p p' le g = record { later = g.later; same = λ row from known. g.same row (omega (arith, le, from)) known }
+
+pub ready_on : StandsStays → ContinuationsGoOn → (q : QueryData) (k n : Kept) (w : Walker) → IsSound q → n.first ≡ k.first → Continues (known_by k) (known_by n) → Ready q k w → Ready q n w
+ready_on stays on q k n w sound f c h =
+    record {
+      stands = stays q (known_by k) (known_by n) w sound (later_from 1 (first_read q (record_of w).at) (known_by k) (known_by n) (omega arith) (on (known_by k) (known_by n) c)) h.stands;
+      first = h.first ∙ sym f;
+      needed = λ going. subst (λ i. i ≤ first_read q (record_of w).at) (sym f) (h.needed going);
+    }
+
+-- what a walker still reads is among what its record says is kept
+pub needed_of : (q : QueryData) (p : Known) (w : Walker) → Stands q p w → (record_of w).over ≡ false → (record_of w).first ≤ first_read q (record_of w).at
+unfolding Stands record_of
+needed_of q p w h e = (subst (λ b. stands_by b q p w) e h).going.kept
+
+pub needed_in : (q : QueryData) (k : Kept) (w : Walker) → Stands q (known_by k) w → (record_of w).first ≡ k.first → (record_of w).over ≡ false → k.first ≤ first_read q (record_of w).at
+needed_in q k w h f e = subst (λ i. i ≤ first_read q (record_of w).at) f (needed_of q (known_by k) w h e)

@@ -1,0 +1,38 @@
+use Rattle.std.proofs.Common.{◌≡◌, ◌≤◌, ℕ, false, max, sym, ap, ◌∙◌, subst, arith}
+use Rattle.rp_check.specs.QueryView.{data_of}
+use Rattle.rp_known.specs.Known.{GoesOnFrom}
+use Rattle.rp_known.specs.Plans.{first_read}
+use Rattle.rp_walker.specs.declared.record.MatcherState.{MatcherState}
+use Rattle.rp_walker.specs.Walking.{record_of, Stands}
+use Rattle.rp_answer.specs.Kept.{kept_rows}
+use Rattle.rp_answer.specs.Matching.{known_by, Ready}
+use Rattle.rp_answer.proofs.Dropping.{drops_agree, forget_bound, stands_dropped}
+use Rattle.rp_answer.proofs.matcher.Matcher.drop_rows.Goals as goal
+
+pub returns-clause-agrees : goal.returns-clause-agrees
+returns-clause-agrees c =
+    let e = c.forget.ensures in
+    drops_agree c.args.self.now.rows c.forget.new.self e.low e.rows e.last e.end
+
+pub returns-clause-ready : goal.returns-clause-ready
+returns-clause-ready c =
+    let m = c.args.self.now in
+    let q = data_of m.query in
+    let k = m.rows in
+    let n = c.forget.new.self in
+    let e = c.forget.ensures in
+    let r : MatcherState = record_of m.walker in
+    let agree = drops_agree k n e.low e.rows e.last e.end in
+    let bound = forget_bound q k n r c.horizon-horizon.result e.not_past c.horizon-horizon.ensures c.requires.needed in
+    let dropped = c.dropped.ensures in
+    let now = ap (λ (x : MatcherState). x.first) dropped.«record» in
+    let at = ap (λ (x : MatcherState). x.at) dropped.«record» in
+    let over = ap (λ (x : MatcherState). x.over) dropped.«record» in
+    let first = now ∙ c.first.ensures in
+    let is_bound : (record_of c.dropped.new.self).over ≡ false → n.first ≤ first_read q (record_of c.dropped.new.self).at =
+    λ going. subst (λ i. n.first ≤ first_read q i) (sym at) (bound (sym over ∙ going)) in
+    record {
+      stands = dropped.stands q (known_by n) (λ going. subst (λ f. f ≤ first_read q r.at) (sym c.first.ensures) (bound going)) (stands_dropped c.law_walkers.ensures q k n m.walker c.plan-plan.ensures.sound agree bound c.requires.stands);
+      first = first;
+      needed = is_bound;
+    }

@@ -1,0 +1,34 @@
+-- What contracts see of a matcher.
+use Rattle.std.specs.Prelude.{◌≡◌, ℕ, ◌≤◌, false}
+use Rattle.rp_check.specs.declared.query.QueryData.{QueryData}
+use Rattle.rp_check.specs.QueryView.{data_of}
+use Rattle.rp_known.specs.Known.{Known}
+use Rattle.rp_known.specs.Plans.{first_read}
+use Rattle.rp_walker.specs.declared.record.MatcherState.{MatcherState}
+use Rattle.rp_walker.specs.declared.walker.Walker.{Walker}
+use Rattle.rp_walker.specs.Walking.{record_of, Stands}
+use Rattle.rp_answer.specs.declared.kept.Kept.{Kept}
+use Rattle.rp_answer.specs.declared.matcher.Matcher.{Matcher}
+use Rattle.rp_answer.specs.Kept.{kept_rows}
+
+abbrev pub known_by : Kept → Known
+known_by k = record { rows = kept_rows k; end = k.end }
+
+-- The walker stands over the rows that are kept, and what it still reads is among them.
+pub record Ready (q : QueryData) (k : Kept) (w : Walker) : Type 0 where
+  pub stands : Stands q (known_by k) w
+  pub first : (record_of w).first ≡ k.first
+  pub needed : (record_of w).over ≡ false → k.first ≤ first_read q (record_of w).at
+
+unfoldable pub query_in : Matcher → QueryData
+query_in m = data_of m.query
+
+-- the rows that are known to it, those that were dropped without their cells
+unfoldable pub known_to : Matcher → Known
+known_to m = known_by m.rows
+
+unfoldable pub record_in : Matcher → MatcherState
+record_in m = record_of m.walker
+
+unfoldable pub IsReady : Matcher → Type 0
+IsReady m = Ready (data_of m.query) m.rows m.walker
