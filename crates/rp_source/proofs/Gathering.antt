@@ -1,5 +1,5 @@
 -- One more row in its partition.
-use Rattle.std.proofs.Common.{◌≡◌, ◌∙◌, ◌+◌, ℕ, zero, suc, List, [], ◌∷◌, ◌++◌, Bool, true, false, not, map, filter, refl, sym, ap, ap₂, cond, true≢false, if◌then◌else◌, Option, None, Some, slice_get, get_or, length, ◌<◌, arith}
+use Rattle.std.proofs.Common.{◌≡◌, ◌∙◌, ℕ, zero, suc, List, [], ◌∷◌, ◌++◌, Bool, true, false, not, filter, refl, sym, ap, ap₂, cond, true≢false, if◌then◌else◌, None, Some, slice_get, get_or, length, ◌<◌, arith}
 use Rattle.indexmap.specs.Layout.{set_value_at}
 use Rattle.std.specs.Cmp.{IsEquivalence}
 use Rattle.std.proofs.lemmas.List.{append-nil}

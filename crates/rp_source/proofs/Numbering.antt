@@ -1,8 +1,7 @@
 -- One more row that is numbered.
-use Rattle.std.proofs.Common.{◌≡◌, ◌∙◌, ◌+◌, ℕ, suc, List, [], ◌∷◌, ◌++◌, length, refl, ap, arith}
+use Rattle.std.proofs.Common.{◌≡◌, ◌+◌, ℕ, suc, List, [], ◌∷◌, ◌++◌, length, ap, arith}
 use Rattle.rp_value.specs.declared.value.Value.{Value}
 use Rattle.rp_source.specs.Numbered.{numbered_from}
-use Rattle.rp_codec.specs.declared.packet.Packet.{Packet}
 use Rattle.rp_codec.specs.declared.packet.Packet.TheVariants.{Row}
 
 pub numbered_more : (n k : ℕ) (rows : List (List Value)) (row : List Value) → k ≡ n + length rows → numbered_from n (rows ++ row ∷ []) ≡ numbered_from n rows ++ Row k row ∷ []

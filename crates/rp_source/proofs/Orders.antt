@@ -1,10 +1,9 @@
 -- The order of rows is an order.
-use Rattle.std.proofs.Common.{◌≡◌, ℕ, Bool, true, false, List, [], ◌∷◌, Option, Some, None, refl, sym, ap, subst, ◌∙◌}
+use Rattle.std.proofs.Common.{◌≡◌, ℕ, Bool, true, false, List, [], ◌∷◌, refl, subst}
 use Rattle.std.specs.Prelude.{if◌then◌else◌, Result, Ok, Err, OnOk}
 use Rattle.std.specs.Cmp.{IsStrictWeakOrder, IsTotalOrder, on_total, back_total, then_total}
 use Rattle.std.specs.declared.cmp.Ordering.{Ordering}
-use Rattle.std.specs.declared.cmp.Ordering.TheVariants.{Less, Equal, Greater}
-use Rattle.std.specs.Ordering.{is_lt}
+use Rattle.std.specs.declared.cmp.Ordering.TheVariants.{Equal}
 use Rattle.std.proofs.lemmas.List.Sorted.{ranks_by}
 use Rattle.rp_value.specs.Order.{value_order}
 use Rattle.rp_value.specs.declared.value.Value.{Value}

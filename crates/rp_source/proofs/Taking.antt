@@ -1,5 +1,5 @@
 -- The records that were taken so far, as rows.
-use Rattle.std.proofs.Common.{◌≡◌, ◌≢◌, ◌⊎◌, ◌<◌, ◌≤◌, ◌+◌, ◌∙◌, ◌++◌, ◌∷◌, [], ℕ, List, length, Bor, sym, ap, arith, inl, inr, length-append, append_assoc}
+use Rattle.std.proofs.Common.{◌≡◌, ◌≤◌, ◌+◌, ◌∙◌, ◌++◌, ◌∷◌, [], ℕ, List, length, Bor, ap, arith, inl, inr, length-append, append_assoc}
 use Rattle.csv.specs.Reading.{reader_state}
 use Rattle.csv.specs.declared.reader.Reader.{Reader}
 use Rattle.rp_value.specs.Tables.{kinds_of}

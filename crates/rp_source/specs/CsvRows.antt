@@ -8,7 +8,7 @@ use Rattle.rp_value.specs.declared.value.Value.{Value}
 use Rattle.rp_source.specs.Fields.{HasNoField, IsRow}
 use Rattle.rp_source.specs.Headers.{NamesColumns}
 use Rattle.rp_source.specs.declared.rows.CsvFault.{CsvFault}
-use Rattle.rp_source.specs.declared.rows.CsvFault.TheVariants.{Header, Record, Field, Read, Turns, OutOfMemory}
+use Rattle.rp_source.specs.declared.rows.CsvFault.TheVariants.{Header, Record, Field, OutOfMemory}
 use Rattle.rp_source.specs.declared.rows.TheConstants.{MAX_RECORDS}
 
 -- the records of a text as csv reads it, without the byte order mark that it may begin with

@@ -1,5 +1,5 @@
 -- Where a reader of csv stands among the records of a text.
-use Rattle.std.specs.Prelude.{◌≡◌, ℕ, List, Option, Some}
+use Rattle.std.specs.Prelude.{◌≡◌, ℕ, List, Some}
 use Rattle.std.specs.Borrow.{Bor}
 use Rattle.csv.specs.Reading.{AreRecords, Reached, Ready, default_config, reader_config, reader_state, reader_trim, source_of, strip_bom}
 use Rattle.csv.specs.declared.parser.State.TheVariants as st

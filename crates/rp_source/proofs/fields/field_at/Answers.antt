@@ -1,5 +1,5 @@
-use Rattle.std.proofs.Common.{◌≡◌, ◌<◌, ◌≤◌, ◌∙◌, ◌∷◌, ◌+◌, drop, length, sym, arith, add-one, Some, None}
-use Rattle.csv.specs.Records.{field_at, fields_of}
+use Rattle.std.proofs.Common.{sym, arith, add-one}
+use Rattle.csv.specs.Records.{fields_of}
 use Rattle.rp_source.proofs.Lists.{at_field, no_field}
 use Rattle.rp_source.proofs.fields.field_at.Goals as goal
 

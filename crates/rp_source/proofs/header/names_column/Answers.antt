@@ -1,4 +1,4 @@
-use Rattle.std.proofs.Common.{◌≡◌, ◌≢◌, rules, IsUtf8}
+use Rattle.std.proofs.Common.{◌≢◌, rules, IsUtf8}
 use Rattle.rp_source.proofs.Headers.{not_named}
 use Rattle.rp_source.proofs.header.names_column.Goals as goal
 

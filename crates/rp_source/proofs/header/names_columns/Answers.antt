@@ -1,4 +1,4 @@
-use Rattle.std.proofs.Common.{◌≡◌, ◌≢◌, length, rules}
+use Rattle.std.proofs.Common.{◌≢◌, length, rules}
 use Rattle.csv.specs.Records.{fields_of}
 use Rattle.rp_source.proofs.Headers.{named_length}
 use Rattle.rp_source.proofs.header.names_columns.Goals as goal

@@ -1,4 +1,4 @@
-use Rattle.std.proofs.Common.{◌≡◌, ◌∙◌, ◌++◌, take, drop, length, arith, ap, rules, sym, ◌<◌}
+use Rattle.std.proofs.Common.{◌≡◌, ◌∙◌, ◌++◌, take, drop, length, arith, ap, rules}
 use Rattle.std.proofs.KnownBytes.{Consumes-trans}
 use Rattle.rp_lines.specs.Counts.{raised}
 use Rattle.rp_source.proofs.Calls.{after_more, whole_of}

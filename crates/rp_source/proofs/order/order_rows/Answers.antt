@@ -1,4 +1,4 @@
-use Rattle.std.proofs.Common.{◌≡◌, List, Bool, rules}
+use Rattle.std.proofs.Common.{List, Bool, rules}
 use Rattle.std.specs.Cmp.{IsStrictWeakOrder}
 use Rattle.std.proofs.lemmas.Fn.{always_returns_same}
 use Rattle.rp_value.specs.contracts.value.ValueOrd.TheImpl.Laws.{total-law}

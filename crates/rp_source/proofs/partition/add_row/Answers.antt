@@ -1,8 +1,7 @@
-use Rattle.std.proofs.Common.{◌≡◌, ◌∙◌, ◌++◌, ◌∷◌, [], ◌<◌, ℕ, List, get_or, length, sym, ap, Some, None, position, slice_get, true, false, rules, arith, OnOk}
+use Rattle.std.proofs.Common.{◌≡◌, ◌∙◌, [], ◌<◌, ℕ, List, get_or, length, sym, Some, None, position, true, false, rules}
 use Rattle.std.proofs.lemmas.List.Quantifiers.{position-Some}
 use Rattle.std.specs.Map.{keys_of, lookup}
 use Rattle.rp_value.specs.declared.value.Value.{Value}
-use Rattle.rp_source.specs.Gathering.{parts_of, with_row}
 use Rattle.rp_source.specs.Partitions.{same_key}
 use Rattle.rp_source.proofs.Gathering.{with_row_at, with_row_new}
 use Rattle.rp_source.proofs.Orders.{on_ok}

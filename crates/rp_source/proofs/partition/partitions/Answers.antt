@@ -1,10 +1,10 @@
-use Rattle.std.proofs.Common.{◌≡◌, ◌∙◌, ◌+◌, ◌++◌, ◌∷◌, [], ap, sym, rules, arith, append_assoc}
+use Rattle.std.proofs.Common.{◌≡◌, ◌∙◌, ◌++◌, ◌∷◌, [], ap, sym, arith, append_assoc}
 use Rattle.std.proofs.lemmas.Grind.{common_steps}
 use Rattle.std.specs.Cmp.{IsEquivalence}
 use Rattle.std.specs.Vec.Iter.{into_iter_items}
 use Rattle.rp_value.specs.contracts.cells.CellsEq.TheImpl.Laws.{laws-law}
 use Rattle.rp_source.specs.Gathering.{with_row}
-use Rattle.rp_source.specs.Partitions.{key_of, partitions, same_key}
+use Rattle.rp_source.specs.Partitions.{partitions, same_key}
 use Rattle.rp_source.proofs.Gathering.{partitions_more}
 use Rattle.rp_source.proofs.partition.partitions.Goals as goal
 

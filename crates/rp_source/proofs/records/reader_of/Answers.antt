@@ -1,4 +1,4 @@
-use Rattle.std.proofs.Common.{◌≡◌, ◌∙◌, sym, refl, inr}
+use Rattle.std.proofs.Common.{◌∙◌, sym, refl, inr}
 use Rattle.csv.specs.Reading.{Reached, strip_bom}
 use Rattle.rp_source.proofs.records.reader_of.Goals as goal
 

@@ -1,4 +1,3 @@
-use Rattle.std.proofs.Common.{◌≡◌}
 use Rattle.csv.specs.Records.{fields_of}
 use Rattle.rp_value.specs.Tables.{kinds_of}
 use Rattle.rp_source.specs.Fields.{IsRow}
