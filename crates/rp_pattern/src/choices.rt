@@ -4,7 +4,7 @@ ghost use Rattle.rp_pattern.specs.Continuations.{rises, pushed};
 
 use crate::form::{Form, Pattern};
 use crate::machine::continuation::{Choice, Continuation};
-use crate::machine::link::{Part, Tail, follow, linked};
+use crate::machine::link::{Part, Tail, linked, reach_shared};
 use crate::machine::node::Node;
 use crate::machine::split::{Expansion, Split};
 use crate::outlook::Outlook;
@@ -61,7 +61,8 @@ impl Choices {
         ensures from { IfOk result (λ c. (n : ℕ) (e : End) (row : ℕ) →
             whole_from c n e row ≡ words n e (form_of pattern.now) row) }
         ensures left_from { IfOk result (λ c. (n : ℕ) (e : End) (row : ℕ) →
-            whole_left_from c n e row ≡ turns n e (form_of pattern.now) row + length (words n e (form_of pattern.now) row)) }
+            whole_left_from c n e row ≡
+            turns n e (form_of pattern.now) row + length (words n e (form_of pattern.now) row)) }
         ensures whole { IfOk result (λ c. (n : ℕ) (e : End) → whole c n e ≡ words n e (form_of pattern.now) start) }
         ensures whole_left { IfOk result (λ c. (n : ℕ) (e : End) →
             whole_left c n e ≡ turns n e (form_of pattern.now) start + length (words n e (form_of pattern.now) start)) }
@@ -124,7 +125,7 @@ impl Choices {
         }
         self.stack.clear();
         self.labels.clear();
-        let first = follow(&self.origin, self.start)?;
+        let first = reach_shared(&self.origin, self.start)?;
         push(&mut self.stack, 0, first)?;
         self.begun = true;
         Ok(())

@@ -1,5 +1,5 @@
 pub mod FoundLaws
 pub mod Tested
-pub mod Fitting
-pub mod Turning
-pub mod Running
+pub mod ChoiceSteps
+pub mod TurnEnds
+pub mod RunSoFar

@@ -11,7 +11,7 @@ use rp_pattern::{Choices, Seen};
 use std::alloc::AllocError;
 
 /// The tests are cut back to the labels of the choices.
-pub fn follow<T: Tests>(choices: &Choices, tests: &mut T)
+pub fn cut_back<T: Tests>(choices: &Choices, tests: &mut T)
     requires { AreCutBack (T.entered tests.old (start_of choices.now)) (entered choices.now) }
     ensures subject { T.subject tests.new ≡ T.subject tests.old }
     ensures entries { T.entries tests.new ≡ T.entries tests.old }
@@ -67,7 +67,7 @@ pub fn settle<T: Tests>(choices: &mut Choices, tests: &mut T) -> Result<Seen, Al
         }
         Seen::NotTrue => {
             choices.give_up();
-            follow(choices, tests);
+            cut_back(choices, tests);
             Ok(Seen::NotTrue)
         }
         Seen::Open => Ok(Seen::Open),

@@ -9,7 +9,7 @@ ghost use Rattle.rp_pattern.specs.PatternForm.{form_of};
 
 mod explore;
 
-use crate::asking::{enter_row, follow, is_tested, settle};
+use crate::asking::{cut_back, enter_row, is_tested, settle};
 use crate::conditions::Tests;
 use crate::steps::Steps;
 use rp_pattern::{Choices, Label, Outlook, Pattern, Seen, Taken};
@@ -252,19 +252,19 @@ impl Search {
                 Ok(Outcome::Paused)
             }
             Taken::Split => {
-                follow(&self.choices, tests);
+                cut_back(&self.choices, tests);
                 Ok(Outcome::Paused)
             }
             Taken::Full => {
-                follow(&self.choices, tests);
+                cut_back(&self.choices, tests);
                 Ok(Outcome::Match)
             }
             Taken::Open => {
-                follow(&self.choices, tests);
+                cut_back(&self.choices, tests);
                 Ok(Outcome::Waits)
             }
             Taken::Nothing => {
-                follow(&self.choices, tests);
+                cut_back(&self.choices, tests);
                 Ok(Outcome::NoMatch)
             }
         }
@@ -290,7 +290,7 @@ impl Search {
     {
         if !is_tested(&self.choices, tests) {
             self.choices.give_up();
-            follow(&self.choices, tests);
+            cut_back(&self.choices, tests);
             return Ok(());
         }
         enter_row(&self.choices, tests)?;

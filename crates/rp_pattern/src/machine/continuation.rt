@@ -6,7 +6,7 @@ ghost use Rattle.rp_pattern.specs.Continuations.{continuation_parts, later_parts
 ghost use Rattle.rp_pattern.specs.Splits.{Replaces, StandsFor, TakenUp};
 
 use crate::form::Form;
-use crate::machine::link::{Link, Tail, follow, reach, share, take_reached};
+use crate::machine::link::{Link, Tail, reach, reach_shared, share, take_reached};
 use crate::machine::node::Node;
 use crate::machine::split::{Expansion, Split, take_row};
 use crate::word::{End, Label};
@@ -87,7 +87,7 @@ impl Continuation {
                 node: next,
                 then,
             })),
-            Continuation::Reached(link) => follow(&link.then, row),
+            Continuation::Reached(link) => reach_shared(&link.then, row),
         }
     }
 
@@ -98,12 +98,12 @@ impl Continuation {
     {
         match self {
             Continuation::Done => Ok(Some(Continuation::Done)),
-            Continuation::Then { node: _, then } => follow(then, row),
+            Continuation::Then { node: _, then } => reach_shared(then, row),
             Continuation::Row { var: _, next, then } => Ok(Some(Continuation::Then {
                 node: next.share()?,
                 then: share(then)?,
             })),
-            Continuation::Reached(link) => follow(&link.then, row),
+            Continuation::Reached(link) => reach_shared(&link.then, row),
         }
     }
 }

@@ -3,7 +3,7 @@ ghost use Rattle.std.specs.Prelude.{◌≡◌};
 ghost use Rattle.rp_pattern.specs.Movement.{always_moves};
 
 use crate::machine::continuation::{Continuation, before};
-use crate::machine::link::{Part, Tail, follow, linked, share};
+use crate::machine::link::{Part, Tail, linked, reach_shared, share};
 use crate::machine::node::Node;
 use crate::machine::split::Split;
 use std::alloc::{AllocError, Global};
@@ -86,7 +86,7 @@ impl Iterations {
         if lower > 0 {
             return self.take_required(alloc, lower - 1, then, split);
         }
-        let stop = follow(then, row)?;
+        let stop = reach_shared(then, row)?;
         match self.further {
             None => self.take_optional(alloc, None, then, row, stop, split),
             Some(further) => {

@@ -90,7 +90,7 @@ pub(crate) fn reach(tail: Tail, row: u64) -> Option<Continuation>
 
 /// The same, of parts that others share.
 #[inline(always)]
-pub(crate) fn follow(tail: &Tail, row: u64) -> Result<Option<Continuation>, AllocError>
+pub(crate) fn reach_shared(tail: &Tail, row: u64) -> Result<Option<Continuation>, AllocError>
     ensures { IfOk result (λ continuation. (n : ℕ) (e : End) →
         StandsFor n e row (tail_parts n e tail.now) continuation) }
 {
@@ -193,7 +193,7 @@ fn take_again(
     ensures { OnOk result (AlwaysSplits row (λ n e. reached_parts n e (links_from link.now.value)) split.new) }
 {
     let reluctant = iterations.reluctant;
-    let stop = follow(&link.then, row)?;
+    let stop = reach_shared(&link.then, row)?;
     iterations.another_or(reluctant, Some(link.clone()?), stop, split)
 }
 

@@ -5,7 +5,7 @@ ghost use Rattle.rp_pattern.specs.Bounds.{is_allowed};
 use crate::form::Form;
 use crate::machine::continuation::{Continuation, before};
 use crate::machine::iterations::Iterations;
-use crate::machine::link::{Part, Tail, follow, linked, share};
+use crate::machine::link::{Part, Tail, linked, reach_shared, share};
 use crate::machine::orders::Orders;
 use crate::machine::split::{Expansion, Split, take_row};
 use crate::word::End;
@@ -223,7 +223,7 @@ impl Node {
         requires { self.now.form.value ≡ Form.Empty }
         ensures { IfOk result (AlwaysSplits row (λ n e. node_part n e self.now ∷ tail_parts n e then.now)) }
     {
-        Ok(Split::one(follow(then, row)?))
+        Ok(Split::one(reach_shared(then, row)?))
     }
 
     /// No row, before row 1.
@@ -234,7 +234,7 @@ impl Node {
         if row != 1 {
             return Ok(Split::none());
         }
-        Ok(Split::one(follow(then, row)?))
+        Ok(Split::one(reach_shared(then, row)?))
     }
 
     /// No row, after the last one.
@@ -254,7 +254,7 @@ impl Node {
         }
         match end {
             End::Open => Ok((Expansion::Open, Split::none())),
-            End::Closed => Ok((Expansion::Split, Split::one(follow(then, row)?))),
+            End::Closed => Ok((Expansion::Split, Split::one(reach_shared(then, row)?))),
         }
     }
 

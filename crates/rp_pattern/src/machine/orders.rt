@@ -5,7 +5,7 @@ ghost use Rattle.rp_pattern.specs.PermutedParts.{permuted_parts};
 
 use crate::lexicographic::{factorial, permutation_at};
 use crate::machine::continuation::Continuation;
-use crate::machine::link::{Part, Tail, follow, link_of, share};
+use crate::machine::link::{Part, Tail, link_of, reach_shared, share};
 use crate::machine::node::Node;
 use crate::machine::split::Split;
 use std::alloc::{AllocError, Global};
@@ -59,7 +59,7 @@ impl Orders {
         let order = self.order(alloc)?;
         let first = self.permute.in_order(alloc, &order, then)?;
         *split = Split {
-            preferred: follow(&first, row)?,
+            preferred: reach_shared(&first, row)?,
             other: self.after(alloc, then)?,
         };
         Ok(())

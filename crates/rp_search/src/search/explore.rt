@@ -6,7 +6,7 @@
 ghost use Rattle.std.specs.Prelude.{◌≡◌, ◌+◌, ◌≤◌, None, IfOk, OnOk};
 
 use super::{Outcome, Search};
-use crate::asking::follow;
+use crate::asking::cut_back;
 use crate::conditions::Tests;
 use rp_pattern::{Outlook, Sight};
 use std::alloc::AllocError;
@@ -49,7 +49,7 @@ impl Search {
             }
             Sight::Nothing => {
                 self.choices.give_up();
-                follow(&self.choices, tests);
+                cut_back(&self.choices, tests);
                 self.take_up(tests)
             }
         }

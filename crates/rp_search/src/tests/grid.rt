@@ -96,7 +96,8 @@ impl Grid {
 
     /// What is answered for a row and a variable.
     pub fn answer(&self, row: u64, var: usize) -> Seen
-        ensures { result ≡ row_answer self.now.first.items self.now.second.items self.now.reach self.now.known self.now.end row var }
+        ensures { result ≡ row_answer self.now.first.items self.now.second.items
+            self.now.reach self.now.known self.now.end row var }
     {
         let is_open = self.end == End::Open;
         if var != 0 {

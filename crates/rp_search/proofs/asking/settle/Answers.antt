@@ -2,8 +2,8 @@ use Rattle.std.proofs.Common.{◌≡◌, sym, subst}
 use Rattle.rp_pattern.specs.declared.word.Seen.TheVariants.{True, NotTrue}
 use Rattle.rp_pattern.specs.Choices.{start_of, entered}
 use Rattle.rp_search.specs.Asked.{Asked, AreBelow}
-use Rattle.rp_search.proofs.Fitting.{goes_admitted, goes_refused}
-use Rattle.rp_search.proofs.Turning.{goes_on, below_front}
+use Rattle.rp_search.proofs.ChoiceSteps.{goes_admitted, goes_refused}
+use Rattle.rp_search.proofs.TurnEnds.{goes_on, below_front}
 use Rattle.rp_search.proofs.asking.settle.Goals as goal
 
 pub returns-in_ok-admit-in-True-clause-settled : goal.returns-in_ok-admit-in-True-clause-settled

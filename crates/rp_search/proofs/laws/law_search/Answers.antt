@@ -12,7 +12,7 @@ use Rattle.rp_search.specs.Found.{Test}
 use Rattle.rp_search.specs.Asked.{Asked, AskedExtend, AreBelow, rows_from}
 use Rattle.rp_search.specs.Search.{start_of_search, turns_from}
 use Rattle.rp_search.specs.Fits.{Stands, AreAdmitted, unless_open, left_in, left_by, ChoicesStand, LabelsStand, LabelsBelow}
-use Rattle.rp_search.proofs.Fitting.{now_later, stands_later, true_later, explores_later}
+use Rattle.rp_search.proofs.ChoiceSteps.{now_later, stands_later, true_later, explores_later}
 use Rattle.rp_search.proofs.laws.law_search.Goals as goal
 
 admitted_later : (outlook : Option Outlook) (c : Choices) (old new : Asked) → AskedExtend (start_of c) old new → Stands c old.known old.end (old.outcome (start_of c)) → AreAdmitted outlook c old.known old.end (old.outcome (start_of c)) → AreAdmitted outlook c new.known new.end (new.outcome (start_of c))

@@ -1,6 +1,6 @@
 use Rattle.std.proofs.Common.{◌≤◌, ◌∙◌, refl, subst, sym}
 use Rattle.rp_search.specs.Search.{start_of_search}
-use Rattle.rp_search.proofs.Turning.{at_start}
+use Rattle.rp_search.proofs.TurnEnds.{at_start}
 use Rattle.rp_search.proofs.search.Search.begin_again.Goals as goal
 
 pub returns-clause-at_start : goal.returns-clause-at_start

@@ -1,6 +1,6 @@
 use Rattle.std.proofs.Common.{◌≡◌, ◌+◌, ◌≤◌}
 use Rattle.rp_search.specs.Search.{start_of_search, labels_of_search}
-use Rattle.rp_search.proofs.Running.{RunsFor}
+use Rattle.rp_search.proofs.RunSoFar.{RunsFor}
 use Rattle.rp_search.proofs.search.Search.go_on.Given as goal
 
 abbrev pub invariant-loop-turn : goal.invariant-loop-turn

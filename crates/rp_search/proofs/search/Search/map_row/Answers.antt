@@ -5,8 +5,8 @@ use Rattle.rp_search.specs.Asked.{Asked, AreBelow}
 use Rattle.rp_search.specs.Search.{start_of_search, labels_of_search, words_from}
 use Rattle.rp_search.specs.Fits.{StandsBy, StandsAtRowBy, left_by, test_from, ChoicesStand, LabelsStand, LabelsBelow}
 use Rattle.rp_search.specs.Turned.{AreCutBack, Goes, Settled}
-use Rattle.rp_search.proofs.Fitting.{goes_wordless}
-use Rattle.rp_search.proofs.Turning.{below_added, below_cut, cut_added, none_untested, searches_exploring, searches_plainly, untested_none, yes_tested}
+use Rattle.rp_search.proofs.ChoiceSteps.{goes_wordless}
+use Rattle.rp_search.proofs.TurnEnds.{below_added, below_cut, cut_added, none_untested, searches_exploring, searches_plainly, untested_none, yes_tested}
 use Rattle.rp_search.proofs.search.Search.map_row.Goals as goal
 
 pub returns-then-not-is_tested-clause-searches : goal.returns-then-not-is_tested-clause-searches
@@ -24,9 +24,9 @@ returns-then-not-is_tested-clause-searches g c =
     searches_plainly _ asked (start_of old) gave.whole.start c.requires.none goes.stands goes.admitted
     (below_cut asked.variables (entered c.give_up.new.self) (cut_added (λ ms. AreBelow asked.variables ms) (entered c.give_up.new.self) (entered old) c.requires.below (gave.cut_off row.at_row)))
 
-pub follow-requires : goal.follow-requires
+pub cut_back-requires : goal.cut_back-requires
 unfolding start_of_search labels_of_search
-follow-requires g c =
+cut_back-requires g c =
     let old = c.args.self.now.choices in
     let gave = c.give_up.ensures in
     subst (λ s. AreCutBack (g.T.Tests.entered c.args.tests.now s) (entered c.give_up.new.self)) (sym gave.whole.start)

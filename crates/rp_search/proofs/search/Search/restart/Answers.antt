@@ -1,5 +1,5 @@
 use Rattle.std.proofs.Common.{arith, refl}
-use Rattle.rp_search.proofs.Turning.{at_start}
+use Rattle.rp_search.proofs.TurnEnds.{at_start}
 use Rattle.rp_search.proofs.search.Search.restart.Goals as goal
 
 pub returns-clause-at_start : goal.returns-clause-at_start

@@ -4,8 +4,8 @@ use Rattle.rp_pattern.specs.Choices.{start_of, entered, whole, whole_from, Taken
 use Rattle.rp_search.specs.Asked.{Asked}
 use Rattle.rp_search.specs.Search.{start_of_search, labels_of_search, words_from}
 use Rattle.rp_search.specs.Fits.{StandsAtRow, left_by, ChoicesStand, LabelsStand, LabelsBelow}
-use Rattle.rp_search.proofs.Fitting.{now_later, cut_true, stands_splits, stands_full, stands_open, stands_nothing, maps_row, finds_match, finds_wait, finds_none}
-use Rattle.rp_search.proofs.Turning.{at_known, below_front, searches_plainly, admitted_plainly, fewer_plainly}
+use Rattle.rp_search.proofs.ChoiceSteps.{now_later, cut_true, stands_splits, stands_full, stands_open, stands_nothing, maps_row, finds_match, finds_wait, finds_none}
+use Rattle.rp_search.proofs.TurnEnds.{at_known, below_front, searches_plainly, admitted_plainly, fewer_plainly}
 use Rattle.rp_search.proofs.search.Search.take_up.Goals as goal
 
 pub map_row-requires-clause-row : goal.map_row-requires-clause-row

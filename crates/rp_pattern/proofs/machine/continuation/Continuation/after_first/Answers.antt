@@ -15,7 +15,7 @@ pub returns-in-Then : goal.returns-in-Then
 returns-in-Then c =
     IfOk-map _ (λ r. (n : ℕ) (e : End) → StandsFor n e c.args.row (later_parts n e c.args.self.now) r)
     (λ r h n e. subst (λ ps. StandsFor n e c.args.row ps r) (sym (ap (later_parts n e) c.in-Then.is)) (h n e))
-    c.follow.result c.follow.ensures
+    c.reach_shared.result c.reach_shared.ensures
 
 pub returns-in-Reached : goal.returns-in-Reached
 returns-in-Reached c =
@@ -24,4 +24,4 @@ returns-in-Reached c =
     (λ r h n e.
     let same = ap (later_parts n e) c.in-Reached.is ∙ later_out n e l ∙ ap (λ k. tail_parts n e (out-Link k).then) (sym c.deref.ensures) in
     subst (λ ps. StandsFor n e c.args.row ps r) (sym same) (h n e))
-    c.follow-in-Reached.result c.follow-in-Reached.ensures
+    c.reach_shared-in-Reached.result c.reach_shared-in-Reached.ensures

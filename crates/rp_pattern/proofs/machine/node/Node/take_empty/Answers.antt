@@ -10,5 +10,5 @@ returns c = λ n e.
     let i = c.args.row in
     let p = node_part n e c.args.self.now in
     let ts = tail_parts n e c.args.then.now in
-    one_splits n e i _ ts _ c.one.result c.one.ensures (replaces n e i ts _ (c.in_ok-follow.ensures n e))
+    one_splits n e i _ ts _ c.one.result c.one.ensures (replaces n e i ts _ (c.in_ok-reach_shared.ensures n e))
     (passed p ts i (ap (λ f. (form_part n e f x).0 i) c.requires ∙ empty_words n e x i) (ap (λ f. (form_part n e f x).1 i) c.requires ∙ empty_turns n e x i))

@@ -15,15 +15,15 @@ returns-then-row-n c =
     (no_words (node_part n e node) (tail_parts n e then) i (ap (λ f. (form_part n e f x).0 i) c.requires ∙ end_none n e x i (omega (arith, later.0, c.if-row-n.true))))
     (some_turns (node_part n e node) (tail_parts n e then) i (ap (λ f. (form_part n e f x).1 i) c.requires ∙ end_turns n e x i)))
 
-pub returns-in_ok-follow-in-Closed : goal.returns-in_ok-follow-in-Closed
-returns-in_ok-follow-in-Closed c =
+pub returns-in_ok-reach_shared-in-Closed : goal.returns-in_ok-reach_shared-in-Closed
+returns-in_ok-reach_shared-in-Closed c =
     let node = c.args.self.now in
     let x = node.excluded in
     let i = c.args.row in
     let then = c.args.then.now in
     later_splits c.args.n c.args.end i (λ n e. node_part n e node ∷ tail_parts n e then) c.one.result (λ n e later.
     let stays = later.1 c.in-Closed.is in
-    one_splits n e i _ (tail_parts n e then) _ c.one.result c.one.ensures (replaces n e i (tail_parts n e then) _ (c.in_ok-follow-in-Closed.ensures n e))
+    one_splits n e i _ (tail_parts n e then) _ c.one.result c.one.ensures (replaces n e i (tail_parts n e then) _ (c.in_ok-reach_shared-in-Closed.ensures n e))
     (passed (node_part n e node) (tail_parts n e then) i
     (ap (λ f. (form_part n e f x).0 i) c.requires ∙ end_words n e x i (omega (arith, stays.0, c.if-row-n.false)) stays.1)
     (ap (λ f. (form_part n e f x).1 i) c.requires ∙ end_turns n e x i)))

@@ -16,8 +16,8 @@ returns c = λ n e.
     let ts = tail_parts n e c.args.then.now in
     let fs = permuted_parts o.permute.form.value in
     let items = c.in_ok-order.order.items in
-    let r = c.in_ok-follow.field-0 in
+    let r = c.in_ok-reach_shared.field-0 in
     let order : tail_parts n e c.in_ok-first.first ≡ in_order ps items ++ ts = c.in_ok-first.ensures n e ∙ ap (λ z. in_order ps z ++ ts) c.deref.ensures.value in
     two_splits n e i (orders_from o.from ps ∷ ts) (in_order ps items ++ ts) (orders_from (o.from + 1) ps ∷ ts) r c.in_ok-after.field-0
-    (replaces n e i _ r (subst (λ z. StandsFor n e i z r) order (c.in_ok-follow.ensures n e))) (replaces n e i _ c.in_ok-after.field-0 (c.in_ok-after.ensures n e i))
+    (replaces n e i _ r (subst (λ z. StandsFor n e i z r) order (c.in_ok-reach_shared.ensures n e))) (replaces n e i _ c.in_ok-after.field-0 (c.in_ok-after.ensures n e i))
     (order_leaves o.from ps (length fs) items ts i (sym (length-map fs (λ f. form_part n e f o.permute.excluded))) c.in_ok-order.ensures.order)

@@ -22,7 +22,7 @@ use Rattle.rp_search.specs.Asked.{Asked, AreBelow, rows_from}
 use Rattle.rp_search.specs.Search.{IsAtStart, labels_of_search, start_of_search, turns_from}
 use Rattle.rp_search.specs.Fits.{Stands, StandsBy, StandsAtRow, StandsAtRowBy, Explores, AreAdmitted, ChoicesStand, LabelsStand, LabelsBelow, test_from, unless_open, left_in, left_by}
 use Rattle.rp_search.specs.Turned.{AddsLabel, AreCutBack, Goes, GoesOn, IsOpenAt, Searches}
-use Rattle.rp_search.proofs.Fitting.{GivesUp, now_later, finds_begun, goes_wordless, no_words}
+use Rattle.rp_search.proofs.ChoiceSteps.{GivesUp, now_later, finds_begun, goes_wordless, no_words}
 
 -- a fact at the rows and the end that were read is one at those of the tests
 pub at_known : (P : ℕ → End → Type 0) (n n' : ℕ) (e e' : End) → n ≡ n' → e ≡ e' → P n e → P n' e'
