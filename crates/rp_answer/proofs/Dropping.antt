@@ -19,7 +19,7 @@ use Rattle.rp_walker.specs.Polls.{Answers, AnswerIs}
 use Rattle.rp_walker.specs.Records.{Fits, fits_by, IsOnWalk, IsOver, horizon_of}
 use Rattle.rp_answer.specs.declared.kept.Kept.{Kept}
 use Rattle.rp_answer.specs.Kept.{kept_rows, kept_count}
-use Rattle.rp_answer.specs.Matching.{known_by}
+use Rattle.rp_answer.specs.Matching.{known_by, HoldsNoMore}
 use Rattle.rp_answer.proofs.Keeping.{kept_at}
 
 get_drop : (d i : ℕ) (xs : Rows) → slice_get (drop d xs) i ≡ slice_get xs (d + i)
@@ -28,7 +28,7 @@ get_drop (suc d) i [] = refl
 get_drop (suc d) i (x ∷ xs) = get_drop d i xs ∙ ap (slice_get (x ∷ xs)) (let z : suc (d + i) ≡ suc d + i = omega arith in z)
 
 module _ (k n : Kept) (low : k.first ≤ n.first) (rows : n.rows.items ≡ drop (n.first - k.first) k.rows.items) (last : n.first + length n.rows.items ≡ k.first + length k.rows.items) (end : n.end ≡ k.end) where
-  same_count : length (kept_rows n) ≡ length (kept_rows k)
+  pub same_count : length (kept_rows n) ≡ length (kept_rows k)
   same_count = omega (arith, kept_count n, kept_count k, last, n.from_one, k.from_one)
 
   same_row : (row : ℕ) → n.first ≤ row → row_at (kept_rows n) row ≡ row_at (kept_rows k) row
@@ -93,3 +93,16 @@ stands_dropped stays q k n w sound a bound h = go w.state.over refl
     go : (b : Bool) → w.state.over ≡ b → Stands q (known_by n) w
     go true e = subst (λ b. stands_by b q (known_by n) w) (sym e) (subst (λ b. stands_by b q (known_by k) w) e h)
     go false e = stays q (known_by k) (known_by n) w sound (goes_from n.first (first_read q w.state.at) (known_by k) (known_by n) (bound e) a.on) h
+
+-- ---- what is still kept
+
+pub holds_no_more : (q : QueryData) (k n : Kept) (r r' : MatcherState) (horizon : ℕ) → r' ≡ record r { first = n.first } → count (known_by n) ≡ count (known_by k) → horizon ≡ horizon_of q (known_by k) r →
+    horizon ≤ n.first ⊎ (n.rows.items ≡ []) → HoldsNoMore q (known_by n) r'
+holds_no_more q k n r r' horizon now same is all = subst (λ s. HoldsNoMore q (known_by n) s) (sym now) (go all)
+  where
+    same_horizon : horizon_of q (known_by n) (record r { first = n.first }) ≡ horizon
+    same_horizon = ap (λ c. cond r.over (c + 1) (first_read q r.at)) same ∙ sym is
+
+    go : horizon ≤ n.first ⊎ (n.rows.items ≡ []) → HoldsNoMore q (known_by n) (record r { first = n.first })
+    go (inl le) = inl (subst (λ h. h ≤ n.first) (sym same_horizon) le)
+    go (inr none) = inr (omega (arith, kept_count n, ap (λ (xs : Rows). length xs) none, n.from_one))

@@ -1,11 +1,12 @@
 -- What contracts see of a matcher.
-use Rattle.std.specs.Prelude.{◌≡◌, ℕ, ◌≤◌, false}
+use Rattle.std.specs.Prelude.{◌≡◌, ℕ, ◌≤◌, ◌<◌, ◌⊎◌, false}
 use Rattle.rp_check.specs.declared.query.QueryData.{QueryData}
 use Rattle.rp_check.specs.QueryView.{data_of}
-use Rattle.rp_known.specs.Known.{Known}
+use Rattle.rp_known.specs.Known.{Known, count}
 use Rattle.rp_known.specs.Plans.{first_read}
 use Rattle.rp_walker.specs.declared.record.MatcherState.{MatcherState}
 use Rattle.rp_walker.specs.declared.walker.Walker.{Walker}
+use Rattle.rp_walker.specs.Records.{horizon_of}
 use Rattle.rp_walker.specs.Walking.{record_of, Stands}
 use Rattle.rp_answer.specs.declared.kept.Kept.{Kept}
 use Rattle.rp_answer.specs.declared.matcher.Matcher.{Matcher}
@@ -32,3 +33,7 @@ record_in m = record_of m.walker
 
 unfoldable pub IsReady : Matcher → Type 0
 IsReady m = Ready (data_of m.query) m.rows m.walker
+
+-- No row below the horizon is kept: the first that is kept is at least the horizon, or none is kept.
+abbrev pub HoldsNoMore : QueryData → Known → MatcherState → Type 0
+HoldsNoMore q p r = horizon_of q p r ≤ r.first ⊎ count p < r.first

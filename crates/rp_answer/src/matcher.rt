@@ -2,6 +2,7 @@
 ghost use Rattle.std.specs.Prelude.{◌≡◌, ◌+◌, ◌-◌, ◌^◌, ◌<◌, ◌≤◌, length, ◌++◌, ◌∷◌, [], true, false, ◌↔◌, IsTrue, OnOk, OnErr, IfErr, IfOk};
 ghost use Rattle.rp_pattern.specs.declared.word.End.TheVariants.{Open, Closed};
 ghost use Rattle.rp_check.specs.QueryView.{data_of};
+ghost use Rattle.rp_known.specs.Known.{count};
 ghost use Rattle.rp_known.specs.Plans.{first_read};
 ghost use Rattle.rp_walker.specs.Records.{first_state, horizon_of};
 
@@ -28,19 +29,38 @@ impl Matcher {
     ghost use Rattle.rp_known.specs.Known.{Known};
     ghost use Rattle.rp_walker.specs.FitLaws.{AgreesFrom};
     ghost use Rattle.rp_walker.specs.Polls.{Answers, StillFits};
-    ghost use Rattle.rp_walker.specs.Walking.{record_of, Stands};
-    ghost use Rattle.rp_answer.specs.Matching.{query_in, known_to, record_in, known_by, Ready, IsReady};
+    ghost use Rattle.rp_walker.specs.Walking.{record_of, Stands, CanGoOn};
+    ghost use Rattle.rp_answer.specs.Matching.{query_in, known_to, record_in, known_by, Ready, IsReady, HoldsNoMore};
 
     /// A matcher of no row yet.
     pub fn new(alloc: Global, query: Query) -> Matcher
         ensures query { query_in result ≡ data_of query }
         ensures record { record_in result ≡ first_state }
+        ensures count { count (known_to result) ≡ 0 }
+        ensures open { (known_to result).end ≡ Open }
         ensures ready { IsReady result }
     {
         Matcher {
             query,
             rows: Kept::new(alloc, 1),
             walker: Walker::new(alloc),
+        }
+    }
+
+    /// A matcher that goes on from a record. The row `state.first` comes next.
+    pub fn resume(alloc: Global, query: Query, state: MatcherState) -> Matcher
+        requires one { 1 ≤ state.first }
+        requires can { CanGoOn (data_of query) state }
+        ensures query { query_in result ≡ data_of query }
+        ensures record { record_in result ≡ state }
+        ensures count { count (known_to result) ≡ state.first - 1 }
+        ensures open { (known_to result).end ≡ Open }
+        ensures ready { IsReady result }
+    {
+        Matcher {
+            query,
+            rows: Kept::new(alloc, state.first),
+            walker: Walker::resume(alloc, state),
         }
     }
 
@@ -108,10 +128,13 @@ impl Matcher {
         requires ready { IsReady self.old }
         ensures ready { IsReady self.new }
         ensures query { query_in self.new ≡ query_in self.old }
+        ensures count { count (known_to self.new) ≡ count (known_to self.old) }
+        ensures end { (known_to self.new).end ≡ (known_to self.old).end }
         ensures answers { IfOk result (Answers (query_in self.old) (known_to self.old) (record_in self.old) (record_in self.new)) }
         ensures refused { OnErr result (StillFits (query_in self.old) (known_to self.old) (record_in self.old) (record_in self.new)) }
         ensures given { OnErr result ((record_in self.new).given ≡ (record_in self.old).given) }
         ensures rows { (p : Known) → AgreesFrom (record_in self.old).first (known_to self.old) p → AgreesFrom (record_in self.new).first (known_to self.new) p }
+        ensures held { OnOk result (1 ≤ budget → HoldsNoMore (query_in self.new) (known_to self.new) (record_in self.new)) }
         ensures turns { steps.new ≤ steps.old + budget }
         ensures nothing { budget ≡ 0 → (result ≡ Ok Poll.Paused) × (self.new ≡ self.old) × (steps.new ≡ steps.old) }
     {
@@ -131,7 +154,10 @@ impl Matcher {
         ensures ready { Ready (data_of self.new.query) self.new.rows self.new.walker }
         ensures query { self.new.query ≡ self.old.query }
         ensures record { record_of self.new.walker ≡ record (record_of self.old.walker) { first = self.new.rows.first } }
+        ensures count { count (known_by self.new.rows) ≡ count (known_by self.old.rows) }
+        ensures end { self.new.rows.end ≡ self.old.rows.end }
         ensures agrees { AgreesFrom self.new.rows.first (known_by self.old.rows) (known_by self.new.rows) }
+        ensures held { HoldsNoMore (data_of self.new.query) (known_by self.new.rows) (record_of self.new.walker) }
         ensures low { self.old.rows.first ≤ self.new.rows.first }
     {
         law_walkers();

@@ -6,13 +6,25 @@ use Rattle.rp_walker.specs.declared.record.MatcherState.{MatcherState}
 use Rattle.rp_walker.specs.Walking.{record_of, Stands}
 use Rattle.rp_answer.specs.Kept.{kept_rows}
 use Rattle.rp_answer.specs.Matching.{known_by, Ready}
-use Rattle.rp_answer.proofs.Dropping.{drops_agree, forget_bound, stands_dropped}
+use Rattle.rp_answer.proofs.Dropping.{drops_agree, same_count, holds_no_more, forget_bound, stands_dropped}
 use Rattle.rp_answer.proofs.matcher.Matcher.drop_rows.Goals as goal
 
 pub returns-clause-agrees : goal.returns-clause-agrees
 returns-clause-agrees c =
     let e = c.forget.ensures in
     drops_agree c.args.self.now.rows c.forget.new.self e.low e.rows e.last e.end
+
+pub returns-clause-count : goal.returns-clause-count
+returns-clause-count c = let e = c.forget.ensures in same_count c.args.self.now.rows c.forget.new.self e.low e.rows e.last e.end
+
+pub returns-clause-held : goal.returns-clause-held
+returns-clause-held c =
+    let m = c.args.self.now in
+    let n = c.forget.new.self in
+    let e = c.forget.ensures in
+    let r : MatcherState = record_of m.walker in
+    holds_no_more (data_of m.query) m.rows n r (record_of c.dropped.new.self) c.horizon-horizon.result (c.dropped.ensures.«record» ∙ ap (λ f. record r { first = f }) c.first.ensures) (same_count m.rows n e.low e.rows e.last e.end)
+    c.horizon-horizon.ensures e.all
 
 pub returns-clause-ready : goal.returns-clause-ready
 returns-clause-ready c =
