@@ -1,5 +1,5 @@
 -- What each step of a parse has read, or where it stops.
-use Rattle.std.proofs.Common.{◌≡◌, ℕ, suc, ◌+◌, ◌<◌, ◌≤◌, List, ◌∷◌, length, None, true, false, refl, sym, ap, subst, arith, rules}
+use Rattle.std.proofs.Common.{◌≡◌, ℕ, suc, ◌+◌, ◌<◌, ◌≤◌, List, ◌∷◌, length, None, true, false, refl, sym, ap, subst, arith}
 use Rattle.rp_pattern.specs.Builders.{IsConcatenation, IsAlternation, IsQuantified}
 use Rattle.rp_pattern.specs.declared.form.Form.{Form}
 use Rattle.rp_pattern.specs.declared.form.Form.TheVariants as V
@@ -18,12 +18,12 @@ past_one s m mark is = let mark : length s ≡ suc (length m) = ap length is in 
 
 -- a tree in place of one that is the same
 with_tree : (level : Level) (s r : List ℕ) (form : Form) (tree : Tree) → tree_of form ≡ tree → IsLettered form → Reads level s tree r → ReadsOnly level s tree r → length r < length s → ReadsForm level s form r
-with_tree level s r form tree same lettered reads only shorter = record
-  { lettered = lettered
-  ; reads = subst (λ t. Reads level s t r) (sym same) reads
-  ; only = subst (λ t. ReadsOnly level s t r) (sym same) only
-  ; shorter = shorter
-  }
+with_tree level s r form tree same lettered reads only shorter = record {
+  lettered = lettered;
+  reads = subst (λ t. Reads level s t r) (sym same) reads;
+  only = subst (λ t. ReadsOnly level s t r) (sym same) only;
+  shorter = shorter;
+}
 
 pub form_one_sequence : (s r : List ℕ) (form : Form) → ReadsForm Sequences s form r → Lacks 124 r → ReadsForm Alternatives s form r
 form_one_sequence s r form read lacks = with_tree Alternatives s r form (tree_of form) refl read.lettered
@@ -77,19 +77,19 @@ pub stop_sequence : (s : List ℕ) (left : ℕ) → StopsAt Sequences s left →
 stop_sequence s left stop = record { none = alternatives-none s stop.none; within = stop.within }
 
 pub stop_second_sequence : (s m n : List ℕ) (p : Form) (left : ℕ) → ReadsForm Sequences s p m → m ≡ 124 ∷ n → StopsAt Alternatives n left → StopsAt Alternatives s left
-stop_second_sequence s m n p left first bar stop = record
-  { none = alternatives-second_none s m n (tree_of p) first.only bar stop.none
-  ; within = let a = first.shorter in let b = past_one m n 124 bar in let c = stop.within in omega (arith, a, b, c)
-  }
+stop_second_sequence s m n p left first bar stop = record {
+  none = alternatives-second_none s m n (tree_of p) first.only bar stop.none;
+  within = let a = first.shorter in let b = past_one m n 124 bar in let c = stop.within in omega (arith, a, b, c);
+}
 
 pub stop_factor : (s : List ℕ) (left : ℕ) → StopsAt Factors s left → StopsAt Sequences s left
 stop_factor s left stop = record { none = sequences-none s stop.none; within = stop.within }
 
 pub stop_second_factor : (s m : List ℕ) (p : Form) (left : ℕ) → ReadsForm Factors s p m → begins_primary m ≡ true → StopsAt Sequences m left → StopsAt Sequences s left
-stop_second_factor s m p left first goes stop = record
-  { none = sequences-second_none s m (tree_of p) first.only goes stop.none
-  ; within = let a = first.shorter in let c = stop.within in omega (arith, a, c)
-  }
+stop_second_factor s m p left first goes stop = record {
+  none = sequences-second_none s m (tree_of p) first.only goes stop.none;
+  within = let a = first.shorter in let c = stop.within in omega (arith, a, c);
+}
 
 pub stop_primary : (s : List ℕ) (left : ℕ) → StopsAt Primaries s left → StopsAt Factors s left
 stop_primary s left stop = record { none = factors-none s stop.none; within = stop.within }
@@ -98,16 +98,16 @@ pub stop_symbol : (s : List ℕ) (left : ℕ) → left ≡ length s → ((v : �
 stop_symbol s left all letters bracket = record { none = primaries-none s letters bracket; within = omega (arith, all) }
 
 pub stop_inner : (s m : List ℕ) (left : ℕ) → s ≡ 40 ∷ m → Lacks 41 m → StopsAt Alternatives m left → StopsAt Primaries s left
-stop_inner s m left opens some stop = record
-  { none = primaries-inner_none s m opens some stop.none
-  ; within = let a = past_one s m 40 opens in let c = stop.within in omega (arith, a, c)
-  }
+stop_inner s m left opens some stop = record {
+  none = primaries-inner_none s m opens some stop.none;
+  within = let a = past_one s m 40 opens in let c = stop.within in omega (arith, a, c);
+}
 
 pub stop_unclosed : (s m r : List ℕ) (form : Form) (left : ℕ) → left ≡ length r → s ≡ 40 ∷ m → Lacks 41 m → ReadsForm Alternatives m form r → Lacks 41 r → StopsAt Primaries s left
-stop_unclosed s m r form left rest opens some read unclosed = record
-  { none = primaries-unclosed s m r (tree_of form) opens some read.only unclosed
-  ; within = let a = past_one s m 40 opens in let c = read.shorter in omega (arith, rest, a, c)
-  }
+stop_unclosed s m r form left rest opens some read unclosed = record {
+  none = primaries-unclosed s m r (tree_of form) opens some read.only unclosed;
+  within = let a = past_one s m 40 opens in let c = read.shorter in omega (arith, rest, a, c);
+}
 
 pub ruleset alternatives_read = (form_one_sequence, form_either, stop_sequence, stop_second_sequence)
 

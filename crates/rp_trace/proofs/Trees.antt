@@ -83,16 +83,16 @@ pub lettered_star : (p form : Form) → IsLettered p → IsQuantified p 0 None f
 lettered_star p form a m = subst IsLettered (sym m.made) (lettered_body m.body (subst IsLettered (sym m.is_body) a))
 
 pub lettered_variable : (v : ℕ) → v ≤ 25 → IsLettered (V.Variable v)
-lettered_variable v few =
-    ( subst IsTrue (sym (ap is_allowed (sym (V.rolls-Variable v)) ∙ fold-roll-Form Bool allowed_step (F.Variable v))) (search rules)
-    , ap (are_below 26) (sym (V.rolls-Variable v)) ∙ fold-roll-Form Bool (below_step 26) (F.Variable v) ∙ below
-    )
+lettered_variable v few = (
+  subst IsTrue (sym (ap is_allowed (sym (V.rolls-Variable v)) ∙ fold-roll-Form Bool allowed_step (F.Variable v))) (search rules),
+  ap (are_below 26) (sym (V.rolls-Variable v)) ∙ fold-roll-Form Bool (below_step 26) (F.Variable v) ∙ below,
+)
   where
     below : nat_lt v 26 ≡ true
     below = grind (arith, nat_tests)
 
 pub lettered_empty : IsLettered V.Empty
-lettered_empty =
-    ( subst IsTrue (sym (ap is_allowed (sym V.rolls-Empty) ∙ fold-roll-Form Bool allowed_step F.Empty)) (search rules)
-    , ap (are_below 26) (sym V.rolls-Empty) ∙ fold-roll-Form Bool (below_step 26) F.Empty
-    )
+lettered_empty = (
+  subst IsTrue (sym (ap is_allowed (sym V.rolls-Empty) ∙ fold-roll-Form Bool allowed_step F.Empty)) (search rules),
+  ap (are_below 26) (sym V.rolls-Empty) ∙ fold-roll-Form Bool (below_step 26) F.Empty,
+)
