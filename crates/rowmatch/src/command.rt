@@ -75,7 +75,7 @@ fn line_of_no_text(alloc: Global) -> Result<Error, AllocError>
     program(alloc)?.error(ErrorKind::ValueValidation, "an argument isn't UTF-8")
 }
 
-#[tactic(auto, using(crate::proofs::Rows::trace_simple))]
+#[tactic(auto, using(crate::proofs::ParsedRows::trace_simple))]
 fn read_trace(alloc: Global, words: &[String]) -> Result<Job, JobFault>
     ensures named { IfOk result (λ job. name_of job ≡ codes "trace") }
     ensures value { IfOk result (IsRead (map string_bytes words.now)) }
@@ -129,7 +129,7 @@ fn matched<'a>(command: Command<'a>, words: &'a [String]) -> Result<ArgMatches<'
 }
 
 /// The value of an argument that has one.
-#[tactic(auto, using(crate::proofs::Rows::first_rows))]
+#[tactic(auto, using(crate::proofs::ParsedRows::first_rows))]
 fn text_of(alloc: Global, matches: &ArgMatches, id: &str) -> Result<String, AllocError>
     requires { HasValue id.now matches.now }
     ensures { IfOk result (λ text. first_of id.now (rows_of (found_of matches.now)) ≡ Some (string_bytes text)) }

@@ -32,5 +32,3 @@ reads_nothing s m r left right = (40 ∷ 41 ∷ [], nothing, left ∙ ap (λ t. 
 pub reads_group : (s m n r : List ℕ) (t : Tree) → s ≡ 40 ∷ m → Reads Alternatives m t n → n ≡ 41 ∷ r → Reads Primaries s t r
 reads_group s m n r t left inner right =
     (40 ∷ (inner.0 ++ 41 ∷ []), group inner.1, left ∙ ap (λ t. 40 ∷ t) (inner.2 ∙ ap (λ t. inner.0 ++ t) right ∙ sym (append_assoc inner.0 (41 ∷ []) r)))
-
-pub ruleset reads = (reads_one_sequence, reads_either, reads_one_factor, reads_both, reads_one_primary, reads_starred, reads_letter, reads_nothing, reads_group)

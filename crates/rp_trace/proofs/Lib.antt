@@ -1,5 +1,6 @@
 pub mod Derivations
-pub mod Choices
+pub mod OnlyReadings
 pub mod Trees
-pub mod Answered
-pub mod Replied
+pub mod ReadForms
+pub mod LineReplies
+pub mod RepliesSoFar

@@ -1,5 +1,6 @@
 -- The trees of forms, and which forms have letters.
-use Rattle.std.proofs.Common.{◌≡◌, ℕ, Bool, true, false, None, IsTrue, refl, sym, ap, ◌∙◌, subst, ◌&&◌, rules}
+use Rattle.std.proofs.Common.{◌≡◌, ℕ, ◌≤◌, nat_lt, arith, Bool, true, false, None, IsTrue, refl, sym, ap, ◌∙◌, subst, ◌&&◌, rules}
+use Rattle.std.proofs.lemmas.Bool.Decides.{nat_tests}
 use Rattle.std.specs.declared.rc.Rc.{Rc}
 use Rattle.std.specs.declared.alloc.Global.{Global}
 use Rattle.rp_pattern.specs.Bounds.{is_allowed, allowed_step}
@@ -81,4 +82,17 @@ lettered_body p a = (subst IsTrue (sym allowed) a.0, below ∙ a.1)
 pub lettered_star : (p form : Form) → IsLettered p → IsQuantified p 0 None false form → IsLettered form
 lettered_star p form a m = subst IsLettered (sym m.made) (lettered_body m.body (subst IsLettered (sym m.is_body) a))
 
-pub ruleset made = (tree_both, tree_either, tree_star, lettered_concatenation, lettered_alternation, lettered_star)
+pub lettered_variable : (v : ℕ) → v ≤ 25 → IsLettered (V.Variable v)
+lettered_variable v few = (
+  subst IsTrue (sym (ap is_allowed (sym (V.rolls-Variable v)) ∙ fold-roll-Form Bool allowed_step (F.Variable v))) (search rules),
+  ap (are_below 26) (sym (V.rolls-Variable v)) ∙ fold-roll-Form Bool (below_step 26) (F.Variable v) ∙ below,
+)
+  where
+    below : nat_lt v 26 ≡ true
+    below = grind (arith, nat_tests)
+
+pub lettered_empty : IsLettered V.Empty
+lettered_empty = (
+  subst IsTrue (sym (ap is_allowed (sym V.rolls-Empty) ∙ fold-roll-Form Bool allowed_step F.Empty)) (search rules),
+  ap (are_below 26) (sym V.rolls-Empty) ∙ fold-roll-Form Bool (below_step 26) F.Empty,
+)

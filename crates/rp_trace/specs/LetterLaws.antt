@@ -4,7 +4,7 @@ use Rattle.std.specs.Prelude.{◌≢◌, ℕ, ◌+◌, ◌-◌, ◌^◌, ◌<◌
 use Rattle.std.proofs.Common.{arith}
 use Rattle.rp_pattern.specs.declared.word.Label.{Label}
 use Rattle.rp_pattern.specs.declared.word.Seen.TheVariants.{Open}
-use Rattle.rp_trace.specs.LetterTest.{admits, label_test, letter_test, seen_if}
+use Rattle.rp_trace.specs.LetterTest.{admits_letter, label_test, letter_test, seen_if}
 
 seen_if-decided : (b : Bool) → seen_if b ≢ Open
 seen_if-decided true = λ e. cc
@@ -12,7 +12,7 @@ seen_if-decided false = λ e. cc
 
 label_test-decided : (o : Option Label) (letter : ℕ) → label_test o letter ≢ Open
 label_test-decided None letter = λ e. cc
-label_test-decided (Some label) letter = seen_if-decided (admits label.var letter)
+label_test-decided (Some label) letter = seen_if-decided (admits_letter label.var letter)
 
 pub letter_test-decided : (line : List ℕ) (start : ℕ) (labels : List Label) → letter_test line start labels ≢ Open
 letter_test-decided line start labels = label_test-decided (slice_get labels (length labels - 1)) (slice_index line (start + length labels - 2))

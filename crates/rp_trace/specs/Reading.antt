@@ -1,6 +1,7 @@
 -- What a front of some symbols derives, where what follows can't go on with it.
-use Rattle.std.specs.Prelude.{◌≡◌, ℕ, ◌≤◌, List, [], ◌∷◌, ◌++◌, length, drop, Bool, false, ◌&&◌, ◌||◌, nat_eq, nat_le}
-use Rattle.rp_trace.specs.Grammar.{Tree, Level, Alternatives, Sequences, Factors, Primaries, Derives, symbols_of}
+use Rattle.std.specs.Prelude.{◌≡◌, ℕ, ◌<◌, ◌≤◌, List, [], ◌∷◌, ◌++◌, length, drop, Bool, false, ◌&&◌, ◌||◌, nat_eq, nat_le}
+use Rattle.rp_pattern.specs.declared.form.Form.{Form}
+use Rattle.rp_trace.specs.Grammar.{Tree, Level, Alternatives, Sequences, Factors, Primaries, Derives, IsLettered, symbols_of, tree_of}
 
 -- So many symbols of a text are left from an offset on, and the byte there is the first of them, if there is one.
 pub record LeavesSymbols (text : List ℕ) (left offset : ℕ) : Type 0 where
@@ -35,3 +36,15 @@ ReadsOnly level symbols tree rest = (used rest' : List ℕ) (tree' : Tree) → D
 -- no front derives a tree
 abbrev pub ReadsNone : Level → List ℕ → Type 0
 ReadsNone level symbols = (used rest : List ℕ) (tree : Tree) → Derives level used tree → symbols ≡ used ++ rest → Ends level rest → ⊥
+
+-- A front of the symbols derives the form, no other front derives a tree, and fewer symbols are left.
+pub record ReadsForm (level : Level) (symbols : List ℕ) (form : Form) (rest : List ℕ) : Type 0 where
+  pub lettered : IsLettered form
+  pub reads : Reads level symbols (tree_of form) rest
+  pub only : ReadsOnly level symbols (tree_of form) rest
+  pub shorter : length rest < length symbols
+
+-- No front derives a tree, and so many of the symbols are left where that shows.
+pub record StopsAt (level : Level) (symbols : List ℕ) (left : ℕ) : Type 0 where
+  pub none : ReadsNone level symbols
+  pub within : left ≤ length symbols

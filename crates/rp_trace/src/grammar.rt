@@ -1,8 +1,8 @@
 //! The patterns of `trace`, as its command line gives them.
-ghost use Rattle.std.specs.Prelude.{◌≡◌, ℕ, ◌+◌, ◌<◌, ◌≤◌, List, [], ◌∷◌, length, IfOk, IfSome, IfNone};
+ghost use Rattle.std.specs.Prelude.{◌≡◌, ℕ, ◌+◌, ◌≤◌, List, [], ◌∷◌, length, IfOk, IfSome, IfNone};
 ghost use Rattle.rp_pattern.specs.PatternForm.{form_of};
 ghost use Rattle.rp_trace.specs.Grammar.{Tree, Alternatives, Sequences, Factors, Primaries, Derives, IsLettered, symbols_of, tree_of};
-ghost use Rattle.rp_trace.specs.Reading.{LeavesSymbols, Lacks, Reads, ReadsNone, ReadsOnly, begins_primary};
+ghost use Rattle.rp_trace.specs.Reading.{LeavesSymbols, Lacks, ReadsForm, StopsAt, begins_primary};
 
 use rp_pattern::{Form, Pattern};
 use std::alloc::{AllocError, AllocFailed, Global};
@@ -75,14 +75,10 @@ fn expected(text: &[u8], left: usize) -> TracePatternFault
 
 /// Sequences with `|` between them, and what follows.
 #[cycle(grammar)]
-#[tactic(auto, using(crate::proofs::Derivations::reads, crate::proofs::Choices::alternatives_read, crate::proofs::Trees::made))]
+#[tactic(auto, using(crate::proofs::ReadForms::alternatives_read))]
 fn alternatives(alloc: Global, symbols: &[u8]) -> Result<(Form, &[u8]), Stop>
-    ensures form { IfOk result (λ read. IsLettered read.0) }
-    ensures reads { IfOk result (λ read. Reads Alternatives symbols.now (tree_of read.0) read.1.now) }
-    ensures only { IfOk result (λ read. ReadsOnly Alternatives symbols.now (tree_of read.0) read.1.now) }
-    ensures none { (left : ℕ) → result ≡ Err (Stop.At left) → ReadsNone Alternatives symbols.now }
-    ensures left { (left : ℕ) → result ≡ Err (Stop.At left) → left ≤ length symbols.now }
-    ensures shorter { IfOk result (λ read. length read.1.now < length symbols.now) }
+    ensures read { IfOk result (λ read. ReadsForm Alternatives symbols.now read.0 read.1.now) }
+    ensures stop { (left : ℕ) → result ≡ Err (Stop.At left) → StopsAt Alternatives symbols.now left }
 {
     let (first, rest) = sequence(alloc, symbols)?;
     match after_mark(rest, b'|') {
@@ -96,14 +92,10 @@ fn alternatives(alloc: Global, symbols: &[u8]) -> Result<(Form, &[u8]), Stop>
 
 /// One or more factors, and what follows.
 #[cycle(grammar)]
-#[tactic(auto, using(crate::proofs::Derivations::reads, crate::proofs::Choices::sequences_read, crate::proofs::Trees::made))]
+#[tactic(auto, using(crate::proofs::ReadForms::sequences_read))]
 fn sequence(alloc: Global, symbols: &[u8]) -> Result<(Form, &[u8]), Stop>
-    ensures form { IfOk result (λ read. IsLettered read.0) }
-    ensures reads { IfOk result (λ read. Reads Sequences symbols.now (tree_of read.0) read.1.now) }
-    ensures only { IfOk result (λ read. ReadsOnly Sequences symbols.now (tree_of read.0) read.1.now) }
-    ensures none { (left : ℕ) → result ≡ Err (Stop.At left) → ReadsNone Sequences symbols.now }
-    ensures left { (left : ℕ) → result ≡ Err (Stop.At left) → left ≤ length symbols.now }
-    ensures shorter { IfOk result (λ read. length read.1.now < length symbols.now) }
+    ensures read { IfOk result (λ read. ReadsForm Sequences symbols.now read.0 read.1.now) }
+    ensures stop { (left : ℕ) → result ≡ Err (Stop.At left) → StopsAt Sequences symbols.now left }
 {
     let (first, rest) = factor(alloc, symbols)?;
     if !begins_primary(rest) {
@@ -115,14 +107,10 @@ fn sequence(alloc: Global, symbols: &[u8]) -> Result<(Form, &[u8]), Stop>
 
 /// A primary, perhaps with `*`, and what follows.
 #[cycle(grammar)]
-#[tactic(auto, using(crate::proofs::Derivations::reads, crate::proofs::Choices::factors_read, crate::proofs::Trees::made))]
+#[tactic(auto, using(crate::proofs::ReadForms::factors_read))]
 fn factor(alloc: Global, symbols: &[u8]) -> Result<(Form, &[u8]), Stop>
-    ensures form { IfOk result (λ read. IsLettered read.0) }
-    ensures reads { IfOk result (λ read. Reads Factors symbols.now (tree_of read.0) read.1.now) }
-    ensures only { IfOk result (λ read. ReadsOnly Factors symbols.now (tree_of read.0) read.1.now) }
-    ensures none { (left : ℕ) → result ≡ Err (Stop.At left) → ReadsNone Factors symbols.now }
-    ensures left { (left : ℕ) → result ≡ Err (Stop.At left) → left ≤ length symbols.now }
-    ensures shorter { IfOk result (λ read. length read.1.now < length symbols.now) }
+    ensures read { IfOk result (λ read. ReadsForm Factors symbols.now read.0 read.1.now) }
+    ensures stop { (left : ℕ) → result ≡ Err (Stop.At left) → StopsAt Factors symbols.now left }
 {
     let (body, rest) = primary(alloc, symbols)?;
     match after_mark(rest, b'*') {
@@ -133,14 +121,10 @@ fn factor(alloc: Global, symbols: &[u8]) -> Result<(Form, &[u8]), Stop>
 
 /// A variable or a group, and what follows.
 #[cycle(grammar)]
-#[tactic(auto, using(crate::proofs::Derivations::reads, crate::proofs::Choices::primaries_read, crate::proofs::Trees::made))]
+#[tactic(auto, using(crate::proofs::ReadForms::primaries_read))]
 fn primary(alloc: Global, symbols: &[u8]) -> Result<(Form, &[u8]), Stop>
-    ensures form { IfOk result (λ read. IsLettered read.0) }
-    ensures reads { IfOk result (λ read. Reads Primaries symbols.now (tree_of read.0) read.1.now) }
-    ensures only { IfOk result (λ read. ReadsOnly Primaries symbols.now (tree_of read.0) read.1.now) }
-    ensures none { (left : ℕ) → result ≡ Err (Stop.At left) → ReadsNone Primaries symbols.now }
-    ensures left { (left : ℕ) → result ≡ Err (Stop.At left) → left ≤ length symbols.now }
-    ensures shorter { IfOk result (λ read. length read.1.now < length symbols.now) }
+    ensures read { IfOk result (λ read. ReadsForm Primaries symbols.now read.0 read.1.now) }
+    ensures stop { (left : ℕ) → result ≡ Err (Stop.At left) → StopsAt Primaries symbols.now left }
 {
     if let Some((var, rest)) = letter(symbols) {
         return Ok((Form::Variable(var), rest));

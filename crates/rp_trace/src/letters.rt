@@ -1,6 +1,6 @@
 //! A line as the rows of a partition.
 ghost use Rattle.std.specs.Prelude.{◌≡◌, ◌≤◌, length};
-ghost use Rattle.rp_trace.specs.LetterTest.{admits};
+ghost use Rattle.rp_trace.specs.LetterTest.{admits_letter};
 
 use rp_pattern::{End, Label, Seen};
 use rp_search::Tests;
@@ -65,7 +65,7 @@ impl Tests for Letters<'_> {
     fn test(&self, start: u64, labels: &[Label]) -> Seen {
         let label = labels[labels.len() - 1];
         let letter = self.line[start as usize + labels.len() - 2];
-        if admits(label.var, letter) {
+        if admits_letter(label.var, letter) {
             Seen::True
         } else {
             Seen::NotTrue
@@ -85,8 +85,8 @@ impl Tests for Letters<'_> {
 }
 
 /// Whether a row with this letter is admitted for the variable.
-fn admits(var: usize, letter: u8) -> bool
-    ensures { result ≡ admits var letter }
+fn admits_letter(var: usize, letter: u8) -> bool
+    ensures { result ≡ admits_letter var letter }
 {
     var == ANY || (letter >= b'a' && usize::from(letter - b'a') == var)
 }

@@ -7,7 +7,7 @@ use Rattle.rp_pattern.specs.declared.word.End.TheVariants.{Closed}
 use Rattle.rp_search.specs.Found.{Match, NoMatch}
 use Rattle.rp_search.specs.Search.{labels_of_search, start_of_search, words_from}
 use Rattle.rp_trace.specs.LetterTest.{letter_test}
-use Rattle.rp_trace.proofs.Answered.{match-below, search-text}
+use Rattle.rp_trace.proofs.LineReplies.{match-below, search-text}
 use Rattle.rp_lines.proofs.Cutting.{when_true, when_false}
 use Rattle.rp_trace.proofs.trace.push_match.Goals as goal
 

@@ -4,7 +4,7 @@ use Rattle.rp_lines.specs.Devices.{after_calls}
 use Rattle.rp_lines.specs.Pending.{coming}
 use Rattle.rp_trace.specs.Replies.{last_reply, reply_to}
 use Rattle.rp_lines.proofs.Cutting.{on_err_from}
-use Rattle.rp_trace.proofs.Replied.{AppendsFront-none, Replied-start, Replied-more, Replied-moved, Replied-last, Replied-end, Replied-fault}
+use Rattle.rp_trace.proofs.RepliesSoFar.{AppendsFront-none, Replied-start, Replied-more, Replied-moved, Replied-last, Replied-end, Replied-fault}
 use Rattle.rp_lines.proofs.Giving.{GivesEach-start, GivesEach-trans}
 use Rattle.rp_lines.proofs.Told.{told_more}
 use Rattle.rp_trace.proofs.trace.run_trace.Goals as goal

@@ -2,7 +2,7 @@ use Rattle.std.proofs.Common.{◌≡◌}
 use Rattle.rp_pattern.specs.PatternForm.{form_of}
 use Rattle.rp_lines.specs.Devices.{GivesEach, after_calls}
 use Rattle.rp_lines.specs.Pending.{coming, most_lines_left}
-use Rattle.rp_trace.proofs.Replied.{Replied}
+use Rattle.rp_trace.proofs.RepliesSoFar.{Replied}
 use Rattle.rp_trace.proofs.trace.run_trace.Given as goal
 
 abbrev pub invariant-loop-text : goal.invariant-loop-text

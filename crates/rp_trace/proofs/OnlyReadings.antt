@@ -177,14 +177,6 @@ primaries-group s m r r' t left some only right used rest tree (group {s = a} d)
     let read = only a (41 ∷ rest) tree d (inner a s m rest is left) (close_ends rest) in
     (read.0, tail_same 41 41 r' rest (sym right ∙ read.1))
 
-pub ruleset alternatives_read = (alternatives-none, alternatives-one, alternatives-second_none, alternatives-either)
-
-pub ruleset sequences_read = (sequences-none, sequences-one, sequences-second_none, sequences-both)
-
-pub ruleset factors_read = (factors-none, factors-one, factors-starred)
-
-pub ruleset primaries_read = (primaries-letter, primaries-none, primaries-nothing, primaries-inner_none, primaries-unclosed, primaries-group)
-
 -- the whole of the symbols
 pub rest-nothing : (s text r : List ℕ) (t tree : Tree) → s ≡ text → ReadsOnly Alternatives s t r → Derives Alternatives text tree → r ≡ []
 rest-nothing s text r t tree is only d = (only text [] tree d (is ∙ sym (append-nil text)) nothing_ends).1
