@@ -1,21 +1,20 @@
 -- The text of a line's tokens.
-use Rattle.std.proofs.Common.{◌≡◌, ◌<◌, ◌+◌, ◌∙◌, ℕ, zero, suc, ◌%◌, ap₂, List, [], ◌∷◌, ◌++◌, map, refl, ap, sym, append_assoc, arith, Bool, true, false, not, ◌&&◌, Option, Some, None}
-use Rattle.std.specs.Prelude.{codes, decimal, nat_lt, ℤ, pos, negsuc, flat_map, ◌^◌}
-use Rattle.std.specs.Fmt.{signed_decimal}
+use Rattle.std.proofs.Common.{◌≡◌, ◌<◌, ◌+◌, ◌∙◌, ℕ, zero, suc, ◌%◌, ap₂, List, [], ◌∷◌, ◌++◌, map, refl, ap, sym, append_assoc, arith, true, false, Option, Some, None}
+use Rattle.std.specs.Prelude.{codes, decimal, ◌^◌}
 use Rattle.std.proofs.Common.{mod-lt, zero-lt-suc}
 use Rattle.std.proofs.lemmas.List.Concat.{flat_map-append}
 use Rattle.std.proofs.lemmas.Fmt.{decimal_by_steps_wide}
-use Rattle.json.specs.Token.{Token, begin_object, end_object, begin_array, end_array, key, string, number, boolean, null}
-use Rattle.json.specs.Print.{print, print_from, escape, escape_byte, escape_letter, quoted}
+use Rattle.json.specs.Token.{Token, begin_object, begin_array, end_array, key, string, boolean}
+use Rattle.json.specs.Print.{print, print_from, escape, escape_byte}
 use Rattle.json.proofs.OnLiterals.{json_on_literals}
 use Rattle.rp_value.specs.declared.value.Value.{Value}
 use Rattle.rp_value.specs.declared.value.Value.TheVariants.{Null, Int, Text}
 use Rattle.rp_codec.specs.ReplyLines.{item_text, key_text, place_text, more_values, values_text, value_text, number_text, name_of_fault}
 use Rattle.rp_codec.specs.Tokens.{item_tokens, key_tokens, number_token, place_tokens, value_token, values_tokens}
-use Rattle.rp_codec.specs.declared.item.Item.{Item as Given}
-use Rattle.rp_codec.specs.declared.item.Item.TheVariants.{Row, Fault, End}
-use Rattle.rp_codec.specs.declared.item.SkipFault.{SkipFault}
-use Rattle.rp_codec.specs.declared.item.SkipFault.TheVariants.{SkipNoRow, SkipSame}
+use Rattle.rp_known.specs.declared.item.Item.{Item as Given}
+use Rattle.rp_known.specs.declared.item.Item.TheVariants.{Row, Fault, End}
+use Rattle.rp_known.specs.declared.item.SkipFault.{SkipFault}
+use Rattle.rp_known.specs.declared.item.SkipFault.TheVariants.{SkipNoRow, SkipSame}
 
 -- a digit stands for itself in a string
 digit_plain : (k : ℕ) → k < 10 → escape_byte (48 + k) ≡ (48 + k) ∷ []

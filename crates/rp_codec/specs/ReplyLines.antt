@@ -4,12 +4,12 @@ use Rattle.std.specs.Fmt.{signed_decimal}
 use Rattle.json.specs.Print.{quoted}
 use Rattle.rp_value.specs.declared.value.Value.{Value}
 use Rattle.rp_value.specs.declared.value.Value.TheVariants.{Null, Int, Text}
-use Rattle.rp_codec.specs.declared.item.Item.{Item as Given}
-use Rattle.rp_codec.specs.declared.item.Item.TheVariants.{Row, Fault, End}
+use Rattle.rp_known.specs.declared.item.Item.{Item as Given}
+use Rattle.rp_known.specs.declared.item.Item.TheVariants.{Row, Fault, End}
 use Rattle.rp_codec.specs.declared.reply.Reply.{Reply}
 use Rattle.rp_codec.specs.declared.reply.Reply.TheVariants.{Item}
-use Rattle.rp_codec.specs.declared.item.SkipFault.{SkipFault}
-use Rattle.rp_codec.specs.declared.item.SkipFault.TheVariants.{SkipNoRow, SkipSame}
+use Rattle.rp_known.specs.declared.item.SkipFault.{SkipFault}
+use Rattle.rp_known.specs.declared.item.SkipFault.TheVariants.{SkipNoRow, SkipSame}
 
 -- the text of a value
 abbrev pub value_text : Value → List ℕ
@@ -47,8 +47,10 @@ key_text key rest = codes ",\"key\":" ++ (values_text key ++ rest)
 -- the line of an item of a partition's answer, without its line feed
 abbrev pub item_text : List Value → ℕ → Given → List ℕ
 item_text key place (Row count cells) =
-    codes "{\"cells\":" ++ (values_text cells ++ key_text key (codes ",\"number\":" ++ (number_text count ++ place_text place)))
-item_text key place (Fault fault) = codes "{\"fault\":\"" ++ (name_of_fault fault ++ (codes "\"" ++ key_text key (place_text place)))
+    codes "{\"cells\":"
+    ++ (values_text cells ++ key_text key (codes ",\"number\":" ++ (number_text count ++ place_text place)))
+item_text key place (Fault fault) =
+    codes "{\"fault\":\"" ++ (name_of_fault fault ++ (codes "\"" ++ key_text key (place_text place)))
 item_text key place End = codes "{\"end\":true" ++ key_text key (place_text place)
 
 -- the line of a reply, without its line feed

@@ -1,12 +1,13 @@
 -- The tokens of a reply's line.
 use Rattle.std.specs.Prelude.{ℕ, ◌++◌, List, [], ◌∷◌, map, true, Option, Some, None, codes, decimal}
 use Rattle.std.specs.Fmt.{signed_decimal}
-use Rattle.json.specs.Token.{Token, begin_object, end_object, begin_array, end_array, key, string, number, boolean, null}
+use Rattle.json.specs.Token.{Token, begin_object, end_object, begin_array, end_array}
+use Rattle.json.specs.Token.{key, string, number, boolean, null}
 use Rattle.rp_value.specs.declared.value.Value.{Value}
 use Rattle.rp_value.specs.declared.value.Value.TheVariants.{Null, Int, Text}
 use Rattle.rp_codec.specs.ReplyLines.{name_of_fault}
-use Rattle.rp_codec.specs.declared.item.Item.{Item as Given}
-use Rattle.rp_codec.specs.declared.item.Item.TheVariants.{Row, Fault, End}
+use Rattle.rp_known.specs.declared.item.Item.{Item as Given}
+use Rattle.rp_known.specs.declared.item.Item.TheVariants.{Row, Fault, End}
 
 abbrev pub value_token : Value → Token
 value_token Null = null
@@ -28,6 +29,9 @@ abbrev pub place_tokens : ℕ → List Token
 place_tokens place = key (codes "place") ∷ string (decimal place) ∷ end_object ∷ []
 
 abbrev pub item_tokens : List Value → ℕ → Given → List Token
-item_tokens at place (Row n cells) = begin_object ∷ key (codes "cells") ∷ (values_tokens cells ++ (key_tokens at ++ key (codes "number") ∷ number_token n ∷ place_tokens place))
-item_tokens at place (Fault fault) = begin_object ∷ key (codes "fault") ∷ string (name_of_fault fault) ∷ (key_tokens at ++ place_tokens place)
+item_tokens at place (Row n cells) =
+    begin_object ∷ key (codes "cells")
+    ∷ (values_tokens cells ++ (key_tokens at ++ key (codes "number") ∷ number_token n ∷ place_tokens place))
+item_tokens at place (Fault fault) =
+    begin_object ∷ key (codes "fault") ∷ string (name_of_fault fault) ∷ (key_tokens at ++ place_tokens place)
 item_tokens at place End = begin_object ∷ key (codes "end") ∷ boolean true ∷ (key_tokens at ++ place_tokens place)

@@ -9,14 +9,13 @@
 //! What stands on a line is said in `specs/ReplyLines`.
 #![tactic(auto)]
 
-mod item;
 mod line;
 mod packet;
 mod reply;
 #[cfg(test)]
 mod tests;
 
-pub use item::{Item, SkipFault};
 pub use line::{push_reply_line, reply_line};
 pub use packet::Packet;
 pub use reply::Reply;
+pub use rp_known::{Item, SkipFault};

@@ -71,7 +71,8 @@ fn write_row(
     number: Option<u64>,
     cells: &Cells,
 ) -> Result<(), AllocError>
-    ensures ok { OnOk result (writer.new.tokens ≡ writer.old.tokens ++ item_tokens key.now place (Item.Row number cells.now)) }
+    ensures ok { OnOk result
+        (writer.new.tokens ≡ writer.old.tokens ++ item_tokens key.now place (Item.Row number cells.now)) }
     ensures before { writer.new.before ≡ writer.old.before }
 {
     writer.begin_object()?;
@@ -133,7 +134,8 @@ fn write_number(writer: &mut Writer, number: Option<u64>) -> Result<(), AllocErr
 }
 
 fn write_place(writer: &mut Writer, place: u128) -> Result<(), AllocError>
-    ensures ok { OnOk result (writer.new.tokens ≡ writer.old.tokens ++ key (codes "place") ∷ string (decimal place) ∷ []) }
+    ensures ok { OnOk result
+        (writer.new.tokens ≡ writer.old.tokens ++ key (codes "place") ∷ string (decimal place) ∷ []) }
     ensures before { writer.new.before ≡ writer.old.before }
 {
     writer.key("place")?;

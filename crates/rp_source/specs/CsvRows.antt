@@ -30,8 +30,13 @@ pub record AreRowsOf (columns : List Column) (text : List ℕ) (rows : List (Lis
   pub are : AreRows (kinds_of columns) records rows
   pub few : length records ≤ MAX_RECORDS
 
--- the first record of a text that is no row, by its number from 1: the header names the columns, and the records before are rows
-pub record IsFirstFault (columns : List Column) (text : List ℕ) (number : ℕ) (Why : List Kind → List (List ℕ) → Type 0) : Type 0 where
+-- why the fields of a record are no row of columns of these kinds
+abbrev pub Reason : Type 1
+Reason = List Kind → List (List ℕ) → Type 0
+
+-- the first record of a text that is no row, by its number from 1: the header names the columns, and the records before
+-- are rows
+pub record IsFirstFault (columns : List Column) (text : List ℕ) (number : ℕ) (Why : Reason) : Type 0 where
   pub header : List (List ℕ)
   pub before : List (List (List ℕ))
   pub fields : List (List ℕ)
@@ -47,14 +52,17 @@ pub record IsFirstFault (columns : List Column) (text : List ℕ) (number : ℕ)
 -- there is no first record, or it does not name the columns
 abbrev pub HasNoHeader : List Column → List ℕ → Type 0
 HasNoHeader columns text = (csv_records text ≡ [])
-    ⊎ ((header : List (List ℕ)) × (rest : List (List (List ℕ))) × (csv_records text ≡ header ∷ rest) × (NamesColumns columns header → ⊥))
+    ⊎ ((header : List (List ℕ)) × (rest : List (List (List ℕ))) × (csv_records text ≡ header ∷ rest)
+    × (NamesColumns columns header → ⊥))
 
 -- The first fault of a text: the header's, or the first record that is no row, where its length is looked at before its
 -- fields, and one beyond the limit counts as one of another length.
 abbrev pub IsTextFault : List Column → List ℕ → CsvFault → Type 0
 IsTextFault columns text Header = HasNoHeader columns text
-IsTextFault columns text (Record n) = IsFirstFault columns text n (λ kinds fields. (length fields ≢ length kinds) ⊎ (MAX_RECORDS < n))
-IsTextFault columns text (Field n) = (n ≤ MAX_RECORDS) × IsFirstFault columns text n (λ kinds fields. (length fields ≡ length kinds) × HasNoField kinds fields)
+IsTextFault columns text (Record n) =
+    IsFirstFault columns text n (λ kinds fields. (length fields ≢ length kinds) ⊎ (MAX_RECORDS < n))
+IsTextFault columns text (Field n) = (n ≤ MAX_RECORDS)
+    × IsFirstFault columns text n (λ kinds fields. (length fields ≡ length kinds) × HasNoField kinds fields)
 IsTextFault columns text OutOfMemory = ⊤
 IsTextFault columns text _ = ⊥
 

@@ -10,7 +10,8 @@ use Rattle.rp_value.specs.declared.value.Value.TheVariants.{Null, Int, Text}
 
 -- a sign or none, then digits, for a number of 64 bits with sign: what std reads as an i64
 abbrev pub IsNumberText : List ℕ → ℤ → Type 0
-IsNumberText bytes z = IsNumeral 10 (without_leading_sign bytes) × FitsSigned w64 (signed_digits_value 10 bytes) × (z ≡ signed_digits_value 10 bytes)
+IsNumberText bytes z = IsNumeral 10 (without_leading_sign bytes) × FitsSigned w64 (signed_digits_value 10 bytes)
+    × (z ≡ signed_digits_value 10 bytes)
 
 -- a field that is not empty is this value of a column
 abbrev pub IsFull : Kind → List ℕ → Value → Type 0

@@ -12,4 +12,5 @@ parts_of entries = map (λ entry. (entry.0, entry.1.items)) entries
 -- a row more in the partition of its key, which comes last where it is new
 abbrev pub with_row : List Part → List Value → List Value → List Part
 with_row [] key row = (key, row ∷ []) ∷ []
-with_row (part ∷ parts) key row = if same_key key part.0 then (part.0, part.1 ++ row ∷ []) ∷ parts else part ∷ with_row parts key row
+with_row (part ∷ parts) key row =
+    if same_key key part.0 then (part.0, part.1 ++ row ∷ []) ∷ parts else part ∷ with_row parts key row

@@ -19,8 +19,8 @@ part_packets key rows = numbered_from 1 rows ++ Close key (length rows) ∷ []
 -- the packets of partitions, one after another, each put into order
 abbrev pub ArePackets : List OrderColumn → List Part → List Packet → Type 0
 ArePackets order [] packets = packets ≡ []
-ArePackets order (part ∷ parts) packets = (ordered : List (List Value)) × (rest : List Packet) × IsOrdered order part.1 ordered
-    × (packets ≡ part_packets part.0 ordered ++ rest) × ArePackets order parts rest
+ArePackets order (part ∷ parts) packets = (ordered : List (List Value)) × (rest : List Packet)
+    × IsOrdered order part.1 ordered × (packets ≡ part_packets part.0 ordered ++ rest) × ArePackets order parts rest
 
 -- the packets of rows by these partition columns and this order
 abbrev pub AreNumbered : List ℕ → List OrderColumn → List (List Value) → List Packet → Type 0

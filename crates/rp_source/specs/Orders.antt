@@ -16,7 +16,9 @@ value_at column row = unwrap_or (cell_at row column) Null
 
 -- by one column: null is last, and with the sides exchanged, descending, it is first
 abbrev pub column_order : OrderColumn → List Value → List Value → Ordering
-column_order o a b = if o.descending then value_order (value_at o.column b) (value_at o.column a) else value_order (value_at o.column a) (value_at o.column b)
+column_order o a b =
+    if o.descending then value_order (value_at o.column b) (value_at o.column a)
+    else value_order (value_at o.column a) (value_at o.column b)
 
 -- by the first column in which they differ
 abbrev pub rows_order : List OrderColumn → List Value → List Value → Ordering

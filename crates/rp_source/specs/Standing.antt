@@ -1,7 +1,8 @@
 -- Where a reader of csv stands among the records of a text.
 use Rattle.std.specs.Prelude.{◌≡◌, ℕ, List, Some}
 use Rattle.std.specs.Borrow.{Bor}
-use Rattle.csv.specs.Reading.{AreRecords, Reached, Ready, default_config, reader_config, reader_state, reader_trim, source_of, strip_bom}
+use Rattle.csv.specs.Reading.{AreRecords, Reached, Ready, default_config, source_of, strip_bom}
+use Rattle.csv.specs.Reading.{reader_config, reader_state, reader_trim}
 use Rattle.csv.specs.declared.parser.State.TheVariants as st
 use Rattle.csv.specs.declared.reader.Reader.{Reader}
 use Rattle.csv.specs.declared.reader.Trim.TheVariants as trim

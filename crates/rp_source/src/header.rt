@@ -31,7 +31,8 @@ pub(crate) fn names_columns(
 
 /// Whether a field names a column.
 fn names_column(alloc: Global, column: &Column, field: &[u8]) -> Result<bool, AllocError>
-    ensures { IfOk result (λ named. MatchBool named (NamesColumn column.now field.now) (NamesColumn column.now field.now → ⊥)) }
+    ensures { IfOk result (λ named. MatchBool named (NamesColumn column.now field.now)
+        (NamesColumn column.now field.now → ⊥)) }
 {
     if field == column.name.as_str().as_bytes() {
         return Ok(true);

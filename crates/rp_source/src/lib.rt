@@ -6,8 +6,8 @@
 //!     x,1,10          Row 1 of ["y"]: y, 1, 5
 //!                     Close of ["y"]: 1        by PARTITION BY sym ORDER BY t
 //!
-//! What a text's rows and its first fault are is said in `specs/`: CsvRows, over Headers and Fields; what the packets of
-//! rows are in Numbered, over Partitions and Orders.
+//! What a text's rows and its first fault are is said in `specs/`: CsvRows, over Headers and Fields; what the packets
+//! of rows are in Numbered, over Partitions and Orders.
 #![tactic(auto)]
 
 mod fields;

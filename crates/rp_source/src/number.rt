@@ -10,8 +10,8 @@ use rp_codec::Packet;
 use rp_value::{Cells, Row};
 use std::alloc::{AllocError, Global};
 
-/// The packets of rows: for each partition of the query, by first appearance, its rows in the query's order, numbered from
-/// 1, and then its close with their count. Rows that tie stay as they came.
+/// The packets of rows: for each partition of the query, by first appearance, its rows in the query's order, numbered
+/// from 1, and then its close with their count. Rows that tie stay as they came.
 ///
 /// A column that a row doesn't have is null.
 pub fn number_rows(alloc: Global, query: &Query, rows: Vec<Row>) -> Result<Vec<Packet>, AllocError>

@@ -43,7 +43,8 @@ fn compare_column(column: &OrderColumn, left: &Row, right: &Row) -> Ordering
 
 /// The order of two cells, where none is null.
 fn compare_cells(left: Option<&Value>, right: Option<&Value>) -> Ordering
-    ensures { result ≡ value_order (unwrap_or (option_copied left.entry) Null) (unwrap_or (option_copied right.entry) Null) }
+    ensures { result ≡ value_order (unwrap_or (option_copied left.entry) Null)
+        (unwrap_or (option_copied right.entry) Null) }
 {
     law_value_order();
     match (left, right) {

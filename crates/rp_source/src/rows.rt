@@ -51,10 +51,10 @@ impl From<AllocError> for CsvFault {
 
 /// The rows of a CSV text over a table.
 ///
-/// The first record is the header. A field is a column's name, or has the form of a name whose upper-case form that is. Of
-/// the records after it an empty field is null, any other UTF-8; that of a column of whole numbers is a sign or none and
-/// digits, within 64 bits. The error is the first of the text: the header's, then the records' in order, where the number
-/// of fields is looked at before what they are.
+/// The first record is the header. A field is a column's name, or has the form of a name whose upper-case form that is.
+/// Of the records after it an empty field is null, any other UTF-8; that of a column of whole numbers is a sign or none
+/// and digits, within 64 bits. The error is the first of the text: the header's, then the records' in order, where the
+/// number of fields is looked at before what they are.
 pub fn rows_of(alloc: Global, text: &[u8], table: &Table) -> Result<Vec<Row>, CsvFault>
     ensures ok { IfOk result (λ rows. AreRowsOf table.now text.now rows.items) }
     ensures err { IfErr result (λ fault. IsTextFault table.now text.now fault) }

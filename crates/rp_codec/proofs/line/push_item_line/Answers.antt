@@ -1,4 +1,4 @@
-use Rattle.std.proofs.Common.{◌≡◌, ◌++◌, ◌<◌, ◌∙◌, ℕ, List, [], ap, ap₂, arith, rules, sym}
+use Rattle.std.proofs.Common.{◌≡◌, ◌++◌, ◌<◌, ◌∙◌, ap, ap₂, arith}
 use Rattle.std.specs.Prelude.{◌^◌}
 use Rattle.json.specs.Print.{print}
 use Rattle.rp_codec.specs.Tokens.{item_tokens}
