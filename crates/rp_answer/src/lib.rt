@@ -11,3 +11,6 @@ mod kept;
 mod matcher;
 
 pub use matcher::Matcher;
+
+#[cfg(test)]
+mod tests;

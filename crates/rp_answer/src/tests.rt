@@ -1,0 +1,205 @@
+//! The items of partitions. What is expected is worked out by hand.
+mod answered;
+
+use answered::{Drive, answered};
+use std::alloc::Global;
+use std::test::Fail;
+
+/// The items, which are the same by polls of any budget, and where each row is polled as it comes.
+fn items(alloc: Global, text: &str, numbers: &[i64]) -> Result<String, Fail> {
+    let told = answered(
+        alloc,
+        text,
+        numbers,
+        Drive {
+            budget: 100_000,
+            each: false,
+        },
+    )?;
+    for drive in [
+        Drive {
+            budget: 1,
+            each: false,
+        },
+        Drive {
+            budget: 100_000,
+            each: true,
+        },
+        Drive {
+            budget: 1,
+            each: true,
+        },
+    ] {
+        let again = answered(alloc, text, numbers, drive)?;
+        if again.as_str() != told.as_str() {
+            return Err(Fail::from("other items by another budget"));
+        }
+    }
+    Ok(told)
+}
+
+/// A fall and then a rise.
+const V: &str =
+    "PARTITION BY sym ORDER BY t MEASURES MATCH_NUMBER() AS n, FIRST(p) AS a, LAST(B.p) AS lo, LAST(C.p) AS hi PATTERN (A B+ C+) DEFINE B AS p < PREV(p), C AS p > PREV(p)";
+
+#[test]
+fn v_shape_closed(rt: HostRuntime) -> Result<(), Fail> {
+    let told = items(rt.alloc(), V, &[10, 8, 6, 7, 9, 9])?;
+    assert_eq!(rt; told.as_str(), "(1, 1, x 1 10 6 9)|(2, End)");
+    Ok(())
+}
+
+/// After five rows C could go on.
+#[test]
+fn v_shape_open(rt: HostRuntime) -> Result<(), Fail> {
+    let told = items(rt.alloc(), V, &[10, 8, 6, 7, 9])?;
+    assert_eq!(rt; told.as_str(), "|(1, 1, x 1 10 6 9)(2, End)");
+    Ok(())
+}
+
+#[test]
+fn empty_partition(rt: HostRuntime) -> Result<(), Fail> {
+    let told = items(rt.alloc(), V, &[])?;
+    assert_eq!(rt; told.as_str(), "|(1, End)");
+    Ok(())
+}
+
+/// A choice that is preferred may still match.
+#[test]
+fn preferred_waits(rt: HostRuntime) -> Result<(), Fail> {
+    let alloc = rt.alloc();
+    let text = "MEASURES COUNT(*) AS c PATTERN (A | A B) DEFINE A AS p > 0";
+    assert_eq!(rt; items(alloc, text, &[1])?.as_str(), "(1, 1, 1)|(2, End)");
+    let text = "MEASURES COUNT(*) AS c PATTERN (A B | A) DEFINE A AS p > 0";
+    assert_eq!(rt; items(alloc, text, &[1])?.as_str(), "|(1, 1, 1)(2, End)");
+    assert_eq!(rt; items(alloc, text, &[1, 1])?.as_str(), "(1, 1, 2)|(2, End)");
+    Ok(())
+}
+
+#[test]
+fn permuted_classifier(rt: HostRuntime) -> Result<(), Fail> {
+    let text =
+        "MEASURES CLASSIFIER() AS c, COUNT(*) AS k PATTERN (PERMUTE(A, B)) DEFINE A AS p = 1, B AS p = 2";
+    let told = items(rt.alloc(), text, &[2, 1])?;
+    assert_eq!(rt; told.as_str(), "(1, 1, A 2)|(2, End)");
+    Ok(())
+}
+
+#[test]
+fn empty_matches_open(rt: HostRuntime) -> Result<(), Fail> {
+    let text = "MEASURES COUNT(*) AS c PATTERN (A*) DEFINE A AS p > 5";
+    let told = items(rt.alloc(), text, &[1, 9, 9, 1])?;
+    assert_eq!(rt; told.as_str(), "(1, 1, 0)(2, 2, 2)(3, 3, 0)|(4, End)");
+    Ok(())
+}
+
+/// A skip fault is the last item.
+#[test]
+fn skip_faults(rt: HostRuntime) -> Result<(), Fail> {
+    let alloc = rt.alloc();
+    let text = "MEASURES COUNT(*) AS c AFTER MATCH SKIP TO FIRST A PATTERN (A B) DEFINE A AS p > 0";
+    assert_eq!(rt;
+        items(alloc, text, &[1, 1])?.as_str(),
+        "(1, 1, 2)(2, SkipSame)|"
+    );
+    let text = "MEASURES COUNT(*) AS c AFTER MATCH SKIP TO B PATTERN (A B?) DEFINE A AS p > 0";
+    assert_eq!(rt;
+        items(alloc, text, &[1])?.as_str(),
+        "|(1, 1, 1)(2, SkipNoRow)"
+    );
+    Ok(())
+}
+
+/// A measure that reads the next row waits for it.
+#[test]
+fn next_past_the_end(rt: HostRuntime) -> Result<(), Fail> {
+    let alloc = rt.alloc();
+    let text = "MEASURES NEXT(p) AS q PATTERN (A) DEFINE A AS p > 0";
+    assert_eq!(rt; items(alloc, text, &[1])?.as_str(), "|(1, 1, null)(2, End)");
+    assert_eq!(rt;
+        items(alloc, text, &[1, 7])?.as_str(),
+        "(1, 1, 7)|(2, 2, null)(3, End)"
+    );
+    Ok(())
+}
+
+#[test]
+fn overflow_is_null(rt: HostRuntime) -> Result<(), Fail> {
+    let text = "PATTERN (A) DEFINE A AS p * 2 > 0";
+    let told = items(rt.alloc(), text, &[9223372036854775807])?;
+    assert_eq!(rt; told.as_str(), "|(1, End)");
+    Ok(())
+}
+
+/// The rows inside an exclusion count, and aren't shown.
+#[test]
+fn final_sum_with_excluded(rt: HostRuntime) -> Result<(), Fail> {
+    let text =
+        "ORDER BY t MEASURES FINAL SUM(p) AS s ALL ROWS PER MATCH PATTERN (A {- B+ -} C) DEFINE B AS p < 5, C AS p >= 5";
+    let told = items(rt.alloc(), text, &[5, 1, 2, 9])?;
+    assert_eq!(rt; told.as_str(), "(1, 1, 1 17 x 5)(2, 1, 4 17 x 9)|(3, End)");
+    Ok(())
+}
+
+#[test]
+fn unmatched_rows(rt: HostRuntime) -> Result<(), Fail> {
+    let alloc = rt.alloc();
+    let text =
+        "ORDER BY t MEASURES MATCH_NUMBER() AS n, CLASSIFIER() AS c ALL ROWS PER MATCH WITH UNMATCHED ROWS PATTERN (A B) DEFINE A AS p = 1, B AS p = 2";
+    assert_eq!(rt;
+        items(alloc, text, &[7, 1, 2, 7])?.as_str(),
+        "(1, none, 1 null null x 7)(2, 1, 2 1 A x 1)(3, 1, 3 1 B x 2)(4, none, 4 null null x 7)|(5, End)"
+    );
+    assert_eq!(rt;
+        items(alloc, text, &[7])?.as_str(),
+        "(1, none, 1 null null x 7)|(2, End)"
+    );
+    // Row 2 is in an earlier match: it isn't given as unmatched too.
+    let text =
+        "MEASURES MATCH_NUMBER() AS n ALL ROWS PER MATCH WITH UNMATCHED ROWS AFTER MATCH SKIP TO NEXT ROW PATTERN (A B) DEFINE A AS p = 1, B AS p = 2";
+    assert_eq!(rt;
+        items(alloc, text, &[1, 2])?.as_str(),
+        "(1, 1, 1 x 1 1)(2, 1, 1 x 2 2)|(3, End)"
+    );
+    Ok(())
+}
+
+/// A reluctant quantifier takes no further row than it must.
+#[test]
+fn reluctant_plus(rt: HostRuntime) -> Result<(), Fail> {
+    let alloc = rt.alloc();
+    let text = "MEASURES COUNT(*) AS c PATTERN (A+? B) DEFINE B AS p > 5";
+    assert_eq!(rt; items(alloc, text, &[1, 9])?.as_str(), "(1, 1, 2)|(2, End)");
+    assert_eq!(rt;
+        items(alloc, text, &[1, 9, 9])?.as_str(),
+        "(1, 1, 2)|(2, End)"
+    );
+    Ok(())
+}
+
+/// After an empty match the next search starts one row on, whatever the skip rule.
+#[test]
+fn skip_after_an_empty_match(rt: HostRuntime) -> Result<(), Fail> {
+    let text = "MEASURES COUNT(*) AS c AFTER MATCH SKIP TO LAST A PATTERN (A*) DEFINE A AS p > 5";
+    let told = items(rt.alloc(), text, &[1])?;
+    assert_eq!(rt; told.as_str(), "(1, 1, 0)|(2, End)");
+    Ok(())
+}
+
+/// An empty match that isn't shown has a number.
+#[test]
+fn empty_matches_omitted(rt: HostRuntime) -> Result<(), Fail> {
+    let alloc = rt.alloc();
+    let text =
+        "MEASURES MATCH_NUMBER() AS n ALL ROWS PER MATCH OMIT EMPTY MATCHES PATTERN (A*) DEFINE A AS p > 5";
+    let told = items(alloc, text, &[1, 9, 1])?;
+    assert_eq!(rt; told.as_str(), "(1, 2, 2 x 2 9)|(2, End)");
+    let text =
+        "MEASURES MATCH_NUMBER() AS n ALL ROWS PER MATCH SHOW EMPTY MATCHES PATTERN (A*) DEFINE A AS p > 5";
+    let told = items(alloc, text, &[1, 9, 1])?;
+    assert_eq!(rt;
+        told.as_str(),
+        "(1, 1, 1 x 1 1)(2, 2, 2 x 2 9)(3, 3, 3 x 3 1)|(4, End)"
+    );
+    Ok(())
+}
