@@ -126,10 +126,13 @@ module _ (x : Context) where
       → (k : Kind) × (path_sort x p ≡ Some (Valued k))
       × (has_kind x.columns (before ++ (listing_total (path_members x p) ++ after)) k (formula.Cell (place_of x (length before) p)) ≡ true)
   navigation_well before after p e =
-      let h = column_there (column_in p) (path_clean p e) in
-      (h.0, same_sort p ∙ h.1, both _ _
-          (ap (λ n. is_kind h.0 (column_kind x.columns n)) (same_column (length before) p) ∙ (ap (is_kind h.0) h.2 ∙ same_kind h.0))
-          (ap (are_kept (before ++ (listing_total (path_members x p) ++ after))) (same_rows (length before) p) ∙ rows_kept (path_members x p) before after))
+      let h = column_there (column_in p) (path_clean p e) in (
+        h.0,
+        same_sort p ∙ h.1,
+        both _ _
+            (ap (λ n. is_kind h.0 (column_kind x.columns n)) (same_column (length before) p) ∙ (ap (is_kind h.0) h.2 ∙ same_kind h.0))
+            (ap (are_kept (before ++ (listing_total (path_members x p) ++ after))) (same_rows (length before) p) ∙ rows_kept (path_members x p) before after),
+      )
 
   counted_kind : (c : Counted) → counted_faults x c ≡ [] → function_kind x.columns (total_counted x c).function ≡ Some Int
   counted_kind counted.Rows e = refl
@@ -256,9 +259,12 @@ module _ (x : Context) where
       (Truth, refl, null_fits x.columns all negated (resolved x before body) (value_only x.columns all h.0 (resolved x before body) (sym (ap may_be_value h.1) ∙ is) h.2))
   well (Operate a o b) before after e =
       let right = none_right (expr_faults x a) _ e in
-      let is = holds _ _ _ (none_right (expr_faults x b) _ right) in
-      (operator_sort o.operator, refl, operate_well a b o.operator before after is
-      (well a before (totals x b ++ after) (none_left (expr_faults x a) _ e)) (well b (before ++ totals x a) after (none_left (expr_faults x b) _ right)))
+      let is = holds _ _ _ (none_right (expr_faults x b) _ right) in (
+        operator_sort o.operator,
+        refl,
+        operate_well a b o.operator before after is
+            (well a before (totals x b ++ after) (none_left (expr_faults x a) _ e)) (well b (before ++ totals x a) after (none_left (expr_faults x b) _ right)),
+      )
 
 module _ (x : Context) (define : x.in_define ≡ true) where
   scope_runs : (scope : Option Scope) → scope_faults x scope ≡ [] → not (is_final scope) ≡ true

@@ -21,10 +21,10 @@ run-requires g c =
     record {
       known = subst (λ (t : Tested). start_of_search s ≤ (asked_of t).known) same (omega (arith, h.begins, h.known));
       variables = subst (λ (t : Tested). HasVariablesBelow (asked_of t).variables s) same
-        (c.law_search.ensures.variables (form_of q.pattern) s _ h.pattern c.plan-plan.ensures.sound.variables);
+          (c.law_search.ensures.variables (form_of q.pattern) s _ h.pattern c.plan-plan.ensures.sound.variables);
       fits = subst (λ (t : Tested). SearchFits s (asked_of t)) same h.fits;
       entered = c.new-tester.ensures.entered (start_of_search s) (labels_of_search s)
-        (subst (λ i. AreTotals c.args.run.totals p.rows i (labels_of_search s)) (sym h.begins) h.totalled.totals);
+          (subst (λ i. AreTotals c.args.run.totals p.rows i (labels_of_search s)) (sym h.begins) h.totalled.totals);
     }
 
 pub returns-clause-ran : goal.returns-clause-ran
