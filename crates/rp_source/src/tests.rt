@@ -65,11 +65,11 @@ fn ticks(alloc: Global) -> Result<Table, Fail> {
     columns.push((String::from_str(alloc, "SYM")?, Kind::Text))?;
     columns.push((String::from_str(alloc, "T")?, Kind::Int))?;
     columns.push((String::from_str(alloc, "P")?, Kind::Int))?;
-    Table::new(alloc, columns).map_err(|_| Fail::from("table"))
+    Ok(Table::new(alloc, columns)?)
 }
 
 fn query(alloc: Global, clause: &str) -> Result<Query, Fail> {
-    compile(alloc, clause, &ticks(alloc)?).map_err(|_| Fail::from("clause"))
+    Ok(compile(alloc, clause, &ticks(alloc)?)?)
 }
 
 /// Cells with a space before each: a text in quotes, null as `-`.
@@ -115,7 +115,7 @@ fn show_packets(alloc: Global, packets: &[Packet]) -> Result<String, AllocError>
 /// The rows of a text, shown.
 fn read(alloc: Global, text: &[u8]) -> Result<String, Fail> {
     let table = ticks(alloc)?;
-    let rows = rows_of(alloc, text, &table).map_err(|_| Fail::from("rows"))?;
+    let rows = rows_of(alloc, text, &table)?;
     Ok(show_rows(alloc, rows.as_slice())?)
 }
 
@@ -128,8 +128,17 @@ fn packets_of(alloc: Global, query: &Query, text: &str) -> Result<Vec<Packet>, C
 /// The packets of a text's rows by a clause, shown.
 fn numbered(alloc: Global, clause: &str, text: &str) -> Result<String, Fail> {
     let query = query(alloc, clause)?;
-    let packets = packets_of(alloc, &query, text).map_err(|_| Fail::from("rows"))?;
+    let packets = packets_of(alloc, &query, text)?;
     Ok(show_packets(alloc, packets.as_slice())?)
+}
+
+/// The fault of an input, if it has one. Want of memory says nothing of it.
+fn fault_of(read: Result<Vec<Row>, CsvFault>) -> Result<Option<CsvFault>, Fail> {
+    match read {
+        Err(CsvFault::OutOfMemory) => Err(Fail::from(CsvFault::OutOfMemory)),
+        Err(fault) => Ok(Some(fault)),
+        Ok(_) => Ok(None),
+    }
 }
 
 #[test]
@@ -160,11 +169,11 @@ fn first_faults(rt: HostRuntime) -> Result<(), Fail> {
             None,
         ),
     ] {
-        assert_eq!(rt; rows_of(alloc, text.as_bytes(), &table).err(), want);
+        assert_eq!(rt; fault_of(rows_of(alloc, text.as_bytes(), &table))?, want);
     }
     let text = b"sym,t,p\n\xff,1,2\n";
     assert_eq!(rt;
-        rows_of(alloc, text, &table).err(),
+        fault_of(rows_of(alloc, text, &table))?,
         Some(CsvFault::Field(1))
     );
     Ok(())
@@ -200,14 +209,14 @@ fn each_read_fails_once(rt: HostRuntime) -> Result<(), Fail> {
     for failing in 1..5u64 {
         let mut source = Source::new(text, 8, failing);
         assert_eq!(rt;
-            read_rows(alloc, &mut source, &table, 9).err(),
+            fault_of(read_rows(alloc, &mut source, &table, 9))?,
             Some(CsvFault::Read)
         );
         assert_eq!(rt; source.calls, failing);
         assert!(rt; !source.ended);
     }
     let mut source = Source::new(text, 8, 5);
-    let rows = read_rows(alloc, &mut source, &table, 4).map_err(|_| Fail::from("rows"))?;
+    let rows = read_rows(alloc, &mut source, &table, 4)?;
     assert_eq!(rt;
         show_rows(alloc, rows.as_slice())?.as_str(),
         " 'x' 1 2; 'y' 3 4;"
@@ -223,7 +232,7 @@ fn too_few_turns(rt: HostRuntime) -> Result<(), Fail> {
     for turns in 0..4u64 {
         let mut source = Source::new(b"sym,t,p\nx,1,2\ny,3,4\n", 8, 0);
         assert_eq!(rt;
-            read_rows(alloc, &mut source, &table, turns).err(),
+            fault_of(read_rows(alloc, &mut source, &table, turns))?,
             Some(CsvFault::Turns)
         );
         assert_eq!(rt; source.calls, turns);
@@ -231,7 +240,7 @@ fn too_few_turns(rt: HostRuntime) -> Result<(), Fail> {
     }
     let mut source = Source::new(b"", 8, 0);
     assert_eq!(rt;
-        read_rows(alloc, &mut source, &table, 1).err(),
+        fault_of(read_rows(alloc, &mut source, &table, 1))?,
         Some(CsvFault::Header)
     );
     Ok(())
@@ -288,12 +297,8 @@ fn refused_rows(rt: HostRuntime) -> Result<(), Fail> {
     let text = b"sym,t,p\nx,1,2\ny,3,\n";
     let mut source = Source::new(text, 8, 0);
     let rows = match read_rows(alloc, &mut source, &table, 9) {
-        Err(CsvFault::OutOfMemory) => {
-            read_rows(alloc, &mut Source::new(text, 8, 0), &table, 9).map_err(|_| Fail::from(
-                "again",
-            ))?
-        }
-        first => first.map_err(|_| Fail::from("first"))?,
+        Err(CsvFault::OutOfMemory) => { read_rows(alloc, &mut Source::new(text, 8, 0), &table, 9)? }
+        first => first?,
     };
     assert_eq!(rt;
         show_rows(alloc, rows.as_slice())?.as_str(),
@@ -309,9 +314,10 @@ fn refused_packets(rt: HostRuntime) -> Result<(), Fail> {
     let text = "sym,t,p\nx,2,8\ny,1,5\nx,1,10\n";
     let want = "1 'x' 1 10;2 'x' 2 8;close 2 'x';1 'y' 1 5;close 1 'y';";
     let query = query(alloc, clause)?;
-    let packets = packets_of(alloc, &query, text)
-        .or_else(|_| packets_of(alloc, &query, text))
-        .map_err(|_| Fail::from("again"))?;
+    let packets = match packets_of(alloc, &query, text) {
+        Err(CsvFault::OutOfMemory) => packets_of(alloc, &query, text)?,
+        first => first?,
+    };
     assert_eq!(rt; show_packets(alloc, packets.as_slice())?.as_str(), want);
     Ok(())
 }
