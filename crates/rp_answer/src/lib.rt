@@ -3,7 +3,11 @@
 //! ```text
 //! let mut matcher = Matcher::new(alloc, query);
 //! matcher.push(row)?;
-//! while let Poll::Item(place, item) = matcher.poll(1_000, &mut steps)? { .. }
+//! match matcher.poll(1_000, &mut steps)? {
+//!     Poll::Item(place, item) => .., // the next item of the answer, with its place
+//!     Poll::Paused => ..,            // the budget is used up: poll again
+//!     Poll::Idle => ..,              // nothing more is certain until a row comes or the close
+//! }
 //! ```
 #![tactic(auto)]
 
