@@ -1,11 +1,13 @@
 //! A call that is refused memory, made again, answers as with ample memory.
-ghost use Rattle.std.specs.Prelude.{◌≡◌, ◌+◌, ◌≤◌, IfOk, length};
+ghost use Rattle.std.specs.Prelude.{◌≡◌, ◌+◌, ◌≤◌, ℕ, [], IfOk, length};
 ghost use Rattle.rp_eval.specs.Entered.{AreTotals};
+ghost use Rattle.rp_eval.specs.Partition.{Rows as Known};
 
-use super::support::{Listed, Of, label, plan, rows_of_cells, shown};
+use super::support::{Listed, Of, label, numbered, plan, rows_of_cells, shown};
 use crate::{Rows, Totals, View};
-use rp_check::{Edge, Expr, Function, Navigation, RowsOf, Step, Total};
+use rp_check::{Edge, Expr, Function, Navigation, Query, RowsOf, Step, Total, compile};
 use rp_pattern::{End, Label};
+use rp_value::{Kind, Table};
 use std::alloc::{AllocError, Global};
 use std::rc::Rc;
 use std::test::Fail;
@@ -89,4 +91,43 @@ fn again<R: Rows>(alloc: Global, expr: &Expr, view: &View<R>) -> Result<String, 
         Ok(shown) => Ok(shown),
         Err(_) => shown(alloc, expr, view, 6),
     }
+}
+
+/// The totals of a query. A call that is refused is made again.
+fn made_again(alloc: Global, query: &Query) -> Result<Totals, AllocError>
+    ensures { IfOk result (λ totals. (p : Known) (start : ℕ) → AreTotals totals p start []) }
+{
+    match Totals::new(alloc, query) {
+        Ok(totals) => Ok(totals),
+        Err(_) => Totals::new(alloc, query),
+    }
+}
+
+/// In an empty match nothing is counted, summed or found.
+#[test]
+fn refused_totals_of_a_query(rt: HostRuntime) -> Result<(), Fail> {
+    let alloc = rt.alloc();
+    let mut columns = Vec::new(alloc);
+    columns.push((String::from_str(alloc, "P")?, Kind::Int))?;
+    let table = Table::new(alloc, columns)?;
+    let text =
+        "MEASURES COUNT(*) AS c, SUM(p) AS s, FIRST(A.p) AS f, LAST(p) AS l, 7 AS k, CLASSIFIER() AS v PATTERN (A) DEFINE A AS p > 0";
+    let query = compile(alloc, text, &table)?;
+    let totals = made_again(alloc, &query)?;
+    let rows = numbered(alloc, &[4], End::Open)?;
+    let view = View {
+        rows: &rows,
+        start: 1,
+        labels: &[],
+        current: 1,
+        number: 1,
+        totals: &totals,
+    };
+    let mut told = String::new(alloc);
+    for measure in query.plan().measures.iter() {
+        told.push_str(shown(alloc, measure, &view, 1)?.as_str())?;
+        told.push_str(" ")?;
+    }
+    assert_eq!(rt; told.as_str(), "0 null null null 7 null ");
+    Ok(())
 }
