@@ -1,12 +1,14 @@
 //! The command line.
-ghost use Rattle.std.specs.Prelude.{◌≡◌, true, Some, [], IfOk, OnOk, codes, map, string_bytes, slice_get};
-ghost use Rattle.clap.specs.Words.{IsAmong, IsParsedFrom, app_of, is_simple, found_of, rows_of, first_of, kind_of};
+ghost use Rattle.std.specs.Prelude.{◌≡◌, false, true, Some, [], IfOk, OnOk, codes, map, string_bytes, slice_get};
+ghost use Rattle.clap.specs.Built.{TakesValue};
+ghost use Rattle.clap.specs.Words.{IsAmong, IsParsedFrom, IsPlainArg, app_of, rule_of, is_simple, found_of, rows_of, first_of, kind_of};
 ghost use Rattle.clap.specs.declared.error.kind.ErrorKind.TheVariants.{OutOfMemory, ValueValidation};
 ghost use Rattle.clap.specs.declared.error.Error.{Error};
 ghost use Rattle.clap.specs.declared.parser.matches.ArgMatches.{ArgMatches};
-ghost use Rattle.rowmatch.specs.Commands.{HasValue, are_taken, faults_by, is_ruled, rows_by, trace_app};
-ghost use Rattle.rowmatch.specs.Jobs.{IsFaultless, IsRead, NamesJob, name_of};
+ghost use Rattle.rowmatch.specs.Commands.{HasValue, are_taken, by_name, faults_by, is_ruled, rows_by, trace_app, whole_app};
+ghost use Rattle.rowmatch.specs.Jobs.{IsCause, IsFaultless, IsRead, NamesJob, name_of};
 
+use crate::help;
 use clap::error::ErrorKind;
 use clap::{Arg, ArgAction, ArgMatches, Command, Error};
 use std::alloc::{AllocError, AllocFailed, Global};
@@ -15,20 +17,13 @@ use thiserror::Error as Fault;
 /// What `--version` tells.
 const VERSION: &str = "0.1.0";
 
-/// What help of `trace` tells of its input and output.
-const ABOUT_LINES: &str = "\
-Each line of standard input is a partition with a row for each letter, in lower
-case. Variable Z admits every row, any other its own letter. For each line the
-program prints the variables of its match at row 1, or one of these:
-  empty    that match has no row
-  none     there is no match
-  refused  the line has another byte than a to z, or more than 4,096 bytes";
-
 /// What the program is asked to do.
 #[derive(Debug, Drop)]
 pub enum Job {
     /// Matches lines of letters against the pattern.
     Trace { pattern: String },
+    /// Answers a clause over the rows of a CSV input.
+    Whole { table: String, clause: String },
 }
 
 /// Why the command line names no job.
@@ -48,13 +43,12 @@ pub fn read_command(alloc: Global, words: &[String]) -> Result<Job, JobFault>
     ensures named { IfOk result (λ job. slice_get (map string_bytes words.now) 0 ≡ Some (name_of job)) }
     ensures value { IfOk result (IsRead (map string_bytes words.now)) }
     ensures taken { IfOk result (IsFaultless (map string_bytes words.now)) }
-    ensures cause { (error : Error) → result ≡ Err (JobFault.Line error) →
-        slice_get (map string_bytes words.now) 0 ≡ Some (codes "trace") →
-        IsAmong (kind_of error) (faults_by trace_app (map string_bytes words.now)) }
+    ensures cause { (error : Error) → result ≡ Err (JobFault.Line error) → IsCause (map string_bytes words.now) error }
     ensures line { (error : Error) → result ≡ Err (JobFault.Line error) → NamesJob (map string_bytes words.now) → ⊥ }
 {
     match words.first() {
         Some(name) if name.as_str() == "trace" => read_trace(alloc, words),
+        Some(name) if name.as_str() == "whole" => read_whole(alloc, words),
         _ => Err(no_job(alloc, words)),
     }
 }
@@ -104,8 +98,53 @@ fn trace_command<'a>(alloc: Global) -> Result<Command<'a>, AllocError>
     Command::new(alloc, "trace")
         .bin_name("rowmatch trace")?
         .about("Prints the variables of each line's match, a row for each letter")
-        .after_help(ABOUT_LINES)
+        .after_help(help::TRACE)
         .arg(pattern)
+}
+
+#[tactic(auto, using(crate::proofs::ParsedRows::whole_simple))]
+fn read_whole(alloc: Global, words: &[String]) -> Result<Job, JobFault>
+    ensures named { IfOk result (λ job. name_of job ≡ codes "whole") }
+    ensures value { IfOk result (IsRead (map string_bytes words.now)) }
+    ensures taken { IfOk result (IsFaultless (map string_bytes words.now)) }
+    ensures cause { (error : Error) → result ≡ Err (JobFault.Line error) →
+        IsAmong (kind_of error) (faults_by whole_app (map string_bytes words.now)) }
+    ensures line { (error : Error) → result ≡ Err (JobFault.Line error) →
+        are_taken whole_app (map string_bytes words.now) ≡ true → ⊥ }
+{
+    let command = whole_command(alloc)?;
+    let matches = matched(command, words)?;
+    let table = text_of(alloc, &matches, "table")?;
+    let clause = text_of(alloc, &matches, "clause")?;
+    Ok(Job::Whole { table, clause })
+}
+
+#[tactic(auto, unfolding(crate::specs::Commands::whole_app))]
+fn whole_command<'a>(alloc: Global) -> Result<Command<'a>, AllocError>
+    ensures app { IfOk result (λ command. app_of command ≡ whole_app) }
+    ensures required { IfOk result (λ command. (matches : ArgMatches) →
+        IsParsedFrom command matches → HasValue (codes "table") matches × HasValue (codes "clause") matches) }
+{
+    let about_table = "The columns with their kinds, as \"sym text, t int, p int\"";
+    let about_clause = "The clause, as \"PATTERN (A B+) DEFINE B AS p < PREV(p)\"";
+    Command::new(alloc, "whole")
+        .bin_name("rowmatch whole")?
+        .about("Prints the answer of a clause over a CSV file, partition by partition")
+        .after_help(help::WHOLE)
+        .arg(text_option(alloc, "table", about_table))?
+        .arg(text_option(alloc, "clause", about_clause))
+}
+
+/// An option that must be given, with a text.
+fn text_option<'a>(alloc: Global, name: &'a str, about: &'a str) -> Arg<'a>
+    ensures rule { rule_of result ≡ by_name name.entry.now }
+    ensures id { result.id ≡ name.entry }
+    ensures plain { IsPlainArg result }
+    ensures own { result.global ≡ false }
+    ensures value { TakesValue result }
+{
+    let option = Arg::new(alloc, name).long(name).required(true);
+    option.value_name("TEXT").help(about).action(ArgAction::Set)
 }
 
 /// What clap makes of the words, for a simple command.
@@ -155,7 +194,9 @@ fn program<'a>(alloc: Global) -> Result<Command<'a>, AllocError> {
         .version(VERSION)
         .no_binary_name(true)
         .subcommand_required(true)
-        .subcommand(trace_command(alloc)?)
+        .after_help(help::EXAMPLES)
+        .subcommand(trace_command(alloc)?)?
+        .subcommand(whole_command(alloc)?)
 }
 
 fn line_of_no_job(alloc: Global, words: &[String]) -> Result<Error, AllocError> {

@@ -3,11 +3,15 @@
 
 mod command;
 mod fault;
+mod help;
 
 use crate::command::{Job, not_utf8, read_command};
 use crate::fault::ProgramFault;
+use rp_check::compile;
 use rp_lines::Port;
+use rp_syntax::read_table;
 use rp_trace::{READS, run_trace, trace_pattern};
+use rp_whole::run_whole;
 use std::process::ExitCode;
 use std::rt::Env;
 use std::{env, io};
@@ -44,14 +48,26 @@ fn run(rt: &HostRuntime) -> Result<(), ProgramFault> {
         words.push(word)?;
     }
     match read_command(rt.alloc(), words.as_slice())? {
-        Job::Trace { pattern } => {
-            let pattern = trace_pattern(rt.alloc(), pattern.as_str())?;
-            let mut reader = Port::new(rt.stdin());
-            let mut writer = Port::new(rt.stdout());
-            run_trace(rt.alloc(), &mut reader, &mut writer, &pattern, READS)?;
-            Ok(())
-        }
+        Job::Trace { pattern } => trace(rt, pattern.as_str()),
+        Job::Whole { table, clause } => whole(rt, table.as_str(), clause.as_str()),
     }
+}
+
+fn trace(rt: &HostRuntime, pattern: &str) -> Result<(), ProgramFault> {
+    let pattern = trace_pattern(rt.alloc(), pattern)?;
+    let mut reader = Port::new(rt.stdin());
+    let mut writer = Port::new(rt.stdout());
+    run_trace(rt.alloc(), &mut reader, &mut writer, &pattern, READS)?;
+    Ok(())
+}
+
+fn whole(rt: &HostRuntime, table: &str, clause: &str) -> Result<(), ProgramFault> {
+    let table = read_table(rt.alloc(), table)?;
+    let query = compile(rt.alloc(), clause, &table)?;
+    let mut reader = Port::new(rt.stdin());
+    let mut writer = Port::new(rt.stdout());
+    run_whole(rt.alloc(), query, &mut reader, &mut writer, READS)?;
+    Ok(())
 }
 
 /// Why the arguments can't be read: one isn't UTF-8, or memory was refused.

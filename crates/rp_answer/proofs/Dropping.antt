@@ -15,7 +15,7 @@ use Rattle.rp_walker.specs.FitLaws.{AgreesFrom}
 use Rattle.rp_check.specs.Sound.{IsSound}
 use Rattle.rp_walker.specs.declared.walker.Walker.{Walker}
 use Rattle.rp_walker.specs.Walking.{record_of, Stands, stands_by, StandsStays}
-use Rattle.rp_walker.specs.Polls.{Answers, AnswerIs}
+use Rattle.rp_walker.specs.Polls.{Answers, AnswerIs, StopsAtLast}
 use Rattle.rp_walker.specs.Records.{Fits, fits_by, IsOnWalk, IsOver, horizon_of}
 use Rattle.rp_answer.specs.declared.kept.Kept.{Kept}
 use Rattle.rp_answer.specs.Kept.{kept_rows, kept_count}
@@ -47,6 +47,9 @@ module _ (k n : Kept) (low : k.first ≤ n.first) (rows : n.rows.items ≡ drop 
 goes_from : (first later : ℕ) (p p' : Known) → first ≤ later → GoesOnFrom first p p' → GoesOnFrom later p p'
 goes_from first later p p' le g = record { later = g.later; same = λ row from known. g.same row (omega (arith, le, from)) known }
 
+pub agrees_later : (first later : ℕ) (p p' : Known) → first ≤ later → AgreesFrom first p p' → AgreesFrom later p p'
+agrees_later first later p p' le a = record { on = goes_from first later p p' le a.on; back = goes_from first later p' p le a.back }
+
 goes_both : (first : ℕ) (p p' p'' : Known) → GoesOnFrom first p p' → GoesOnFrom first p' p'' → GoesOnFrom first p p''
 goes_both first p p' p'' g h =
     let x : count p ≤ count p' = g.later.0 in
@@ -74,6 +77,9 @@ answer_dropped q p old r f PausedPoll h = h
 pub answers_dropped : (q : QueryData) (k : Known) (old r new : MatcherState) (f : ℕ) (answer : Poll) → new ≡ record r { first = f } → (r.over ≡ false → f ≤ first_read q r.at) → Answers q k old r answer → Answers q k old new answer
 answers_dropped q k old r new f answer is needed h =
     subst (λ n. Answers q k old n answer) (sym is) (λ p are fits. (let a = h p are fits in (fits_dropped q r f p r.over needed a.0, answer_dropped q p old r f answer a.1)))
+
+pub stops_dropped : (q : QueryData) (k : Known) (old r new : MatcherState) (f : ℕ) (answer : Poll) → new ≡ record r { first = f } → StopsAtLast q k old r answer → StopsAtLast q k old new answer
+stops_dropped q k old r new f answer is h = subst (λ n. StopsAtLast q k old n answer) (sym is) h
 
 -- ---- the walker over the rows that are left
 

@@ -1,6 +1,8 @@
 -- What contracts see of a matcher.
 use Rattle.std.specs.Prelude.{◌≡◌, ℕ, ◌≤◌, ◌<◌, ◌⊎◌, false}
 use Rattle.rp_check.specs.declared.query.QueryData.{QueryData}
+use Rattle.rp_pattern.specs.PatternForm.{form_of}
+use Rattle.rp_pattern.specs.Turns.{all_turns}
 use Rattle.rp_check.specs.QueryView.{data_of}
 use Rattle.rp_known.specs.Known.{Known, count}
 use Rattle.rp_known.specs.Plans.{first_read}
@@ -8,6 +10,7 @@ use Rattle.rp_walker.specs.declared.record.MatcherState.{MatcherState}
 use Rattle.rp_walker.specs.declared.walker.Walker.{Walker}
 use Rattle.rp_walker.specs.Records.{horizon_of}
 use Rattle.rp_walker.specs.Walking.{record_of, Stands}
+use Rattle.rp_walker.specs.Polls.{left_in, entered_by}
 use Rattle.rp_answer.specs.declared.kept.Kept.{Kept}
 use Rattle.rp_answer.specs.declared.matcher.Matcher.{Matcher}
 use Rattle.rp_answer.specs.Kept.{kept_rows}
@@ -31,9 +34,21 @@ known_to m = known_by m.rows
 unfoldable pub record_in : Matcher → MatcherState
 record_in m = record_of m.walker
 
+-- the turns that it has left over the known rows, at most
+unfoldable pub left_to : Matcher → ℕ
+left_to m = left_in (data_of m.query) (known_by m.rows) m.walker
+
+-- how many calls of `enter` its searches have made, by the count of their tests
+unfoldable pub entered_in : Matcher → ℕ
+entered_in m = entered_by m.walker
+
 unfoldable pub IsReady : Matcher → Type 0
 IsReady m = Ready (data_of m.query) m.rows m.walker
 
 -- No row below the horizon is kept: the first that is kept is at least the horizon, or none is kept.
 abbrev pub HoldsNoMore : QueryData → Known → MatcherState → Type 0
 HoldsNoMore q p r = horizon_of q p r ≤ r.first ⊎ count p < r.first
+
+-- A matcher never has more turns left than all starts of the known rows take.
+abbrev pub LeftIsBounded : Type 0
+LeftIsBounded = (m : Matcher) → IsReady m → left_to m ≤ all_turns (count (known_to m)) (known_to m).end (form_of (query_in m).pattern)

@@ -12,8 +12,10 @@
 #![tactic(auto)]
 
 mod kept;
+mod laws;
 mod matcher;
 
+pub use laws::law_left;
 pub use matcher::Matcher;
 
 #[cfg(test)]

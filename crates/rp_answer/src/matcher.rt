@@ -24,18 +24,19 @@ pub struct Matcher {
     walker: Walker,
 }
 
-#[tactic(auto, unfolding(crate::specs::Matching::query_in, crate::specs::Matching::known_to, crate::specs::Matching::record_in, crate::specs::Matching::IsReady))]
+#[tactic(auto, unfolding(crate::specs::Matching::query_in, crate::specs::Matching::known_to, crate::specs::Matching::record_in, crate::specs::Matching::left_to, crate::specs::Matching::entered_in, crate::specs::Matching::IsReady))]
 impl Matcher {
     ghost use Rattle.rp_known.specs.Known.{Known};
     ghost use Rattle.rp_walker.specs.FitLaws.{AgreesFrom};
-    ghost use Rattle.rp_walker.specs.Polls.{Answers, StillFits};
+    ghost use Rattle.rp_walker.specs.Polls.{left_in, entered_by, EntersAtMost, Answers, GivenBy, PollLowers, StopsAtLast, StillFits};
     ghost use Rattle.rp_walker.specs.Walking.{record_of, Stands, CanGoOn};
-    ghost use Rattle.rp_answer.specs.Matching.{query_in, known_to, record_in, known_by, Ready, IsReady, HoldsNoMore};
+    ghost use Rattle.rp_answer.specs.Matching.{query_in, known_to, record_in, left_to, entered_in, known_by, Ready, IsReady, HoldsNoMore};
 
     /// A matcher of no row yet.
     pub fn new(alloc: Global, query: Query) -> Matcher
         ensures query { query_in result ≡ data_of query }
         ensures record { record_in result ≡ first_state }
+        ensures entered { entered_in result ≡ 0 }
         ensures count { count (known_to result) ≡ 0 }
         ensures open { (known_to result).end ≡ Open }
         ensures ready { IsReady result }
@@ -53,6 +54,7 @@ impl Matcher {
         requires can { CanGoOn (data_of query) state }
         ensures query { query_in result ≡ data_of query }
         ensures record { record_in result ≡ state }
+        ensures entered { entered_in result ≡ 0 }
         ensures count { count (known_to result) ≡ state.first - 1 }
         ensures open { (known_to result).end ≡ Open }
         ensures ready { IsReady result }
@@ -132,10 +134,14 @@ impl Matcher {
         ensures end { (known_to self.new).end ≡ (known_to self.old).end }
         ensures answers { IfOk result (Answers (query_in self.old) (known_to self.old) (record_in self.old) (record_in self.new)) }
         ensures refused { OnErr result (StillFits (query_in self.old) (known_to self.old) (record_in self.old) (record_in self.new)) }
-        ensures given { OnErr result ((record_in self.new).given ≡ (record_in self.old).given) }
+        ensures stops { IfOk result (StopsAtLast (query_in self.old) (known_to self.old) (record_in self.old) (record_in self.new)) }
+        ensures given { IfOk result (GivenBy (record_in self.old).given (record_in self.new).given) }
+        ensures kept { OnErr result ((record_in self.new).given ≡ (record_in self.old).given) }
+        ensures lowers { IfOk result (PollLowers budget (left_to self.old) (left_to self.new)) }
         ensures rows { (p : Known) → AgreesFrom (record_in self.old).first (known_to self.old) p → AgreesFrom (record_in self.new).first (known_to self.new) p }
         ensures held { OnOk result (1 ≤ budget → HoldsNoMore (query_in self.new) (known_to self.new) (record_in self.new)) }
         ensures turns { steps.new ≤ steps.old + budget }
+        ensures entered { EntersAtMost budget (entered_in self.old) (entered_in self.new) }
         ensures nothing { budget ≡ 0 → (result ≡ Ok Poll.Paused) × (self.new ≡ self.old) × (steps.new ≡ steps.old) }
     {
         if budget == 0 {
@@ -159,8 +165,11 @@ impl Matcher {
         ensures agrees { AgreesFrom self.new.rows.first (known_by self.old.rows) (known_by self.new.rows) }
         ensures held { HoldsNoMore (data_of self.new.query) (known_by self.new.rows) (record_of self.new.walker) }
         ensures low { self.old.rows.first ≤ self.new.rows.first }
+        ensures entered { entered_by self.new.walker ≡ entered_by self.old.walker }
+        ensures left { left_in (data_of self.new.query) (known_by self.new.rows) self.new.walker ≡ left_in (data_of self.old.query) (known_by self.old.rows) self.old.walker }
     {
         law_walkers();
+        rp_walker::law_left();
         let _plan = self.query.plan();
         let horizon = self.walker.horizon(&self.query, &self.rows);
         self.rows.forget(horizon);

@@ -1,41 +1,53 @@
 //! The items of partitions. What is expected is worked out by hand.
-mod answered;
+mod cases;
+mod driven;
+mod examples;
+mod listed;
+mod long;
+mod plain;
+mod player;
+mod refused;
+mod text;
 
-use answered::{Drive, answered};
+use player::{Event, play};
 use std::alloc::Global;
 use std::test::Fail;
 
-/// The items, which are the same by polls of any budget, and where each row is polled as it comes.
+/// The items over rows of these numbers: those that come while the partition is open, and after a bar those that come with
+/// its close. They are the same by polls of any budget and where each row is polled as it comes, and the plain program's.
 fn items(alloc: Global, text: &str, numbers: &[i64]) -> Result<String, Fail> {
-    let told = answered(
-        alloc,
-        text,
-        numbers,
-        Drive {
-            budget: 100_000,
-            each: false,
-        },
-    )?;
-    for drive in [
-        Drive {
-            budget: 1,
-            each: false,
-        },
-        Drive {
-            budget: 100_000,
-            each: true,
-        },
-        Drive {
-            budget: 1,
-            each: true,
-        },
-    ] {
-        let again = answered(alloc, text, numbers, drive)?;
+    let told = drained(alloc, text, numbers, 100_000, false)?;
+    for (budget, each) in [(1, false), (100_000, true), (1, true)] {
+        let again = drained(alloc, text, numbers, budget, each)?;
         if again.as_str() != told.as_str() {
             return Err(Fail::from("other items by another budget"));
         }
     }
     Ok(told)
+}
+
+/// The items by polls of this budget, after each row or after the last alone.
+fn drained(
+    alloc: Global,
+    text: &str,
+    numbers: &[i64],
+    budget: u32,
+    each: bool,
+) -> Result<String, Fail> {
+    let mut events = Vec::new(alloc);
+    for number in numbers {
+        events.push(Event::Row(*number))?;
+        if each {
+            events.push(Event::Drain(budget))?;
+            events.push(Event::Compare)?;
+        }
+    }
+    for event in [Event::Drain(budget), Event::Compare, Event::Close] {
+        events.push(event)?;
+    }
+    events.push(Event::Drain(budget))?;
+    events.push(Event::Compare)?;
+    play(alloc, text, &events)
 }
 
 /// A fall and then a rise.

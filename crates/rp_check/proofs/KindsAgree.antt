@@ -30,13 +30,13 @@ use Rattle.rp_check.specs.declared.fault.Fault.{Fault}
 use Rattle.rp_check.specs.ClauseFaults.{each_after, measure_faults, definition_faults}
 use Rattle.rp_check.specs.Queries.{formulas, totals_of, terms_of_measures, terms_of_definitions}
 use Rattle.rp_check.specs.Context.{Context, column_named, is_name}
-use Rattle.rp_check.specs.ExprFaults.{expr_faults, column_faults, qualifier_faults, path_faults, scope_faults, scope_in, nesting_faults, offset_faults, aggregate_faults, function_faults, counted_faults}
+use Rattle.rp_check.specs.ExprFaults.{expr_faults, column_faults, qualifier_faults, path_faults, scope_faults, scope_in, nesting_faults, aggregate_faults, function_faults, counted_faults}
 use Rattle.rp_check.specs.Formulas as formula
 use Rattle.rp_check.specs.Formulas.{Formula, PlainTotal}
-use Rattle.rp_check.specs.Kinds.{is_kind, may_be, column_kind, function_kind, total_kind, is_listing, are_kept, has_kind, is_value, is_truth, is_running}
+use Rattle.rp_check.specs.Kinds.{is_kind, may_be, column_kind, function_kind, total_kind, is_listing, are_kept, has_kind, is_value, is_truth}
 use Rattle.rp_check.specs.Resolved.{resolved, totals, operated, nullness, place_of, column_in, column_number, number_at, rows_meant, path_members, listing_total, total_over, total_counted, is_final}
 use Rattle.rp_check.specs.Sorts.{Sort, Valued, Truth, sort_of, path_sort, column_sort, aggregate_sort, kind_at, operator_sort, takes, numbers, conditions, comparable, may_be_number, may_be_condition, may_be_value}
-use Rattle.rp_check.proofs.Clean.{none_left, none_right, holds, found_within}
+use Rattle.rp_check.proofs.Clean.{none_left, none_right, holds, both, found_within}
 
 -- what an expression of this sort becomes
 abbrev pub fits_sort : List Heading → List PlainTotal → Sort → Formula → Bool
@@ -46,9 +46,6 @@ fits_sort columns all Truth f = is_truth columns all f
 same_kind : (k : Kind) → is_kind k (Some k) ≡ true
 same_kind Int = refl
 same_kind Text = refl
-
-both : (a b : Bool) → a ≡ true → b ≡ true → (a && b) ≡ true
-both a b p q = rw (p, q) refl
 
 left_holds : (a b : Bool) → a ≡ true → (a || b) ≡ true
 left_holds a b p = rw p refl
@@ -266,58 +263,6 @@ module _ (x : Context) where
             (well a before (totals x b ++ after) (none_left (expr_faults x a) _ e)) (well b (before ++ totals x a) after (none_left (expr_faults x b) _ right)),
       )
 
-module _ (x : Context) (define : x.in_define ≡ true) where
-  scope_runs : (scope : Option Scope) → scope_faults x scope ≡ [] → not (is_final scope) ≡ true
-  scope_runs None e = refl
-  scope_runs (Some scope) e = go scope.is_final (sym (ap (λ b. not (scope.is_final && b)) define) ∙ holds _ _ _ e)
-    where
-      go : (b : Bool) → not (b && true) ≡ true → not b ≡ true
-      go true h = h
-      go false h = refl
-
-  -- what is in the brackets of a navigation without faults has none
-  inner_clean : (movement : Movement) (p : Path) (more : List Fault) → scope_faults x (scope_in movement) ++ (nesting_faults movement p ++ (path_faults x p ++ more)) ≡ [] → path_faults x p ≡ []
-  inner_clean movement p more e = none_left (path_faults x p) _ (none_right (nesting_faults movement p) _ (none_right (scope_faults x (scope_in movement)) _ e))
-
-  path_runs : (count : ℕ) (p : Path) → path_faults x p ≡ [] → not (place_of x count p).is_final ≡ true
-  path_runs count (At c) e = refl
-  path_runs count (Move Prev at p offset) e = path_runs count p (inner_clean Prev p (offset_faults offset) e)
-  path_runs count (Move Next at p offset) e = path_runs count p (inner_clean Next p (offset_faults offset) e)
-  path_runs count (Move (First scope) at p offset) e = scope_runs scope (none_left (scope_faults x scope) _ e)
-  path_runs count (Move (Last scope) at p offset) e = scope_runs scope (none_left (scope_faults x scope) _ e)
-
-  null_runs : (negated : Bool) (f : Formula) → is_running (nullness negated f) ≡ is_running f
-  null_runs true f = refl
-  null_runs false f = refl
-
-  operated_runs : (o : Operator) (f g : Formula) → is_running (operated o f g) ≡ (is_running f && is_running g)
-  operated_runs operator.Plus f g = refl
-  operated_runs operator.Minus f g = refl
-  operated_runs operator.Times f g = refl
-  operated_runs operator.Or f g = refl
-  operated_runs operator.And f g = refl
-  operated_runs operator.Equals f g = refl
-  operated_runs operator.NotEquals f g = refl
-  operated_runs operator.Less f g = refl
-  operated_runs operator.LessOrEquals f g = refl
-  operated_runs operator.Greater f g = refl
-  operated_runs operator.GreaterOrEquals f g = refl
-
-  -- what stands in DEFINE without faults doesn't see the whole match
-  pub runs : (before : List PlainTotal) (t : Term) → expr_faults x t ≡ [] → is_running (resolved x before t) ≡ true
-  runs before (Number at value) e = refl
-  runs before (Literal at text) e = refl
-  runs before (Navigation path) e = path_runs (length before) path e
-  runs before (Aggregated a) e = scope_runs a.scope (none_left (scope_faults x a.scope) _ e)
-  runs before (MatchNumber at) e = refl
-  runs before (Classifier at) e = refl
-  runs before (Negative at body) e = runs before body (none_left (expr_faults x body) _ e)
-  runs before (Not at body) e = runs before body (none_left (expr_faults x body) _ e)
-  runs before (IsNull at negated body) e = null_runs negated (resolved x before body) ∙ runs before body (none_left (expr_faults x body) _ e)
-  runs before (Operate a o b) e =
-      operated_runs o.operator (resolved x before a) (resolved x (before ++ totals x a) b)
-      ∙ both _ _ (runs before a (none_left (expr_faults x a) _ e)) (runs (before ++ totals x a) b (none_left (expr_faults x b) _ (none_right (expr_faults x a) _ e)))
-
 module _ (x : Context) (after all : List PlainTotal) where
   -- the totals of the first expression, and then those of the others
   in_turn : (before these those : List PlainTotal) → all ≡ before ++ ((these ++ those) ++ after) → before ++ (these ++ (those ++ after)) ≡ all
@@ -349,11 +294,3 @@ module _ (x : Context) (after all : List PlainTotal) where
         truth_only x.columns all h.0 (resolved x before d.term) (sym (ap may_be_condition h.1) ∙ may) (rw (← in_turn before (totals x d.term) those is) h.2),
         definitions_well ds (earlier ++ d ∷ []) (before ++ totals x d.term) (none_right (definition_faults x earlier d) _ e) (next_turn before (totals x d.term) those is),
       )
-
-pub definitions_run : (x : Context) → x.in_define ≡ true → (ds earlier : List DefinitionTree) (before : List PlainTotal) → each_after (definition_faults x) earlier ds ≡ []
-    → AllByRecursion (λ f. is_running f ≡ true) (formulas x before (terms_of_definitions ds))
-definitions_run x define [] earlier before e = tt
-definitions_run x define (d ∷ ds) earlier before e = (
-  runs x define before d.term (none_left (expr_faults x d.term) _ (none_left (definition_faults x earlier d) _ e)),
-  definitions_run x define ds (earlier ++ d ∷ []) (before ++ totals x d.term) (none_right (definition_faults x earlier d) _ e),
-)

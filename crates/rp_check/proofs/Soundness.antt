@@ -1,30 +1,35 @@
 -- The query of a clause without faults is sound.
-use Rattle.std.proofs.Common.{◌≡◌, ◌∙◌, ℕ, ◌<◌, ◌≤◌, true, Option, None, Some, List, [], ◌∷◌, ◌++◌, map, length, refl, sym, ap, arith}
+use Rattle.std.proofs.Common.{◌≡◌, ◌∙◌, ℕ, ◌<◌, ◌≤◌, Bool, true, false, Option, None, Some, List, [], ◌∷◌, ◌++◌, map, length, refl, sym, ap, subst, arith}
 use Rattle.std.specs.Prelude.{is_some, option_map, slice_get, All}
-use Rattle.std.specs.List.{AllByRecursion}
+use Rattle.std.specs.List.{AllByRecursion, AllPass}
 use Rattle.std.proofs.lemmas.List.{length-map, append-nil}
 use Rattle.std.proofs.lemmas.List.Elements.{All-from_recursion, All-get_or}
 use Rattle.std.proofs.lemmas.Option.{slice_get-map, slice_get_within, get_or_from_slice_get, same_Some}
 use Rattle.rp_value.specs.declared.table.Column.{Column}
+use Rattle.rp_pattern.specs.Bounds.{is_allowed}
+use Rattle.rp_pattern.specs.Variables.{are_below}
 use Rattle.rp_pattern.specs.PatternForm.{form_of}
 use Rattle.rp_syntax.specs.Terms.{Term}
 use Rattle.rp_syntax.specs.Clauses.{ClauseTree, DefinitionTree}
 use Rattle.rp_check.specs.declared.plan.Condition.{Condition}
 use Rattle.rp_check.specs.declared.query.QueryData.{QueryData}
 use Rattle.rp_check.specs.QueryOf.{IsQueryOf, measured_totals, measuring, defining}
-use Rattle.rp_check.specs.ClauseFaults.{faults, each, name_faults, listing_faults, expression_faults, partition_faults, order_faults, measure_faults, definition_faults}
-use Rattle.rp_check.specs.Kinds.{is_value, is_truth, is_running}
+use Rattle.rp_check.specs.ClauseFaults.{faults, each, name_faults, listing_faults, expression_faults, pattern_faults, union_faults, partition_faults, order_faults, measure_faults, definition_faults, skip_faults}
+use Rattle.rp_check.specs.Allowed.{each_leaf, goes_near, runs, asks_rows_alone, is_running, is_of_rows, is_near, is_of_variables, skips_to_variables}
+use Rattle.rp_check.specs.Kinds.{is_value, is_truth}
 use Rattle.rp_check.specs.Context.{Context, column_named, is_name}
 use Rattle.rp_check.specs.Definitions.{condition_at}
-use Rattle.rp_check.specs.Formulas.{PlainTotal, plain_total, value_formula, condition_formula}
-use Rattle.rp_check.specs.Queries.{formulas, totals_of, terms_of_definitions, definition_place, order_column, greatest}
+use Rattle.rp_check.specs.Formulas.{Formula, PlainTotal, plain_total, value_formula, condition_formula}
+use Rattle.rp_check.specs.Queries.{rule_of, formulas, totals_of, terms_of_measures, terms_of_definitions, definition_place, order_column, greatest}
 use Rattle.rp_check.specs.Reach.{reach, condition_reach}
 use Rattle.rp_check.specs.Resolved.{number_at, totals}
 use Rattle.rp_check.specs.Sound.{IsSound, IsColumn}
 use Rattle.rp_check.specs.Variables.{variables_of}
 use Rattle.rp_check.proofs.Clean.{none_left, none_right, holds, each_clean, found_within}
-use Rattle.rp_check.proofs.KindsAgree.{measures_well, definitions_well, definitions_run}
+use Rattle.rp_check.proofs.KindsAgree.{measures_well, definitions_well}
+use Rattle.rp_check.proofs.Leaves.{measures_pass, definitions_pass, pass_near, pass_running, pass_of_rows}
 use Rattle.rp_check.proofs.VariablesBelow.{variables_below}
+use Rattle.rp_check.proofs.VariablesMeant.{all_both, sets_named, all_totals_named, skip_named}
 
 each_made : {A B : Type 0} (P : B → Type 0) (f : A → B) (xs : List A) → AllByRecursion (λ x. P (f x)) xs → AllByRecursion P (map f xs)
 each_made P f [] h = tt
@@ -65,7 +70,7 @@ of_definition P conditions all (Some None) c e = cc
 of_definition P conditions all (Some (Some place)) c e =
     rw (← get_or_from_slice_get conditions place c c e) (All-get_or P conditions place c (slice_get_within conditions place c e) all)
 
-module _ (c : ClauseTree) (columns : List Column) (written : List ℕ) (d : QueryData) (clean : faults c columns ≡ []) (is : IsQueryOf c written columns d) where
+module _ (c : ClauseTree) (columns : List Column) (written : List ℕ) (d : QueryData) (clean : faults c columns ≡ []) (is : IsQueryOf c written columns d) (allowed : is_allowed (form_of d.pattern) ≡ true) where
   listing : listing_faults (variables_of c.pattern) columns c ≡ []
   listing = none_left (listing_faults (variables_of c.pattern) columns c) _ (none_right (name_faults c) _ clean)
 
@@ -77,16 +82,45 @@ module _ (c : ClauseTree) (columns : List Column) (written : List ℕ) (d : Quer
   definitions_clean : each (definition_faults (defining c columns)) c.definitions ≡ []
   definitions_clean = none_left (each (definition_faults (defining c columns)) c.definitions) _ (none_right (each (measure_faults (measuring c columns)) c.measures) _ expressions)
 
+  measures_clean : each (measure_faults (measuring c columns)) c.measures ≡ []
+  measures_clean = none_left (each (measure_faults (measuring c columns)) c.measures) _ expressions
+
   values : AllByRecursion (λ f. is_value columns (map plain_total d.plan.totals.value.items) f ≡ true) (map value_formula d.plan.measures.items)
   values = rw is.measures (measures_well (measuring c columns) (totals_of (defining c columns) (terms_of_definitions c.definitions)) (map plain_total d.plan.totals.value.items) c.measures [] []
-      (none_left (each (measure_faults (measuring c columns)) c.measures) _ expressions) is.totals)
+      measures_clean is.totals)
 
   truths : AllByRecursion (λ f. is_truth columns (map plain_total d.plan.totals.value.items) f ≡ true) (map condition_formula d.plan.conditions.items)
   truths = rw is.conditions (definitions_well (defining c columns) [] (map plain_total d.plan.totals.value.items) c.definitions [] (measured_totals c columns) definitions_clean
       (is.totals ∙ ap (λ ts. measured_totals c columns ++ ts) (sym (append-nil (totals_of (defining c columns) (terms_of_definitions c.definitions))))))
 
-  running : AllByRecursion (λ f. is_running f ≡ true) (map condition_formula d.plan.conditions.items)
-  running = rw is.conditions (definitions_run (defining c columns) refl c.definitions [] (measured_totals c columns) definitions_clean)
+  -- what each formula of the definitions passes, each condition does
+  of_conditions : (test : Formula → Bool) → AllByRecursion (λ f. test f ≡ true) (formulas (defining c columns) (measured_totals c columns) (terms_of_definitions c.definitions))
+      → AllPass (λ p. test (condition_formula p)) d.plan.conditions.items
+  of_conditions test h =
+      All-from_recursion (λ p. test (condition_formula p) ≡ true) d.plan.conditions.items
+      (each_before (λ f. test f ≡ true) condition_formula d.plan.conditions.items (rw is.conditions h))
+
+  of_measures : (test : Formula → Bool) → AllByRecursion (λ f. test f ≡ true) (formulas (measuring c columns) [] (terms_of_measures c.measures))
+      → AllPass (λ e. test (value_formula e)) d.plan.measures.items
+  of_measures test h =
+      All-from_recursion (λ e. test (value_formula e) ≡ true) d.plan.measures.items
+      (each_before (λ f. test f ≡ true) value_formula d.plan.measures.items (rw is.measures h))
+
+  unions_clean : each (union_faults (variables_of c.pattern)) c.subsets ≡ []
+  unions_clean = none_right (pattern_faults c.pattern) _ (none_left (name_faults c) _ clean)
+
+  count : length d.plan.definitions.items ≡ length (variables_of c.pattern)
+  count = ap length is.definitions ∙ length-map (variables_of c.pattern) (definition_place c.definitions)
+
+  named : AllByRecursion (λ t. is_of_variables (length (variables_of c.pattern)) t ≡ true) (map plain_total d.plan.totals.value.items)
+  named =
+      let names = variables_of c.pattern in
+      rw is.totals (all_both (λ t. is_of_variables (length names) t ≡ true) (measured_totals c columns) (totals_of (defining c columns) (terms_of_definitions c.definitions))
+      (all_totals_named (measuring c columns) (length names) (sets_named names c.subsets columns false unions_clean) (terms_of_measures c.measures))
+      (all_totals_named (defining c columns) (length names) (sets_named names c.subsets columns true unions_clean) (terms_of_definitions c.definitions)))
+
+  skip_clean : skip_faults (measuring c columns) c.skip ≡ []
+  skip_clean = none_right (each (definition_faults (defining c columns)) c.definitions) _ (none_right (each (measure_faults (measuring c columns)) c.measures) _ expressions)
 
   partition_clean : AllByRecursion (λ n. IsColumn columns (number_at (column_named n.text columns))) c.partition
   partition_clean = each_clean (λ n. IsColumn columns (number_at (column_named n.text columns))) (partition_faults columns)
@@ -107,9 +141,14 @@ module _ (c : ClauseTree) (columns : List Column) (written : List ℕ) (d : Quer
 
   pub sound : IsSound d
   sound = record {
-    variables =
-        let count : length d.plan.definitions.items ≡ length (variables_of c.pattern) = ap length is.definitions ∙ length-map (variables_of c.pattern) (definition_place c.definitions) in
-        rw count (variables_below c.pattern (form_of d.pattern) is.pattern);
+    bounds = allowed;
+    variables = subst (λ n. are_below n (form_of d.pattern) ≡ true) (sym count) (variables_below c.pattern (form_of d.pattern) is.pattern);
+    named = subst (λ n. AllPass (is_of_variables n) (map plain_total d.plan.totals.value.items)) (sym count)
+        (All-from_recursion (λ t. is_of_variables (length (variables_of c.pattern)) t ≡ true) (map plain_total d.plan.totals.value.items) named);
+    skip =
+        let names = variables_of c.pattern in
+        subst (λ n. skips_to_variables n (rule_of d.plan.skip) ≡ true) (sym count) (subst (λ r. skips_to_variables (length names) r ≡ true) (sym is.skip)
+        (skip_named (measuring c columns) (length names) (sets_named names c.subsets columns false unions_clean) c.skip skip_clean));
     definitions = λ variable place e. rw condition_count (definition_there c.definitions (variables_of c.pattern) variable place (rw (← is.definitions) e));
     measures = All-from_recursion (λ e. reach e ≤ d.reach) d.plan.measures.items (covered reach d.plan.measures.items d.reach (let e = is.reach in omega arith));
     conditions = reaching;
@@ -121,6 +160,8 @@ module _ (c : ClauseTree) (columns : List Column) (written : List ℕ) (d : Quer
         (each_before (λ f. is_value columns (map plain_total d.plan.totals.value.items) f ≡ true) value_formula d.plan.measures.items values));
     truths = rw is.table (All-from_recursion (λ p. is_truth columns (map plain_total d.plan.totals.value.items) (condition_formula p) ≡ true) d.plan.conditions.items
         (each_before (λ f. is_truth columns (map plain_total d.plan.totals.value.items) f ≡ true) condition_formula d.plan.conditions.items truths));
-    running = All-from_recursion (λ p. is_running (condition_formula p) ≡ true) d.plan.conditions.items
-        (each_before (λ f. is_running f ≡ true) condition_formula d.plan.conditions.items running);
+    running = of_conditions is_running (definitions_pass (defining c columns) runs (pass_running (defining c columns) refl) c.definitions [] (measured_totals c columns) definitions_clean);
+    of_rows = of_conditions is_of_rows (definitions_pass (defining c columns) asks_rows_alone (pass_of_rows (defining c columns) refl) c.definitions [] (measured_totals c columns) definitions_clean);
+    near_measures = of_measures is_near (measures_pass (measuring c columns) goes_near (pass_near (measuring c columns)) c.measures [] [] measures_clean);
+    near_conditions = of_conditions is_near (definitions_pass (defining c columns) goes_near (pass_near (defining c columns)) c.definitions [] (measured_totals c columns) definitions_clean);
   }

@@ -4,16 +4,17 @@ use Rattle.std.proofs.lemmas.List.{append-nil}
 use Rattle.rp_pattern.specs.declared.form.Form.{Form}
 use Rattle.rp_value.specs.declared.value.Value.TheVariants as value
 use Rattle.rp_value.specs.declared.table.Column.{Column}
+use Rattle.rp_pattern.specs.Bounds.{is_allowed}
 use Rattle.rp_pattern.specs.PatternForm.{form_of}
 use Rattle.rp_syntax.specs.Clauses.{ClauseTree}
 use Rattle.rp_check.specs.declared.checking.Named.{Named}
-use Rattle.rp_check.specs.declared.checking.Listed.{Listed}
+use Rattle.rp_check.specs.declared.checking.Places.{Places}
 use Rattle.rp_check.specs.declared.checking.Planned.{Planned}
 use Rattle.rp_check.specs.declared.fault.CheckFault.{CheckFault}
 use Rattle.rp_check.specs.declared.query.QueryData.{QueryData}
 use Rattle.rp_check.specs.QueryOf.{IsQueryOf, measuring, defining}
 use Rattle.rp_check.specs.Checked.{Tells}
-use Rattle.rp_check.specs.Checking.{IsNamed, IsListed, IsPlanned, IsMadeOf, spoken}
+use Rattle.rp_check.specs.Checking.{IsNamed, ArePlaces, IsPlanned, IsMadeOf, spoken}
 use Rattle.rp_check.specs.ClauseFaults.{faults, name_faults, listing_faults, expression_faults, shown_faults}
 use Rattle.rp_check.specs.Context.{naming_of}
 use Rattle.rp_check.specs.Formulas.{value_formula, condition_formula, plain_total}
@@ -27,6 +28,7 @@ pub is_named : (c : ClauseTree) (n : Named) (f : Form) → Reads [] c.pattern n.
     → map naming_of n.sets.items ≡ numbered 0 n.variables.items ++ map (union_of n.variables.items) c.subsets → n.classes.value.items ≡ map value.Text n.variables.items → IsNamed c n
 is_named c n f r is sets classes = record {
   pattern = ap shape_of is ∙ (r.shape [] ∙ ap (λ ns. shaped ns c.pattern) (append-nil n.variables.items ∙ r.names));
+  allowed = ap is_allowed is ∙ r.allowed;
   variables = r.names;
   sets = rw (← r.names) sets;
   classes = rw (← r.names) classes;
@@ -39,8 +41,8 @@ pub planned_in : (c : ClauseTree) (columns : List Column) (n : Named) (p : Plann
     → IsPlanned (spoken n.sets.items columns n.classes false) (spoken n.sets.items columns n.classes true) c p → IsPlanned (measuring c columns) (defining c columns) c p
 planned_in c columns n p is plan = rw (← same_context c columns n false is, ← same_context c columns n true is) plan
 
-pub is_query : (c : ClauseTree) (written : List ℕ) (columns : List Column) (n : Named) (l : Listed) (p : Planned) (d : QueryData)
-    → IsNamed c n → IsListed n.variables.items columns c l → IsPlanned (measuring c columns) (defining c columns) c p → IsMadeOf c written columns n l p d → IsQueryOf c written columns d
+pub is_query : (c : ClauseTree) (written : List ℕ) (columns : List Column) (n : Named) (l : Places) (p : Planned) (d : QueryData)
+    → IsNamed c n → ArePlaces n.variables.items columns c l → IsPlanned (measuring c columns) (defining c columns) c p → IsMadeOf c written columns n l p d → IsQueryOf c written columns d
 is_query c written columns n l p d named listed planned made = record {
   text = made.text;
   table = made.table;
@@ -56,6 +58,10 @@ is_query c written columns n l p d named listed planned made = record {
   definitions = ap (λ v. v.items) made.definitions ∙ rw (← named.variables) listed.definitions;
   totals = ap (λ v. map plain_total v.items) made.totals ∙ planned.totals;
 }
+
+pub allowed_pattern : (c : ClauseTree) (written : List ℕ) (columns : List Column) (n : Named) (l : Places) (p : Planned) (d : QueryData)
+    → IsNamed c n → IsMadeOf c written columns n l p d → is_allowed (form_of d.pattern) ≡ true
+allowed_pattern c written columns n l p d named made = ap (λ q. is_allowed (form_of q)) made.pattern ∙ named.allowed
 
 module _ (c : ClauseTree) (columns : List Column) (n : Named) (e : CheckFault) where
   pub list_wrong : name_faults c ≡ [] → IsNamed c n → Tells e (listing_faults n.variables.items columns c) → Tells e (faults c columns)

@@ -1,15 +1,16 @@
 -- What was found of a clause so far.
-use Rattle.std.specs.Prelude.{◌≡◌, ℕ, List, [], ◌++◌, map, Bool, max}
+use Rattle.std.specs.Prelude.{◌≡◌, ℕ, List, [], ◌++◌, map, Bool, true, max}
 use Rattle.std.specs.declared.rc.Rc.{Rc}
 use Rattle.std.specs.declared.vec.Vec.{Vec}
 use Rattle.std.specs.declared.alloc.Global.{Global}
 use Rattle.rp_value.specs.declared.table.Column.{Column}
 use Rattle.rp_value.specs.declared.value.Value.{Value}
 use Rattle.rp_value.specs.declared.value.Value.TheVariants as value
+use Rattle.rp_pattern.specs.Bounds.{is_allowed}
 use Rattle.rp_pattern.specs.PatternForm.{form_of}
 use Rattle.rp_syntax.specs.Clauses.{ClauseTree}
 use Rattle.rp_check.specs.declared.checking.Named.{Named}
-use Rattle.rp_check.specs.declared.checking.Listed.{Listed}
+use Rattle.rp_check.specs.declared.checking.Places.{Places}
 use Rattle.rp_check.specs.declared.checking.Planned.{Planned}
 use Rattle.rp_check.specs.declared.query.QueryData.{QueryData}
 use Rattle.rp_check.specs.declared.names.NamedSet.{NamedSet}
@@ -28,12 +29,13 @@ spoken sets columns classes in_define =
 
 pub record IsNamed (c : ClauseTree) (n : Named) : Type 0 where
   pub pattern : shape_of (form_of n.pattern) ≡ shaped (variables_of c.pattern) c.pattern
+  pub allowed : is_allowed (form_of n.pattern) ≡ true
   pub variables : n.variables.items ≡ variables_of c.pattern
   pub sets : map naming_of n.sets.items
       ≡ numbered 0 (variables_of c.pattern) ++ map (union_of (variables_of c.pattern)) c.subsets
   pub classes : n.classes.value.items ≡ map value.Text (variables_of c.pattern)
 
-pub record IsListed (variables : List (List ℕ)) (columns : List Column) (c : ClauseTree) (l : Listed) : Type 0 where
+pub record ArePlaces (variables : List (List ℕ)) (columns : List Column) (c : ClauseTree) (l : Places) : Type 0 where
   pub partition : l.partition.items ≡ map (λ n. number_at (column_named n.text columns)) c.partition
   pub order : l.order.items ≡ map (order_column columns) c.order
   pub definitions : l.definitions.items ≡ map (definition_place c.definitions) variables
@@ -47,7 +49,7 @@ pub record IsPlanned (measuring defining : Context) (c : ClauseTree) (p : Planne
       ≡ totals_of measuring (terms_of_measures c.measures) ++ totals_of defining (terms_of_definitions c.definitions)
 
 -- the data is put together of what was found
-pub record IsMadeOf (c : ClauseTree) (written : List ℕ) (columns : List Column) (n : Named) (l : Listed) (p : Planned)
+pub record IsMadeOf (c : ClauseTree) (written : List ℕ) (columns : List Column) (n : Named) (l : Places) (p : Planned)
     (d : QueryData) : Type 0 where
   pub text : d.text ≡ written
   pub table : d.table ≡ columns

@@ -1,5 +1,5 @@
 -- What compiling the text of a clause comes to: its tokens, the clause that they derive, and the query of that clause.
-use Rattle.std.specs.Prelude.{◌≡◌, ℕ, List, [], ◌∷◌}
+use Rattle.std.specs.Prelude.{◌≡◌, ◌≢◌, ℕ, List, [], ◌∷◌}
 use Rattle.rp_value.specs.declared.table.Column.{Column}
 use Rattle.rp_lexer.specs.Lexes.{Lexes}
 use Rattle.rp_lexer.specs.Faults.{IsFirstFault}
@@ -11,7 +11,7 @@ use Rattle.rp_grammar.specs.declared.fault.ParseFault.{ParseFault}
 use Rattle.rp_grammar.specs.declared.fault.ParseFault.TheVariants as parse_fault
 use Rattle.rp_syntax.specs.Clauses.{ClauseTree}
 use Rattle.rp_syntax.specs.ClauseGrammar.{Derives}
-use Rattle.rp_syntax.specs.Derived.{DerivesNone}
+use Rattle.rp_syntax.specs.Derived.{DerivesNone, DerivesOnly}
 use Rattle.rp_check.specs.declared.fault.Fault.{Fault}
 use Rattle.rp_check.specs.declared.fault.CheckFault.{CheckFault}
 use Rattle.rp_check.specs.declared.fault.CheckFault.TheVariants as check_fault
@@ -21,12 +21,17 @@ use Rattle.rp_check.specs.declared.query.QueryData.{QueryData}
 use Rattle.rp_check.specs.ClauseFaults.{faults}
 use Rattle.rp_check.specs.QueryOf.{IsQueryOf}
 
--- the query is that of the clause which the text's tokens derive, and this has no fault
-pub record IsCompiled (text : List ℕ) (columns : List Column) (query : QueryData) : Type 0 where
+-- the text's tokens derive this clause, and no other
+pub record IsClauseOf (text : List ℕ) (clause : ClauseTree) : Type 0 where
   pub tokens : List Token
   pub lexed : Lexes text tokens
-  pub clause : ClauseTree
   pub derived : Derives text tokens clause
+  pub only : DerivesOnly text tokens clause
+
+-- the query is that of the text's clause, and this has no fault
+pub record IsCompiled (text : List ℕ) (columns : List Column) (query : QueryData) : Type 0 where
+  pub clause : ClauseTree
+  pub written : IsClauseOf text clause
   pub clean : faults clause columns ≡ []
   pub is : IsQueryOf clause text columns query
 
@@ -36,17 +41,16 @@ pub record IsNoClause (text : List ℕ) (why : ParseFault) : Type 0 where
   pub lexed : Lexes text tokens
   pub none : DerivesNone text tokens
   pub place : IsFaultIn text tokens why
+  pub told : why ≢ parse_fault.OutOfMemory
 
--- this is the first fault of the clause which the text's tokens derive
+-- this is the first fault of the text's clause
 pub record IsFaulty (text : List ℕ) (columns : List Column) (why : Fault) : Type 0 where
-  pub tokens : List Token
-  pub lexed : Lexes text tokens
   pub clause : ClauseTree
-  pub derived : Derives text tokens clause
+  pub written : IsClauseOf text clause
   pub others : List Fault
   pub first : faults clause columns ≡ why ∷ others
 
--- what is wrong with the text, unless memory ran out
+-- what is wrong with the text; want of memory says nothing of it
 abbrev pub IsCompileFault : List ℕ → List Column → CompileFault → Type 0
 IsCompileFault text columns (fault.Lex why) = IsFirstFault text why
 IsCompileFault text columns (fault.Parse why) = IsNoClause text why

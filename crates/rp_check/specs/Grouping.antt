@@ -13,8 +13,8 @@ wrapped [] t = t
 wrapped (p ∷ ps) t = wrapped ps (Operate p.0 p.1 t)
 
 -- what stands left is resolved, in a list that has the nearest last
-abbrev pub AreLefts : Context → List PlainTotal → List (Term × Operation) → List (Resolved × Operation) → List PlainTotal
-    → Type 0
+abbrev pub AreLefts : Context → List PlainTotal → List (Term × Operation) → List (Resolved × Operation)
+    → List PlainTotal → Type 0
 AreLefts x before [] lefts now = (lefts ≡ []) × (now ≡ before)
 AreLefts x before (p ∷ ps) lefts now =
     (others : List (Resolved × Operation)) × (r : Resolved) × (mid : List PlainTotal)

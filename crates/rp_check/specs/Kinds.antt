@@ -1,5 +1,5 @@
 -- Whether a plan's expressions fit a table and totals: columns and totals that are named are there, and kinds agree.
-use Rattle.std.specs.Prelude.{ℕ, zero, suc, Bool, true, false, not, ◌&&◌, ◌||◌, List, Option, None, Some, is_some, option_map, slice_get, cond}
+use Rattle.std.specs.Prelude.{ℕ, zero, suc, Bool, true, false, ◌&&◌, ◌||◌, List, Option, None, Some, is_some, option_map, slice_get, cond}
 use Rattle.rp_value.specs.declared.table.Column.{Column}
 use Rattle.rp_value.specs.declared.value.Value.{Value}
 use Rattle.rp_value.specs.declared.value.Value.TheVariants as value
@@ -67,7 +67,8 @@ has_kind columns totals k (Cell n) = is_kind k (column_kind columns n.column) &&
 has_kind columns totals k (Aggregated number is_final) = is_kind k (total_kind columns (slice_get totals number))
 has_kind columns totals k MatchNumber = is_kind k (Some Int)
 has_kind columns totals k (Classifier names) = is_kind k (Some Text)
-has_kind columns totals k (Arithmetic o a b) = is_kind k (Some Int) && (has_kind columns totals Int a && has_kind columns totals Int b)
+has_kind columns totals k (Arithmetic o a b) =
+    is_kind k (Some Int) && (has_kind columns totals Int a && has_kind columns totals Int b)
 has_kind columns totals k (Compare c a b) = false
 has_kind columns totals k (IsNull a) = false
 has_kind columns totals k (Not a) = false
@@ -94,17 +95,3 @@ is_truth columns totals (Aggregated number is_final) = false
 is_truth columns totals MatchNumber = false
 is_truth columns totals (Classifier names) = false
 is_truth columns totals (Arithmetic o a b) = false
-
--- nothing in it sees the whole match
-abbrev pub is_running : Formula → Bool
-is_running (Literal v) = true
-is_running (Cell n) = not n.is_final
-is_running (Aggregated number is_final) = not is_final
-is_running MatchNumber = true
-is_running (Classifier names) = true
-is_running (Arithmetic o a b) = is_running a && is_running b
-is_running (Compare c a b) = is_running a && is_running b
-is_running (IsNull a) = is_running a
-is_running (Not a) = is_running a
-is_running (And a b) = is_running a && is_running b
-is_running (Or a b) = is_running a && is_running b

@@ -6,7 +6,7 @@ ghost use Rattle.rp_check.specs.Checked.{FirstFaultOr, Tells};
 ghost use Rattle.rp_check.specs.ClauseFaults.{faults, name_faults, listing_faults, expression_faults, shown_faults, unmatched_faults};
 ghost use Rattle.rp_check.specs.QueryOf.{IsQueryOf};
 ghost use Rattle.rp_check.specs.QueryView.{data_of};
-ghost use Rattle.rp_check.specs.Checking.{IsNamed, IsListed, IsPlanned, IsMadeOf, spoken};
+ghost use Rattle.rp_check.specs.Checking.{IsNamed, ArePlaces, IsPlanned, IsMadeOf, spoken};
 ghost use Rattle.rp_syntax.specs.Tree.{tree_of};
 
 use crate::expressions::{conditions, measures, skip_to};
@@ -38,7 +38,7 @@ pub(crate) struct Named {
 
 /// The columns of PARTITION BY and ORDER BY, and the place of each variable's definition.
 #[derive(Drop)]
-pub(crate) struct Listed {
+pub(crate) struct Places {
     pub(crate) partition: Vec<usize>,
     pub(crate) order: Vec<OrderColumn>,
     pub(crate) definitions: Vec<Option<usize>>,
@@ -81,9 +81,9 @@ fn list_all(
     variables: &[Text],
     columns: &[Column],
     clause: &Clause,
-) -> Result<Listed, CheckFault>
+) -> Result<Places, CheckFault>
     ensures { FirstFaultOr (listing_faults variables.now columns.now (clause_tree clause.now))
-        (IsListed variables.now columns.now (clause_tree clause.now)) result }
+        (ArePlaces variables.now columns.now (clause_tree clause.now)) result }
 {
     let partition = partition_columns(alloc, columns, clause.partition.as_slice())?;
     let order = order_columns(
@@ -94,7 +94,7 @@ fn list_all(
     )?;
     allow_definitions(variables, clause.definitions.as_slice())?;
     let definitions = definition_places(alloc, variables, clause.definitions.as_slice())?;
-    Ok(Listed {
+    Ok(Places {
         partition,
         order,
         definitions,
@@ -178,7 +178,7 @@ pub fn check(alloc: Global, clause: Clause, table: &Table) -> Result<Query, Chec
 {
     let columns = table.columns();
     let named = name_all(alloc, &clause)?;
-    let listed = list_all(alloc, named.variables.as_slice(), columns, &clause)?;
+    let places = list_all(alloc, named.variables.as_slice(), columns, &clause)?;
     let planned = plan_all(
         alloc,
         named.sets.as_slice(),
@@ -187,7 +187,7 @@ pub fn check(alloc: Global, clause: Clause, table: &Table) -> Result<Query, Chec
         &clause,
     )?;
     allow_output(columns, &clause)?;
-    let data = assembled(alloc, clause, table, named, listed, planned)?;
+    let data = assembled(alloc, clause, table, named, places, planned)?;
     let query = Query::new(alloc, data)?;
     Ok(query)
 }
@@ -198,10 +198,10 @@ fn assembled(
     clause: Clause,
     table: &Table,
     named: Named,
-    listed: Listed,
+    places: Places,
     planned: Planned,
 ) -> Result<QueryData, AllocError>
-    ensures { IfOk result (IsMadeOf (clause_tree clause) clause.text table.now named listed planned) }
+    ensures { IfOk result (IsMadeOf (clause_tree clause) clause.text table.now named places planned) }
 {
     let output = output_names(
         alloc,
@@ -219,7 +219,7 @@ fn assembled(
         rows: clause.rows,
         skip: planned.skip,
         conditions: planned.conditions,
-        definitions: listed.definitions,
+        definitions: places.definitions,
         totals,
     };
     Ok(QueryData {
@@ -228,8 +228,8 @@ fn assembled(
         pattern: named.pattern,
         output,
         reach,
-        partition: listed.partition,
-        order: listed.order,
+        partition: places.partition,
+        order: places.order,
         plan,
     })
 }

@@ -1,1 +1,3 @@
-mod Texts
+mod Onto
+mod Plain
+pub mod Texts

@@ -4,17 +4,26 @@ use Rattle.std.specs.Prelude.{codes, decimal, ◌^◌}
 use Rattle.std.proofs.Common.{mod-lt, zero-lt-suc}
 use Rattle.std.proofs.lemmas.List.Concat.{flat_map-append}
 use Rattle.std.proofs.lemmas.Fmt.{decimal_by_steps_wide}
-use Rattle.json.specs.Token.{Token, begin_object, begin_array, end_array, key, string, boolean}
-use Rattle.json.specs.Print.{print, print_from, escape, escape_byte}
+use Rattle.json.specs.Token.{Token, end_object, begin_object, begin_array, end_array, key, string, boolean}
+use Rattle.json.specs.Print.{print, print_from, escape, escape_byte, quoted}
 use Rattle.json.proofs.OnLiterals.{json_on_literals}
 use Rattle.rp_value.specs.declared.value.Value.{Value}
 use Rattle.rp_value.specs.declared.value.Value.TheVariants.{Null, Int, Text}
-use Rattle.rp_codec.specs.ReplyLines.{item_text, key_text, place_text, more_values, values_text, value_text, number_text, name_of_fault}
-use Rattle.rp_codec.specs.Tokens.{item_tokens, key_tokens, number_token, place_tokens, value_token, values_tokens}
+use Rattle.rp_codec.specs.ReplyLines.{reply_text, item_text, key_text, place_text, more_values, values_text, value_text, number_text, name_of_fault}
+use Rattle.rp_codec.specs.Tokens.{reply_tokens, list_tokens, item_tokens, key_tokens, number_token, place_tokens, value_token, values_tokens}
 use Rattle.rp_known.specs.declared.item.Item.{Item as Given}
 use Rattle.rp_known.specs.declared.item.Item.TheVariants.{Row, Fault, End}
 use Rattle.rp_known.specs.declared.item.SkipFault.{SkipFault}
 use Rattle.rp_known.specs.declared.item.SkipFault.TheVariants.{SkipNoRow, SkipSame}
+use Rattle.rp_feed.specs.declared.answer.Taken.{Taken as Became}
+use Rattle.rp_feed.specs.declared.answer.Taken.TheVariants.{New, Repeat, Old}
+use Rattle.rp_codec.specs.Within.{IsRefusal, IsWithin}
+use Rattle.rp_codec.specs.declared.refusal.Field.{Field}
+use Rattle.rp_codec.specs.declared.refusal.Field.TheVariants as f
+use Rattle.rp_codec.specs.declared.refusal.Refusal.{Refusal}
+use Rattle.rp_codec.specs.declared.refusal.Refusal.TheVariants as r
+use Rattle.rp_codec.specs.declared.reply.Reply.{Reply}
+use Rattle.rp_codec.specs.declared.reply.Reply.TheVariants as reply
 
 -- a digit stands for itself in a string
 digit_plain : (k : ℕ) → k < 10 → escape_byte (48 + k) ≡ (48 + k) ∷ []
@@ -110,3 +119,56 @@ item_print at place (Fault fault) small =
     fault_print fault (key_tokens at ++ place_tokens place)
     ∙ ap (λ t. codes "{\"fault\":\"" ++ (name_of_fault fault ++ (codes "\"" ++ t))) (tail_print at place small)
 item_print at place End small = end_print (key_tokens at ++ place_tokens place) ∙ ap (λ t. codes "{\"end\":true" ++ t) (tail_print at place small)
+
+alone_print : (name : List ℕ) (vs : List Value) → print (list_tokens name vs) ≡ codes "{" ++ ((quoted name ++ codes ":") ++ (values_text vs ++ codes "}"))
+unfolding json_on_literals
+alone_print name vs = ap (λ t. codes "{" ++ ((quoted name ++ codes ":") ++ t)) (all_values_print vs (end_object ∷ []))
+
+taken_print : (taken : Became) → print (reply_tokens (reply.Taken taken)) ≡ reply_text (reply.Taken taken)
+unfolding json_on_literals
+taken_print New = refl
+taken_print Repeat = refl
+taken_print Old = refl
+
+idle_print : (vs : List Value) → print (reply_tokens (reply.Idle vs)) ≡ reply_text (reply.Idle vs)
+unfolding json_on_literals
+idle_print vs = alone_print (codes "idle") vs
+
+paused_print : (vs : List Value) → print (reply_tokens (reply.Paused vs)) ≡ reply_text (reply.Paused vs)
+unfolding json_on_literals
+paused_print vs = alone_print (codes "paused") vs
+
+field_print : (field : Field) → print (reply_tokens (reply.Refused (r.BadField field))) ≡ reply_text (reply.Refused (r.BadField field))
+unfolding json_on_literals
+field_print f.Row = refl
+field_print f.Cells = refl
+field_print f.Close = refl
+field_print f.Key = refl
+field_print f.Poll = refl
+field_print f.Budget = refl
+field_print f.Other = refl
+
+refused_print : (refusal : Refusal) → IsRefusal refusal → print (reply_tokens (reply.Refused refusal)) ≡ reply_text (reply.Refused refusal)
+unfolding json_on_literals
+refused_print r.TooLong h = refl
+refused_print r.NotJson h = refl
+refused_print (r.BadField field) h = field_print field
+refused_print r.BadRowWidth h = refl
+refused_print (r.BadRowKind n) h =
+    ap (λ t. codes "{\"refused\":\"BadRow kind " ++ ((t ++ 34 ∷ []) ++ codes "}")) (digits_plain n (omega (arith, h)))
+    ∙ ap (λ t. codes "{\"refused\":\"BadRow kind " ++ t) (append_assoc (decimal n) (34 ∷ []) (codes "}"))
+refused_print r.NumberRange h = refl
+refused_print r.PastClose h = refl
+refused_print r.Conflict h = refl
+refused_print r.TooFar h = refl
+refused_print r.CloseDiffers h = refl
+refused_print r.CloseBelow h = refl
+refused_print r.UnknownPartition h = refl
+
+-- the text of the tokens of a reply's line is its line
+pub reply_print : (given : Reply) → IsWithin given → print (reply_tokens given) ≡ reply_text given
+reply_print (reply.Taken taken) h = taken_print taken
+reply_print (reply.Item at place given) h = let small = h.1 in item_print at place given (omega (arith, small))
+reply_print (reply.Idle vs) h = idle_print vs
+reply_print (reply.Paused vs) h = paused_print vs
+reply_print (reply.Refused refusal) h = refused_print refusal h

@@ -1,2 +1,4 @@
+pub mod Refusals
 pub mod ReplyLines
 pub mod Tokens
+pub mod Within

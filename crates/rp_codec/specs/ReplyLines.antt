@@ -7,7 +7,10 @@ use Rattle.rp_value.specs.declared.value.Value.TheVariants.{Null, Int, Text}
 use Rattle.rp_known.specs.declared.item.Item.{Item as Given}
 use Rattle.rp_known.specs.declared.item.Item.TheVariants.{Row, Fault, End}
 use Rattle.rp_codec.specs.declared.reply.Reply.{Reply}
-use Rattle.rp_codec.specs.declared.reply.Reply.TheVariants.{Item}
+use Rattle.rp_codec.specs.declared.reply.Reply.TheVariants.{Taken, Item, Idle, Paused, Refused}
+use Rattle.rp_codec.specs.Refusals.{refusal_text}
+use Rattle.rp_feed.specs.declared.answer.Taken.{Taken as Became}
+use Rattle.rp_feed.specs.declared.answer.Taken.TheVariants.{New, Repeat, Old}
 use Rattle.rp_known.specs.declared.item.SkipFault.{SkipFault}
 use Rattle.rp_known.specs.declared.item.SkipFault.TheVariants.{SkipNoRow, SkipSame}
 
@@ -53,6 +56,15 @@ item_text key place (Fault fault) =
     codes "{\"fault\":\"" ++ (name_of_fault fault ++ (codes "\"" ++ key_text key (place_text place)))
 item_text key place End = codes "{\"end\":true" ++ key_text key (place_text place)
 
+abbrev pub name_of_taken : Became → List ℕ
+name_of_taken New = codes "new"
+name_of_taken Repeat = codes "repeat"
+name_of_taken Old = codes "old"
+
 -- the line of a reply, without its line feed
 abbrev pub reply_text : Reply → List ℕ
+reply_text (Taken taken) = codes "{\"taken\":\"" ++ (name_of_taken taken ++ codes "\"}")
 reply_text (Item key place given) = item_text key place given
+reply_text (Idle key) = codes "{\"idle\":" ++ (values_text key ++ codes "}")
+reply_text (Paused key) = codes "{\"paused\":" ++ (values_text key ++ codes "}")
+reply_text (Refused refusal) = codes "{\"refused\":\"" ++ (refusal_text refusal ++ codes "\"}")

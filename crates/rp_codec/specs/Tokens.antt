@@ -5,7 +5,10 @@ use Rattle.json.specs.Token.{Token, begin_object, end_object, begin_array, end_a
 use Rattle.json.specs.Token.{key, string, number, boolean, null}
 use Rattle.rp_value.specs.declared.value.Value.{Value}
 use Rattle.rp_value.specs.declared.value.Value.TheVariants.{Null, Int, Text}
-use Rattle.rp_codec.specs.ReplyLines.{name_of_fault}
+use Rattle.rp_codec.specs.ReplyLines.{name_of_fault, name_of_taken}
+use Rattle.rp_codec.specs.Refusals.{refusal_text}
+use Rattle.rp_codec.specs.declared.reply.Reply.{Reply}
+use Rattle.rp_codec.specs.declared.reply.Reply.TheVariants.{Taken, Item, Idle, Paused, Refused}
 use Rattle.rp_known.specs.declared.item.Item.{Item as Given}
 use Rattle.rp_known.specs.declared.item.Item.TheVariants.{Row, Fault, End}
 
@@ -35,3 +38,18 @@ item_tokens at place (Row n cells) =
 item_tokens at place (Fault fault) =
     begin_object ∷ key (codes "fault") ∷ string (name_of_fault fault) ∷ (key_tokens at ++ place_tokens place)
 item_tokens at place End = begin_object ∷ key (codes "end") ∷ boolean true ∷ (key_tokens at ++ place_tokens place)
+
+-- an object with one text
+abbrev pub word_tokens : List ℕ → List ℕ → List Token
+word_tokens name word = begin_object ∷ key name ∷ string word ∷ end_object ∷ []
+
+-- an object with one list of values
+abbrev pub list_tokens : List ℕ → List Value → List Token
+list_tokens name values = begin_object ∷ key name ∷ (values_tokens values ++ end_object ∷ [])
+
+abbrev pub reply_tokens : Reply → List Token
+reply_tokens (Taken taken) = word_tokens (codes "taken") (name_of_taken taken)
+reply_tokens (Item at place given) = item_tokens at place given
+reply_tokens (Idle values) = list_tokens (codes "idle") values
+reply_tokens (Paused values) = list_tokens (codes "paused") values
+reply_tokens (Refused refusal) = word_tokens (codes "refused") (refusal_text refusal)

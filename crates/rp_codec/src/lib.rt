@@ -5,17 +5,21 @@
 //!
 //!     {"cells":["x",1,10,6,9],"key":["x"],"number":1,"place":"1"}
 //!     {"end":true,"key":["x"],"place":"2"}
+//!     {"refused":"TooFar"}
 //!
-//! What stands on a line is said in `specs/ReplyLines`.
+//! What stands on a line is said in `specs/ReplyLines`, the texts of refusals in `specs/Refusals`.
 #![tactic(auto)]
 
 mod line;
 mod packet;
+mod refusal;
 mod reply;
 #[cfg(test)]
 mod tests;
 
-pub use line::{push_reply_line, reply_line};
+pub use line::{push_item_line, push_reply_line, reply_line};
 pub use packet::Packet;
+pub use refusal::{Field, Refusal};
 pub use reply::Reply;
+pub use rp_feed::Taken;
 pub use rp_known::{Item, SkipFault};

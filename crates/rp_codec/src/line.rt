@@ -1,10 +1,13 @@
 //! Lines of replies, written a token at a time.
-ghost use Rattle.std.specs.Prelude.{◌≡◌, ◌++◌, ◌∷◌, [], IfOk, OnOk, codes, decimal, string_bytes};
+ghost use Rattle.std.specs.Prelude.{◌≡◌, ℕ, List, ◌++◌, ◌∷◌, [], IfOk, OnOk, codes, decimal, string_bytes};
 ghost use Rattle.json.specs.Token.{key, string};
-ghost use Rattle.rp_codec.specs.ReplyLines.{reply_text, item_text, name_of_fault};
-ghost use Rattle.rp_codec.specs.Tokens.{item_tokens, key_tokens, number_token, value_token, values_tokens};
+ghost use Rattle.rp_codec.specs.Refusals.{refusal_text};
+ghost use Rattle.rp_codec.specs.ReplyLines.{reply_text, item_text, name_of_fault, name_of_taken};
+ghost use Rattle.rp_codec.specs.Tokens.{item_tokens, key_tokens, list_tokens, number_token, reply_tokens, value_token, values_tokens, word_tokens};
+ghost use Rattle.rp_codec.specs.Within.{AreCells, IsCell, IsCount, IsRefusal, IsWithin};
 
-use crate::{Item, Reply, SkipFault};
+use crate::refusal::refusal_text;
+use crate::{Item, Refusal, Reply, SkipFault, Taken};
 use json::Writer;
 use rp_value::{Cells, Value};
 use std::alloc::{AllocError, Global};
@@ -12,36 +15,44 @@ use std::mem;
 
 /// The line of a reply, without its line feed.
 pub fn reply_line(alloc: Global, reply: &Reply) -> Result<String, AllocError>
-    ensures { IfOk result (λ line. string_bytes line ≡ reply_text reply.now) }
+    ensures text { IfOk result (λ line. string_bytes line ≡ reply_text reply.now) }
+    ensures within { IfOk result (λ _. IsWithin reply.now) }
 {
     let mut text = Vec::with_capacity(alloc, 128)?;
     push_reply_line(alloc, &mut text, reply)?;
     string_of(text)
 }
 
-/// Adds the line of a reply to a text, without its line feed.
+/// Adds the line of a reply to a text, without its line feed. Where memory is refused, a front of it may be added.
 pub fn push_reply_line(alloc: Global, text: &mut Vec<u8>, reply: &Reply) -> Result<(), AllocError>
-    ensures { OnOk result (text.new.items ≡ text.old.items ++ reply_text reply.now) }
+    ensures text { OnOk result (text.new.items ≡ text.old.items ++ reply_text reply.now) }
+    ensures within { OnOk result (IsWithin reply.now) }
+    ensures kept { (added : List ℕ) × (text.new.items ≡ text.old.items ++ added) }
 {
-    match reply {
-        Reply::Item { key, place, item } => push_item_line(alloc, text, key, *place, item),
-    }
+    let gathered = mem::replace(text, Vec::new(alloc));
+    let mut writer = Writer::new(gathered);
+    let written = write_reply(alloc, &mut writer, reply);
+    *text = writer.into_inner();
+    written
 }
 
-fn push_item_line(
+/// Adds the line of an item of a partition's answer to a text, without its line feed. The key is lent, since all items
+/// of a partition have it. Where memory is refused, a front of the line may be added.
+pub fn push_item_line(
     alloc: Global,
     text: &mut Vec<u8>,
     key: &Cells,
     place: u128,
     item: &Item,
 ) -> Result<(), AllocError>
-    ensures { OnOk result (text.new.items ≡ text.old.items ++ item_text key.now place item.now) }
+    ensures ok { OnOk result (text.new.items ≡ text.old.items ++ item_text key.now place item.now) }
+    ensures kept { (added : List ℕ) × (text.new.items ≡ text.old.items ++ added) }
 {
-    let gathered = mem::replace(text, Vec::new(alloc));
-    let mut writer = Writer::new(gathered);
-    write_item(&mut writer, key, place, item)?;
+    let earlier = mem::replace(text, Vec::new(alloc));
+    let mut writer = Writer::new(earlier);
+    let written = write_item(&mut writer, key, place, item);
     *text = writer.into_inner();
-    Ok(())
+    written
 }
 
 fn string_of(bytes: Vec<u8>) -> Result<String, AllocError>
@@ -53,8 +64,66 @@ fn string_of(bytes: Vec<u8>) -> Result<String, AllocError>
     }
 }
 
+fn write_reply(alloc: Global, writer: &mut Writer, reply: &Reply) -> Result<(), AllocError>
+    ensures ok { OnOk result (writer.new.tokens ≡ writer.old.tokens ++ reply_tokens reply.now) }
+    ensures within { OnOk result (IsWithin reply.now) }
+    ensures before { writer.new.before ≡ writer.old.before }
+{
+    match reply {
+        Reply::Taken(taken) => write_word(writer, "taken", taken_name(*taken)),
+        Reply::Item { key, place, item } => write_item(writer, key, *place, item),
+        Reply::Idle(key) => write_values_alone(writer, "idle", key),
+        Reply::Paused(key) => write_values_alone(writer, "paused", key),
+        Reply::Refused(refusal) => write_refusal(alloc, writer, *refusal),
+    }
+}
+
+/// An object with this text alone.
+fn write_word(writer: &mut Writer, name: &str, word: &str) -> Result<(), AllocError>
+    ensures ok { OnOk result (writer.new.tokens ≡ writer.old.tokens ++ word_tokens name.now word.now) }
+    ensures before { writer.new.before ≡ writer.old.before }
+{
+    writer.begin_object()?;
+    writer.key(name)?;
+    writer.string(word)?;
+    writer.end_object()
+}
+
+/// An object with these values alone.
+fn write_values_alone(writer: &mut Writer, name: &str, values: &Cells) -> Result<(), AllocError>
+    ensures ok { OnOk result (writer.new.tokens ≡ writer.old.tokens ++ list_tokens name.now values.now) }
+    ensures within { OnOk result (AreCells values.now) }
+    ensures before { writer.new.before ≡ writer.old.before }
+{
+    writer.begin_object()?;
+    writer.key(name)?;
+    write_values(writer, values.as_slice())?;
+    writer.end_object()
+}
+
+fn taken_name(taken: Taken) -> &'static str
+    ensures { result.now ≡ name_of_taken taken }
+{
+    match taken {
+        Taken::New => "new",
+        Taken::Repeat => "repeat",
+        Taken::Old => "old",
+    }
+}
+
+fn write_refusal(alloc: Global, writer: &mut Writer, refusal: Refusal) -> Result<(), AllocError>
+    ensures ok { OnOk result
+        (writer.new.tokens ≡ writer.old.tokens ++ word_tokens (codes "refused") (refusal_text refusal)) }
+    ensures within { OnOk result (IsRefusal refusal) }
+    ensures before { writer.new.before ≡ writer.old.before }
+{
+    let text = refusal_text(alloc, refusal)?;
+    write_word(writer, "refused", text.as_str())
+}
+
 fn write_item(writer: &mut Writer, key: &Cells, place: u128, item: &Item) -> Result<(), AllocError>
     ensures ok { OnOk result (writer.new.tokens ≡ writer.old.tokens ++ item_tokens key.now place item.now) }
+    ensures within { OnOk result (IsWithin (Reply.Item key.now place item.now)) }
     ensures before { writer.new.before ≡ writer.old.before }
 {
     match item {
@@ -73,6 +142,7 @@ fn write_row(
 ) -> Result<(), AllocError>
     ensures ok { OnOk result
         (writer.new.tokens ≡ writer.old.tokens ++ item_tokens key.now place (Item.Row number cells.now)) }
+    ensures within { OnOk result (IsWithin (Reply.Item key.now place (Item.Row number cells.now))) }
     ensures before { writer.new.before ≡ writer.old.before }
 {
     writer.begin_object()?;
@@ -92,6 +162,7 @@ fn write_fault(
     fault: SkipFault,
 ) -> Result<(), AllocError>
     ensures ok { OnOk result (writer.new.tokens ≡ writer.old.tokens ++ item_tokens key.now place (Item.Fault fault)) }
+    ensures within { OnOk result (IsWithin (Reply.Item key.now place (Item.Fault fault))) }
     ensures before { writer.new.before ≡ writer.old.before }
 {
     writer.begin_object()?;
@@ -104,6 +175,7 @@ fn write_fault(
 
 fn write_end(writer: &mut Writer, key: &Cells, place: u128) -> Result<(), AllocError>
     ensures ok { OnOk result (writer.new.tokens ≡ writer.old.tokens ++ item_tokens key.now place Item.End) }
+    ensures within { OnOk result (IsWithin (Reply.Item key.now place Item.End)) }
     ensures before { writer.new.before ≡ writer.old.before }
 {
     writer.begin_object()?;
@@ -125,6 +197,7 @@ pub(crate) fn fault_name(fault: SkipFault) -> &'static str
 
 fn write_number(writer: &mut Writer, number: Option<u64>) -> Result<(), AllocError>
     ensures ok { OnOk result (writer.new.tokens ≡ writer.old.tokens ++ number_token number ∷ []) }
+    ensures within { OnOk result (IsCount number) }
     ensures before { writer.new.before ≡ writer.old.before }
 {
     match number {
@@ -145,6 +218,7 @@ fn write_place(writer: &mut Writer, place: u128) -> Result<(), AllocError>
 
 fn write_key(writer: &mut Writer, key: &Cells) -> Result<(), AllocError>
     ensures ok { OnOk result (writer.new.tokens ≡ writer.old.tokens ++ key_tokens key.now) }
+    ensures within { OnOk result (AreCells key.now) }
     ensures before { writer.new.before ≡ writer.old.before }
 {
     writer.key("key")?;
@@ -153,6 +227,7 @@ fn write_key(writer: &mut Writer, key: &Cells) -> Result<(), AllocError>
 
 fn write_values(writer: &mut Writer, values: &[Value]) -> Result<(), AllocError>
     ensures ok { OnOk result (writer.new.tokens ≡ writer.old.tokens ++ values_tokens values.now) }
+    ensures within { OnOk result (AreCells values.now) }
     ensures before { writer.new.before ≡ writer.old.before }
 {
     writer.begin_array()?;
@@ -164,6 +239,7 @@ fn write_values(writer: &mut Writer, values: &[Value]) -> Result<(), AllocError>
 
 fn write_value(writer: &mut Writer, value: &Value) -> Result<(), AllocError>
     ensures ok { OnOk result (writer.new.tokens ≡ writer.old.tokens ++ value_token value.now ∷ []) }
+    ensures within { OnOk result (IsCell value.now) }
     ensures before { writer.new.before ≡ writer.old.before }
 {
     match value {

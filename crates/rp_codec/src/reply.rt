@@ -1,11 +1,14 @@
 //! What is replied.
 
-use crate::Item;
+use crate::{Item, Refusal};
+use rp_feed::Taken;
 use rp_value::Cells;
 
-/// A reply.
+/// What a node replies to a line.
 #[derive(Debug, Drop)]
 pub enum Reply {
+    /// What became of a row or a close.
+    Taken(Taken),
     /// An item of a partition's answer.
     Item {
         /// The partition's values in the columns of PARTITION BY.
@@ -14,4 +17,10 @@ pub enum Reply {
         place: u128,
         item: Item,
     },
+    /// All items of this partition that are known were given.
+    Idle(Cells),
+    /// The turns that a poll of this partition may take are used up.
+    Paused(Cells),
+    /// The line or what it asks is refused.
+    Refused(Refusal),
 }

@@ -1,5 +1,5 @@
 //! Lines of replies, against texts written by hand.
-use crate::{Item, Reply, SkipFault, push_reply_line, reply_line};
+use crate::{Field, Item, Refusal, Reply, SkipFault, Taken, push_reply_line, reply_line};
 use rp_value::{Cells, Text, Value};
 use std::alloc::{AllocError, Global};
 use std::test::Fail;
@@ -76,6 +76,33 @@ fn lines_without_a_match(rt: HostRuntime) -> Result<(), Fail> {
         ),
     ] {
         let reply = reply(alloc, Vec::new(alloc), 2, item);
+        assert_eq!(rt; reply_line(alloc, &reply)?.as_str(), want);
+    }
+    Ok(())
+}
+
+#[test]
+fn lines_of_other_replies(rt: HostRuntime) -> Result<(), Fail> {
+    let alloc = rt.alloc();
+    let key = vec![in alloc; text(alloc, "x")?, Value::Null]?;
+    for (reply, want) in [
+        (Reply::Taken(Taken::New), "{\"taken\":\"new\"}"),
+        (Reply::Taken(Taken::Repeat), "{\"taken\":\"repeat\"}"),
+        (Reply::Taken(Taken::Old), "{\"taken\":\"old\"}"),
+        (Reply::Idle(Cells::new(key)), "{\"idle\":[\"x\",null]}"),
+        (
+            Reply::Paused(Cells::new(Vec::new(alloc))),
+            "{\"paused\":[]}",
+        ),
+        (
+            Reply::Refused(Refusal::BadField(Field::Budget)),
+            "{\"refused\":\"BadField budget\"}",
+        ),
+        (
+            Reply::Refused(Refusal::BadRowKind(u64::MAX)),
+            "{\"refused\":\"BadRow kind 18446744073709551615\"}",
+        ),
+    ] {
         assert_eq!(rt; reply_line(alloc, &reply)?.as_str(), want);
     }
     Ok(())

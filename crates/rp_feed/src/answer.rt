@@ -2,7 +2,7 @@
 ghost use Rattle.std.specs.Prelude.{◌≡◌};
 ghost use Rattle.rp_feed.specs.declared.answer.FeedFault.TheVariants.{OutOfMemory};
 
-use std::alloc::AllocError;
+use std::alloc::{AllocError, AllocFailed};
 use thiserror::Error;
 
 /// The greatest number of a row, and the greatest count of a close: 2^40.
@@ -52,6 +52,14 @@ impl From<AllocError> for FeedFault {
     ghost from_gives = { λ _ fault. fault ≡ OutOfMemory };
 
     fn from(_error: AllocError) -> FeedFault {
+        FeedFault::OutOfMemory
+    }
+}
+
+impl<T: Drop> From<AllocFailed<T>> for FeedFault {
+    ghost from_gives = { λ _ fault. fault ≡ OutOfMemory };
+
+    fn from(_error: AllocFailed<T>) -> FeedFault {
         FeedFault::OutOfMemory
     }
 }

@@ -45,7 +45,7 @@ pub fn word<'a>(
     }
 }
 
-/// The offset of an opening bracket of this kind, where so many brackets may still be opened.
+/// The offset of an opening bracket of this kind, where `room` brackets may still be opened.
 pub fn opening<'a>(
     text: &str,
     tokens: &'a [Token],

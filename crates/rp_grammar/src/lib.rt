@@ -3,6 +3,16 @@
 //! A grammar is written once, a rule a line, in `specs/Grammar`: `listed name` is one or more names with commas
 //! between. Each way to put grammars together has one law, in `proofs/Laws`: what the next token alone decides is
 //! read exactly as it is derived.
+//!
+//! A reader takes the front of a list of tokens, and gives what that stands for and the tokens that follow. So of the text
+//! `{ 3 }` the number is read as the grammar `word left then number then word right` derives it:
+//!
+//! ```text
+//! let tokens = lex(alloc, text)?; // of rp_lexer
+//! let (_, rest) = word(text, &tokens, TokenKind::Mark(Mark::LeftBrace))?;
+//! let (value, rest) = number(text, rest)?;
+//! let (_, rest) = word(text, rest, TokenKind::Mark(Mark::RightBrace))?;
+//! ```
 #![tactic(auto)]
 
 mod cursor;

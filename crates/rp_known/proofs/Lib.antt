@@ -6,3 +6,4 @@ mod Legs
 mod Columns
 mod Growth
 mod Short
+mod Earlier

@@ -4,3 +4,4 @@ pub mod Skips
 pub mod Items
 pub mod Walk
 pub mod WalkLaws
+pub mod Earlier

@@ -1,4 +1,5 @@
 //! Laws over the definitions alone. A call does nothing, and its caller may then use them.
+ghost use Rattle.rp_known.specs.Earlier.{EarlierBegins};
 ghost use Rattle.rp_known.specs.WalkLaws.{KnownGrows, WalkStays, LegStays, KnownIsShort, LegsLeadOn, SearchesLeadOn, MatchesAreKnown, FindingsStay, ContinuationsGoOn};
 
 /// The laws of the known answer. What is known of an open partition begins what is known of every continuation, its answer
@@ -25,4 +26,14 @@ pub fn law_legs()
     ensures continuing { ContinuationsGoOn }
 {
     rp_pattern::law_words();
+}
+
+/// What was known while an open side made every AND and OR open begins what is known now of the same rows. So the items
+/// that were given then come first now.
+pub fn law_earlier()
+    ensures { EarlierBegins }
+{
+    rp_pattern::law_words();
+    rp_search::law_found();
+    rp_eval::law_early_conditions();
 }

@@ -12,7 +12,7 @@ mod place;
 mod skips;
 
 pub use item::{Item, SkipFault};
-pub use laws::{law_known, law_legs};
+pub use laws::{law_earlier, law_known, law_legs};
 pub use making::{match_item, unmatched_item};
 pub use place::Place;
 pub use skips::next_start;

@@ -11,7 +11,7 @@ use Rattle.rp_lexer.specs.Forms.{doubled, enclosed, HasForm}
 use Rattle.rp_lexer.specs.Lexes.{is_separator, IsGap, nothing, separator, comment, IsComment, IsToken, LexesUpTo}
 use Rattle.rp_lexer.proofs.FormLemmas.{form_some}
 use Rattle.rp_lexer.proofs.Numbers.{digit_bounds}
-use Rattle.rp_lexer.proofs.Places.{length_part, at_part}
+use Rattle.rp_lexer.proofs.OneAtPlace.{length_part, at_part}
 use Rattle.rp_lexer.proofs.Edges.{name_byte_ascii, last_place}
 use Rattle.rp_lexer.proofs.Tokens.{enclosed_length}
 use Rattle.rp_lexer.specs.Faults.{offset}

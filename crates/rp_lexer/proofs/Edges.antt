@@ -7,7 +7,7 @@ use Rattle.std.specs.List.{slice_range}
 use Rattle.std.specs.Str.{IsCharBoundary}
 use Rattle.rp_lexer.specs.Forms.{is_name_byte, doubled, enclosed}
 use Rattle.rp_lexer.specs.Lexes.{IsLongest}
-use Rattle.rp_lexer.proofs.Places.{length_part, at_part, first_of_part}
+use Rattle.rp_lexer.proofs.OneAtPlace.{length_part, at_part, first_of_part}
 use Rattle.rp_lexer.proofs.Tokens.{enclosed_length}
 use Rattle.rp_lexer.specs.declared.kind.TokenKind.TheVariants as kind
 

@@ -1,7 +1,7 @@
 pub mod Doubled
 pub mod FormLemmas
 pub mod Fronts
-pub mod Places
+pub mod OneAtPlace
 pub mod Readings
 pub mod Quotes
 pub mod Tokens

@@ -8,11 +8,11 @@ use Rattle.std.specs.List.{slice_range}
 use Rattle.rp_lexer.specs.Forms.{doubled, enclosed, HasForm}
 use Rattle.rp_lexer.specs.Lexes.{is_separator, IsLongest, IsToken, IsInRange, LexesUpTo}
 use Rattle.rp_lexer.specs.Scan.{Stops}
-use Rattle.rp_lexer.specs.Faults.{IsStray, IsEmptyQuoted, IsOpen, IsFault, offset}
+use Rattle.rp_lexer.specs.Faults.{IsStray, IsEmptyQuoted, IsUnclosed, IsFault, offset}
 use Rattle.rp_lexer.specs.Laws.{OneTokenList, OneFirstFault, NoTokensWithFault, EachStands}
 use Rattle.rp_lexer.proofs.Doubled.{doubled-quote, doubled-other, closed_not_open}
 use Rattle.rp_lexer.proofs.FormLemmas.{class_of, class_of_kind, class_of_form, form_no_separator}
-use Rattle.rp_lexer.proofs.Places.{length_part, at_part, first_of_part, rest_first, part_to_end, one_end, one_longest_kind, one_token, token_stops, one_gap_end}
+use Rattle.rp_lexer.proofs.OneAtPlace.{length_part, at_part, first_of_part, rest_first, part_to_end, one_end, one_longest_kind, one_token, token_stops, one_gap_end}
 use Rattle.rp_lexer.specs.declared.fault.LexFault.{LexFault}
 use Rattle.rp_lexer.specs.declared.fault.LexFault.TheVariants.{BadChar, OpenText, OpenName, NumberRange, OutOfMemory}
 use Rattle.rp_lexer.specs.declared.kind.Mark.TheVariants.{Minus}
@@ -130,7 +130,7 @@ empty_is_last text at empty = record {
 }
 
 -- what never closes begins no token: one that ends sooner isn't the longest, and one that ends with the text would close
-open_no_token : (text : List ℕ) (q at end : ℕ) (kind : TokenKind) → (0 ≡ q → ⊥) → (open' : IsOpen q text at) → (inside : List ℕ) → IsLongest text kind at end → slice_range text at end ≡ enclosed q inside → HasForm kind (enclosed q open'.0) → ⊥
+open_no_token : (text : List ℕ) (q at end : ℕ) (kind : TokenKind) → (0 ≡ q → ⊥) → (open' : IsUnclosed q text at) → (inside : List ℕ) → IsLongest text kind at end → slice_range text at end ≡ enclosed q inside → HasForm kind (enclosed q open'.0) → ⊥
 open_no_token text q at end kind some open' inside h spelled form =
     let rest = part_to_end text at ∙ open'.1 in
     ⊎_elim
@@ -143,13 +143,13 @@ open_no_token text q at end kind some open' inside h spelled form =
     (cases_order end (length text))
 
 -- a single quote stays open, so it is no quoted name
-open_some : (text : List ℕ) (q at end : ℕ) (open' : IsOpen q text at) → (inside : List ℕ) → IsLongest text kind.Quoted at end → slice_range text at end ≡ enclosed q inside → open'.0 ≢ []
+open_some : (text : List ℕ) (q at end : ℕ) (open' : IsUnclosed q text at) → (inside : List ℕ) → IsLongest text kind.Quoted at end → slice_range text at end ≡ enclosed q inside → open'.0 ≢ []
 open_some text q at end open' inside h spelled none' =
     let one : drop at text ≡ q ∷ [] = open'.1 ∙ ap (λ l. q ∷ doubled q l) none' in
     let long : 1 < length (enclosed q inside) = omega (arith, length-append (doubled q inside) (q ∷ [])) in
     omega (arith, ap length one, length-drop at text, h.within, length_part text at end h.within, ap length spelled, long)
 
-open_name_is_last : (text : List ℕ) (at : ℕ) → IsOpen 34 text at → IsLast text at
+open_name_is_last : (text : List ℕ) (at : ℕ) → IsUnclosed 34 text at → IsLast text at
 open_name_is_last text at open' =
     let first : get_or text at 0 ≡ 34 = sym (rest_first text at) ∙ ap (λ l. get_or l 0 0) open'.1 in
     record {
@@ -162,7 +162,7 @@ open_name_is_last text at open' =
           (open'.0, open_some text 34 at token.end open' form.0 longest form.2, refl);
     }
 
-open_text_is_last : (text : List ℕ) (at : ℕ) → IsOpen 39 text at → IsLast text at
+open_text_is_last : (text : List ℕ) (at : ℕ) → IsUnclosed 39 text at → IsLast text at
 open_text_is_last text at open' =
     let first : get_or text at 0 ≡ 39 = sym (rest_first text at) ∙ ap (λ l. get_or l 0 0) open'.1 in
     record {
@@ -224,14 +224,14 @@ each_stands text tokens h = each_stands_from text 0 tokens (length text) h
 
 -- ---- one fault
 
-open_first : (text : List ℕ) (q at : ℕ) → IsOpen q text at → get_or text at 0 ≡ q
+open_first : (text : List ℕ) (q at : ℕ) → IsUnclosed q text at → get_or text at 0 ≡ q
 open_first text q at open' = sym (rest_first text at) ∙ ap (λ l. get_or l 0 0) open'.1
 
 number_first : (text : List ℕ) (at end : ℕ) → IsLongest text kind.Number at end → class_of (get_or text at 0) ≡ 1
 number_first text at end h = ap class_of (sym (first_of_part text at end h.order)) ∙ class_of_form kind.Number (slice_range text at end) h.form
 
 -- `""` with no third quote may not begin what never closes
-empty_not_open : (text : List ℕ) (at : ℕ) → IsEmptyQuoted text at → IsOpen 34 text at → ⊥
+empty_not_open : (text : List ℕ) (at : ℕ) → IsEmptyQuoted text at → IsUnclosed 34 text at → ⊥
 empty_not_open text at empty ([], is) =
     let second : get_or (drop at text) 1 0 ≡ 34 = get_or-drop at text 1 0 ∙ empty.1 in
     let zero' : get_or (drop at text) 1 0 ≡ 0 = ap (λ l. get_or l 1 0) is in
@@ -246,12 +246,12 @@ empty_not_open text at empty (b ∷ bytes, is) =
     (cases_eq b 34)
 
 -- where a bad character stands, no quote stays open and no number begins
-bad_not_text : (text : List ℕ) (at : ℕ) → IsFault text (BadChar at) → IsOpen 39 text at → ⊥
+bad_not_text : (text : List ℕ) (at : ℕ) → IsFault text (BadChar at) → IsUnclosed 39 text at → ⊥
 bad_not_text text at bad open' =
     let first = open_first text 39 at open' in
     ⊎_elim (λ stray. stray.1 kind.Text (39 ∷ []) ([], ap (λ c. c ∷ 39 ∷ []) first)) (λ empty. omega (arith, first, empty.0)) bad.1
 
-bad_not_name : (text : List ℕ) (at : ℕ) → IsFault text (BadChar at) → IsOpen 34 text at → ⊥
+bad_not_name : (text : List ℕ) (at : ℕ) → IsFault text (BadChar at) → IsUnclosed 34 text at → ⊥
 bad_not_name text at bad open' =
     let first = open_first text 34 at open' in
     ⊎_elim (λ stray. stray.1 kind.Quoted (97 ∷ 34 ∷ []) (97 ∷ [], λ e. omega (arith, ap length e), ap (λ c. c ∷ 97 ∷ 34 ∷ []) first)) (λ empty. empty_not_open text at empty open') bad.1
@@ -272,8 +272,8 @@ rank OutOfMemory = 4
 not_before : (text : List ℕ) (fault other : LexFault) → rank fault < rank other → offset fault ≡ offset other → IsFault text fault → IsFault text other → ⊥
 unfolding rank
 not_before text (BadChar at) (BadChar at') lt e f g = absurd (omega arith)
-not_before text (BadChar at) (OpenText at') lt e f g = bad_not_text text at f (subst (IsOpen 39 text) (sym e) g)
-not_before text (BadChar at) (OpenName at') lt e f g = bad_not_name text at f (subst (IsOpen 34 text) (sym e) g)
+not_before text (BadChar at) (OpenText at') lt e f g = bad_not_text text at f (subst (IsUnclosed 39 text) (sym e) g)
+not_before text (BadChar at) (OpenName at') lt e f g = bad_not_name text at f (subst (IsUnclosed 34 text) (sym e) g)
 not_before text (BadChar at) (NumberRange at') lt e f g = bad_not_number text at g.0 f (subst (λ s. IsLongest text kind.Number s g.0) (sym e) g.1)
 not_before text (BadChar at) OutOfMemory lt e f g = g
 not_before text (OpenText at) (BadChar at') lt e f g = absurd (omega arith)

@@ -10,7 +10,7 @@ use Rattle.rp_lexer.specs.Forms.{is_name_start, is_name_byte, SpellsAlike, HasFo
 use Rattle.rp_lexer.specs.Lexes.{is_separator, IsToken, IsInRange}
 use Rattle.rp_lexer.specs.Faults.{IsFault, IsStray}
 use Rattle.rp_lexer.specs.Scan.{Stops, IsRun, Closes, IsLongestMark, BeginsNoMark, IsSign}
-use Rattle.rp_lexer.proofs.Places.{Longest, longest_at, part_is_front, rest_first}
+use Rattle.rp_lexer.proofs.OneAtPlace.{Longest, longest_at, part_is_front, rest_first}
 use Rattle.rp_lexer.proofs.Tokens.{token_from, no_comment_at, identifier_from, name_longest, digits_from, number_longest, text_longest, quoted_longest, empty_quoted, mark_longest, no_mark_stray}
 use Rattle.rp_lexer.specs.declared.fault.LexFault.TheVariants.{BadChar, NumberRange}
 use Rattle.rp_lexer.specs.declared.kind.Keyword.{Keyword}

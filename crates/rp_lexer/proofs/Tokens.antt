@@ -12,7 +12,7 @@ use Rattle.rp_lexer.specs.Faults.{IsStray, IsEmptyQuoted}
 use Rattle.rp_lexer.specs.Scan.{IsRun, Closes, IsLongestMark, BeginsNoMark, IsSign}
 use Rattle.rp_lexer.proofs.Doubled.{closed_same}
 use Rattle.rp_lexer.proofs.FormLemmas.{class_of, class_of_kind, class_of_form, mark_some}
-use Rattle.rp_lexer.proofs.Places.{Longest, longest_at, part_is_front, rest_first}
+use Rattle.rp_lexer.proofs.OneAtPlace.{Longest, longest_at, part_is_front, rest_first}
 use Rattle.rp_lexer.specs.declared.kind.Mark.{Mark}
 use Rattle.rp_lexer.specs.declared.kind.Mark.TheVariants as mark
 use Rattle.rp_lexer.specs.declared.kind.TokenKind.{TokenKind}

@@ -19,15 +19,15 @@ IsEmptyQuoted text at =
     × (slice_index text (at + 1) ≡ double_quote)
     × (slice_index text (at + 2) ≢ double_quote)
 
--- a quote stands at the place, and never closes: each later one is half of a double one
-abbrev pub IsOpen : ℕ → List ℕ → ℕ → Type 0
-IsOpen quote text at = (inside : List ℕ) × (drop at text ≡ quote ∷ doubled quote inside)
+-- a quote stands at the place and is never closed: those behind it stand two in a row, each two for one quote
+abbrev pub IsUnclosed : ℕ → List ℕ → ℕ → Type 0
+IsUnclosed quote text at = (inside : List ℕ) × (drop at text ≡ quote ∷ doubled quote inside)
 
 -- the fault stands at its offset
 abbrev pub IsFault : List ℕ → LexFault → Type 0
 IsFault text (BadChar at) = (at < length text) × (IsStray (slice_index text at) ⊎ IsEmptyQuoted text at)
-IsFault text (OpenText at) = IsOpen single_quote text at
-IsFault text (OpenName at) = IsOpen double_quote text at
+IsFault text (OpenText at) = IsUnclosed single_quote text at
+IsFault text (OpenName at) = IsUnclosed double_quote text at
 IsFault text (NumberRange at) =
     (end : ℕ) × IsLongest text kind.Number at end × (IsInRange (slice_range text at end) → ⊥)
 IsFault text OutOfMemory = ⊥

@@ -8,14 +8,15 @@ use Rattle.rp_lexer.specs.declared.kind.Keyword.{Keyword}
 use Rattle.rp_lexer.specs.declared.kind.TokenKind.{TokenKind}
 use Rattle.rp_lexer.specs.declared.kind.TokenKind.TheVariants as kind
 
--- a letter or `_`, and what may follow it in a name
+-- a letter or `_`
 abbrev pub is_name_start : ℕ → Bool
 is_name_start b = is_ascii_alphabetic b || b == underscore
 
+-- a letter, a digit or `_`
 abbrev pub is_name_byte : ℕ → Bool
 is_name_byte b = is_ascii_alphanumeric b || b == underscore
 
--- a letter or `_`, and then letters, digits and `_`
+-- A letter or `_`, and then letters, digits and `_`. That a name may begin with `_` is this project's own.
 pub record IsIdentifier (bytes : List ℕ) : Type 0 where
   pub start : is_name_start (slice_index bytes 0) ≡ true
   pub each : All (λ b. is_name_byte b ≡ true) bytes
@@ -24,13 +25,13 @@ pub record IsIdentifier (bytes : List ℕ) : Type 0 where
 abbrev pub SpellsAlike : List ℕ → List ℕ → Type 0
 SpellsAlike a b = map to_ascii_lowercase a ≡ map to_ascii_lowercase b
 
--- the bytes, with each quote doubled
+-- the bytes, with two quotes in a row for each quote among them
 abbrev pub doubled : ℕ → List ℕ → List ℕ
 doubled quote [] = []
 doubled quote (b ∷ bytes) =
     if b == quote then quote ∷ quote ∷ doubled quote bytes else b ∷ doubled quote bytes
 
--- the bytes between quotes, with each quote among them doubled
+-- the bytes between quotes, with two quotes in a row for each quote among them
 abbrev pub enclosed : ℕ → List ℕ → List ℕ
 enclosed quote inside = quote ∷ (doubled quote inside ++ quote ∷ [])
 

@@ -2,7 +2,7 @@
 use Rattle.std.specs.Prelude.{◌≡◌, ℕ, List, All}
 use Rattle.rp_lexer.specs.Lexes.{IsToken, Lexes}
 use Rattle.rp_lexer.specs.Faults.{IsFirstFault}
-use Rattle.rp_lexer.specs.Meanings.{NameMeans, TextMeans}
+use Rattle.rp_lexer.specs.Meanings.{MeansName, MeansText}
 use Rattle.rp_lexer.specs.declared.kind.TokenKind.{TokenKind}
 use Rattle.rp_lexer.specs.declared.fault.LexFault.{LexFault}
 use Rattle.rp_lexer.specs.declared.token.Token.{Token}
@@ -29,8 +29,8 @@ EachStands = (text : List ℕ) (tokens : List Token) → Lexes text tokens → A
 -- the bytes of a token mean one name
 abbrev pub OneNameMeaning : Type 0
 OneNameMeaning =
-    (kind : TokenKind) (bytes name other : List ℕ) → NameMeans kind bytes name → NameMeans kind bytes other → name ≡ other
+    (kind : TokenKind) (bytes name other : List ℕ) → MeansName kind bytes name → MeansName kind bytes other → name ≡ other
 
 -- the bytes of a token mean one text
 abbrev pub OneTextMeaning : Type 0
-OneTextMeaning = (bytes text other : List ℕ) → TextMeans bytes text → TextMeans bytes other → text ≡ other
+OneTextMeaning = (bytes text other : List ℕ) → MeansText bytes text → MeansText bytes other → text ≡ other

@@ -56,9 +56,9 @@ abbrev pub Lexes : List ℕ → List Token → Type 0
 Lexes text tokens = LexesUpTo text 0 tokens (length text)
 
 -- the first of the tokens is of the kind
-abbrev pub BeginsWith : TokenKind → List Token → Type 0
-BeginsWith kind [] = ⊥
-BeginsWith kind (token ∷ tokens) = token.kind ≡ kind
+abbrev pub FirstIsOfKind : TokenKind → List Token → Type 0
+FirstIsOfKind kind [] = ⊥
+FirstIsOfKind kind (token ∷ tokens) = token.kind ≡ kind
 
 -- the offset of the first of the tokens, or of the end of the text
 abbrev pub next_offset : List ℕ → List Token → ℕ

@@ -11,23 +11,24 @@ use Rattle.rp_lexer.specs.declared.token.Token.{Token}
 abbrev pub bytes_of : List ℕ → Token → List ℕ
 bytes_of text token = slice_range text token.start token.end
 
--- A name means its upper-case form; a quoted one what stands inside, with each double quote as one.
-abbrev pub NameMeans : TokenKind → List ℕ → List ℕ → Type 0
-NameMeans kind.Name bytes name = name ≡ map to_ascii_uppercase bytes
-NameMeans kind.Quoted bytes name = bytes ≡ enclosed double_quote name
-NameMeans _ bytes name = ⊥
+-- The bytes of a token of this kind mean the name: those of a name its upper-case form, those of a quoted name what stands inside its
+-- quotes, where two in a row stand for one. Those of another kind mean none.
+abbrev pub MeansName : TokenKind → List ℕ → List ℕ → Type 0
+MeansName kind.Name bytes name = name ≡ map to_ascii_uppercase bytes
+MeansName kind.Quoted bytes name = bytes ≡ enclosed double_quote name
+MeansName _ bytes name = ⊥
 
--- A text means what stands inside, with each double quote as one.
-abbrev pub TextMeans : List ℕ → List ℕ → Type 0
-TextMeans bytes text = bytes ≡ enclosed single_quote text
+-- The bytes of a text mean what stands inside its quotes, where two in a row stand for one.
+abbrev pub MeansText : List ℕ → List ℕ → Type 0
+MeansText bytes text = bytes ≡ enclosed single_quote text
 
 -- the token means the name
 abbrev pub IsNameOf : List ℕ → Token → List ℕ → Type 0
-IsNameOf text token name = NameMeans token.kind (bytes_of text token) name
+IsNameOf text token name = MeansName token.kind (bytes_of text token) name
 
 -- the token means the text
 abbrev pub IsTextOf : List ℕ → Token → List ℕ → Type 0
-IsTextOf text token means = TextMeans (bytes_of text token) means
+IsTextOf text token means = MeansText (bytes_of text token) means
 
 -- the value of a number
 abbrev pub number_of : List ℕ → Token → ℕ

@@ -21,7 +21,7 @@ pub record IsStep (text : List ℕ) (at end : ℕ) : Type 0 where
   pub within : end ≤ length text
   pub gap : (last : ℕ) → IsGap text end last → IsGap text at last
 
--- the bytes begin with so many that pass, and no more
+-- the first `len` bytes pass, and the next one doesn't
 pub record IsRun (passes : ℕ → Bool) (rest : List ℕ) (len : ℕ) : Type 0 where
   pub within : len ≤ length rest
   pub each : (k : ℕ) → k < len → passes (slice_index rest k) ≡ true
@@ -45,14 +45,14 @@ abbrev pub mark_in : List (List ℕ × Mark) → List ℕ → Option (Mark × �
 mark_in [] rest = None
 mark_in (e ∷ table) rest = if begins_with rest e.0 then Some (e.1, length e.0) else mark_in table rest
 
--- The front of this length is closed by its last quote, which isn't half of a double one.
+-- The first `len` bytes are enclosed in quotes: the last is a quote, and no second one follows directly.
 pub record Closes (quote : ℕ) (rest : List ℕ) (len : ℕ) : Type 0 where
   pub inside : List ℕ
   pub front : take len rest ≡ enclosed quote inside
   pub within : len ≤ length rest
   pub closed : len < length rest → slice_index rest len ≢ quote
 
--- the quote at the front never closes
+-- the quote at the front is never closed
 abbrev pub NeverCloses : ℕ → List ℕ → Type 0
 NeverCloses quote rest = (inside : List ℕ) × (rest ≡ quote ∷ doubled quote inside)
 
@@ -66,6 +66,7 @@ pub record IsLongestMark (rest : List ℕ) (mark : Mark) (len : ℕ) : Type 0 wh
   pub begins : BeginsWithMark rest mark
   pub longest : (other : Mark) → len < length (mark_spelling other) → BeginsWithMark rest other → ⊥
 
+-- the bytes begin with no mark
 abbrev pub BeginsNoMark : List ℕ → Type 0
 BeginsNoMark rest = (mark : Mark) → BeginsWithMark rest mark → ⊥
 

@@ -53,6 +53,7 @@ keyword_spelling keyword.To = codes "TO"
 keyword_spelling keyword.Unmatched = codes "UNMATCHED"
 keyword_spelling keyword.With = codes "WITH"
 
+-- a mark as it is written
 abbrev pub mark_spelling : Mark → List ℕ
 mark_spelling mark.LeftBraceMinus = codes "{-"
 mark_spelling mark.RightBraceMinus = codes "-}"

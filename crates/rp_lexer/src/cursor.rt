@@ -1,7 +1,7 @@
 //! Tokens that are read one after another, as a parser reads them.
 
 ghost use Rattle.std.specs.Prelude.{◌≡◌, ◌≢◌, ℕ, List, [], ◌∷◌, All, IfSome, IfNone};
-ghost use Rattle.rp_lexer.specs.Lexes.{IsToken, BeginsWith, next_offset};
+ghost use Rattle.rp_lexer.specs.Lexes.{IsToken, FirstIsOfKind, next_offset};
 
 use crate::kind::TokenKind;
 use crate::token::Token;
@@ -24,7 +24,7 @@ pub fn next(tokens: &[Token]) -> Option<(Token, &[Token])>
 /// What stands in a text is handed on, as by `next`.
 pub fn next_if(tokens: &[Token], kind: TokenKind) -> Option<(Token, &[Token])>
     ensures next { IfSome result (λ x. (tokens.now ≡ x.0 ∷ x.1.now) × (x.0.kind ≡ kind)) }
-    ensures other { IfNone result (BeginsWith kind tokens.now → ⊥) }
+    ensures other { IfNone result (FirstIsOfKind kind tokens.now → ⊥) }
     ensures stands { (text : List ℕ) → All (IsToken text) tokens.now →
         IfSome result (λ x. IsToken text x.0 × All (IsToken text) x.1.now) }
 {

@@ -70,7 +70,7 @@ fn upper_case(alloc: Global, text: &str, token: Token) -> Result<String, AllocEr
     Ok(name)
 }
 
-/// What stands between the quotes of a token, with each double quote as one.
+/// What stands between the quotes of a token, where two in a row stand for one.
 fn unquoted(alloc: Global, text: &str, token: Token, quote: char) -> Result<String, AllocError>
     requires stands { IsToken text.now token }
     requires ascii { quote < 128 }
@@ -80,7 +80,7 @@ fn unquoted(alloc: Global, text: &str, token: Token, quote: char) -> Result<Stri
     undoubled(alloc, &text[token.start + 1..token.end - 1], quote)
 }
 
-/// The bytes of the text with each double quote as one.
+/// The bytes of the text, where two quotes in a row stand for one.
 fn undoubled(alloc: Global, mut rest: &str, quote: char) -> Result<String, AllocError>
     requires ascii { quote < 128 }
     requires doubled { (inside : List ℕ) × (rest.now ≡ doubled quote inside) }

@@ -37,7 +37,7 @@ take-nothing (suc n) = refl
 regrouped : (seen part later rest : List ℕ) → seen ++ ((part ++ 10 ∷ later) ++ rest) ≡ (seen ++ part) ++ 10 ∷ (later ++ rest)
 regrouped seen part later rest = simp append_assoc
 
--- a front without LF was read, of which so many bytes are kept
+-- some bytes without a LF were read, and the first `kept` of them are kept
 abbrev pub ReadFront : ℕ → Option (List ℕ) → Option (List ℕ) → List ℕ → Type 0
 ReadFront kept None now line = Unit {0}
 ReadFront kept (Some xs) None line = ⊥

@@ -14,6 +14,7 @@ CutsLine old new line line' =
 abbrev pub CutsRest : Lines → Lines → List ℕ → List ℕ → Type 0
 CutsRest old new line line' = IsLfFree (pending_of old) × (pending_of new ≡ []) × (line' ≡ take old.kept (line ++ pending_of old))
 
+-- what is cut off, by whether there was a LF
 abbrev pub CutsOff : Bool → Lines → Lines → List ℕ → List ℕ → Type 0
 CutsOff is_whole old new line line' = MatchBool is_whole (CutsLine old new line line') (CutsRest old new line line')
 

@@ -2,28 +2,28 @@
 use Rattle.std.specs.Prelude.{◌≡◌, ℕ, zero, suc, ◌+◌, ◌≤◌, List, ◌++◌, length, Option, Some, None}
 use Rattle.rp_lines.specs.Counts.{raised}
 
--- the count after so many calls more
+-- what a device's count of calls stands at after some calls more
 abbrev pub after_calls : ℕ → ℕ → ℕ
 after_calls zero count = count
 after_calls (suc more) count = after_calls more (raised count)
 
--- from `least` to `most` calls were made
+-- The count of calls has gone from old to new by `least` to `most` calls.
 abbrev pub MakesCalls : ℕ → ℕ → ℕ → ℕ → Type 0
 MakesCalls least most old new = (made : ℕ) × (least ≤ made) × (made ≤ most) × (new ≡ after_calls made old)
 
--- So many calls were allowed before, and so many after: at least as many known bytes came as calls were made.
-abbrev pub GivesEach : ℕ → ℕ → Option (List ℕ) → Option (List ℕ) → Type 0
-GivesEach before after None new = Unit {0}
-GivesEach before after (Some xs) None = ⊥
-GivesEach before after (Some xs) (Some ys) = before + length ys ≤ after + length xs
+-- As many bytes came at least, where they are known, as reads were made: those that were allowed before less those that are allowed after.
+abbrev pub AsManyBytesAsReads : ℕ → ℕ → Option (List ℕ) → Option (List ℕ) → Type 0
+AsManyBytesAsReads before after None new = Unit {0}
+AsManyBytesAsReads before after (Some xs) None = ⊥
+AsManyBytesAsReads before after (Some xs) (Some ys) = before + length ys ≤ after + length xs
 
--- known bytes grow by a front of these
+-- The bytes written, where they are known, grow by the first ones of these, perhaps none or all.
 abbrev pub AppendsFront : Option (List ℕ) → Option (List ℕ) → List ℕ → Type 0
 AppendsFront None new bytes = Unit {0}
 AppendsFront (Some xs) None bytes = ⊥
 AppendsFront (Some xs) (Some ys) bytes = (front : List ℕ) × (rest : List ℕ) × (bytes ≡ front ++ rest) × (ys ≡ xs ++ front)
 
--- known bytes grow by a front of a text, and the rest of the text is kept
+-- The bytes written, where they are known, grow by the first ones of a text, and the rest of the text is kept.
 abbrev pub Moves : Option (List ℕ) → List ℕ → Option (List ℕ) → List ℕ → Type 0
 Moves None text new rest = Unit {0}
 Moves (Some xs) text None rest = ⊥

@@ -2,14 +2,16 @@
 use Rattle.std.specs.Prelude.{ℕ, ◌+◌, ◌-◌, ◌*◌, List, drop, vec_len, Option}
 use Rattle.std.specs.Io.KnownBytes.{prepend_known}
 use Rattle.rp_lines.specs.declared.lines.Lines.{Lines}
+use Rattle.rp_lines.specs.declared.lines.TheConstants.{CHUNK}
 
+-- the bytes that are read and not yet cut into lines
 abbrev pub pending_of : Lines → List ℕ
 pending_of lines = drop lines.taken lines.chunk.items
 
--- the bytes of the lines to come, where they are known
+-- the bytes of the lines to come: those pending and those that are still to be read, where these are known
 abbrev pub coming : Lines → Option (List ℕ) → Option (List ℕ)
 coming lines remaining = prepend_known (pending_of lines) remaining
 
--- at most so many lines are left, and more calls than that many chunks
-abbrev pub most_lines_left : Lines → ℕ
-most_lines_left lines = lines.reads * 65537 + (vec_len lines.chunk - lines.taken)
+-- No more lines than this can still come: each takes a byte at least of those pending or to be read, and a read gives at most CHUNK.
+abbrev pub most_lines_to_come : Lines → ℕ
+most_lines_to_come lines = lines.reads * (CHUNK + 1) + (vec_len lines.chunk - lines.taken)

@@ -4,15 +4,15 @@ use Rattle.rp_lines.specs.Counts.{raised}
 use Rattle.rp_lines.specs.declared.lines.LineFault.{LineFault}
 use Rattle.rp_lines.specs.declared.lines.LineFault.TheVariants.{Read, Turns, OutOfMemory}
 
--- A read has told the end where no further line came, and else none has that had not.
-abbrev pub TellsEnd : Result Bool LineFault → Bool → Bool → Type 0
-TellsEnd (Ok true) old new = new ≡ old
-TellsEnd (Ok false) old new = new ≡ true
-TellsEnd (Err fault) old new = new ≡ old
+-- Whether a read has told the end, before and after the next line was asked for: yes where no further line came, and else as before.
+abbrev pub EndIsTold : Result Bool LineFault → Bool → Bool → Type 0
+EndIsTold (Ok true) old new = new ≡ old
+EndIsTold (Ok false) old new = new ≡ true
+EndIsTold (Err fault) old new = new ≡ old
 
--- One read more has failed where that is the fault, and else none.
-abbrev pub TellsFailure : Result Bool LineFault → ℕ → ℕ → Type 0
-TellsFailure (Ok is_whole) old new = new ≡ old
-TellsFailure (Err Read) old new = new ≡ raised old
-TellsFailure (Err Turns) old new = new ≡ old
-TellsFailure (Err OutOfMemory) old new = new ≡ old
+-- How many reads have failed, before and after the next line was asked for: one more where the fault is Read, and else as many.
+abbrev pub FailureIsCounted : Result Bool LineFault → ℕ → ℕ → Type 0
+FailureIsCounted (Ok is_whole) old new = new ≡ old
+FailureIsCounted (Err Read) old new = new ≡ raised old
+FailureIsCounted (Err Turns) old new = new ≡ old
+FailureIsCounted (Err OutOfMemory) old new = new ≡ old

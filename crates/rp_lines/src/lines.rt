@@ -46,10 +46,10 @@ impl Lines {
     ghost use Rattle.std.specs.Prelude.{◌≡◌, ◌<◌, ◌≤◌, ◌⊎◌, true, false, [], length, take, vec_len, IfOk, OnOk, OnErr};
     ghost use Rattle.std.specs.Io.KnownBytes.{Consumes, IsAtEnd};
     ghost use Rattle.rp_lines.specs.Cuts.{Advances, CutsOff};
-    ghost use Rattle.rp_lines.specs.Devices.{GivesEach, after_calls};
+    ghost use Rattle.rp_lines.specs.Devices.{AsManyBytesAsReads, after_calls};
     ghost use Rattle.rp_lines.specs.Lines.{TakesLast, TakesLine};
-    ghost use Rattle.rp_lines.specs.Pending.{pending_of, coming, most_lines_left};
-    ghost use Rattle.rp_lines.specs.Telling.{TellsEnd, TellsFailure};
+    ghost use Rattle.rp_lines.specs.Pending.{pending_of, coming, most_lines_to_come};
+    ghost use Rattle.rp_lines.specs.Telling.{EndIsTold, FailureIsCounted};
 
     /// Nothing is read yet, and at most `reads` calls of `read` will be made.
     pub fn new(alloc: Global, reads: u64, kept: usize) -> Self
@@ -73,14 +73,14 @@ impl Lines {
         ensures last { result ≡ Ok false → TakesLast self.old.kept
             (coming self.old (R.remaining reader.old)) (coming self.new (R.remaining reader.new)) line.new.items }
         ensures end { result ≡ Ok false → IsAtEnd (R.remaining reader.new) }
-        ensures told { TellsEnd result (R.ended reader.old) (R.ended reader.new) }
-        ensures failures { TellsFailure result (R.failures reader.old) (R.failures reader.new) }
+        ensures told { EndIsTold result (R.ended reader.old) (R.ended reader.new) }
+        ensures failures { FailureIsCounted result (R.failures reader.old) (R.failures reader.new) }
         ensures calls { after_calls self.new.reads (R.calls reader.new)
             ≡ after_calls self.old.reads (R.calls reader.old) }
         ensures reads { result ≡ Err LineFault.Turns → self.new.reads ≡ 0 }
         ensures gives { (result ≡ Ok true) ⊎ (result ≡ Err LineFault.Turns) →
-            GivesEach self.old.reads self.new.reads (R.remaining reader.old) (R.remaining reader.new) }
-        ensures falls { result ≡ Ok true → most_lines_left self.new < most_lines_left self.old }
+            AsManyBytesAsReads self.old.reads self.new.reads (R.remaining reader.old) (R.remaining reader.new) }
+        ensures falls { result ≡ Ok true → most_lines_to_come self.new < most_lines_to_come self.old }
         ensures few { vec_len line.new ≤ self.old.kept }
         ensures kept { self.new.kept ≡ self.old.kept }
     {
@@ -120,14 +120,14 @@ impl Lines {
         ensures ok { OnOk result (Consumes (R.remaining reader.old) (R.remaining reader.new) (pending_of self.new)) }
         ensures none { result ≡ Ok false → pending_of self.new ≡ [] }
         ensures end { result ≡ Ok false → IsAtEnd (R.remaining reader.new) }
-        ensures told { TellsEnd result (R.ended reader.old) (R.ended reader.new) }
-        ensures failures { TellsFailure result (R.failures reader.old) (R.failures reader.new) }
+        ensures told { EndIsTold result (R.ended reader.old) (R.ended reader.new) }
+        ensures failures { FailureIsCounted result (R.failures reader.old) (R.failures reader.new) }
         ensures calls { after_calls self.new.reads (R.calls reader.new)
             ≡ after_calls self.old.reads (R.calls reader.old) }
         ensures unread { result ≡ Err LineFault.Turns →
             (self.old.reads ≡ 0) × (self.new ≡ self.old) × (reader.new ≡ reader.old) }
         ensures gives { result ≡ Ok true →
-            GivesEach self.old.reads self.new.reads (R.remaining reader.old) (R.remaining reader.new) }
+            AsManyBytesAsReads self.old.reads self.new.reads (R.remaining reader.old) (R.remaining reader.new) }
         ensures fewer { OnOk result (self.new.reads < self.old.reads) }
         ensures kept { self.new.kept ≡ self.old.kept }
     {

@@ -7,7 +7,7 @@ use Rattle.std.proofs.lemmas.List.{map-append}
 use Rattle.std.proofs.lemmas.Grind.{flat_map-append}
 use Rattle.std.proofs.lemmas.Bool.Decides.{nat_tests}
 use Rattle.rp_pattern.specs.declared.word.Label.{Label}
-use Rattle.rp_pattern.specs.Words.{Mappings, followed, concatenation, alternation, moves, moving, nothing_mapped, moved_past}
+use Rattle.rp_pattern.specs.Words.{Mappings, followed, concatenation, alternation, moves, moving, nothing_mapped, only_past}
 use Rattle.rp_pattern.proofs.Lists.{map-map}
 
 pub append_nil : {A : Type 0} (xs : List A) → xs ++ [] ≡ xs
@@ -84,7 +84,7 @@ concatenation_same p q q' h i = go (p i)
     go (Open ls ∷ ws) = ap (λ z. Open ls ∷ z) (go ws)
 
 -- an iteration that must take a row is the part, and then the test that it did
-pub moving_is : (p : Mappings) (i : ℕ) → concatenation p (moved_past i) i ≡ moving p i
+pub moving_is : (p : Mappings) (i : ℕ) → concatenation p (only_past i) i ≡ moving p i
 moving_is p i = go (p i)
   where
     one : (l : Label) (ls : List Label) (b : Bool) → nat_lt i (i + length (l ∷ ls)) ≡ b → map (preceded (l ∷ ls)) (cond b (Full [] ∷ []) []) ≡ Full (l ∷ ls) ∷ []
@@ -95,8 +95,8 @@ moving_is p i = go (p i)
     none true e = absurd (grind (arith, nat_tests))
     none false e = refl
 
-    go : (ws : List Mapping) → flat_map (followed (moved_past i) i) ws ≡ filter moves ws
+    go : (ws : List Mapping) → flat_map (followed (only_past i) i) ws ≡ filter moves ws
     go [] = refl
-    go (Full [] ∷ ws) = let a = none (nat_lt i (i + 0)) refl in let b = go ws in ap (λ z. z ++ flat_map (followed (moved_past i) i) ws) a ∙ b
-    go (Full (l ∷ ls) ∷ ws) = ap (λ z. z ++ flat_map (followed (moved_past i) i) ws) (one l ls (nat_lt i (i + length (l ∷ ls))) refl) ∙ ap (λ z. Full (l ∷ ls) ∷ z) (go ws)
+    go (Full [] ∷ ws) = let a = none (nat_lt i (i + 0)) refl in let b = go ws in ap (λ z. z ++ flat_map (followed (only_past i) i) ws) a ∙ b
+    go (Full (l ∷ ls) ∷ ws) = ap (λ z. z ++ flat_map (followed (only_past i) i) ws) (one l ls (nat_lt i (i + length (l ∷ ls))) refl) ∙ ap (λ z. Full (l ∷ ls) ∷ z) (go ws)
     go (Open ls ∷ ws) = ap (λ z. Open ls ∷ z) (go ws)

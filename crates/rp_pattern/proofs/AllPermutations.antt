@@ -16,7 +16,7 @@ use Rattle.rp_pattern.specs.Words.{picks, led, arrangements, orders}
 use Rattle.rp_pattern.specs.Permutations.{upto, AreAllPermutations}
 use Rattle.rp_pattern.proofs.Lists.{All-append, All-map, All-flat_map, map-map}
 use Rattle.rp_pattern.proofs.Elements.{Contains-map, flat_map-at}
-use Rattle.rp_pattern.proofs.Places.{length-picks, get_or-picks}
+use Rattle.rp_pattern.proofs.OrdersAt.{length-picks, get_or-picks}
 
 -- ---- each order is a permutation
 

@@ -3,14 +3,14 @@ use Rattle.std.proofs.Common.{◌≡◌, ℕ, zero, suc, ◌+◌, ◌-◌, ◌<�
 use Rattle.rp_pattern.specs.Mapping.{Mapping, Full, Open}
 use Rattle.std.specs.List.{flat_map, filter, AllByRecursion}
 use Rattle.rp_pattern.specs.Words.{Mappings, followed, concatenation, moves, moving, preferred, optional, quantified}
-use Rattle.rp_pattern.specs.WordLaws.{IsWithin}
+use Rattle.rp_pattern.specs.WordLaws.{EndsByRow}
 
 -- no word of p goes past row n
 abbrev pub AreWithin : ℕ → Mappings → Type 0
-AreWithin n p = (i : ℕ) → AllByRecursion (IsWithin n i) (p i)
+AreWithin n p = (i : ℕ) → AllByRecursion (EndsByRow n i) (p i)
 
 -- Where two continuations agree from later rows on, moving words are followed by the same.
-same_followed : (n i : ℕ) (q q' : Mappings) → ((j : ℕ) → i < j → j ≤ suc n → q j ≡ q' j) → (ws : List Mapping) → AllByRecursion (IsWithin n i) ws → flat_map (followed q i) (filter moves ws) ≡ flat_map (followed q' i) (filter moves ws)
+same_followed : (n i : ℕ) (q q' : Mappings) → ((j : ℕ) → i < j → j ≤ suc n → q j ≡ q' j) → (ws : List Mapping) → AllByRecursion (EndsByRow n i) ws → flat_map (followed q i) (filter moves ws) ≡ flat_map (followed q' i) (filter moves ws)
 same_followed n i q q' on [] a = refl
 same_followed n i q q' on (Full [] ∷ ws) a = same_followed n i q q' on ws a.1
 same_followed n i q q' on (Full (l ∷ ls) ∷ ws) a =

@@ -21,7 +21,7 @@ use Rattle.rp_pattern.specs.Turns.{turns, turns_after, chain_turns, within}
 use Rattle.rp_pattern.specs.WordLaws.{IsLater}
 use Rattle.rp_pattern.specs.Continuations.{links_from, reached_parts, tail_links, links_parts, tail_parts, continuation_parts, later_parts, chain_words, chain_left, choice_words, stack_words, stack_left, rises, pushed}
 use Rattle.rp_pattern.specs.Splits.{StandsFor, option_words, option_turns, Splits, TakesRow, Waits}
-use Rattle.rp_pattern.specs.Choices.{start_of, entered, whole, whole_left, whole_from, whole_left_from, remaining, left, below, below_left, after, after_left, first_later, OfFirst, HasTop, AtRow, IsFront, IsShorterFront, IsSamePattern, IsSameWhole, IsSplit, MapsRow, IsFullWord, IsOpenWord, IsNothing}
+use Rattle.rp_pattern.specs.Choices.{start_of, entered, whole, whole_turns, whole_from, whole_turns_from, remaining, turns_left, below, turns_left_below, after, turns_left_after, first_later, OfFirst, HasTop, AtRow, AreFirstOf, AreStrictlyFirstOf, IsSamePattern, IsSameWhole, IsSplit, IsMappedRow, IsFullWord, IsOpenWord, IsNothing}
 use Rattle.rp_pattern.proofs.Lists.{map-map}
 use Rattle.rp_pattern.proofs.Algebra.{append_nil, concatenation_nothing_last, map_same, preceded_twice, map_preceded_nothing}
 
@@ -105,8 +105,8 @@ module _ (c : Choices) (s : ℕ) (ls : List Label) (cs : List Choice) (k : Stack
   unfolding remaining
   remaining_is n e = ap (λ b. cond b (stack_words n e c.start c.labels.items c.stack) (chain_words (tail_parts n e c.origin) c.start)) k.begun ∙ same_words n e
 
-  pub left_is : (n : ℕ) (e : End) → left c n e ≡ stack_left n e s cs
-  unfolding left
+  pub left_is : (n : ℕ) (e : End) → turns_left c n e ≡ stack_left n e s cs
+  unfolding turns_left
   left_is n e =
       ap (λ b. cond b (stack_left n e c.start c.stack) (chain_left (tail_parts n e c.origin) c.start)) k.begun
       ∙ ap (λ z. stack_left n e z c.stack) k.start ∙ ap (stack_left n e s) k.choices
@@ -118,8 +118,8 @@ module _ (c : Choices) (s : ℕ) (ls : List Label) (cs : List Choice) (k : Stack
       ∙ ap (λ z. stack_words n e s z (drop 1 c.stack)) k.labels
       ∙ ap (λ z. stack_words n e s ls (drop 1 z)) k.choices
 
-  pub below_left_is : (n : ℕ) (e : End) → below_left c n e ≡ stack_left n e s (drop 1 cs)
-  unfolding below_left
+  pub below_left_is : (n : ℕ) (e : End) → turns_left_below c n e ≡ stack_left n e s (drop 1 cs)
+  unfolding turns_left_below
   below_left_is n e = ap (λ z. stack_left n e z (drop 1 c.stack)) k.start ∙ ap (λ z. stack_left n e s (drop 1 z)) k.choices
 
   pub after_is : (n : ℕ) (e : End) → after c n e ≡ chain_words (first_later n e cs) (s + length ls)
@@ -129,8 +129,8 @@ module _ (c : Choices) (s : ℕ) (ls : List Label) (cs : List Choice) (k : Stack
       ∙ ap (λ z. chain_words (first_later n e c.stack) (s + length z)) k.labels
       ∙ ap (λ z. chain_words (first_later n e z) (s + length ls)) k.choices
 
-  pub after_left_is : (n : ℕ) (e : End) → after_left c n e ≡ chain_left (first_later n e cs) (s + length ls)
-  unfolding after_left
+  pub after_left_is : (n : ℕ) (e : End) → turns_left_after c n e ≡ chain_left (first_later n e cs) (s + length ls)
+  unfolding turns_left_after
   after_left_is n e =
       ap (λ z. chain_left (first_later n e c.stack) (z + length c.labels.items)) k.start
       ∙ ap (λ z. chain_left (first_later n e c.stack) (s + length z)) k.labels
@@ -234,7 +234,7 @@ module _ (old new : Choices) (s : ℕ) (ls : List Label) (t : Choice) (cs : List
             omega (arith, left_is new s l (pushed t.depth x.preferred ds) m n' e', left_is old s ls (t ∷ cs) k n' e', pushed_left n' e' s d x.preferred ds, pushed_left n' e' s d x.other cs, w.turns n' e' later, long, both);
       }
 
-  pub maps_row : (l : Label) → Stack new s (take t.depth ls ++ l ∷ []) (t ∷ cs) → TakesRow n e (s + t.depth) (λ n e. continuation_parts n e t.continuation) l → MapsRow old new n e
+  pub maps_row : (l : Label) → Stack new s (take t.depth ls ++ l ∷ []) (t ∷ cs) → TakesRow n e (s + t.depth) (λ n e. continuation_parts n e t.continuation) l → IsMappedRow old new n e
   maps_row l m w =
       let d = t.depth in
       let i : ℕ = s + t.depth in
@@ -285,14 +285,14 @@ is_nothing old new s ls n e k m = record {
 }
 
 pub same_pattern : (old new : Choices) → new.origin ≡ old.origin → IsSamePattern old new
-unfolding whole_from whole_left_from
+unfolding whole_from whole_turns_from
 same_pattern old new o = record {
   words = λ n e row. ap (λ t. chain_words (tail_parts n e t) row) o;
   left = λ n e row. ap (λ t. chain_left (tail_parts n e t) row) o;
 }
 
 pub same_whole : (old new : Choices) → new.start ≡ old.start → new.origin ≡ old.origin → IsSameWhole old new
-unfolding start_of whole whole_left
+unfolding start_of whole whole_turns
 same_whole old new s o = record {
   pattern = same_pattern old new o;
   start = s;
@@ -339,8 +339,8 @@ module _ (old new : Choices) (r : Option Continuation) (n : ℕ) (e : End) (not 
       ∙ ap (option_words n e r) at_start ∙ h.words
       ∙ sym (ap (λ b. cond b (stack_words n e old.start old.labels.items old.stack) (chain_words (tail_parts n e old.origin) old.start)) not)
 
-  pub begun_left : left new n e ≡ left old n e
-  unfolding left
+  pub begun_left : turns_left new n e ≡ turns_left old n e
+  unfolding turns_left
   begun_left =
       left_is new old.start [] (pushed 0 r []) m n e
       ∙ pushed_left n e old.start 0 r []
@@ -357,14 +357,14 @@ module _ (old new : Choices) (t : Choice) (cs : List Choice) (n : ℕ) (e : End)
       ∙ sym (below_cut old new old.start old.labels.items t cs n e k r n e)
       ∙ sym (below_is old old.start old.labels.items (t ∷ cs) k n e)
 
-  pub given_up_left : left new n e ≡ below_left old n e
+  pub given_up_left : turns_left new n e ≡ turns_left_below old n e
   given_up_left = left_is new old.start (take t.depth old.labels.items) cs m n e ∙ sym (below_left_is old old.start old.labels.items (t ∷ cs) k n e)
 
-pub cut_front : (old new : Choices) (depth : ℕ) → new.labels.items ≡ take depth old.labels.items → IsFront (entered new) (entered old)
+pub cut_front : (old new : Choices) (depth : ℕ) → new.labels.items ≡ take depth old.labels.items → AreFirstOf (entered new) (entered old)
 unfolding entered
 cut_front old new depth h = (depth, h)
 
-pub cut_off : (old new : Choices) (t : Choice) (cs : List Choice) → old.stack ≡ t ∷ cs → new.labels.items ≡ take t.depth old.labels.items → AtRow old → IsShorterFront (entered new) (entered old)
+pub cut_off : (old new : Choices) (t : Choice) (cs : List Choice) → old.stack ≡ t ∷ cs → new.labels.items ≡ take t.depth old.labels.items → AtRow old → AreStrictlyFirstOf (entered new) (entered old)
 unfolding entered AtRow
 cut_off old new t cs k h r =
     let row : t.depth + 1 ≡ length old.labels.items = subst (OfFirst (λ c. c.depth + 1 ≡ length old.labels.items)) k r.1 in
@@ -382,7 +382,7 @@ module _ (old new : Choices) (r : Option Continuation) (n : ℕ) (e : End) (k : 
       ∙ ap (λ z. map (preceded (entered old)) z ++ stack_words n e old.start old.labels.items (drop 1 old.stack)) (h.words ∙ sym (after_is old old.start old.labels.items old.stack k n e))
       ∙ ap (λ z. map (preceded (entered old)) (after old n e) ++ z) (sym (below_is old old.start old.labels.items old.stack k n e))
 
-  pub admitted_left : left new n e ≡ after_left old n e + below_left old n e
+  pub admitted_left : turns_left new n e ≡ turns_left_after old n e + turns_left_below old n e
   admitted_left =
       let a = left_is new old.start old.labels.items (pushed (length old.labels.items) r (drop 1 old.stack)) m n e in
       let b = pushed_left n e old.start (length old.labels.items) r (drop 1 old.stack) in
@@ -397,8 +397,8 @@ module _ (c : Choices) (not : c.begun ≡ false) (n : ℕ) (e : End) where
   unfolding remaining whole
   fresh_remaining = ap (λ b. cond b (stack_words n e c.start c.labels.items c.stack) (chain_words (tail_parts n e c.origin) c.start)) not
 
-  pub fresh_left : left c n e ≡ whole_left c n e
-  unfolding left whole_left
+  pub fresh_left : turns_left c n e ≡ whole_turns c n e
+  unfolding turns_left whole_turns
   fresh_left = ap (λ b. cond b (stack_left n e c.start c.stack) (chain_left (tail_parts n e c.origin) c.start)) not
 
 -- what follows a row, at that row
@@ -407,18 +407,18 @@ module _ (c : Choices) (r : Option Continuation) (n : ℕ) (e : End) (row : ℕ)
   unfolding after
   followed_words = ap length (h.words ∙ ap (chain_words (first_later n e c.stack)) at)
 
-  pub followed_left : option_turns n e r row + length (option_words n e r row) ≡ after_left c n e
-  unfolding after_left
+  pub followed_left : option_turns n e r row + length (option_words n e r row) ≡ turns_left_after c n e
+  unfolding turns_left_after
   followed_left = omega (arith, h.turns, ap length h.words) ∙ ap (chain_left (first_later n e c.stack)) at
 
 pub no_choices : (xs : List Choice) → length xs ≡ 0 → reverse xs ≡ []
 no_choices [] h = refl
 no_choices (x ∷ xs) h = absurd (omega arith)
 
-pub all_front : (ls : List Label) → IsFront ls ls
+pub all_front : (ls : List Label) → AreFirstOf ls ls
 all_front ls = (length ls, sym (take-all ls))
 
-pub none_front : (ls of : List Label) → ls ≡ [] → IsFront ls of
+pub none_front : (ls of : List Label) → ls ≡ [] → AreFirstOf ls of
 none_front ls of h = (0, h)
 
 pub rises_subst : (m : ℕ) (cs ds : List Choice) → cs ≡ ds → IsTrue (rises m ds) → IsTrue (rises m cs)
@@ -449,14 +449,14 @@ module _ (c : Choices) (node : Node) (f : Form) (n : ℕ) (e : End) (tail : tail
   unfolding whole_from
   new_from row = words_at row
 
-  pub new_left_from : (row : ℕ) → whole_left_from c n e row ≡ turns n e f row + length (words n e f row)
-  unfolding whole_left_from
+  pub new_left_from : (row : ℕ) → whole_turns_from c n e row ≡ turns n e f row + length (words n e f row)
+  unfolding whole_turns_from
   new_left_from row = left_at row
 
   pub new_whole : whole c n e ≡ words n e f c.start
   unfolding whole
   new_whole = words_at c.start
 
-  pub new_left : whole_left c n e ≡ turns n e f c.start + length (words n e f c.start)
-  unfolding whole_left
+  pub new_left : whole_turns c n e ≡ turns n e f c.start + length (words n e f c.start)
+  unfolding whole_turns
   new_left = left_at c.start

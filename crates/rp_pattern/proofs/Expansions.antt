@@ -12,7 +12,7 @@ use Rattle.rp_pattern.specs.declared.word.End.{End}
 use Rattle.rp_pattern.specs.declared.word.End.TheVariants.{Open as OpenEnd, Closed as ClosedEnd}
 use Rattle.rp_pattern.specs.declared.word.Label.{Label}
 use Rattle.rp_pattern.specs.Mapping.{Mapping, Full, Open, preceded, excluded_label, excluded_mapping}
-use Rattle.rp_pattern.specs.Words.{Mappings, may_go_on, may_end, nothing_mapped, followed, concatenation, alternation, exclusion, within_exclusion, moving, moved_past, optional, further, words}
+use Rattle.rp_pattern.specs.Words.{Mappings, may_go_on, may_end, nothing_mapped, followed, concatenation, alternation, exclusion, within_exclusion, moving, only_past, optional, further, words}
 use Rattle.rp_pattern.specs.Turns.{WordsAndTurns, turns, one_turn, concatenation_turns, chain_turns, within, iterations}
 use Rattle.rp_pattern.specs.Continuations.{chain_words, form_part}
 use Rattle.rp_pattern.specs.Splits.{repeated}
@@ -247,25 +247,25 @@ none_left_leaves reluctant p ps i = passed (iterations 0 0 reluctant p) ps i ref
 
 module _ (p : WordsAndTurns) (o : Mappings) (ps : List WordsAndTurns) (i : ℕ) where
   -- another iteration that takes a row, or what comes after
-  another : flat_map (followed (chain_words ps) i) (concatenation (moving p.0) o i) ≡ concatenation p.0 (concatenation (concatenation (moved_past i) o) (chain_words ps)) i
+  another : flat_map (followed (chain_words ps) i) (concatenation (moving p.0) o i) ≡ concatenation p.0 (concatenation (concatenation (only_past i) o) (chain_words ps)) i
   another =
-      ap (flat_map (followed (chain_words ps) i)) (ap (flat_map (followed o i)) (sym (moving_is p.0 i)) ∙ concatenation_assoc p.0 (moved_past i) o i)
-      ∙ concatenation_assoc p.0 (concatenation (moved_past i) o) (chain_words ps) i
+      ap (flat_map (followed (chain_words ps) i)) (ap (flat_map (followed o i)) (sym (moving_is p.0 i)) ∙ concatenation_assoc p.0 (only_past i) o i)
+      ∙ concatenation_assoc p.0 (concatenation (only_past i) o) (chain_words ps) i
 
   stop : flat_map (followed (chain_words ps) i) (Full [] ∷ []) ≡ chain_words ps i
   stop = concatenation_nothing_first (chain_words ps) i
 
-  greedy : flat_map (followed (chain_words ps) i) (concatenation (moving p.0) o i ++ Full [] ∷ []) ≡ concatenation p.0 (concatenation (concatenation (moved_past i) o) (chain_words ps)) i ++ chain_words ps i
+  greedy : flat_map (followed (chain_words ps) i) (concatenation (moving p.0) o i ++ Full [] ∷ []) ≡ concatenation p.0 (concatenation (concatenation (only_past i) o) (chain_words ps)) i ++ chain_words ps i
   greedy =
       flat_map-append (followed (chain_words ps) i) (concatenation (moving p.0) o i) (Full [] ∷ [])
       ∙ ap (λ z. z ++ flat_map (followed (chain_words ps) i) (Full [] ∷ [])) another
-      ∙ ap (λ z. concatenation p.0 (concatenation (concatenation (moved_past i) o) (chain_words ps)) i ++ z) stop
+      ∙ ap (λ z. concatenation p.0 (concatenation (concatenation (only_past i) o) (chain_words ps)) i ++ z) stop
 
-  lazy : flat_map (followed (chain_words ps) i) ((Full [] ∷ []) ++ concatenation (moving p.0) o i) ≡ chain_words ps i ++ concatenation p.0 (concatenation (concatenation (moved_past i) o) (chain_words ps)) i
+  lazy : flat_map (followed (chain_words ps) i) ((Full [] ∷ []) ++ concatenation (moving p.0) o i) ≡ chain_words ps i ++ concatenation p.0 (concatenation (concatenation (only_past i) o) (chain_words ps)) i
   lazy =
       flat_map-append (followed (chain_words ps) i) (Full [] ∷ []) (concatenation (moving p.0) o i)
       ∙ ap (λ z. flat_map (followed (chain_words ps) i) (Full [] ∷ []) ++ z) another
-      ∙ ap (λ z. z ++ concatenation p.0 (concatenation (concatenation (moved_past i) o) (chain_words ps)) i) stop
+      ∙ ap (λ z. z ++ concatenation p.0 (concatenation (concatenation (only_past i) o) (chain_words ps)) i) stop
 
 pub greedy_leaves : (h : ℕ) (p : WordsAndTurns) (ps : List WordsAndTurns) (i : ℕ) → LeavesTwo i (iterations 0 (suc h) false p ∷ ps) (repeated h false p ps i) ps
 greedy_leaves h p ps i = record {

@@ -11,7 +11,7 @@ use Rattle.rp_pattern.specs.declared.form.Form.TheFolds.{map-Form, fold-roll-For
 use Rattle.rp_pattern.specs.declared.word.End.{End}
 use Rattle.rp_pattern.specs.declared.word.End.TheVariants.{Open as OpenEnd, Closed as ClosedEnd}
 use Rattle.rp_pattern.specs.declared.word.Label.{Label}
-use Rattle.rp_pattern.specs.LabelLaws.{IsBelow, LabelsBelow}
+use Rattle.rp_pattern.specs.LabelLaws.{IsBelow, VariablesStayBelow}
 use Rattle.rp_pattern.specs.Variables.{all_true, are_below, below_step}
 use Rattle.rp_pattern.specs.Words.{Mappings, words, words_step, one_row, at_start, at_end, optional, further, may_end, may_go_on}
 use Rattle.rp_pattern.proofs.Lists.{All-append, All-map, map-map}
@@ -114,5 +114,5 @@ module _ (k : ℕ) where
         subst (λ z. Holds (roll-Form z)) is (λ h.
         subst (Each Below) (sym (fold-roll-Form Mappings (words_step n e) (forms y))) (layer y (sym (fold-roll-Form Bool (below_step k) (forms y)) ∙ h))))
 
-pub labels_below : LabelsBelow
+pub labels_below : VariablesStayBelow
 labels_below k f h n e = labels_of_form k n e f h

@@ -14,7 +14,7 @@ use Rattle.rp_pattern.specs.Permutations.{upto}
 use Rattle.rp_pattern.specs.Maps as M
 use Rattle.rp_pattern.specs.Maps.{Maps, MapsInOrder, Iterates, WordsAreMappings}
 use Rattle.rp_pattern.specs.Readings as R
-use Rattle.rp_pattern.specs.Readings.{Reads, ReadsInOrder, ReadsTimes, AreReadings, parts_at}
+use Rattle.rp_pattern.specs.Readings.{MapsBy, MapsInOrderBy, IteratesBy, AreReadings, parts_at}
 use Rattle.rp_pattern.proofs.Elements.{Contains-same, Contains-map}
 use Rattle.rp_pattern.proofs.AnyOrder.{by_places, reordered}
 use Rattle.rp_pattern.proofs.Readings.{words_are_readings}
@@ -24,10 +24,10 @@ all_parts : (ps : Vec (Rc Form Global) Global) → parts_at ps (upto (length ps.
 all_parts ps = ap (λ k. parts_at ps (upto k)) (sym (length-map ps.items (λ p. p.value))) ∙ by_places (map (λ p. p.value) ps.items) Empty
 
 module _ (n : ℕ) (e : End) where
-  -- ---- a mapping without its choices
+  -- ---- a mapping without its decisions
 
   mutual
-    forget : {f : Form} {i : ℕ} {c : List ℕ} {w : Mapping} → Reads n e f i c w → Maps n e f i w
+    forget : {f : Form} {i : ℕ} {c : List ℕ} {w : Mapping} → MapsBy n e f i c w → Maps n e f i w
     forget (R.row h) = M.row h
     forget (R.later_row h k) = M.later_row h k
     forget R.nothing = M.nothing
@@ -45,22 +45,22 @@ module _ (n : ℕ) (e : End) where
     forget (R.excluded a) = M.excluded (forget a)
     forget (R.iterated m a) = M.iterated m (forget_iterations a)
 
-    forget_sequence : {fs : List Form} {i : ℕ} {c : List ℕ} {w : Mapping} → ReadsInOrder n e fs i c w → MapsInOrder n e fs i w
+    forget_sequence : {fs : List Form} {i : ℕ} {c : List ℕ} {w : Mapping} → MapsInOrderBy n e fs i c w → MapsInOrder n e fs i w
     forget_sequence R.no_more = M.no_more
     forget_sequence (R.next a b) = M.next (forget a) (forget_sequence b)
     forget_sequence (R.next_open a) = M.next_open (forget a)
 
-    forget_iterations : {f : Form} {x : Bool} {l k i : ℕ} {c : List ℕ} {w : Mapping} → ReadsTimes n e f x l k i c w → Iterates n e f l k i w
+    forget_iterations : {f : Form} {x : Bool} {l k i : ℕ} {c : List ℕ} {w : Mapping} → IteratesBy n e f x l k i c w → Iterates n e f l k i w
     forget_iterations R.stop = M.stop
     forget_iterations (R.required a b) = M.required (forget a) (forget_iterations b)
     forget_iterations (R.required_open a) = M.required_open (forget a)
     forget_iterations (R.another a b) = M.another (forget a) (forget_iterations b)
     forget_iterations (R.another_open a) = M.another_open (forget a)
 
-  -- ---- the choices that lead to a mapping
+  -- ---- the decisions that lead to a mapping
 
   mutual
-    find : {f : Form} {i : ℕ} {w : Mapping} → Maps n e f i w → (c : List ℕ) × Reads n e f i c w
+    find : {f : Form} {i : ℕ} {w : Mapping} → Maps n e f i w → (c : List ℕ) × MapsBy n e f i c w
     find (M.row h) = ([], R.row h)
     find (M.later_row h k) = ([], R.later_row h k)
     find M.nothing = ([], R.nothing)
@@ -74,16 +74,16 @@ module _ (n : ℕ) (e : End) where
     find (M.permuted ps {order = order} {i = i} {w = w} s a) =
         let x = find_sequence a in
         let r = reordered (λ k. get_or (map (λ p. p.value) ps.items) k Empty) (upto (length ps.items)) order (subst (λ z. IsPermutation z order) (sym (all_parts ps)) s) in
-        (r.0 ++ x.0, R.permuted ps r.1 (subst (λ z. ReadsInOrder n e z i x.0 w) r.2 x.1))
+        (r.0 ++ x.0, R.permuted ps r.1 (subst (λ z. MapsInOrderBy n e z i x.0 w) r.2 x.1))
     find (M.excluded a) = let x = find a in (x.0, R.excluded x.1)
     find (M.iterated {reluctant = x} m a) = let y = find_iterations a x in (y.0, R.iterated m y.1)
 
-    find_sequence : {fs : List Form} {i : ℕ} {w : Mapping} → MapsInOrder n e fs i w → (c : List ℕ) × ReadsInOrder n e fs i c w
+    find_sequence : {fs : List Form} {i : ℕ} {w : Mapping} → MapsInOrder n e fs i w → (c : List ℕ) × MapsInOrderBy n e fs i c w
     find_sequence M.no_more = ([], R.no_more)
     find_sequence (M.next a b) = let x = find a in let y = find_sequence b in (x.0 ++ y.0, R.next x.1 y.1)
     find_sequence (M.next_open a) = let x = find a in (x.0, R.next_open x.1)
 
-    find_iterations : {f : Form} {l k i : ℕ} {w : Mapping} → Iterates n e f l k i w → (r : Bool) → (c : List ℕ) × ReadsTimes n e f r l k i c w
+    find_iterations : {f : Form} {l k i : ℕ} {w : Mapping} → Iterates n e f l k i w → (r : Bool) → (c : List ℕ) × IteratesBy n e f r l k i c w
     find_iterations M.stop = λ r. (R.to_stop r ∷ [], R.stop)
     find_iterations (M.required a b) = λ r. let x = find a in let y = find_iterations b r in (x.0 ++ y.0, R.required x.1 y.1)
     find_iterations (M.required_open a) = λ r. let x = find a in (x.0, R.required_open x.1)
@@ -94,7 +94,7 @@ pub words_are_mappings : WordsAreMappings
 words_are_mappings f n e i w = (
   λ h.
       let r = words_are_readings f n e i in
-      All-contains (Maps n e f i) (map (λ p. p.1) r.0) w (All-map (Maps n e f i) (λ p. p.1) r.0 (All-weaker (λ p. Reads n e f i p.0 p.1) (λ p. Maps n e f i p.1) (λ p a. forget n e a) r.0 r.1.each)) (Contains-same (sym r.2) h),
+      All-contains (Maps n e f i) (map (λ p. p.1) r.0) w (All-map (Maps n e f i) (λ p. p.1) r.0 (All-weaker (λ p. MapsBy n e f i p.0 p.1) (λ p. Maps n e f i p.1) (λ p a. forget n e a) r.0 r.1.each)) (Contains-same (sym r.2) h),
   λ m.
       let x = find n e m in
       let r = words_are_readings f n e i in

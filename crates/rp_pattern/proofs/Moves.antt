@@ -12,7 +12,7 @@ use Rattle.rp_pattern.specs.declared.form.Form.TheFolds.{map-Form, fold-roll-For
 use Rattle.rp_pattern.specs.declared.word.End.{End}
 use Rattle.rp_pattern.specs.declared.word.End.TheVariants.{Open as OpenEnd, Closed as ClosedEnd}
 use Rattle.rp_pattern.specs.declared.word.Label.{Label}
-use Rattle.rp_pattern.specs.Words.{Mappings, words, words_step, one_row, followed, concatenation, exclusion, moves, moved_past, optional, required, further, may_go_on}
+use Rattle.rp_pattern.specs.Words.{Mappings, words, words_step, one_row, followed, concatenation, exclusion, moves, only_past, optional, required, further, may_go_on}
 use Rattle.rp_pattern.specs.Turns.{WordsAndTurns, turns_after, chain_turns, past}
 use Rattle.rp_pattern.specs.Movement.{always_moves, movement_step}
 use Rattle.rp_pattern.specs.Continuations.{chain_words, form_part}
@@ -131,9 +131,9 @@ module _ (p o : WordsAndTurns) (ps : List WordsAndTurns) (i : ℕ) (all : AllMov
   pub again_words : chain_words (p ∷ o ∷ ps) i ≡ chain_words (p ∷ past i o ∷ ps) i
   again_words =
       let rest : Mappings = concatenation o.0 (chain_words ps) in
-      let passed : concatenation p.0 (concatenation (moved_past i) rest) i ≡ concatenation p.0 rest i =
-      sym (concatenation_assoc p.0 (moved_past i) rest i) ∙ ap (flat_map (followed rest i)) (moving_is p.0 i ∙ all_moving (p.0 i) (all i)) in
-      sym passed ∙ sym (concatenation_same p.0 (concatenation (concatenation (moved_past i) o.0) (chain_words ps)) (concatenation (moved_past i) rest) (λ j. concatenation_assoc (moved_past i) o.0 (chain_words ps) j) i)
+      let passed : concatenation p.0 (concatenation (only_past i) rest) i ≡ concatenation p.0 rest i =
+      sym (concatenation_assoc p.0 (only_past i) rest i) ∙ ap (flat_map (followed rest i)) (moving_is p.0 i ∙ all_moving (p.0 i) (all i)) in
+      sym passed ∙ sym (concatenation_same p.0 (concatenation (concatenation (only_past i) o.0) (chain_words ps)) (concatenation (only_past i) rest) (λ j. concatenation_assoc (only_past i) o.0 (chain_words ps) j) i)
 
   pub again_turns : chain_turns (p ∷ o ∷ ps) i ≡ chain_turns (p ∷ past i o ∷ ps) i
   again_turns = ap (λ z. p.1 i + z) (go (p.0 i) (all i))

@@ -1,7 +1,7 @@
 -- A list that ascends strictly is decided by its elements, and so are the readings of a pattern in order.
 use Rattle.std.proofs.Common.{◌≡◌, ℕ, zero, suc, ◌<◌, List, [], ◌∷◌, length, get_or, Contains, AllPairs, refl, sym, ◌∙◌, subst, arith}
 use Rattle.std.proofs.lemmas.List.Elements.{All-contains}
-use Rattle.rp_pattern.specs.Readings.{Reads, IsPreferred, here, later, ReadingsAreOne}
+use Rattle.rp_pattern.specs.Readings.{MapsBy, IsPreferred, here, later, ReadingsAreOne}
 use Rattle.rp_pattern.proofs.Elements.{Contains-head, Contains-tail}
 
 module _ {X : Type 0} (R : X → X → Type 0) (not_both : (x y : X) → R x y → R y x → ⊥) where
@@ -36,7 +36,7 @@ module _ {X : Type 0} (R : X → X → Type 0) (not_both : (x y : X) → R x y �
       (λ z c. let d = from z (Contains-tail y ys z c) in in_tail y x ys xs up' (sym same) z c d.0 d.1 d.2) in
       cc
 
--- of two lists of choices one at most is preferred to the other
+-- of two lists of decisions one at most is preferred to the other
 not_both : {c d e f : List ℕ} → IsPreferred c d → IsPreferred e f → d ≡ e → f ≡ c → ⊥
 not_both (here {x = x} {y = y} h) (here {x = u} {y = v} k) p q = let a : y ≡ u = cc in let b : v ≡ x = cc in absurd (omega arith)
 not_both (here {x = x} {y = y} h) (later {x = u} k) p q = let a : y ≡ u = cc in let b : u ≡ x = cc in absurd (omega arith)
@@ -45,5 +45,5 @@ not_both (later {c = c} {d = d} h) (later {c = e} {d = f} k) p q = let a : d ≡
 
 pub readings_are_one : ReadingsAreOne
 readings_are_one f n e i readings others a b = same_list (λ r s. IsPreferred r.0 s.0) (λ x y h k. not_both h k refl refl) readings others a.ascending b.ascending
-    (λ z c. b.every z.0 z.1 (All-contains (λ r. Reads n e f i r.0 r.1) readings z a.each c))
-    (λ z c. a.every z.0 z.1 (All-contains (λ r. Reads n e f i r.0 r.1) others z b.each c))
+    (λ z c. b.every z.0 z.1 (All-contains (λ r. MapsBy n e f i r.0 r.1) readings z a.each c))
+    (λ z c. a.every z.0 z.1 (All-contains (λ r. MapsBy n e f i r.0 r.1) others z b.each c))

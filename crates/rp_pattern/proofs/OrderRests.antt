@@ -25,7 +25,7 @@ use Rattle.rp_pattern.specs.Splits.{StandsFor, SplitsAt}
 use Rattle.rp_pattern.proofs.Lists.{All-map, All-flat_map, map-map}
 use Rattle.rp_pattern.proofs.FormEquations.{words_permute}
 use Rattle.rp_pattern.proofs.TurnEquations.{whole_part, turns_permute}
-use Rattle.rp_pattern.proofs.Places.{length-orders, orders_at}
+use Rattle.rp_pattern.proofs.OrdersAt.{length-orders, orders_at}
 use Rattle.rp_pattern.proofs.TurnsPermuted.{sequence-append, order_words, no_order_words, permuted_words, order_taken, no_order_taken, permuted_taken}
 use Rattle.rp_pattern.proofs.Expansions.{LeavesTwo}
 use Rattle.rp_pattern.proofs.Steps.{node_as}

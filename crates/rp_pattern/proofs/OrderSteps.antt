@@ -7,7 +7,7 @@ use Rattle.std.proofs.lemmas.List.FromFn.{length-range_with_len}
 use Rattle.std.proofs.lemmas.Nat.{mod_below}
 use Rattle.rp_pattern.specs.Permutations.{upto, factorial}
 use Rattle.rp_pattern.specs.Words.{orders, arrangements}
-use Rattle.rp_pattern.proofs.Places.{factorial_positive, get_or-arrangements, length-orders}
+use Rattle.rp_pattern.proofs.OrdersAt.{factorial_positive, get_or-arrangements, length-orders}
 
 -- What is left is arranged, and the place within its arrangements tells how the order goes on.
 pub record GoesOn (k place taken : ℕ) (left order : List ℕ) (within : ℕ) : Type 0 where

@@ -47,11 +47,11 @@ abbrev pub AscendBy : {X : Type 0} → (X → List ℕ) → List X → Type 0
 AscendBy key [] = Unit {0}
 AscendBy key (x ∷ xs) = AllByRecursion (λ y. IsPreferred (key x) (key y)) xs × AscendBy key xs
 
-abbrev choices_of : Reading → List ℕ
-choices_of r = r.0
+abbrev decisions_of : Reading → List ℕ
+decisions_of r = r.0
 
 abbrev pub Ascend : List Reading → Type 0
-Ascend rs = AscendBy choices_of rs
+Ascend rs = AscendBy decisions_of rs
 
 ascend-append : (xs ys : List Reading) → Ascend xs → Ascend ys → AllByRecursion (λ x. AllByRecursion (λ y. IsPreferred x.0 y.0) ys) xs → Ascend (xs ++ ys)
 ascend-append [] ys a b h = b
@@ -98,7 +98,7 @@ abbrev Ascending : Readings → Type 0
 Ascending p = (i : ℕ) → Ascend (p i)
 
 then_ascends : (p q : Readings) → Ascending p → Ascending q → Ascending (then_also p q)
-then_ascends p q a b i = ascend-flat_map choices_of (λ r. follow q i r.0 r.1) (λ r. each r.0 r.1) (λ r. starts r.0 r.1) (p i) (a i)
+then_ascends p q a b i = ascend-flat_map decisions_of (λ r. follow q i r.0 r.1) (λ r. each r.0 r.1) (λ r. starts r.0 r.1) (p i) (a i)
   where
     each : (c : List ℕ) (w : Mapping) → Ascend (follow q i c w)
     each c (Full ls) = ascend-map (gone_on c ls) (λ r s h. preferred-after c r.0 s.0 h) (q (i + length ls)) (b (i + length ls))

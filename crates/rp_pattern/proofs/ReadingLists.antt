@@ -27,7 +27,7 @@ Readings = ℕ → List Reading
 abbrev pub silent : Mapping → Reading
 silent w = ([], w)
 
--- these readings with no choice
+-- these readings with no decision
 abbrev pub plain : Mappings → Readings
 plain p i = map silent (p i)
 

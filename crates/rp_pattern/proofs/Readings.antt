@@ -19,10 +19,10 @@ use Rattle.rp_pattern.specs.declared.word.End.TheVariants.{Open as OpenEnd, Clos
 use Rattle.rp_pattern.specs.Mapping.{Mapping, Full, Open, preceded}
 use Rattle.rp_pattern.specs.Words as W
 use Rattle.rp_pattern.specs.Words.{words, moves, further, orders}
-use Rattle.rp_pattern.specs.WordLaws.{IsWithin}
+use Rattle.rp_pattern.specs.WordLaws.{EndsByRow}
 use Rattle.rp_pattern.specs.Permutations.{upto}
 use Rattle.rp_pattern.specs.Maps.{MayFollow}
-use Rattle.rp_pattern.specs.Readings.{to_go_on, to_stop, parts_at, Reads, row, later_row, nothing, both, first_open, left, right, start, end, may_end, permuted, excluded, iterated, ReadsInOrder, no_more, next, next_open, ReadsTimes, stop, required, required_open, another, another_open, WordsAreReadings, IsPreferred, here, later, ChoicesDecide}
+use Rattle.rp_pattern.specs.Readings.{to_go_on, to_stop, parts_at, MapsBy, row, later_row, nothing, both, first_open, left, right, start, end, may_end, permuted, excluded, iterated, MapsInOrderBy, no_more, next, next_open, IteratesBy, stop, required, required_open, another, another_open, WordsAreReadings, IsPreferred, here, later, OneMappingEach}
 use Rattle.rp_pattern.proofs.Lists.{map-map, All-map, All-append, All-flat_map, All-weaker}
 use Rattle.rp_pattern.proofs.Elements.{Contains-same, Contains-head, Contains-map, Contains-flat_map, Contains-filter}
 use Rattle.rp_pattern.proofs.Algebra.{map_same}
@@ -52,7 +52,7 @@ no_iteration : (x : Bool) (p : Readings) (h i : ℕ) → Contains (at_most x p h
 no_iteration x p zero i = Contains-head (to_stop x ∷ [], Full []) []
 no_iteration x p (suc h) i = in_stop x (map (chosen (to_go_on x ∷ [])) (then_also (moving_on p) (at_most x p h) i)) (stopped x) (to_stop x ∷ [], Full []) (Contains-head (to_stop x ∷ [], Full []) [])
 
--- so many further iterations are enough: as many as there are, or more than there are rows
+-- how many further iterations are enough: as many as there are, or more than there are rows
 abbrev AreEnough : ℕ → ℕ → ℕ → ℕ → Type 0
 AreEnough n i k h = (k ≤ h) ⊎ (suc n - i < h)
 
@@ -117,8 +117,8 @@ module _ (n : ℕ) (e : End) where
       go true k = absurd (grind (arith, nat_tests))
       go false k = c
 
-  within : (f : Form) (i : ℕ) (c : List ℕ) (w : Mapping) → Contains (readings n e f i) (c, w) → IsWithin n i w
-  within f i c w a = All-contains (IsWithin n i) (words n e f i) w (All-from_recursion (IsWithin n i) (words n e f i) (words_within n e f i))
+  within : (f : Form) (i : ℕ) (c : List ℕ) (w : Mapping) → Contains (readings n e f i) (c, w) → EndsByRow n i w
+  within f i c w a = All-contains (EndsByRow n i) (words n e f i) w (All-from_recursion (EndsByRow n i) (words n e f i) (words_within n e f i))
       (Contains-same (sym (readings_project n e f i)) (Contains-map (λ r. r.1) (readings n e f i) (c, w) a))
 
   abbrev Repeated : Form → Bool → ℕ → ℕ → ℕ → List ℕ → Mapping → Type 0
@@ -130,7 +130,7 @@ module _ (n : ℕ) (e : End) where
   upto_bound f lower None x k i c w m it = it (suc (suc n)) (inr (omega arith))
 
   mutual
-    in_readings : {f : Form} {i : ℕ} {c : List ℕ} {w : Mapping} → Reads n e f i c w → Contains (readings n e f i) (c, w)
+    in_readings : {f : Form} {i : ℕ} {c : List ℕ} {w : Mapping} → MapsBy n e f i c w → Contains (readings n e f i) (c, w)
     in_readings (row {v = v} {i = i} h) = Contains-same (ap (λ p. p i) (readings_variable n e v)) (in_row v i h)
     in_readings (later_row {v = v} {i = i} h is) = Contains-same (ap (λ p. p i) (readings_variable n e v)) (in_later_row v i h is)
     in_readings (nothing {i = i}) = Contains-same (ap (λ p. p i) (readings_empty n e)) (Contains-head ([], Full []) [])
@@ -157,12 +157,12 @@ module _ (n : ℕ) (e : End) where
     in_readings (iterated {p = p} {lower = lower} {upper = upper} {reluctant = reluctant} {k = k} {i = i} {c = c} {w = w} m a) =
         Contains-same (ap (λ p. p i) (readings_quantified n e p lower upper reluctant)) (upto_bound p.value lower upper reluctant k i c w m (in_iterations a))
 
-    in_sequence : {fs : List Form} {i : ℕ} {c : List ℕ} {w : Mapping} → ReadsInOrder n e fs i c w → Contains (one_by_one (map (readings n e) fs) i) (c, w)
+    in_sequence : {fs : List Form} {i : ℕ} {c : List ℕ} {w : Mapping} → MapsInOrderBy n e fs i c w → Contains (one_by_one (map (readings n e) fs) i) (c, w)
     in_sequence no_more = Contains-head ([], Full []) []
     in_sequence (next {f = f} {fs = fs} {i = i} {c = c} {d = d} {ls = ls} {w = w} a b) = in_then (readings n e f) (one_by_one (map (readings n e) fs)) i c d ls w (in_readings a) (in_sequence b)
     in_sequence (next_open {f = f} {fs = fs} {i = i} {c = c} {ls = ls} a) = in_then-open (readings n e f) (one_by_one (map (readings n e) fs)) i c ls (in_readings a)
 
-    in_iterations : {f : Form} {x : Bool} {l k i : ℕ} {c : List ℕ} {w : Mapping} → ReadsTimes n e f x l k i c w → Repeated f x l k i c w
+    in_iterations : {f : Form} {x : Bool} {l k i : ℕ} {c : List ℕ} {w : Mapping} → IteratesBy n e f x l k i c w → Repeated f x l k i c w
     in_iterations (stop {f = f} {r = x} {i = i}) = λ h few. no_iteration x (readings n e f) h i
     in_iterations (required {f = f} {r = x} {l = l} {k = k} {i = i} {c = c} {d = d} {ls = ls} {w = w} a b) = λ h few.
         in_then (readings n e f) (at_least l (readings n e f) (at_most x (readings n e f) h)) i c d ls w (in_readings a) (in_iterations b h (enough-later n i (length ls) k h few))
@@ -193,40 +193,40 @@ all_of P h (x ∷ xs) = (h x, all_of P h xs)
 
 module _ (n : ℕ) (e : End) where
   abbrev IsRead : Form → Type 0
-  IsRead f = ReadingsAre (Reads n e f) (readings n e f)
+  IsRead f = ReadingsAre (MapsBy n e f) (readings n e f)
 
-  row_read : (v : ℕ) → ReadingsAre (Reads n e (V.Variable v)) (plain (W.one_row n e v))
+  row_read : (v : ℕ) → ReadingsAre (MapsBy n e (V.Variable v)) (plain (W.one_row n e v))
   row_read v i = go (nat_le i n) refl e refl
     where
-      go : (b : Bool) → nat_le i n ≡ b → (d : End) → e ≡ d → AllByRecursion (λ r. Reads n e (V.Variable v) i r.0 r.1) (map silent (cond b (Full (record { var = v; excluded = false } ∷ []) ∷ []) (W.may_go_on d)))
+      go : (b : Bool) → nat_le i n ≡ b → (d : End) → e ≡ d → AllByRecursion (λ r. MapsBy n e (V.Variable v) i r.0 r.1) (map silent (cond b (Full (record { var = v; excluded = false } ∷ []) ∷ []) (W.may_go_on d)))
       go true h d k = (row (grind (arith, nat_tests)), tt)
       go false h OpenEnd k = (later_row (grind (arith, nat_tests)) k, tt)
       go false h ClosedEnd k = tt
 
-  start_read : ReadingsAre (Reads n e V.PartitionStart) (plain W.at_start)
+  start_read : ReadingsAre (MapsBy n e V.PartitionStart) (plain W.at_start)
   start_read i = go (nat_eq i 1) refl
     where
-      go : (b : Bool) → nat_eq i 1 ≡ b → AllByRecursion (λ r. Reads n e V.PartitionStart i r.0 r.1) (map silent (cond b (Full [] ∷ []) []))
-      go true h = let first : 1 ≡ i = grind (arith, nat_tests) in (subst (λ j. Reads n e V.PartitionStart j [] (Full [])) first start, tt)
+      go : (b : Bool) → nat_eq i 1 ≡ b → AllByRecursion (λ r. MapsBy n e V.PartitionStart i r.0 r.1) (map silent (cond b (Full [] ∷ []) []))
+      go true h = let first : 1 ≡ i = grind (arith, nat_tests) in (subst (λ j. MapsBy n e V.PartitionStart j [] (Full [])) first start, tt)
       go false h = tt
 
-  end_read : ReadingsAre (Reads n e V.PartitionEnd) (plain (W.at_end n e))
+  end_read : ReadingsAre (MapsBy n e V.PartitionEnd) (plain (W.at_end n e))
   end_read i = go (nat_le i n) refl e refl
     where
-      go : (b : Bool) → nat_le i n ≡ b → (d : End) → e ≡ d → AllByRecursion (λ r. Reads n e V.PartitionEnd i r.0 r.1) (map silent (cond b [] (W.may_end d)))
+      go : (b : Bool) → nat_le i n ≡ b → (d : End) → e ≡ d → AllByRecursion (λ r. MapsBy n e V.PartitionEnd i r.0 r.1) (map silent (cond b [] (W.may_end d)))
       go true h d k = tt
       go false h OpenEnd k = (may_end (grind (arith, nat_tests)) k, tt)
       go false h ClosedEnd k = (end (grind (arith, nat_tests)) k, tt)
 
-  sequence_read : (fs : List Form) → AllByRecursion IsRead fs → ReadingsAre (ReadsInOrder n e fs) (one_by_one (map (readings n e) fs))
+  sequence_read : (fs : List Form) → AllByRecursion IsRead fs → ReadingsAre (MapsInOrderBy n e fs) (one_by_one (map (readings n e) fs))
   sequence_read [] a i = (no_more, tt)
   sequence_read (f ∷ fs) a i =
-      then_are (Reads n e f) (ReadsInOrder n e fs) (ReadsInOrder n e (f ∷ fs)) (λ i c d ls w h k. next h k) (λ i c ls h. next_open h)
+      then_are (MapsBy n e f) (MapsInOrderBy n e fs) (MapsInOrderBy n e (f ∷ fs)) (λ i c d ls w h k. next h k) (λ i c ls h. next_open h)
       (readings n e f) (one_by_one (map (readings n e) fs)) a.0 (sequence_read fs a.1) i
 
   -- by the readings of each form
-  by_readings : (f : Form) (p : Readings) → readings n e f ≡ p → ReadingsAre (Reads n e f) p → IsRead f
-  by_readings f p is a = subst (ReadingsAre (Reads n e f)) (sym is) a
+  by_readings : (f : Form) (p : Readings) → readings n e f ≡ p → ReadingsAre (MapsBy n e f) p → IsRead f
+  by_readings f p is a = subst (ReadingsAre (MapsBy n e f)) (sym is) a
 
   empty_read : IsRead V.Empty
   empty_read = by_readings V.Empty none_read (readings_empty n e) (λ i. (nothing, tt))
@@ -242,34 +242,34 @@ module _ (n : ℕ) (e : End) where
 
   permute_read : (ps : Vec (Rc Form Global) Global) → AllByRecursion IsRead (map (λ p. p.value) ps.items) → IsRead (V.Permute ps)
   permute_read ps a = by_readings (V.Permute ps) (in_each_order (map (readings n e) (map (λ p. p.value) ps.items))) (readings_permute n e ps)
-      (λ i. subst (λ k. AllByRecursion (λ r. Reads n e (V.Permute ps) i r.0 r.1) (flat_map (λ order. map (chosen order) (in_this_order (map (readings n e) (map (λ p. p.value) ps.items)) order i)) (orders (upto k)))) (sym (as_many n e ps))
-      (All-flat_map (IsPermutation (upto (length ps.items))) (λ r. Reads n e (V.Permute ps) i r.0 r.1) (λ order. map (chosen order) (in_this_order (map (readings n e) (map (λ p. p.value) ps.items)) order i))
-      (λ order s. All-map (λ r. ReadsInOrder n e (parts_at ps order) i r.0 r.1) (λ r. Reads n e (V.Permute ps) i r.0 r.1) (chosen order) (λ r h. permuted ps s h)
+      (λ i. subst (λ k. AllByRecursion (λ r. MapsBy n e (V.Permute ps) i r.0 r.1) (flat_map (λ order. map (chosen order) (in_this_order (map (readings n e) (map (λ p. p.value) ps.items)) order i)) (orders (upto k)))) (sym (as_many n e ps))
+      (All-flat_map (IsPermutation (upto (length ps.items))) (λ r. MapsBy n e (V.Permute ps) i r.0 r.1) (λ order. map (chosen order) (in_this_order (map (readings n e) (map (λ p. p.value) ps.items)) order i))
+      (λ order s. All-map (λ r. MapsInOrderBy n e (parts_at ps order) i r.0 r.1) (λ r. MapsBy n e (V.Permute ps) i r.0 r.1) (chosen order) (λ r h. permuted ps s h)
       (in_this_order (map (readings n e) (map (λ p. p.value) ps.items)) order i)
-      (subst (λ p. AllByRecursion (λ r. ReadsInOrder n e (parts_at ps order) i r.0 r.1) (p i)) (sym (this_order n e ps order))
+      (subst (λ p. AllByRecursion (λ r. MapsInOrderBy n e (parts_at ps order) i r.0 r.1) (p i)) (sym (this_order n e ps order))
       (sequence_read (parts_at ps order) (parts_read (map (λ p. p.value) ps.items) a order) i)))
       (orders (upto (length ps.items))) (arrangements_permute (length (upto (length ps.items))) (upto (length ps.items)) refl)))
 
   module _ (f : Form) (read : IsRead f) (x : Bool) where
     abbrev Within : ℕ → ℕ → ℕ → List ℕ → Mapping → Type 0
-    Within h l i c w = (k : ℕ) × (k ≤ h) × ReadsTimes n e f x l k i c w
+    Within h l i c w = (k : ℕ) × (k ≤ h) × IteratesBy n e f x l k i c w
 
-    -- another iteration, before the choice to make it is told
+    -- another iteration, before the decision to make it is told
     abbrev Further : ℕ → ℕ → List ℕ → Mapping → Type 0
     Further h i c w = Within h zero i (to_go_on x ∷ c) w
 
-    moving_read : ReadingsAre (λ i c w. Reads n e f i c w × (moves w ≡ true)) (moving_on (readings n e f))
+    moving_read : ReadingsAre (λ i c w. MapsBy n e f i c w × (moves w ≡ true)) (moving_on (readings n e f))
     moving_read i = go (readings n e f i) (read i)
       where
-        one : (c : List ℕ) (w : Mapping) (rs : List Reading) → Reads n e f i c w → AllByRecursion (λ r. Reads n e f i r.0 r.1 × (moves r.1 ≡ true)) rs → (b : Bool) → moves w ≡ b → AllByRecursion (λ r. Reads n e f i r.0 r.1 × (moves r.1 ≡ true)) (cond b ((c, w) ∷ rs) rs)
+        one : (c : List ℕ) (w : Mapping) (rs : List Reading) → MapsBy n e f i c w → AllByRecursion (λ r. MapsBy n e f i r.0 r.1 × (moves r.1 ≡ true)) rs → (b : Bool) → moves w ≡ b → AllByRecursion (λ r. MapsBy n e f i r.0 r.1 × (moves r.1 ≡ true)) (cond b ((c, w) ∷ rs) rs)
         one c w rs a all true h = ((a, h), all)
         one c w rs a all false h = all
 
-        go : (rs : List Reading) → AllByRecursion (λ r. Reads n e f i r.0 r.1) rs → AllByRecursion (λ r. Reads n e f i r.0 r.1 × (moves r.1 ≡ true)) (filter (λ r. moves r.1) rs)
+        go : (rs : List Reading) → AllByRecursion (λ r. MapsBy n e f i r.0 r.1) rs → AllByRecursion (λ r. MapsBy n e f i r.0 r.1 × (moves r.1 ≡ true)) (filter (λ r. moves r.1) rs)
         go [] a = tt
         go (r ∷ rs) a = one r.0 r.1 (filter (λ r. moves r.1) rs) a.0 (go rs a.1) (moves r.1) refl
 
-    moved_on : (h i : ℕ) (c d : List ℕ) (ls : List Label) (w : Mapping) → Reads n e f i c (Full ls) × (moves (Full ls) ≡ true) → Within h zero (i + length ls) d w → Further (suc h) i (c ++ d) (preceded ls w)
+    moved_on : (h i : ℕ) (c d : List ℕ) (ls : List Label) (w : Mapping) → MapsBy n e f i c (Full ls) × (moves (Full ls) ≡ true) → Within h zero (i + length ls) d w → Further (suc h) i (c ++ d) (preceded ls w)
     moved_on h i c d [] w a b = let no = a.1 in absurd cc
     moved_on h i c d (l ∷ ls) w a b = (suc b.0, omega (arith, b.1), another a.0 b.2)
 
@@ -282,7 +282,7 @@ module _ (n : ℕ) (e : End) where
 
         go_on : ReadingsAre (Within h zero) (at_most x (readings n e f) h) → AllByRecursion (λ r. Within (suc h) zero i r.0 r.1) (map (chosen (to_go_on x ∷ [])) rest)
         go_on after = All-map (λ r. Further (suc h) i r.0 r.1) (λ r. Within (suc h) zero i r.0 r.1) (chosen (to_go_on x ∷ [])) (λ r k. k) rest
-            (then_are (λ i c w. Reads n e f i c w × (moves w ≡ true)) (Within h zero) (Further (suc h)) (moved_on h) (λ i c ls a. (1, omega arith, another_open a.0))
+            (then_are (λ i c w. MapsBy n e f i c w × (moves w ≡ true)) (Within h zero) (Further (suc h)) (moved_on h) (λ i c ls a. (1, omega arith, another_open a.0))
             (moving_on (readings n e f)) (at_most x (readings n e f) h) moving_read after i)
 
         go : (y : Bool) → AllByRecursion (λ r. Within (suc h) zero i r.0 r.1) (map (chosen (to_go_on x ∷ [])) rest) → AllByRecursion (λ r. Within (suc h) zero i r.0 r.1) (stopped x) →
@@ -293,7 +293,7 @@ module _ (n : ℕ) (e : End) where
     at_least_read : (h l : ℕ) → ReadingsAre (Within h l) (at_least l (readings n e f) (at_most x (readings n e f) h))
     at_least_read h zero = at_most_read h
     at_least_read h (suc l) =
-        then_are (Reads n e f) (Within h l) (Within h (suc l)) (λ i c d ls w a b. (b.0, b.1, required a b.2)) (λ i c ls a. (zero, omega arith, required_open a))
+        then_are (MapsBy n e f) (Within h l) (Within h (suc l)) (λ i c d ls w a b. (b.0, b.1, required a b.2)) (λ i c ls a. (zero, omega arith, required_open a))
         (readings n e f) (at_least l (readings n e f) (at_most x (readings n e f) h)) read (at_least_read h l)
 
   may_follow : (lower : ℕ) (upper : Option ℕ) (k : ℕ) → k ≤ further n lower upper → MayFollow lower upper k
@@ -302,21 +302,21 @@ module _ (n : ℕ) (e : End) where
 
   concatenation_read : (p q : Rc Form Global) → IsRead p.value → IsRead q.value → IsRead (V.Concatenation p q)
   concatenation_read p q a b = by_readings (V.Concatenation p q) (then_also (readings n e p.value) (readings n e q.value)) (readings_concatenation n e p q)
-      (then_are (Reads n e p.value) (Reads n e q.value) (Reads n e (V.Concatenation p q)) (λ i c d ls w h k. both h k) (λ i c ls h. first_open h) (readings n e p.value) (readings n e q.value) a b)
+      (then_are (MapsBy n e p.value) (MapsBy n e q.value) (MapsBy n e (V.Concatenation p q)) (λ i c d ls w h k. both h k) (λ i c ls h. first_open h) (readings n e p.value) (readings n e q.value) a b)
 
   alternation_read : (p q : Rc Form Global) → IsRead p.value → IsRead q.value → IsRead (V.Alternation p q)
   alternation_read p q a b = by_readings (V.Alternation p q) (either (readings n e p.value) (readings n e q.value)) (readings_alternation n e p q)
-      (λ i. All-append (λ r. Reads n e (V.Alternation p q) i r.0 r.1) (map (chosen (0 ∷ [])) (readings n e p.value i)) (map (chosen (1 ∷ [])) (readings n e q.value i))
-      (All-map (λ r. Reads n e p.value i r.0 r.1) (λ r. Reads n e (V.Alternation p q) i r.0 r.1) (chosen (0 ∷ [])) (λ r h. left h) (readings n e p.value i) (a i))
-      (All-map (λ r. Reads n e q.value i r.0 r.1) (λ r. Reads n e (V.Alternation p q) i r.0 r.1) (chosen (1 ∷ [])) (λ r h. right h) (readings n e q.value i) (b i)))
+      (λ i. All-append (λ r. MapsBy n e (V.Alternation p q) i r.0 r.1) (map (chosen (0 ∷ [])) (readings n e p.value i)) (map (chosen (1 ∷ [])) (readings n e q.value i))
+      (All-map (λ r. MapsBy n e p.value i r.0 r.1) (λ r. MapsBy n e (V.Alternation p q) i r.0 r.1) (chosen (0 ∷ [])) (λ r h. left h) (readings n e p.value i) (a i))
+      (All-map (λ r. MapsBy n e q.value i r.0 r.1) (λ r. MapsBy n e (V.Alternation p q) i r.0 r.1) (chosen (1 ∷ [])) (λ r h. right h) (readings n e q.value i) (b i)))
 
   exclusion_read : (p : Rc Form Global) → IsRead p.value → IsRead (V.Exclusion p)
   exclusion_read p a = by_readings (V.Exclusion p) (λ i. map hidden (readings n e p.value i)) (readings_exclusion n e p)
-      (λ i. All-map (λ r. Reads n e p.value i r.0 r.1) (λ r. Reads n e (V.Exclusion p) i r.0 r.1) hidden (λ r h. excluded h) (readings n e p.value i) (a i))
+      (λ i. All-map (λ r. MapsBy n e p.value i r.0 r.1) (λ r. MapsBy n e (V.Exclusion p) i r.0 r.1) hidden (λ r h. excluded h) (readings n e p.value i) (a i))
 
   quantified_read : (p : Rc Form Global) (lower : ℕ) (upper : Option ℕ) (reluctant : Bool) → IsRead p.value → IsRead (V.Quantified p lower upper reluctant)
   quantified_read p lower upper reluctant a = by_readings (V.Quantified p lower upper reluctant) (at_least lower (readings n e p.value) (at_most reluctant (readings n e p.value) (further n lower upper))) (readings_quantified n e p lower upper reluctant)
-      (λ i. All-weaker (λ r. Within p.value a reluctant (further n lower upper) lower i r.0 r.1) (λ r. Reads n e (V.Quantified p lower upper reluctant) i r.0 r.1)
+      (λ i. All-weaker (λ r. Within p.value a reluctant (further n lower upper) lower i r.0 r.1) (λ r. MapsBy n e (V.Quantified p lower upper reluctant) i r.0 r.1)
       (λ r h. iterated (may_follow lower upper h.0 h.1) h.2)
       (at_least lower (readings n e p.value) (at_most reluctant (readings n e p.value) (further n lower upper)) i)
       (at_least_read p.value a reluctant (further n lower upper) lower i))
@@ -346,14 +346,14 @@ pub words_are_readings : WordsAreReadings
 words_are_readings f n e i = (
   readings n e f i,
   record {
-    each = All-from_recursion (λ r. Reads n e f i r.0 r.1) (readings n e f i) (each_read n e f i);
+    each = All-from_recursion (λ r. MapsBy n e f i r.0 r.1) (readings n e f i) (each_read n e f i);
     every = λ c w h. in_readings n e h;
     ascending = readings_pairs n e f i;
   },
   sym (readings_project n e f i),
 )
 
--- ---- the choices decide the mapping
+-- ---- the decisions decide the mapping
 
 not_itself : {c d : List ℕ} → IsPreferred c d → c ≡ d → ⊥
 not_itself (here {x = x} {y = y} h) is = let same : x ≡ y = cc in absurd (omega arith)
@@ -367,8 +367,8 @@ same_place rs up c w w' j k in_j in_k at_j at_k false g false h =
     let same : j ≡ k = grind (arith, nat_tests) in
     ap (λ r. r.1) (sym at_j ∙ ap (λ m. get_or rs m (c, w)) same ∙ at_k)
 
-pub choices_decide : ChoicesDecide
-choices_decide f n e i c w w' a b =
+pub one_mapping_each : OneMappingEach
+one_mapping_each f n e i c w w' a b =
     let r = words_are_readings f n e i in
     let x = r.1.every c w a in
     let y = r.1.every c w' b in

@@ -6,8 +6,8 @@ use Rattle.std.proofs.lemmas.List.Sums.{sum_by-append, sum_by-cons}
 use Rattle.std.specs.List.{flat_map, filter, AllByRecursion}
 use Rattle.rp_pattern.specs.declared.word.Label.{Label}
 use Rattle.rp_pattern.specs.Words.{Mappings, followed, concatenation, moves, moving}
-use Rattle.rp_pattern.specs.WordLaws.{IsWithin}
-use Rattle.rp_pattern.specs.Words.{alternation, optional, preferred, moved_past}
+use Rattle.rp_pattern.specs.WordLaws.{EndsByRow}
+use Rattle.rp_pattern.specs.Words.{alternation, optional, preferred, only_past}
 use Rattle.rp_pattern.proofs.Algebra.{moving_is}
 use Rattle.rp_pattern.specs.Turns.{TurnCounts, WordsAndTurns, turns_after, optional_turns, concatenation_turns, chain_turns, moved_part}
 use Rattle.rp_pattern.proofs.Bounds.{AreWithin}
@@ -39,7 +39,7 @@ along x q i (Open ls ∷ ws) =
     ∙ ap (λ z. 0 + z) (along x q i ws)
     ∙ sym (sum_by-cons f (Open ls) ws)
 
-same_turns : (n i : ℕ) (x y : TurnCounts) → ((j : ℕ) → i < j → j ≤ suc n → x j ≡ y j) → (ws : List Mapping) → AllByRecursion (IsWithin n i) ws → sum_by (turns_after x i) (filter moves ws) ≡ sum_by (turns_after y i) (filter moves ws)
+same_turns : (n i : ℕ) (x y : TurnCounts) → ((j : ℕ) → i < j → j ≤ suc n → x j ≡ y j) → (ws : List Mapping) → AllByRecursion (EndsByRow n i) ws → sum_by (turns_after x i) (filter moves ws) ≡ sum_by (turns_after y i) (filter moves ws)
 same_turns n i x y on [] a = refl
 same_turns n i x y on (Full [] ∷ ws) a = same_turns n i x y on ws a.1
 same_turns n i x y on (Full (l ∷ ls) ∷ ws) a =
@@ -117,8 +117,8 @@ iteration_taken p reluctant h ps i =
     let a = sum_preferred x i reluctant (concatenation (moving p.0) (optional reluctant p.0 h) i) in
     let b = along x (optional reluctant p.0 h) i (moving p.0 i) in
     let c = both_turns (optional_turns p h) o i (moving p.0 i) in
-    let d = along later (moved_past i) i (p.0 i) in
+    let d = along later (only_past i) i (p.0 i) in
     let e = ap (sum_by (turns_after later i)) (moving_is p.0 i) in
-    let g = same_after (λ j. 0 + sum_by (turns_after later j) (moved_past i j)) (λ j. sum_by (turns_after later j) (moved_past i j)) i (λ j. omega arith) (p.0 i) in
+    let g = same_after (λ j. 0 + sum_by (turns_after later j) (only_past i j)) (λ j. sum_by (turns_after later j) (only_past i j)) i (λ j. omega arith) (p.0 i) in
     let z : x (i + 0) ≡ x i = ap x (omega arith) in
     omega (arith, a, b, c, d, e, g, z)

@@ -7,27 +7,27 @@ use Rattle.rp_pattern.specs.declared.word.End.{End}
 use Rattle.rp_pattern.specs.declared.word.End.TheVariants.{Closed as ClosedEnd}
 use Rattle.rp_pattern.specs.declared.word.Label.{Label}
 use Rattle.rp_pattern.specs.Words.{Mappings, words, exclusion}
-use Rattle.rp_pattern.specs.WordLaws.{IsWithin, RunsToEnd, IsFull}
+use Rattle.rp_pattern.specs.WordLaws.{EndsByRow, RunsToEnd, IsFull}
 use Rattle.rp_pattern.proofs.Lists.{All-weaker}
 use Rattle.rp_pattern.proofs.EveryWord.{Each, each_exclusion, every_word}
 
-preceded_within : (n i : ℕ) (ls : List Label) (w : Mapping) → length ls ≤ suc n - i → IsWithin n (i + length ls) w → IsWithin n i (preceded ls w)
+preceded_within : (n i : ℕ) (ls : List Label) (w : Mapping) → length ls ≤ suc n - i → EndsByRow n (i + length ls) w → EndsByRow n i (preceded ls w)
 preceded_within n i ls (Full ms) h k = omega (arith, length-append ls ms)
 preceded_within n i ls (Open ms) h k = omega (arith, length-append ls ms)
 
-excluded_within : (n i : ℕ) (w : Mapping) → IsWithin n i w → IsWithin n i (excluded_mapping w)
+excluded_within : (n i : ℕ) (w : Mapping) → EndsByRow n i w → EndsByRow n i (excluded_mapping w)
 excluded_within n i (Full ls) h = omega (arith, length-map ls excluded_label)
 excluded_within n i (Open ls) h = omega (arith, length-map ls excluded_label)
 
-pub words_within : (n : ℕ) (e : End) (f : Form) → Each (IsWithin n) (words n e f)
-words_within n e = every_word (IsWithin n) (λ i. omega arith) (preceded_within n) (excluded_within n) n e (λ i v h. omega arith) (λ i h k. omega arith)
+pub words_within : (n : ℕ) (e : End) (f : Form) → Each (EndsByRow n) (words n e f)
+words_within n e = every_word (EndsByRow n) (λ i. omega arith) (preceded_within n) (excluded_within n) n e (λ i v h. omega arith) (λ i h k. omega arith)
 
-pub exclusion_within : (n : ℕ) (p : Mappings) → Each (IsWithin n) p → Each (IsWithin n) (exclusion p)
-exclusion_within n = each_exclusion (IsWithin n) (λ i. omega arith) (preceded_within n) (excluded_within n)
+pub exclusion_within : (n : ℕ) (p : Mappings) → Each (EndsByRow n) p → Each (EndsByRow n) (exclusion p)
+exclusion_within n = each_exclusion (EndsByRow n) (λ i. omega arith) (preceded_within n) (excluded_within n)
 
 -- within the rows, and up to the last one where it is open
 record RunsWithin (n i : ℕ) (w : Mapping) : Type 0 where
-  pub within : IsWithin n i w
+  pub within : EndsByRow n i w
   pub runs : RunsToEnd n i w
 
 preceded_runs : (n i : ℕ) (ls : List Label) (w : Mapping) → length ls ≤ suc n - i → RunsWithin n (i + length ls) w → RunsWithin n i (preceded ls w)

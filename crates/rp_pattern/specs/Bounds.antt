@@ -6,10 +6,12 @@ use Rattle.rp_pattern.specs.declared.form.Form.{Form}
 use Rattle.rp_pattern.specs.declared.form.Form.TheOpen.{Form-F, Variable, Empty, Concatenation, Alternation, PartitionStart, PartitionEnd, Permute, Exclusion, Quantified}
 use Rattle.rp_pattern.specs.declared.form.Form.TheFolds.{fold-Form}
 
+-- the bounds of a quantifier are in order and at most 1,000
 abbrev pub bounds_hold : ℕ → Option ℕ → Bool
 bounds_hold lower None = nat_le lower 1000
 bounds_hold lower (Some upper) = nat_le lower upper && nat_le upper 1000
 
+-- one layer of a pattern, with whether each part is allowed in its place
 abbrev pub allowed_step : Form-F Bool → Bool
 allowed_step (Variable v) = true
 allowed_step Empty = true
@@ -21,5 +23,6 @@ allowed_step (Permute ps) = nat_le 1 (length ps.items) && nat_le (length ps.item
 allowed_step (Exclusion p) = p.value
 allowed_step (Quantified p lower upper reluctant) = bounds_hold lower upper && p.value
 
+-- a pattern that is allowed
 abbrev pub is_allowed : Form → Bool
 is_allowed = fold-Form Bool allowed_step

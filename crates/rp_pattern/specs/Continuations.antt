@@ -27,6 +27,7 @@ use Rattle.rp_pattern.specs.Turns.{WordsAndTurns, turns, one_turn, chain_turns, 
 abbrev pub form_part : ℕ → End → Form → Bool → WordsAndTurns
 form_part n e f excluded = within excluded (words n e f, turns n e f)
 
+-- a node, as a part
 abbrev pub node_part : ℕ → End → Node → WordsAndTurns
 node_part n e node = form_part n e node.form.value node.excluded
 
@@ -35,9 +36,11 @@ abbrev pub still : ℕ → Option ℕ → ℕ
 still n (Some k) = k
 still n None = suc (suc n)
 
+-- iterations, `lower` of them required, as a part
 abbrev pub iterations_part : ℕ → End → ℕ → Iterations → WordsAndTurns
 iterations_part n e lower it = iterations lower (still n it.further) it.reluctant (node_part n e it.body)
 
+-- the parts of a PERMUTE
 abbrev pub permuted_form_parts : ℕ → End → Node → List WordsAndTurns
 permuted_form_parts n e node = map (λ f. form_part n e f node.excluded) (permuted_parts node.form.value)
 
@@ -45,6 +48,7 @@ permuted_form_parts n e node = map (λ f. form_part n e f node.excluded) (permut
 abbrev pub in_order : List WordsAndTurns → List ℕ → List WordsAndTurns
 in_order ps places = map (λ k. get_or ps k (nothing_mapped, one_turn)) places
 
+-- what is linked into a continuation, as a part
 abbrev pub part_as : ℕ → End → Part → WordsAndTurns
 part_as n e (Whole node) = node_part n e node
 part_as n e (Times lower it) = iterations_part n e lower it
@@ -55,23 +59,29 @@ abbrev pub links_behind : Option (Rc (List (Option ℕ × Part)) Global) → Lis
 links_behind None = []
 links_behind (Some p) = p.value
 
+-- a link, and then those behind it
 abbrev pub link_step : Link-F (List (Option ℕ × Part)) → List (Option ℕ × Part)
 link_step l = (l.since, l.part) ∷ links_behind l.then
 
+-- a link and all behind it
 abbrev pub links_from : Link → List (Option ℕ × Part)
 links_from = fold-Link (List (Option ℕ × Part)) link_step
 
+-- the later parts, if there are any
 abbrev pub tail_links : Option (Rc Link Global) → List (Option ℕ × Part)
 tail_links None = []
 tail_links (Some p) = links_from p.value
 
+-- a part that is reached only past a row, if such a row is named
 abbrev pub guarded : Option ℕ → WordsAndTurns → WordsAndTurns
 guarded None p = p
 guarded (Some since) p = past since p
 
+-- the later parts, as words and turns
 abbrev pub links_parts : ℕ → End → List (Option ℕ × Part) → List WordsAndTurns
 links_parts n e ls = map (λ l. guarded l.0 (part_as n e l.1)) ls
 
+-- those of a tail
 abbrev pub tail_parts : ℕ → End → Option (Rc Link Global) → List WordsAndTurns
 tail_parts n e tail = links_parts n e (tail_links tail)
 
@@ -80,6 +90,7 @@ abbrev pub reached_parts : ℕ → End → List (Option ℕ × Part) → List Wo
 reached_parts n e [] = []
 reached_parts n e (l ∷ ls) = part_as n e l.1 ∷ links_parts n e ls
 
+-- all parts of a continuation, the first one first
 abbrev pub continuation_parts : ℕ → End → Continuation → List WordsAndTurns
 continuation_parts n e Done = []
 continuation_parts n e (Then node then) = node_part n e node ∷ tail_parts n e then
@@ -114,6 +125,7 @@ abbrev pub stack_words : ℕ → End → ℕ → List Label → List Choice → 
 stack_words n e start labels [] = []
 stack_words n e start labels (c ∷ cs) = choice_words n e start labels c ++ stack_words n e start labels cs
 
+-- the turns of choices in order, and one more for each of their words
 abbrev pub stack_left : ℕ → End → ℕ → List Choice → ℕ
 stack_left n e start [] = 0
 stack_left n e start (c ∷ cs) = chain_left (continuation_parts n e c.continuation) (start + c.depth) + stack_left n e start cs
@@ -128,14 +140,15 @@ abbrev pub pushed : ℕ → Option Continuation → List Choice → List Choice
 pushed depth None cs = cs
 pushed depth (Some r) cs = (record { depth = depth; continuation = r }) ∷ cs
 
--- the facts of a copy
+-- the node is a copy of one with this form, inside an exclusion or outside
 abbrev pub IsNodeOf : Form → Bool → Node → Type 0
 IsNodeOf f excluded node = (node.form.value ≡ f) × (node.excluded ≡ excluded)
 
+-- the iterations are a copy of these, of which `further` may still follow
 abbrev pub AreIterationsOf : Iterations → Option ℕ → Iterations → Type 0
 AreIterationsOf it further copy = IsNodeOf it.body.form.value it.body.excluded copy.body × (copy.further ≡ further) × (copy.reluctant ≡ it.reluctant)
 
--- these iterations come first, so many of them required
+-- these iterations come first, `lower` of them required
 abbrev pub IsTimes : ℕ → Iterations → Link → Type 0
 IsTimes lower it link = (out-Link link).part ≡ Times lower it
 

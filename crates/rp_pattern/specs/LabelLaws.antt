@@ -11,6 +11,6 @@ use Rattle.rp_pattern.specs.declared.word.End.{End}
 abbrev pub IsBelow : ℕ → Mapping → Type 0
 IsBelow k w = AllByRecursion (λ l. l.var < k) (labels_of w)
 
--- Where each variable of a pattern is below k, so is each in its words.
-abbrev pub LabelsBelow : Type 0
-LabelsBelow = (k : ℕ) (f : Form) → are_below k f ≡ true → (n : ℕ) (e : End) (i : ℕ) → AllByRecursion (IsBelow k) (words n e f i)
+-- Where each variable of a pattern is below k, so is each variable in the labels of its words.
+abbrev pub VariablesStayBelow : Type 0
+VariablesStayBelow = (k : ℕ) (f : Form) → are_below k f ≡ true → (n : ℕ) (e : End) (i : ℕ) → AllByRecursion (IsBelow k) (words n e f i)

@@ -9,6 +9,7 @@ pub data Mapping : Type 0 where
   Full : List Label → Mapping
   Open : List Label → Mapping
 
+-- the mapping of a word's mark and labels
 abbrev pub marked : Mark → List Label → Mapping
 marked FullMark ls = Full ls
 marked OpenMark ls = Open ls
@@ -27,6 +28,7 @@ preceded ls (Open ms) = Open (ls ++ ms)
 abbrev pub excluded_label : Label → Label
 excluded_label l = record l { excluded = true }
 
+-- a mapping with each of its labels excluded
 abbrev pub excluded_mapping : Mapping → Mapping
 excluded_mapping (Full ls) = Full (map excluded_label ls)
 excluded_mapping (Open ls) = Open (map excluded_label ls)

@@ -13,7 +13,7 @@ use Rattle.rp_pattern.specs.declared.word.End.TheVariants.{Open as OpenEnd, Clos
 use Rattle.rp_pattern.specs.Mapping.{Mapping, Full, Open, preceded, excluded_mapping}
 use Rattle.rp_pattern.specs.Words.{words}
 
--- at most so many iterations beyond the required ones: upper - lower of them, or any number
+-- k iterations may follow the required ones: at most upper - lower, or any number where there is no upper bound
 abbrev pub MayFollow : ℕ → Option ℕ → ℕ → Type 0
 MayFollow lower None k = ⊤
 MayFollow lower (Some upper) k = k ≤ upper - lower
@@ -52,7 +52,7 @@ mutual
     next : {f : Form} {fs : List Form} {i : ℕ} {ls : List Label} {w : Mapping} → Maps n e f i (Full ls) → MapsInOrder n e fs (i + length ls) w → MapsInOrder n e (f ∷ fs) i (preceded ls w)
     next_open : {f : Form} {fs : List Form} {i : ℕ} {ls : List Label} → Maps n e f i (Open ls) → MapsInOrder n e (f ∷ fs) i (Open ls)
 
-  -- so many required iterations, which may take no row, and then k others, each of which takes a row. One that is open is the last.
+  -- l required iterations, which may take no row, and then k others, each of which takes a row. One that is open is the last.
   pub data Iterates (n : ℕ) (e : End) : Form → ℕ → ℕ → ℕ → Mapping → Type 0 where
     stop : {f : Form} {i : ℕ} → Iterates n e f zero zero i (Full [])
     required : {f : Form} {l k i : ℕ} {ls : List Label} {w : Mapping} → Maps n e f i (Full ls) → Iterates n e f l k (i + length ls) w → Iterates n e f (suc l) k i (preceded ls w)

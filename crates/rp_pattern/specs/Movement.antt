@@ -4,6 +4,7 @@ use Rattle.rp_pattern.specs.declared.form.Form.{Form}
 use Rattle.rp_pattern.specs.declared.form.Form.TheOpen.{Form-F, Variable, Empty, Concatenation, Alternation, PartitionStart, PartitionEnd, Permute, Exclusion, Quantified}
 use Rattle.rp_pattern.specs.declared.form.Form.TheFolds.{fold-Form}
 
+-- one layer of a pattern, with whether each part always takes a row in its place
 abbrev pub movement_step : Form-F Bool → Bool
 movement_step (Variable v) = true
 movement_step Empty = false
@@ -15,5 +16,6 @@ movement_step (Permute ps) = false
 movement_step (Exclusion p) = p.value
 movement_step (Quantified p lower upper reluctant) = nat_lt 0 lower && p.value
 
+-- each full word is known to take a row
 abbrev pub always_moves : Form → Bool
 always_moves = fold-Form Bool movement_step

@@ -8,16 +8,16 @@ use Rattle.rp_pattern.specs.declared.outlook.Sight.TheVariants.{Further, Word, N
 use Rattle.rp_pattern.specs.WordLaws.{IsLater}
 use Rattle.rp_pattern.specs.Continuations.{continuation_parts, chain_words, stack_left}
 
--- so many words have the choices together
+-- how many words the choices have together
 abbrev pub stack_count : ℕ → End → ℕ → List Choice → ℕ
 stack_count n e start [] = 0
 stack_count n e start (c ∷ cs) = length (chain_words (continuation_parts n e c.continuation) (start + c.depth)) + stack_count n e start cs
 
--- so many words would follow
+-- how many words would follow the row
 unfoldable pub words_ahead : Outlook → ℕ → End → ℕ
 words_ahead o n e = stack_count n e o.start o.stack
 
--- turns of the choices, and one more for each word
+-- how many turns these words take at most, and one more for each of them
 unfoldable pub turns_ahead : Outlook → ℕ → End → ℕ
 turns_ahead o n e = stack_left n e o.start o.stack
 

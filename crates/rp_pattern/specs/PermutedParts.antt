@@ -9,5 +9,6 @@ abbrev pub layer_parts : Form-F Form → List Form
 layer_parts (Permute ps) = map (λ p. p.value) ps.items
 layer_parts _ = []
 
+-- the parts of a PERMUTE, and none of any other form
 abbrev pub permuted_parts : Form → List Form
 permuted_parts f = layer_parts (out-Form f)

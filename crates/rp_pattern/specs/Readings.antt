@@ -1,6 +1,6 @@
--- The readings of a pattern: the choices that lead to a mapping, and which of them is preferred.
+-- The readings of a pattern: the decisions that lead to a mapping, and which of them are preferred.
 -- Source: the parenthesized language and its order of preferment, as ISO/IEC TR 19075-5:2016 explains them. What is this project's own
--- is as for `Maps`. A choice is the rank of what is chosen, 0 for what is preferred.
+-- is as for `Maps`. A decision is the rank of what is taken, 0 for what is preferred.
 use Rattle.std.specs.Prelude.{◌≡◌, ℕ, zero, suc, ◌+◌, ◌<◌, ◌≤◌, Bool, true, false, List, [], ◌∷◌, ◌++◌, map, length, slice_index_or, Option, All, AllPairs, Contains, IsPermutation}
 use Rattle.std.specs.declared.vec.Vec.{Vec}
 use Rattle.std.specs.declared.rc.Rc.{Rc}
@@ -15,11 +15,12 @@ use Rattle.rp_pattern.specs.Words.{words}
 use Rattle.rp_pattern.specs.Permutations.{upto}
 use Rattle.rp_pattern.specs.Maps.{MayFollow}
 
--- a greedy quantifier prefers another iteration to stopping, a reluctant one prefers stopping
+-- the rank of another iteration: a greedy quantifier prefers it to stopping, a reluctant one prefers stopping
 abbrev pub to_go_on : Bool → ℕ
 to_go_on false = 0
 to_go_on true = 1
 
+-- the rank of stopping
 abbrev pub to_stop : Bool → ℕ
 to_stop false = 1
 to_stop true = 0
@@ -29,46 +30,48 @@ abbrev pub parts_at : Vec (Rc Form Global) Global → List ℕ → List Form
 parts_at ps order = map (λ k. slice_index_or (map (λ p. p.value) ps.items) k Empty) order
 
 mutual
-  -- over the rows 1 to n and that end, a pattern maps the rows from a row on in this way, by these choices
-  pub data Reads (n : ℕ) (e : End) : Form → ℕ → List ℕ → Mapping → Type 0 where
-    row : {v i : ℕ} → i ≤ n → Reads n e (Variable v) i [] (Full (record { var = v; excluded = false } ∷ []))
-    later_row : {v i : ℕ} → n < i → e ≡ OpenEnd → Reads n e (Variable v) i [] (Open [])
-    nothing : {i : ℕ} → Reads n e Empty i [] (Full [])
-    -- the choices in the earlier part count first
-    both : {p q : Rc Form Global} {i : ℕ} {c d : List ℕ} {ls : List Label} {w : Mapping} → Reads n e p.value i c (Full ls) → Reads n e q.value (i + length ls) d w → Reads n e (Concatenation p q) i (c ++ d) (preceded ls w)
-    first_open : {p q : Rc Form Global} {i : ℕ} {c : List ℕ} {ls : List Label} → Reads n e p.value i c (Open ls) → Reads n e (Concatenation p q) i c (Open ls)
+  -- over the rows 1 to n and that end, a pattern maps the rows from a row on in this way, by these decisions
+  pub data MapsBy (n : ℕ) (e : End) : Form → ℕ → List ℕ → Mapping → Type 0 where
+    row : {v i : ℕ} → i ≤ n → MapsBy n e (Variable v) i [] (Full (record { var = v; excluded = false } ∷ []))
+    later_row : {v i : ℕ} → n < i → e ≡ OpenEnd → MapsBy n e (Variable v) i [] (Open [])
+    nothing : {i : ℕ} → MapsBy n e Empty i [] (Full [])
+    -- the decisions in the earlier part count first
+    both : {p q : Rc Form Global} {i : ℕ} {c d : List ℕ} {ls : List Label} {w : Mapping} → MapsBy n e p.value i c (Full ls) → MapsBy n e q.value (i + length ls) d w → MapsBy n e (Concatenation p q) i (c ++ d) (preceded ls w)
+    first_open : {p q : Rc Form Global} {i : ℕ} {c : List ℕ} {ls : List Label} → MapsBy n e p.value i c (Open ls) → MapsBy n e (Concatenation p q) i c (Open ls)
     -- the first part is preferred
-    left : {p q : Rc Form Global} {i : ℕ} {c : List ℕ} {w : Mapping} → Reads n e p.value i c w → Reads n e (Alternation p q) i (0 ∷ c) w
-    right : {p q : Rc Form Global} {i : ℕ} {c : List ℕ} {w : Mapping} → Reads n e q.value i c w → Reads n e (Alternation p q) i (1 ∷ c) w
-    start : Reads n e PartitionStart 1 [] (Full [])
-    end : {i : ℕ} → n < i → e ≡ ClosedEnd → Reads n e PartitionEnd i [] (Full [])
-    may_end : {i : ℕ} → n < i → e ≡ OpenEnd → Reads n e PartitionEnd i [] (Open [])
+    left : {p q : Rc Form Global} {i : ℕ} {c : List ℕ} {w : Mapping} → MapsBy n e p.value i c w → MapsBy n e (Alternation p q) i (0 ∷ c) w
+    right : {p q : Rc Form Global} {i : ℕ} {c : List ℕ} {w : Mapping} → MapsBy n e q.value i c w → MapsBy n e (Alternation p q) i (1 ∷ c) w
+    start : MapsBy n e PartitionStart 1 [] (Full [])
+    end : {i : ℕ} → n < i → e ≡ ClosedEnd → MapsBy n e PartitionEnd i [] (Full [])
+    may_end : {i : ℕ} → n < i → e ≡ OpenEnd → MapsBy n e PartitionEnd i [] (Open [])
     -- the order of the parts counts first, from its first place on
-    permuted : (ps : Vec (Rc Form Global) Global) {order : List ℕ} {i : ℕ} {c : List ℕ} {w : Mapping} → IsPermutation (upto (length ps.items)) order → ReadsInOrder n e (parts_at ps order) i c w → Reads n e (Permute ps) i (order ++ c) w
-    excluded : {p : Rc Form Global} {i : ℕ} {c : List ℕ} {w : Mapping} → Reads n e p.value i c w → Reads n e (Exclusion p) i c (excluded_mapping w)
-    iterated : {p : Rc Form Global} {lower : ℕ} {upper : Option ℕ} {reluctant : Bool} {k i : ℕ} {c : List ℕ} {w : Mapping} → MayFollow lower upper k → ReadsTimes n e p.value reluctant lower k i c w → Reads n e (Quantified p lower upper reluctant) i c w
+    permuted : (ps : Vec (Rc Form Global) Global) {order : List ℕ} {i : ℕ} {c : List ℕ} {w : Mapping} → IsPermutation (upto (length ps.items)) order → MapsInOrderBy n e (parts_at ps order) i c w → MapsBy n e (Permute ps) i (order ++ c) w
+    excluded : {p : Rc Form Global} {i : ℕ} {c : List ℕ} {w : Mapping} → MapsBy n e p.value i c w → MapsBy n e (Exclusion p) i c (excluded_mapping w)
+    iterated : {p : Rc Form Global} {lower : ℕ} {upper : Option ℕ} {reluctant : Bool} {k i : ℕ} {c : List ℕ} {w : Mapping} → MayFollow lower upper k → IteratesBy n e p.value reluctant lower k i c w → MapsBy n e (Quantified p lower upper reluctant) i c w
 
-  pub data ReadsInOrder (n : ℕ) (e : End) : List Form → ℕ → List ℕ → Mapping → Type 0 where
-    no_more : {i : ℕ} → ReadsInOrder n e [] i [] (Full [])
-    next : {f : Form} {fs : List Form} {i : ℕ} {c d : List ℕ} {ls : List Label} {w : Mapping} → Reads n e f i c (Full ls) → ReadsInOrder n e fs (i + length ls) d w → ReadsInOrder n e (f ∷ fs) i (c ++ d) (preceded ls w)
-    next_open : {f : Form} {fs : List Form} {i : ℕ} {c : List ℕ} {ls : List Label} → Reads n e f i c (Open ls) → ReadsInOrder n e (f ∷ fs) i c (Open ls)
+  -- several patterns, one after another, by these decisions
+  pub data MapsInOrderBy (n : ℕ) (e : End) : List Form → ℕ → List ℕ → Mapping → Type 0 where
+    no_more : {i : ℕ} → MapsInOrderBy n e [] i [] (Full [])
+    next : {f : Form} {fs : List Form} {i : ℕ} {c d : List ℕ} {ls : List Label} {w : Mapping} → MapsBy n e f i c (Full ls) → MapsInOrderBy n e fs (i + length ls) d w → MapsInOrderBy n e (f ∷ fs) i (c ++ d) (preceded ls w)
+    next_open : {f : Form} {fs : List Form} {i : ℕ} {c : List ℕ} {ls : List Label} → MapsBy n e f i c (Open ls) → MapsInOrderBy n e (f ∷ fs) i c (Open ls)
 
-  pub data ReadsTimes (n : ℕ) (e : End) : Form → Bool → ℕ → ℕ → ℕ → List ℕ → Mapping → Type 0 where
-    stop : {f : Form} {r : Bool} {i : ℕ} → ReadsTimes n e f r zero zero i (to_stop r ∷ []) (Full [])
-    required : {f : Form} {r : Bool} {l k i : ℕ} {c d : List ℕ} {ls : List Label} {w : Mapping} → Reads n e f i c (Full ls) → ReadsTimes n e f r l k (i + length ls) d w → ReadsTimes n e f r (suc l) k i (c ++ d) (preceded ls w)
-    required_open : {f : Form} {r : Bool} {l k i : ℕ} {c : List ℕ} {ls : List Label} → Reads n e f i c (Open ls) → ReadsTimes n e f r (suc l) k i c (Open ls)
-    another : {f : Form} {r : Bool} {k i : ℕ} {c d : List ℕ} {l : Label} {ls : List Label} {w : Mapping} → Reads n e f i c (Full (l ∷ ls)) → ReadsTimes n e f r zero k (i + length (l ∷ ls)) d w → ReadsTimes n e f r zero (suc k) i (to_go_on r ∷ (c ++ d)) (preceded (l ∷ ls) w)
-    another_open : {f : Form} {r : Bool} {k i : ℕ} {c : List ℕ} {ls : List Label} → Reads n e f i c (Open ls) → ReadsTimes n e f r zero (suc k) i (to_go_on r ∷ c) (Open ls)
+  -- l required iterations, and then k others, by these decisions: before each of the others, and before stopping, one of whether to go on
+  pub data IteratesBy (n : ℕ) (e : End) : Form → Bool → ℕ → ℕ → ℕ → List ℕ → Mapping → Type 0 where
+    stop : {f : Form} {r : Bool} {i : ℕ} → IteratesBy n e f r zero zero i (to_stop r ∷ []) (Full [])
+    required : {f : Form} {r : Bool} {l k i : ℕ} {c d : List ℕ} {ls : List Label} {w : Mapping} → MapsBy n e f i c (Full ls) → IteratesBy n e f r l k (i + length ls) d w → IteratesBy n e f r (suc l) k i (c ++ d) (preceded ls w)
+    required_open : {f : Form} {r : Bool} {l k i : ℕ} {c : List ℕ} {ls : List Label} → MapsBy n e f i c (Open ls) → IteratesBy n e f r (suc l) k i c (Open ls)
+    another : {f : Form} {r : Bool} {k i : ℕ} {c d : List ℕ} {l : Label} {ls : List Label} {w : Mapping} → MapsBy n e f i c (Full (l ∷ ls)) → IteratesBy n e f r zero k (i + length (l ∷ ls)) d w → IteratesBy n e f r zero (suc k) i (to_go_on r ∷ (c ++ d)) (preceded (l ∷ ls) w)
+    another_open : {f : Form} {r : Bool} {k i : ℕ} {c : List ℕ} {ls : List Label} → MapsBy n e f i c (Open ls) → IteratesBy n e f r zero (suc k) i (to_go_on r ∷ c) (Open ls)
 
--- Choices are preferred to others where at the first difference they have what is preferred.
+-- Decisions are preferred to others where at the first difference they have the lesser rank.
 pub data IsPreferred : List ℕ → List ℕ → Type 0 where
   here : {x y : ℕ} {c d : List ℕ} → x < y → IsPreferred (x ∷ c) (y ∷ d)
   later : {x : ℕ} {c d : List ℕ} → IsPreferred c d → IsPreferred (x ∷ c) (x ∷ d)
 
 -- These are the readings of a pattern, with their mappings, all of them, each before those that it is preferred to.
 pub record AreReadings (n : ℕ) (e : End) (f : Form) (i : ℕ) (readings : List (List ℕ × Mapping)) : Type 0 where
-  pub each : All (λ r. Reads n e f i r.0 r.1) readings
-  pub every : (c : List ℕ) (w : Mapping) → Reads n e f i c w → Contains readings (c, w)
+  pub each : All (λ r. MapsBy n e f i r.0 r.1) readings
+  pub every : (c : List ℕ) (w : Mapping) → MapsBy n e f i c w → Contains readings (c, w)
   pub ascending : AllPairs (λ r s. IsPreferred r.0 s.0) readings
 
 -- The list of words is that of the mappings of all readings, in the order of preferment.
@@ -79,6 +82,6 @@ WordsAreReadings = (f : Form) (n : ℕ) (e : End) (i : ℕ) → (readings : List
 abbrev pub ReadingsAreOne : Type 0
 ReadingsAreOne = (f : Form) (n : ℕ) (e : End) (i : ℕ) (readings others : List (List ℕ × Mapping)) → AreReadings n e f i readings → AreReadings n e f i others → readings ≡ others
 
--- The choices decide the mapping.
-abbrev pub ChoicesDecide : Type 0
-ChoicesDecide = (f : Form) (n : ℕ) (e : End) (i : ℕ) (c : List ℕ) (w w' : Mapping) → Reads n e f i c w → Reads n e f i c w' → w ≡ w'
+-- Equal decisions lead to one mapping.
+abbrev pub OneMappingEach : Type 0
+OneMappingEach = (f : Form) (n : ℕ) (e : End) (i : ℕ) (c : List ℕ) (w w' : Mapping) → MapsBy n e f i c w → MapsBy n e f i c w' → w ≡ w'

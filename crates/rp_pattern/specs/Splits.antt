@@ -13,18 +13,21 @@ use Rattle.rp_pattern.specs.declared.machine.iterations.Iterations.{Iterations}
 use Rattle.rp_pattern.specs.WordLaws.{IsLater}
 use Rattle.rp_pattern.specs.Continuations.{continuation_parts, chain_words, node_part, still}
 
--- what may be left, as words and turns
+-- the words of what is left of a pattern, if anything is
 abbrev pub option_words : ℕ → End → Option Continuation → ℕ → List Mapping
 option_words n e None i = []
 option_words n e (Some r) i = chain_words (continuation_parts n e r) i
 
+-- their turns
 abbrev pub option_turns : ℕ → End → Option Continuation → ℕ → ℕ
 option_turns n e None i = 0
 option_turns n e (Some r) i = chain_turns (continuation_parts n e r) i
 
+-- the words of the choices that a choice gives way to, those of the preferred one first
 abbrev pub split_words : ℕ → End → Split → ℕ → List Mapping
 split_words n e s i = option_words n e s.preferred i ++ option_words n e s.other i
 
+-- their turns
 abbrev pub split_turns : ℕ → End → Split → ℕ → ℕ
 split_turns n e s i = option_turns n e s.preferred i + option_turns n e s.other i
 
@@ -42,7 +45,7 @@ pub record Replaces (n : ℕ) (e : End) (i : ℕ) (ps : List WordsAndTurns) (r :
   pub words : option_words n e r i ≡ chain_words ps i
   pub turns : option_turns n e r i ≤ chain_turns ps i
 
--- The choices have the words of these parts, and take fewer turns.
+-- These choices have the words of the parts, and take fewer turns.
 pub record SplitsAt (n : ℕ) (e : End) (i : ℕ) (ps : List WordsAndTurns) (s : Split) : Type 0 where
   pub words : split_words n e s i ≡ chain_words ps i
   pub turns : split_turns n e s i < chain_turns ps i
@@ -52,10 +55,11 @@ pub record ComesAgain (n : ℕ) (e : End) (i : ℕ) (it : Iterations) (further :
   pub words : chain_words (node_part n e it.body ∷ again) i ≡ chain_words (repeated (still n further) it.reluctant (node_part n e it.body) later i) i
   pub turns : chain_turns (node_part n e it.body ∷ again) i ≡ chain_turns (repeated (still n further) it.reluctant (node_part n e it.body) later i) i
 
+-- The same, over all rows and either end.
 abbrev pub AlwaysSplits : ℕ → (ℕ → End → List WordsAndTurns) → Split → Type 0
 AlwaysSplits i ps s = (n : ℕ) (e : End) → SplitsAt n e i (ps n e) s
 
--- The same, at the rows that are known and at later ones.
+-- The same, over the known rows and whatever comes later.
 pub record Splits (n : ℕ) (e : End) (i : ℕ) (ps : ℕ → End → List WordsAndTurns) (s : Split) : Type 0 where
   pub words : (n' : ℕ) (e' : End) → IsLater n e n' e' → split_words n' e' s i ≡ chain_words (ps n' e') i
   pub turns : (n' : ℕ) (e' : End) → IsLater n e n' e' → split_turns n' e' s i < chain_turns (ps n' e') i

@@ -7,7 +7,7 @@ use Rattle.rp_pattern.specs.declared.form.Form.{Form}
 use Rattle.rp_pattern.specs.declared.form.Form.TheOpen.{Form-F, Variable, Empty, Concatenation, Alternation, PartitionStart, PartitionEnd, Permute, Exclusion, Quantified}
 use Rattle.rp_pattern.specs.declared.form.Form.TheFolds.{para-Form}
 use Rattle.rp_pattern.specs.declared.word.End.{End}
-use Rattle.rp_pattern.specs.Words.{Mappings, words, concatenation, moving, moved_past, optional, required, further, orders, sequence, within_exclusion}
+use Rattle.rp_pattern.specs.Words.{Mappings, words, concatenation, moving, only_past, optional, required, further, orders, sequence, within_exclusion}
 
 -- from each row, a number of turns
 abbrev pub TurnCounts : Type 0
@@ -22,25 +22,31 @@ abbrev pub turns_after : TurnCounts → ℕ → Mapping → ℕ
 turns_after later i (Full ls) = later (i + length ls)
 turns_after later i (Open ls) = 0
 
+-- what is taken up in one turn, at any row
 abbrev pub one_turn : TurnCounts
 one_turn i = 1
 
+-- one to take the concatenation apart, those of the part, and those of what comes after each of its words
 abbrev pub concatenation_turns : WordsAndTurns → TurnCounts → TurnCounts
 concatenation_turns p later i = 1 + p.1 i + sum_by (turns_after later i) (p.0 i)
 
+-- the turns of at most h iterations, each of which takes a row: to stop, or for another one and what comes after each of its words
 abbrev pub optional_turns : WordsAndTurns → ℕ → TurnCounts
 optional_turns p zero i = 1
 optional_turns p (suc h) i = 2 + p.1 i + sum_by (turns_after (optional_turns p h) i) (moving p.0 i)
 
+-- the turns of l iterations, which may take no row, and of the rest after them
 abbrev pub required_turns : ℕ → WordsAndTurns → TurnCounts → TurnCounts
 required_turns zero p rest = rest
 required_turns (suc l) p rest = concatenation_turns p (required_turns l p rest)
 
+-- the turns of several parts, one after another
 abbrev pub sequence_turns : List WordsAndTurns → TurnCounts
 sequence_turns [] = one_turn
 sequence_turns (p ∷ []) = p.1
 sequence_turns (p ∷ q ∷ ps) = concatenation_turns p (sequence_turns (q ∷ ps))
 
+-- the turns of the parts in each order
 abbrev pub permuted_turns : List WordsAndTurns → TurnCounts
 permuted_turns ps i = 1 + sum_by (λ order. sequence_turns order i) (orders ps)
 
@@ -60,6 +66,7 @@ turns_step n e (Permute ps) = permuted_turns (map (λ p. part n e p.value) ps.it
 turns_step n e (Exclusion p) = λ i. 1 + p.value.1 i
 turns_step n e (Quantified p lower upper reluctant) = required_turns lower (part n e p.value) (optional_turns (part n e p.value) (further n lower upper))
 
+-- how many choices a search takes up at most, from a row, over the rows 1 to n and that end
 abbrev pub turns : ℕ → End → Form → TurnCounts
 turns n e = para-Form TurnCounts (turns_step n e)
 
@@ -70,7 +77,7 @@ chain_turns (p ∷ ps) i = p.1 i + sum_by (turns_after (chain_turns ps) i) (p.0 
 
 -- the test that an iteration took a row takes no turn of its own
 abbrev pub moved_part : ℕ → WordsAndTurns
-moved_part since = (moved_past since, λ i. 0)
+moved_part since = (only_past since, λ i. 0)
 
 -- a part inside an exclusion, or outside of one
 abbrev pub within : Bool → WordsAndTurns → WordsAndTurns
@@ -82,8 +89,9 @@ iterations l h reluctant p = (required l p.0 (optional reluctant p.0 h), require
 
 -- a part that is reached only past this row
 abbrev pub past : ℕ → WordsAndTurns → WordsAndTurns
-past since p = (concatenation (moved_past since) p.0, λ i. if nat_lt since i then p.1 i else 0)
+past since p = (concatenation (only_past since) p.0, λ i. if nat_lt since i then p.1 i else 0)
 
+-- the words of a part
 abbrev pub words_of : WordsAndTurns → Mappings
 words_of p = p.0
 
@@ -99,6 +107,6 @@ abbrev pub starts_turns : ℕ → End → Form → ℕ → ℕ
 starts_turns n e f zero = 0
 starts_turns n e f (suc s) = starts_turns n e f s + (turns n e f (suc s) + length (words n e f (suc s)) + (n - suc s) + 4)
 
--- at most so many turns over all starts
+-- the most turns over all start rows of a partition
 abbrev pub all_turns : ℕ → End → Form → ℕ
 all_turns n e f = 1 + starts_turns n e f n

@@ -4,10 +4,12 @@ use Rattle.rp_pattern.specs.declared.form.Form.{Form}
 use Rattle.rp_pattern.specs.declared.form.Form.TheOpen.{Form-F, Variable, Empty, Concatenation, Alternation, PartitionStart, PartitionEnd, Permute, Exclusion, Quantified}
 use Rattle.rp_pattern.specs.declared.form.Form.TheFolds.{fold-Form}
 
+-- whether each of these holds
 abbrev pub all_true : List Bool → Bool
 all_true [] = true
 all_true (b ∷ bs) = b && all_true bs
 
+-- one layer of a pattern, with whether each part's variables are below k in its place
 abbrev pub below_step : ℕ → Form-F Bool → Bool
 below_step k (Variable v) = nat_lt v k
 below_step k Empty = true

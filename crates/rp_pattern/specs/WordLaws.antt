@@ -33,17 +33,18 @@ WordsExtend = (f : Form) (n n' : ℕ) (e e' : End) (i : ℕ) → IsLater n e n' 
 
 -- ---- iterations without an upper bound
 
--- What follows an iteration has no upper bound either.
-abbrev pub NoBoundStays : Type 0
-NoBoundStays = (f : Form) (n : ℕ) (e : End) (reluctant : Bool) (i : ℕ) →
+-- The equation of `*`: another iteration, which takes a row, and then again `*`; or to stop.
+abbrev pub StarEquation : Type 0
+StarEquation = (f : Form) (n : ℕ) (e : End) (reluctant : Bool) (i : ℕ) →
     quantified n 0 None reluctant (words n e f) i ≡ preferred reluctant (concatenation (moving (words n e f)) (quantified n 0 None reluctant (words n e f)) i) (Full [] ∷ [])
 
--- An upper bound of n + 2 or more says the same as none.
+-- Over n known rows a quantifier from 0 to n + 2 or more iterations says the same as one from 0 without an upper bound. Of a quantifier
+-- with a greater lower bound nothing is said.
 abbrev pub GreatBoundsAgree : Type 0
 GreatBoundsAgree = (f : Form) (n : ℕ) (e : End) (reluctant : Bool) (h i : ℕ) → n + 2 ≤ h →
     quantified n 0 (Some h) reluctant (words n e f) i ≡ quantified n 0 None reluctant (words n e f) i
 
--- Nor does it take another number of turns.
+-- Nor does it take another number of turns: as many as one from 0 to n + 2.
 abbrev pub GreatBoundsTakeAsMany : Type 0
 GreatBoundsTakeAsMany = (f : Form) (n : ℕ) (e : End) (h i : ℕ) → n + 2 ≤ h →
     optional_turns (words n e f, turns n e f) h i ≡ optional_turns (words n e f, turns n e f) (n + 2) i
@@ -51,12 +52,12 @@ GreatBoundsTakeAsMany = (f : Form) (n : ℕ) (e : End) (h i : ℕ) → n + 2 ≤
 -- ---- the rows of a word
 
 -- no label of a word from row i lies past row n
-abbrev pub IsWithin : ℕ → ℕ → Mapping → Type 0
-IsWithin n i w = length (labels_of w) ≤ suc n - i
+abbrev pub EndsByRow : ℕ → ℕ → Mapping → Type 0
+EndsByRow n i w = length (labels_of w) ≤ suc n - i
 
 -- A word's labels are of known rows.
 abbrev pub WordsEnd : Type 0
-WordsEnd = (f : Form) (n : ℕ) (e : End) (i : ℕ) → AllByRecursion (IsWithin n i) (words n e f i)
+WordsEnd = (f : Form) (n : ℕ) (e : End) (i : ℕ) → AllByRecursion (EndsByRow n i) (words n e f i)
 
 -- where the word from row i is open, it has a label for each row from i to n
 abbrev pub RunsToEnd : ℕ → ℕ → Mapping → Type 0
@@ -67,6 +68,7 @@ RunsToEnd n i (Open ls) = length ls ≡ suc n - i
 abbrev pub WordsWait : Type 0
 WordsWait = (f : Form) (n : ℕ) (e : End) (i : ℕ) → AllByRecursion (RunsToEnd n i) (words n e f i)
 
+-- a whole mapping
 abbrev pub IsFull : Mapping → Type 0
 IsFull (Full ls) = ⊤
 IsFull (Open ls) = ⊥

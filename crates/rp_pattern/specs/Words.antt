@@ -45,7 +45,7 @@ abbrev pub followed : Mappings → ℕ → Mapping → List Mapping
 followed q i (Full ls) = map (preceded ls) (q (i + length ls))
 followed q i (Open ls) = Open ls ∷ []
 
--- one part after another. The choice in the earlier part counts first
+-- one part after another. What is decided in the earlier part counts first
 abbrev pub concatenation : Mappings → Mappings → Mappings
 concatenation p q i = flat_map (followed q i) (p i)
 
@@ -68,12 +68,13 @@ moves (Full []) = false
 moves (Full (l ∷ ls)) = true
 moves (Open ls) = true
 
+-- the words that take a row, or may take one
 abbrev pub moving : Mappings → Mappings
 moving p i = filter moves (p i)
 
--- It holds past this row. So an iteration that began there has taken a row.
-abbrev pub moved_past : ℕ → Mappings
-moved_past since i = if nat_lt since i then Full [] ∷ [] else []
+-- No row is mapped, and only past this row. So an iteration that began at the row and comes to here has taken one.
+abbrev pub only_past : ℕ → Mappings
+only_past since i = if nat_lt since i then Full [] ∷ [] else []
 
 -- a greedy quantifier prefers another iteration to stopping, a reluctant one prefers stopping
 abbrev pub preferred : Bool → List Mapping → List Mapping → List Mapping
@@ -96,6 +97,7 @@ abbrev pub further : ℕ → ℕ → Option ℕ → ℕ
 further n lower (Some upper) = upper - lower
 further n lower None = suc (suc n)
 
+-- a part with a quantifier: the required iterations, and then the others
 abbrev pub quantified : ℕ → ℕ → Option ℕ → Bool → Mappings → Mappings
 quantified n lower upper reluctant p = required lower p (optional reluctant p (further n lower upper))
 

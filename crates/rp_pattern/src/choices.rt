@@ -50,7 +50,7 @@ impl Choices {
     ghost use Rattle.rp_pattern.specs.PatternForm.{form_of};
     ghost use Rattle.rp_pattern.specs.Continuations.{tail_links, BeginsWithRow};
     ghost use Rattle.rp_pattern.specs.Splits.{StandsFor};
-    ghost use Rattle.rp_pattern.specs.Choices.{start_of, entered, first_later, whole, whole_left, whole_from, whole_left_from, remaining, left, below, below_left, after, after_left, OfFirst, HasTop, AtRow, IsFront, IsShorterFront, IsSameWhole, IsSamePattern, TakenAs, HasBegun};
+    ghost use Rattle.rp_pattern.specs.Choices.{start_of, entered, first_later, whole, whole_turns, whole_from, whole_turns_from, remaining, turns_left, below, turns_left_below, after, turns_left_after, OfFirst, HasTop, AtRow, AreFirstOf, AreStrictlyFirstOf, IsSameWhole, IsSamePattern, TakenAs, HasBegun};
     ghost use Rattle.rp_pattern.specs.Outlooks.{words_ahead, turns_ahead};
 
     /// The words of the pattern from the start row on.
@@ -61,13 +61,13 @@ impl Choices {
         ensures from { IfOk result (λ c. (n : ℕ) (e : End) (row : ℕ) →
             whole_from c n e row ≡ words n e (form_of pattern.now) row) }
         ensures left_from { IfOk result (λ c. (n : ℕ) (e : End) (row : ℕ) →
-            whole_left_from c n e row ≡
+            whole_turns_from c n e row ≡
             turns n e (form_of pattern.now) row + length (words n e (form_of pattern.now) row)) }
         ensures whole { IfOk result (λ c. (n : ℕ) (e : End) → whole c n e ≡ words n e (form_of pattern.now) start) }
-        ensures whole_left { IfOk result (λ c. (n : ℕ) (e : End) →
-            whole_left c n e ≡ turns n e (form_of pattern.now) start + length (words n e (form_of pattern.now) start)) }
+        ensures whole_turns { IfOk result (λ c. (n : ℕ) (e : End) →
+            whole_turns c n e ≡ turns n e (form_of pattern.now) start + length (words n e (form_of pattern.now) start)) }
         ensures remaining { IfOk result (λ c. (n : ℕ) (e : End) → remaining c n e ≡ whole c n e) }
-        ensures left { IfOk result (λ c. (n : ℕ) (e : End) → left c n e ≡ whole_left c n e) }
+        ensures left { IfOk result (λ c. (n : ℕ) (e : End) → turns_left c n e ≡ whole_turns c n e) }
     {
         let form = Rc::new(alloc, pattern.form().share(alloc)?)?;
         let part = Part::Whole(Node {
@@ -116,9 +116,9 @@ impl Choices {
     fn begin(&mut self) -> Result<(), AllocError>
         ensures whole { IsSameWhole self.old self.new }
         ensures begun { OnOk result (HasBegun self.new) }
-        ensures cut { OnOk result (IsFront (entered self.new) (entered self.old)) }
+        ensures cut { OnOk result (AreFirstOf (entered self.new) (entered self.old)) }
         ensures remaining { OnOk result ((n : ℕ) (e : End) → remaining self.new n e ≡ remaining self.old n e) }
-        ensures left { OnOk result ((n : ℕ) (e : End) → left self.new n e ≡ left self.old n e) }
+        ensures left { OnOk result ((n : ℕ) (e : End) → turns_left self.new n e ≡ turns_left self.old n e) }
     {
         if self.begun {
             return Ok(());
@@ -216,7 +216,7 @@ impl Choices {
         ensures remaining { OnOk result ((n : ℕ) (e : End) →
             remaining self.new n e ≡ map (preceded (entered self.old)) (after self.old n e) ++ below self.old n e) }
         ensures left { OnOk result ((n : ℕ) (e : End) →
-            left self.new n e ≡ after_left self.old n e + below_left self.old n e) }
+            turns_left self.new n e ≡ turns_left_after self.old n e + turns_left_below self.old n e) }
         ensures labels { OnOk result (entered self.new ≡ entered self.old) }
     {
         let depth = self.labels.len();
@@ -245,9 +245,9 @@ impl Choices {
         requires { HasTop self.old }
         ensures whole { IsSameWhole self.old self.new }
         ensures remaining { (n : ℕ) (e : End) → remaining self.new n e ≡ below self.old n e }
-        ensures left { (n : ℕ) (e : End) → left self.new n e ≡ below_left self.old n e }
-        ensures labels { IsFront (entered self.new) (entered self.old) }
-        ensures cut_off { AtRow self.old → IsShorterFront (entered self.new) (entered self.old) }
+        ensures left { (n : ℕ) (e : End) → turns_left self.new n e ≡ turns_left_below self.old n e }
+        ensures labels { AreFirstOf (entered self.new) (entered self.old) }
+        ensures cut_off { AtRow self.old → AreStrictlyFirstOf (entered self.new) (entered self.old) }
     {
         if let Some(choice) = self.stack.top() {
             self.labels.truncate(choice.depth);
@@ -259,7 +259,7 @@ impl Choices {
     pub fn after_row(&self) -> Result<Outlook, AllocError>
         requires { AtRow self.now }
         ensures words { IfOk result (λ o. (n : ℕ) (e : End) → words_ahead o n e ≡ length (after self.now n e)) }
-        ensures turns { IfOk result (λ o. (n : ℕ) (e : End) → turns_ahead o n e ≡ after_left self.now n e) }
+        ensures turns { IfOk result (λ o. (n : ℕ) (e : End) → turns_ahead o n e ≡ turns_left_after self.now n e) }
     {
         let row = self.start + self.labels.len() as u64;
         Outlook::at(self.alloc, row, self.follow_first(row)?)
@@ -269,7 +269,7 @@ impl Choices {
     pub fn reset(&mut self)
         ensures whole { IsSameWhole self.old self.new }
         ensures remaining { (n : ℕ) (e : End) → remaining self.new n e ≡ whole self.old n e }
-        ensures left { (n : ℕ) (e : End) → left self.new n e ≡ whole_left self.old n e }
+        ensures left { (n : ℕ) (e : End) → turns_left self.new n e ≡ whole_turns self.old n e }
         ensures labels { entered self.new ≡ [] }
     {
         self.empty();
@@ -282,9 +282,9 @@ impl Choices {
         ensures start { start_of self.new ≡ start }
         ensures labels { entered self.new ≡ [] }
         ensures whole { (n : ℕ) (e : End) → whole self.new n e ≡ whole_from self.old n e start }
-        ensures whole_left { (n : ℕ) (e : End) → whole_left self.new n e ≡ whole_left_from self.old n e start }
+        ensures whole_turns { (n : ℕ) (e : End) → whole_turns self.new n e ≡ whole_turns_from self.old n e start }
         ensures remaining { (n : ℕ) (e : End) → remaining self.new n e ≡ whole self.new n e }
-        ensures left { (n : ℕ) (e : End) → left self.new n e ≡ whole_left self.new n e }
+        ensures left { (n : ℕ) (e : End) → turns_left self.new n e ≡ whole_turns self.new n e }
     {
         self.empty();
         self.start = start;

@@ -1,6 +1,6 @@
 //! All words of a pattern, up to a given number of them.
 ghost use Rattle.std.specs.Prelude.{◌≡◌, ℕ, ◌+◌, ◌-◌, ◌^◌, ◌<◌, ◌≤◌, [], ◌∷◌, ◌++◌, length, IfOk, OnOk};
-ghost use Rattle.rp_pattern.specs.Choices.{HasTop, entered, remaining, left, below, below_left};
+ghost use Rattle.rp_pattern.specs.Choices.{HasTop, entered, remaining, turns_left, below, turns_left_below};
 ghost use Rattle.rp_pattern.specs.declared.word.End.{End};
 ghost use Rattle.rp_pattern.specs.Listing.{ListsNext};
 ghost use Rattle.rp_pattern.specs.Mapping.{marked};
@@ -11,14 +11,17 @@ ghost use Rattle.rp_pattern.specs.declared.list.ListFault.TheVariants.{OutOfMemo
 use crate::choices::{Choices, Taken};
 use crate::form::Pattern;
 use crate::word::{End, Mark, Word};
-use std::alloc::{AllocError, Global};
+use std::alloc::{AllocError, AllocFailed, Global};
+use thiserror::Error;
 
 /// Why the words of a pattern aren't listed.
-#[derive(Clone, Copy, Debug, PartialEq, Eq)]
+#[derive(Clone, Copy, Debug, PartialEq, Eq, Error)]
 pub enum ListFault {
     /// There are more than the caller asked for.
+    #[error("TooMany")]
     TooMany,
     /// Memory was refused.
+    #[error("out of memory")]
     OutOfMemory,
 }
 
@@ -26,6 +29,14 @@ impl From<AllocError> for ListFault {
     ghost from_gives = { λ _ fault. fault ≡ OutOfMemory };
 
     fn from(_: AllocError) -> ListFault {
+        ListFault::OutOfMemory
+    }
+}
+
+impl<T: Drop> From<AllocFailed<T>> for ListFault {
+    ghost from_gives = { λ _ fault. fault ≡ OutOfMemory };
+
+    fn from(_: AllocFailed<T>) -> ListFault {
         ListFault::OutOfMemory
     }
 }
@@ -97,7 +108,7 @@ fn list_word(
     requires { HasTop choices.old }
     ensures list { OnOk result (list.new.items ≡ list.old.items ++ marked mark (entered choices.old) ∷ []) }
     ensures remaining { OnOk result ((n : ℕ) (e : End) → remaining choices.new n e ≡ below choices.old n e) }
-    ensures left { OnOk result ((n : ℕ) (e : End) → left choices.new n e ≡ below_left choices.old n e) }
+    ensures left { OnOk result ((n : ℕ) (e : End) → turns_left choices.new n e ≡ turns_left_below choices.old n e) }
 {
     let labels = Vec::from_slice(alloc, choices.labels())?;
     list.push(Word { labels, mark })?;

@@ -57,7 +57,7 @@ fn orders_of_eight(rt: HostRuntime) -> Result<(), Fail> {
     Ok(())
 }
 
-/// `PERMUTE` of so many As.
+/// `PERMUTE` of `count` As.
 fn permuted(alloc: Global, count: usize) -> Result<Form, AllocError> {
     let mut parts = Vec::new(alloc);
     for _ in 0..count {

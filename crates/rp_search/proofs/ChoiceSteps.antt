@@ -8,10 +8,10 @@ use Rattle.rp_pattern.specs.Mapping.{Mapping, preceded}
 use Rattle.rp_pattern.specs.declared.choices.Choices.{Choices}
 use Rattle.rp_pattern.specs.declared.outlook.Outlook.{Outlook}
 use Rattle.rp_pattern.specs.WordLaws.{IsLater}
-use Rattle.rp_pattern.specs.Choices.{AtRow, start_of, entered, whole, whole_left, remaining, left, below, below_left, after, after_left, IsFront, IsShorterFront, IsSameWhole, IsSplit, MapsRow as TakesRow, IsFullWord, IsOpenWord, IsNothing}
-use Rattle.rp_search.specs.Found.{Test, tested, Stays, TestsStay, found, Match, NoMatch, Waits}
+use Rattle.rp_pattern.specs.Choices.{AtRow, start_of, entered, whole, whole_turns, remaining, turns_left, below, turns_left_below, after, turns_left_after, AreFirstOf, AreStrictlyFirstOf, IsSameWhole, IsSplit, IsMappedRow as TakesRow, IsFullWord, IsOpenWord, IsNothing}
+use Rattle.rp_search.specs.Found.{Test, tested, SeenStays, TestsStay, found, Match, NoMatch, Waits}
 use Rattle.rp_search.specs.Asked.{rows_from}
-use Rattle.rp_search.specs.Fits.{RefusedBefore, Stands, StandsAtRow, Explores}
+use Rattle.rp_search.specs.Fits.{RefusedUpTo, ChoicesFit, StandsAtRow, Explores}
 use Rattle.rp_search.specs.Turned.{Goes}
 use Rattle.rp_search.proofs.FoundLaws.{tested_stays}
 use Rattle.rp_search.proofs.Tested.{tested_take, refused_row, before_more, before_stays, found_before, full_matches, open_waits, begun_waits, last_decides, cut_admitted}
@@ -25,50 +25,50 @@ later_still n n' n'' e e' e'' a b =
 
 -- choices stand where those of before did, with what they are now
 stands_from : (old new : Choices) (n : ℕ) (e : End) (test : Test) → IsSameWhole old new → 1 ≤ start_of old → length (entered new) ≤ rows_from (start_of old) n →
-    ((n' : ℕ) (e' : End) → IsLater n e n' e' → RefusedBefore (rows_from (start_of old) n) test (whole old n' e') (remaining new n' e')) →
-    ((n' : ℕ) (e' : End) → IsLater n e n' e' → left new n' e' ≤ whole_left old n' e') → Stands new n e test
+    ((n' : ℕ) (e' : End) → IsLater n e n' e' → RefusedUpTo (rows_from (start_of old) n) test (whole old n' e') (remaining new n' e')) →
+    ((n' : ℕ) (e' : End) → IsLater n e n' e' → turns_left new n' e' ≤ whole_turns old n' e') → ChoicesFit new n e test
 stands_from old new n e test keeps one known words turns =
     record {
       from_one = subst (λ s. 1 ≤ s) (sym keeps.start) one;
       known = subst (λ s. length (entered new) ≤ rows_from s n) (sym keeps.start) known;
       words = λ n' e' h.
-          subst (λ s. RefusedBefore (rows_from s n) test (whole new n' e') (remaining new n' e')) (sym keeps.start)
-          (subst (λ ws. RefusedBefore (rows_from (start_of old) n) test ws (remaining new n' e')) (sym (keeps.words n' e')) (words n' e' h));
-      turns = λ n' e' h. subst (λ k. left new n' e' ≤ k) (sym (keeps.left n' e')) (turns n' e' h);
+          subst (λ s. RefusedUpTo (rows_from s n) test (whole new n' e') (remaining new n' e')) (sym keeps.start)
+          (subst (λ ws. RefusedUpTo (rows_from (start_of old) n) test ws (remaining new n' e')) (sym (keeps.words n' e')) (words n' e' h));
+      turns = λ n' e' h. subst (λ k. turns_left new n' e' ≤ k) (sym (keeps.left n' e')) (turns n' e' h);
     }
 
 cut_known : (ls : List Label) (k r : ℕ) → length ls ≤ r → length (take k ls) ≤ r
 cut_known ls k r h = omega (arith, length-take k ls)
 
 -- the labels cut back, and the same words
-pub stands_cut : (old new : Choices) (n : ℕ) (e : End) (test : Test) → Stands old n e test → IsSameWhole old new → IsFront (entered new) (entered old) →
+pub stands_cut : (old new : Choices) (n : ℕ) (e : End) (test : Test) → ChoicesFit old n e test → IsSameWhole old new → AreFirstOf (entered new) (entered old) →
     ((n' : ℕ) (e' : End) → IsLater n e n' e' → remaining new n' e' ≡ remaining old n' e') →
-    ((n' : ℕ) (e' : End) → IsLater n e n' e' → left new n' e' ≤ left old n' e') → Stands new n e test
+    ((n' : ℕ) (e' : End) → IsLater n e n' e' → turns_left new n' e' ≤ turns_left old n' e') → ChoicesFit new n e test
 stands_cut old new n e test s keeps cut same fewer =
     stands_from old new n e test keeps s.from_one
     (subst (λ ls. length ls ≤ rows_from (start_of old) n) (sym cut.1) (cut_known (entered old) cut.0 (rows_from (start_of old) n) s.known))
-    (λ n' e' h. subst (λ ws. RefusedBefore (rows_from (start_of old) n) test (whole old n' e') ws) (sym (same n' e' h)) (s.words n' e' h))
+    (λ n' e' h. subst (λ ws. RefusedUpTo (rows_from (start_of old) n) test (whole old n' e') ws) (sym (same n' e' h)) (s.words n' e' h))
     (λ n' e' h. omega (arith, fewer n' e' h, s.turns n' e' h))
 
-pub cut_true : (old new : Choices) (test : Test) → IsFront (entered new) (entered old) → tested test (entered old) ≡ True → tested test (entered new) ≡ True
+pub cut_true : (old new : Choices) (test : Test) → AreFirstOf (entered new) (entered old) → tested test (entered old) ≡ True → tested test (entered new) ≡ True
 cut_true old new test cut h = subst (λ ls. tested test ls ≡ True) (sym cut.1) (tested_take (entered old) cut.0 test h)
 
-pub stands_splits : (old new : Choices) (n : ℕ) (e : End) (test : Test) → Stands old n e test → IsSameWhole old new → IsSplit old new n e → Stands new n e test
+pub stands_splits : (old new : Choices) (n : ℕ) (e : End) (test : Test) → ChoicesFit old n e test → IsSameWhole old new → IsSplit old new n e → ChoicesFit new n e test
 stands_splits old new n e test s keeps t = stands_cut old new n e test s keeps t.cut t.same (λ n' e' h. omega (arith, t.less n' e' h))
 
-pub stands_full : (old new : Choices) (n : ℕ) (e : End) (test : Test) → Stands old n e test → IsSameWhole old new → IsFullWord old new n e → Stands new n e test
+pub stands_full : (old new : Choices) (n : ℕ) (e : End) (test : Test) → ChoicesFit old n e test → IsSameWhole old new → IsFullWord old new n e → ChoicesFit new n e test
 stands_full old new n e test s keeps t = stands_cut old new n e test s keeps t.cut (λ n' e' h. t.now n' e' h ∙ sym (t.was n' e' h)) (λ n' e' h. omega (arith, t.same_left n' e' h))
 
-pub stands_open : (old new : Choices) (n : ℕ) (e : End) (test : Test) → Stands old n e test → IsSameWhole old new → IsOpenWord old new n e → Stands new n e test
+pub stands_open : (old new : Choices) (n : ℕ) (e : End) (test : Test) → ChoicesFit old n e test → IsSameWhole old new → IsOpenWord old new n e → ChoicesFit new n e test
 stands_open old new n e test s keeps t = stands_cut old new n e test s keeps t.cut t.same (λ n' e' h. omega (arith, t.same_left n' e' h))
 
-pub stands_nothing : (old new : Choices) (n : ℕ) (e : End) (test : Test) → Stands old n e test → IsSameWhole old new → IsNothing old new n e → Stands new n e test
+pub stands_nothing : (old new : Choices) (n : ℕ) (e : End) (test : Test) → ChoicesFit old n e test → IsSameWhole old new → IsNothing old new n e → ChoicesFit new n e test
 stands_nothing old new n e test s keeps t = stands_cut old new n e test s keeps t.cut (λ n' e' h. t.now n' e' h ∙ sym (t.was n' e' h)) t.less
 
-pub stands_row : (old new : Choices) (n : ℕ) (e : End) (test : Test) → Stands old n e test → IsSameWhole old new → TakesRow old new n e → Stands new n e test
+pub stands_row : (old new : Choices) (n : ℕ) (e : End) (test : Test) → ChoicesFit old n e test → IsSameWhole old new → TakesRow old new n e → ChoicesFit new n e test
 stands_row old new n e test s keeps t =
     stands_from old new n e test keeps s.from_one (omega (arith, t.known, keeps.start))
-    (λ n' e' h. subst (λ ws. RefusedBefore (rows_from (start_of old) n) test (whole old n' e') ws) (t.was n' e' h ∙ sym (t.now n' e' h)) (s.words n' e' h))
+    (λ n' e' h. subst (λ ws. RefusedUpTo (rows_from (start_of old) n) test (whole old n' e') ws) (t.was n' e' h ∙ sym (t.now n' e' h)) (s.words n' e' h))
     (λ n' e' h. omega (arith, t.same_left n' e' h, s.turns n' e' h))
 
 pub maps_row : (old new : Choices) (n : ℕ) (e : End) (test : Test) → tested test (entered old) ≡ True → TakesRow old new n e → StandsAtRow new n e test
@@ -89,13 +89,13 @@ pub row_decides : (c : Choices) (n : ℕ) (e : End) (test : Test) → StandsAtRo
 row_decides c n e test r = last_decides r.before r.last (entered c) test r.labels r.admitted
 
 -- a row that is admitted
-pub goes_admitted : (old new : Choices) (n : ℕ) (e : End) (test : Test) → Stands old n e test → StandsAtRow old n e test → test (entered old) ≡ True → IsSameWhole old new →
-    entered new ≡ entered old → ((n' : ℕ) (e' : End) → remaining new n' e' ≡ map (preceded (entered old)) (after old n' e') ++ below old n' e') → ((n' : ℕ) (e' : End) → left new n' e' ≡ after_left old n' e' + below_left old n' e') → Goes old new n e test
+pub goes_admitted : (old new : Choices) (n : ℕ) (e : End) (test : Test) → ChoicesFit old n e test → StandsAtRow old n e test → test (entered old) ≡ True → IsSameWhole old new →
+    entered new ≡ entered old → ((n' : ℕ) (e' : End) → remaining new n' e' ≡ map (preceded (entered old)) (after old n' e') ++ below old n' e') → ((n' : ℕ) (e' : End) → turns_left new n' e' ≡ turns_left_after old n' e' + turns_left_below old n' e') → Goes old new n e test
 goes_admitted old new n e test s r seen keeps labels words turns =
     record {
       stands = stands_from old new n e test keeps s.from_one
           (subst (λ ls. length ls ≤ rows_from (start_of old) n) (sym labels) s.known)
-          (λ n' e' h. subst (λ ws. RefusedBefore (rows_from (start_of old) n) test (whole old n' e') ws) (r.words n' e' h ∙ sym (words n' e')) (s.words n' e' h))
+          (λ n' e' h. subst (λ ws. RefusedUpTo (rows_from (start_of old) n) test (whole old n' e') ws) (r.words n' e' h ∙ sym (words n' e')) (s.words n' e' h))
           (λ n' e' h. omega (arith, turns n' e', r.turns n' e' h, s.turns n' e' h));
       admitted = subst (λ ls. tested test ls ≡ True) (sym labels) (row_decides old n e test r ∙ seen);
       turns = omega (arith, turns n e, r.turns n e (now_later n e));
@@ -103,59 +103,59 @@ goes_admitted old new n e test s r seen keeps labels words turns =
 
 -- the preferred choice is given up
 pub record GivesUp (old new : Choices) : Type 0 where
-  pub cut : IsFront (entered new) (entered old)
-  pub cut_off : AtRow old → IsShorterFront (entered new) (entered old)
+  pub cut : AreFirstOf (entered new) (entered old)
+  pub cut_off : AtRow old → AreStrictlyFirstOf (entered new) (entered old)
   pub words : (n : ℕ) (e : End) → remaining new n e ≡ below old n e
-  pub turns : (n : ℕ) (e : End) → left new n e ≡ below_left old n e
+  pub turns : (n : ℕ) (e : End) → turns_left new n e ≡ turns_left_below old n e
 
 -- a row whose choice is given up, where its words are refused or there are none
-goes_without : (old new : Choices) (n : ℕ) (e : End) (test : Test) → Stands old n e test → StandsAtRow old n e test → IsSameWhole old new → GivesUp old new →
-    ((n' : ℕ) (e' : End) → IsLater n e n' e' → RefusedBefore (rows_from (start_of old) n) test (whole old n' e') (below old n' e')) → Goes old new n e test
+goes_without : (old new : Choices) (n : ℕ) (e : End) (test : Test) → ChoicesFit old n e test → StandsAtRow old n e test → IsSameWhole old new → GivesUp old new →
+    ((n' : ℕ) (e' : End) → IsLater n e n' e' → RefusedUpTo (rows_from (start_of old) n) test (whole old n' e') (below old n' e')) → Goes old new n e test
 goes_without old new n e test s r keeps g words =
-    let off : IsShorterFront (entered new) (entered old) = g.cut_off r.at_row in
+    let off : AreStrictlyFirstOf (entered new) (entered old) = g.cut_off r.at_row in
     record {
       stands = stands_from old new n e test keeps s.from_one
           (subst (λ ls. length ls ≤ rows_from (start_of old) n) (sym g.cut.1) (cut_known (entered old) g.cut.0 (rows_from (start_of old) n) s.known))
-          (λ n' e' h. subst (λ ws. RefusedBefore (rows_from (start_of old) n) test (whole old n' e') ws) (sym (g.words n' e')) (words n' e' h))
+          (λ n' e' h. subst (λ ws. RefusedUpTo (rows_from (start_of old) n) test (whole old n' e') ws) (sym (g.words n' e')) (words n' e' h))
           (λ n' e' h. omega (arith, g.turns n' e', r.turns n' e' h, s.turns n' e' h));
       admitted = subst (λ ls. tested test ls ≡ True) (sym off.2) (cut_admitted r.before r.last (entered old) off.0 test r.labels off.1 r.admitted);
       turns = omega (arith, g.turns n e, r.turns n e (now_later n e));
     }
 
-row_words : (old : Choices) (n : ℕ) (e : End) (test : Test) → Stands old n e test → StandsAtRow old n e test → (n' : ℕ) (e' : End) → IsLater n e n' e' →
-    RefusedBefore (rows_from (start_of old) n) test (whole old n' e') (map (preceded (entered old)) (after old n' e') ++ below old n' e')
-row_words old n e test s r n' e' h = subst (λ ws. RefusedBefore (rows_from (start_of old) n) test (whole old n' e') ws) (r.words n' e' h) (s.words n' e' h)
+row_words : (old : Choices) (n : ℕ) (e : End) (test : Test) → ChoicesFit old n e test → StandsAtRow old n e test → (n' : ℕ) (e' : End) → IsLater n e n' e' →
+    RefusedUpTo (rows_from (start_of old) n) test (whole old n' e') (map (preceded (entered old)) (after old n' e') ++ below old n' e')
+row_words old n e test s r n' e' h = subst (λ ws. RefusedUpTo (rows_from (start_of old) n) test (whole old n' e') ws) (r.words n' e' h) (s.words n' e' h)
 
-pub goes_refused : (old new : Choices) (n : ℕ) (e : End) (test : Test) → Stands old n e test → StandsAtRow old n e test → test (entered old) ≡ NotTrue → IsSameWhole old new → GivesUp old new → Goes old new n e test
+pub goes_refused : (old new : Choices) (n : ℕ) (e : End) (test : Test) → ChoicesFit old n e test → StandsAtRow old n e test → test (entered old) ≡ NotTrue → IsSameWhole old new → GivesUp old new → Goes old new n e test
 goes_refused old new n e test s r seen keeps g =
     goes_without old new n e test s r keeps g
     (λ n' e' h. before_more (rows_from (start_of old) n) test (whole old n' e') (map (preceded (entered old)) (after old n' e')) (below old n' e')
     (row_words old n e test s r n' e' h)
     (refused_row (entered old) (after old n' e') (rows_from (start_of old) n) test s.known (row_decides old n e test r ∙ seen)))
 
-pub goes_wordless : (old new : Choices) (n : ℕ) (e : End) (test : Test) → Stands old n e test → StandsAtRow old n e test → ((n' : ℕ) (e' : End) → IsLater n e n' e' → after old n' e' ≡ []) → IsSameWhole old new → GivesUp old new → Goes old new n e test
+pub goes_wordless : (old new : Choices) (n : ℕ) (e : End) (test : Test) → ChoicesFit old n e test → StandsAtRow old n e test → ((n' : ℕ) (e' : End) → IsLater n e n' e' → after old n' e' ≡ []) → IsSameWhole old new → GivesUp old new → Goes old new n e test
 goes_wordless old new n e test s r none keeps g =
     goes_without old new n e test s r keeps g
-    (λ n' e' h. subst (λ ws. RefusedBefore (rows_from (start_of old) n) test (whole old n' e') (map (preceded (entered old)) ws ++ below old n' e')) (none n' e' h) (row_words old n e test s r n' e' h))
+    (λ n' e' h. subst (λ ws. RefusedUpTo (rows_from (start_of old) n) test (whole old n' e') (map (preceded (entered old)) ws ++ below old n' e')) (none n' e' h) (row_words old n e test s r n' e' h))
 
 -- what a search finds, where its choices stand
-found_remaining : (c : Choices) (n : ℕ) (e : End) (test : Test) → Stands c n e test → found test (whole c n e) ≡ found test (remaining c n e)
+found_remaining : (c : Choices) (n : ℕ) (e : End) (test : Test) → ChoicesFit c n e test → found test (whole c n e) ≡ found test (remaining c n e)
 found_remaining c n e test s = found_before (rows_from (start_of c) n) test (whole c n e) (remaining c n e) (s.words n e (now_later n e))
 
-pub finds_match : (old new : Choices) (n : ℕ) (e : End) (test : Test) → Stands old n e test → tested test (entered old) ≡ True → IsFullWord old new n e → found test (whole old n e) ≡ Match (entered new)
+pub finds_match : (old new : Choices) (n : ℕ) (e : End) (test : Test) → ChoicesFit old n e test → tested test (entered old) ≡ True → IsFullWord old new n e → found test (whole old n e) ≡ Match (entered new)
 finds_match old new n e test s h t =
     found_remaining old n e test s ∙ ap (found test) (t.was n e (now_later n e)) ∙ full_matches (entered new) test (below new n e) (cut_true old new test t.cut h)
 
-pub finds_wait : (old new : Choices) (n : ℕ) (e : End) (test : Test) → Stands old n e test → tested test (entered old) ≡ True → IsOpenWord old new n e → found test (whole old n e) ≡ Waits
+pub finds_wait : (old new : Choices) (n : ℕ) (e : End) (test : Test) → ChoicesFit old n e test → tested test (entered old) ≡ True → IsOpenWord old new n e → found test (whole old n e) ≡ Waits
 finds_wait old new n e test s h t =
     found_remaining old n e test s ∙ ap (found test) t.was ∙ open_waits (entered new) test (below new n e) (cut_true old new test t.cut h)
 
-pub finds_none : (old new : Choices) (n : ℕ) (e : End) (test : Test) → Stands old n e test → IsNothing old new n e → found test (whole old n e) ≡ NoMatch
+pub finds_none : (old new : Choices) (n : ℕ) (e : End) (test : Test) → ChoicesFit old n e test → IsNothing old new n e → found test (whole old n e) ≡ NoMatch
 finds_none old new n e test s t =
     found_remaining old n e test s ∙ ap (found test) (t.was n e (now_later n e))
 
 -- where a row's test is open, and something would follow it
-pub finds_begun : (c : Choices) (n : ℕ) (e : End) (test : Test) → Stands c n e test → StandsAtRow c n e test → test (entered c) ≡ OpenTest → 0 < length (after c n e) → found test (whole c n e) ≡ Waits
+pub finds_begun : (c : Choices) (n : ℕ) (e : End) (test : Test) → ChoicesFit c n e test → StandsAtRow c n e test → test (entered c) ≡ OpenTest → 0 < length (after c n e) → found test (whole c n e) ≡ Waits
 finds_begun c n e test s r seen some = go (after c n e) refl some
   where
     go : (ws : List Mapping) → after c n e ≡ ws → 0 < length ws → found test (whole c n e) ≡ Waits
@@ -171,7 +171,7 @@ no_words (w ∷ ws) h = absurd (omega (arith, h))
 
 -- at its start again
 pub stands_again : (old new : Choices) (n : ℕ) (e : End) (test : Test) → 1 ≤ start_of old → IsSameWhole old new →
-    entered new ≡ [] → ((n' : ℕ) (e' : End) → remaining new n' e' ≡ whole old n' e') → ((n' : ℕ) (e' : End) → left new n' e' ≡ whole_left old n' e') → Stands new n e test
+    entered new ≡ [] → ((n' : ℕ) (e' : End) → remaining new n' e' ≡ whole old n' e') → ((n' : ℕ) (e' : End) → turns_left new n' e' ≡ whole_turns old n' e') → ChoicesFit new n e test
 stands_again old new n e test one keeps labels words turns =
     stands_from old new n e test keeps one (subst (λ ls. length ls ≤ rows_from (start_of old) n) (sym labels) (omega arith))
     (λ n' e' h. record { front = []; is = sym (words n' e'); refused = tt })
@@ -180,7 +180,7 @@ stands_again old new n e test one keeps labels words turns =
 -- LATER
 
 module _ (n n' : ℕ) (e e' : End) (test test' : Test) (later : IsLater n e n' e') where
-  pub stands_later : (c : Choices) → TestsStay (rows_from (start_of c) n) test test' → Stands c n e test → Stands c n' e' test'
+  pub stands_later : (c : Choices) → TestsStay (rows_from (start_of c) n) test test' → ChoicesFit c n e test → ChoicesFit c n' e' test'
   stands_later c stay s =
       record {
         from_one = s.from_one;
@@ -190,7 +190,7 @@ module _ (n n' : ℕ) (e e' : End) (test test' : Test) (later : IsLater n e n' e
       }
 
   pub true_later : (ls : List Label) (r : ℕ) → TestsStay r test test' → length ls ≤ r → tested test ls ≡ True → tested test' ls ≡ True
-  true_later ls r stay le h = subst (λ z. Stays z (tested test' ls)) h (tested_stays ls test test' (λ ms k. stay ms (omega (arith, k, le))))
+  true_later ls r stay le h = subst (λ z. SeenStays z (tested test' ls)) h (tested_stays ls test test' (λ ms k. stay ms (omega (arith, k, le))))
 
   pub maps_later : (c : Choices) → TestsStay (rows_from (start_of c) n) test test' → length (entered c) ≤ rows_from (start_of c) n → StandsAtRow c n e test → StandsAtRow c n' e' test'
   maps_later c stay known r =

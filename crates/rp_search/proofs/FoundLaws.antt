@@ -7,20 +7,20 @@ use Rattle.rp_pattern.specs.declared.word.Seen.{Seen}
 use Rattle.rp_pattern.specs.declared.word.Seen.TheVariants.{True, NotTrue, Open as OpenTest}
 use Rattle.rp_pattern.specs.Mapping.{Mapping, Full, Open, labels_of}
 use Rattle.rp_pattern.specs.WordLaws.{IsFull, BeginsWith, Extends, done, stays, gone, grows}
-use Rattle.rp_search.specs.Found.{Test, first_not_true, tested, status, status_from, Good, Refused, Found, Match, Waits, unless_refused, found, Stays, TestsStay, AreShort, from_status, unrefused, Resumes, IsFirstMatch}
+use Rattle.rp_search.specs.Found.{Test, first_not_true, tested, status, status_from, Good, Refused, Found, Match, Waits, unless_refused, found, SeenStays, TestsStay, AreShort, from_status, unrefused, Resumes, IsFirstMatch}
 
-first_stays : (a b x y : Seen) → Stays a b → Stays x y → Stays (first_not_true a x) (first_not_true b y)
-first_stays True b x y s t = subst (λ z. Stays x (first_not_true z y)) (sym s) t
+first_stays : (a b x y : Seen) → SeenStays a b → SeenStays x y → SeenStays (first_not_true a x) (first_not_true b y)
+first_stays True b x y s t = subst (λ z. SeenStays x (first_not_true z y)) (sym s) t
 first_stays NotTrue b x y s t = subst (λ z. first_not_true z y ≡ NotTrue) (sym s) refl
 first_stays OpenTest b x y s t = tt
 
-pub tested_stays : (ls : List Label) (old new : Test) → TestsStay (length ls) old new → Stays (tested old ls) (tested new ls)
+pub tested_stays : (ls : List Label) (old new : Test) → TestsStay (length ls) old new → SeenStays (tested old ls) (tested new ls)
 tested_stays [] old new s = refl
 tested_stays (l ∷ ls) old new s =
     first_stays (old (l ∷ [])) (new (l ∷ [])) (tested (λ ms. old (l ∷ ms)) ls) (tested (λ ms. new (l ∷ ms)) ls) (s (l ∷ []) (omega arith))
     (tested_stays ls (λ ms. old (l ∷ ms)) (λ ms. new (l ∷ ms)) (λ ms h. s (l ∷ ms) (omega arith)))
 
-pub first_refused : (a b x y : Seen) → Stays a b → (x ≡ NotTrue → y ≡ NotTrue) → first_not_true a x ≡ NotTrue → first_not_true b y ≡ NotTrue
+pub first_refused : (a b x y : Seen) → SeenStays a b → (x ≡ NotTrue → y ≡ NotTrue) → first_not_true a x ≡ NotTrue → first_not_true b y ≡ NotTrue
 first_refused True b x y s h k = subst (λ z. first_not_true z y ≡ NotTrue) (sym s) (h k)
 first_refused NotTrue b x y s h k = subst (λ z. first_not_true z y ≡ NotTrue) (sym s) refl
 first_refused OpenTest b x y s h k = cc
@@ -39,7 +39,7 @@ pub passed_over : (w : Mapping) (y : Seen) (b : Found) → y ≡ NotTrue → unl
 passed_over (Full ls) y b e = ap (λ z. unless_refused (Full ls) (status_from (Full ls) z) b) e
 passed_over (Open ls) y b e = ap (λ z. unless_refused (Open ls) (status_from (Open ls) z) b) e
 
-full_stays : (ls : List Label) (x y : Seen) → Stays x y → (a b : Found) → (a ≢ Waits → b ≡ a) → unless_refused (Full ls) (status_from (Full ls) x) a ≢ Waits → unless_refused (Full ls) (status_from (Full ls) y) b ≡ unless_refused (Full ls) (status_from (Full ls) x) a
+full_stays : (ls : List Label) (x y : Seen) → SeenStays x y → (a b : Found) → (a ≢ Waits → b ≡ a) → unless_refused (Full ls) (status_from (Full ls) x) a ≢ Waits → unless_refused (Full ls) (status_from (Full ls) y) b ≡ unless_refused (Full ls) (status_from (Full ls) x) a
 full_stays ls True y s a b h k = ap (λ z. unless_refused (Full ls) (status_from (Full ls) z) b) s
 full_stays ls NotTrue y s a b h k = passed_over (Full ls) y b s ∙ h k
 full_stays ls OpenTest y s a b h k = absurd (k refl)
@@ -72,7 +72,7 @@ record Rest (new : Test) (left ws' : List Mapping) : Type 0 where
   same : found new ws' ≡ found new rest
 
 module _ (new : Test) where
-  full_resumes : (ls : List Label) (ws ws' left : List Mapping) (x y : Seen) → Stays x y → tested new ls ≡ y → Extends ws ws' → Rest new left ws' → Rest new (from_status (status_from (Full ls) x) (Full ls ∷ ws) left) (Full ls ∷ ws')
+  full_resumes : (ls : List Label) (ws ws' left : List Mapping) (x y : Seen) → SeenStays x y → tested new ls ≡ y → Extends ws ws' → Rest new left ws' → Rest new (from_status (status_from (Full ls) x) (Full ls ∷ ws) left) (Full ls ∷ ws')
   full_resumes ls ws ws' left True y s e r h = record { rest = Full ls ∷ ws'; extends = stays r; same = refl }
   full_resumes ls ws ws' left NotTrue y s e r h = record { rest = h.rest; extends = h.extends; same = passed_over (Full ls) (tested new ls) (found new ws') (e ∙ s) ∙ h.same }
   full_resumes ls ws ws' left OpenTest y s e r h = record { rest = Full ls ∷ ws'; extends = stays r; same = refl }
@@ -120,7 +120,7 @@ pub refused_passed : (test : Test) (front rest : List Mapping) → AllByRecursio
 refused_passed test [] rest a = refl
 refused_passed test (w ∷ ws) rest a = passed_over w (tested test (labels_of w)) (found test (ws ++ rest)) a.0 ∙ refused_passed test ws rest a.1
 
-pub itself_stays : (s : Seen) → Stays s s
+pub itself_stays : (s : Seen) → SeenStays s s
 itself_stays True = refl
 itself_stays NotTrue = refl
 itself_stays OpenTest = tt
@@ -139,7 +139,7 @@ refused_so : (w : Mapping) (x : Seen) → x ≡ NotTrue → status_from w x ≡ 
 refused_so (Full ls) x h = ap (status_from (Full ls)) h
 refused_so (Open ls) x h = ap (status_from (Open ls)) h
 
-good_by : (w : Mapping) (x y : Seen) → Stays x y → status_from w x ≡ Good → status_from w y ≡ Good
+good_by : (w : Mapping) (x y : Seen) → SeenStays x y → status_from w x ≡ Good → status_from w y ≡ Good
 good_by (Full ls) True y s h = ap (status_from (Full ls)) s
 good_by (Full ls) NotTrue y s h = cc
 good_by (Full ls) OpenTest y s h = cc

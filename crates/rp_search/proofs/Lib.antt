@@ -3,3 +3,4 @@ pub mod Tested
 pub mod ChoiceSteps
 pub mod TurnEnds
 pub mod RunSoFar
+mod LeftAlike

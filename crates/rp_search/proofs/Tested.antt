@@ -8,7 +8,7 @@ use Rattle.rp_pattern.specs.declared.word.Seen.{Seen}
 use Rattle.rp_pattern.specs.declared.word.Seen.TheVariants.{True, NotTrue, Open as OpenTest}
 use Rattle.rp_pattern.specs.Mapping.{Mapping, Full, Open, labels_of, preceded}
 use Rattle.rp_search.specs.Found.{Test, first_not_true, tested, status_from, Match, Waits, unless_refused, found, TestsStay}
-use Rattle.rp_search.specs.Fits.{IsRefusedWithin, RefusedBefore}
+use Rattle.rp_search.specs.Fits.{IsRefusedWithin, RefusedUpTo}
 use Rattle.rp_search.proofs.FoundLaws.{first_refused, tested_refused, itself_stays, refused_passed}
 
 pub All-append : {X : Type 0} (P : X → Type 0) (xs ys : List X) → AllByRecursion P xs → AllByRecursion P ys → AllByRecursion P (xs ++ ys)
@@ -96,16 +96,16 @@ refused_row ls (Full ms ∷ ws) r test le h = (refused_begins ls ms r test le h,
 refused_row ls (Open ms ∷ ws) r test le h = (refused_begins ls ms r test le h, refused_row ls ws r test le h)
 
 -- refused words before the rest, and some more of them
-pub before_more : (r : ℕ) (test : Test) (ws more rest : List Mapping) → RefusedBefore r test ws (more ++ rest) → AllByRecursion (IsRefusedWithin r test) more → RefusedBefore r test ws rest
+pub before_more : (r : ℕ) (test : Test) (ws more rest : List Mapping) → RefusedUpTo r test ws (more ++ rest) → AllByRecursion (IsRefusedWithin r test) more → RefusedUpTo r test ws rest
 before_more r test ws more rest b h =
     record { front = b.front ++ more; is = b.is ∙ sym (append_assoc b.front more rest); refused = All-append (IsRefusedWithin r test) b.front more b.refused h }
 
-pub before_stays : (r r' : ℕ) (old new : Test) (ws rest : List Mapping) → TestsStay r old new → r ≤ r' → RefusedBefore r old ws rest → RefusedBefore r' new ws rest
+pub before_stays : (r r' : ℕ) (old new : Test) (ws rest : List Mapping) → TestsStay r old new → r ≤ r' → RefusedUpTo r old ws rest → RefusedUpTo r' new ws rest
 before_stays r r' old new ws rest s le b =
     record { front = b.front; is = b.is; refused = All-mapped (IsRefusedWithin r old) (IsRefusedWithin r' new) (λ w h. refused_within (labels_of w) r r' old new s le h) b.front b.refused }
 
 -- what is found is found among the rest
-pub found_before : (r : ℕ) (test : Test) (ws rest : List Mapping) → RefusedBefore r test ws rest → found test ws ≡ found test rest
+pub found_before : (r : ℕ) (test : Test) (ws rest : List Mapping) → RefusedUpTo r test ws rest → found test ws ≡ found test rest
 found_before r test ws rest b =
     ap (found test) b.is ∙ refused_passed test b.front rest (All-mapped (IsRefusedWithin r test) (λ w. tested test (labels_of w) ≡ NotTrue) (λ w h. refused_whole (labels_of w) r test h) b.front b.refused)
 

@@ -16,12 +16,12 @@ use Rattle.rp_pattern.specs.Mapping.{Mapping, Full, Open}
 use Rattle.rp_pattern.specs.Mapping.{preceded}
 use Rattle.rp_pattern.specs.WordLaws.{IsLater}
 use Rattle.rp_pattern.specs.LabelLaws.{IsBelow}
-use Rattle.rp_pattern.specs.Choices.{start_of, entered, whole, whole_left, whole_left_from, remaining, left, below, below_left, after, after_left, IsFront, IsShorterFront, IsSameWhole}
+use Rattle.rp_pattern.specs.Choices.{start_of, entered, whole, whole_turns, whole_turns_from, remaining, turns_left, below, turns_left_below, after, turns_left_after, AreFirstOf, AreStrictlyFirstOf, IsSameWhole}
 use Rattle.rp_search.specs.Found.{Test, tested, found, Waits}
 use Rattle.rp_search.specs.Asked.{Asked, AreBelow, rows_from}
 use Rattle.rp_search.specs.Search.{IsAtStart, labels_of_search, start_of_search, turns_from}
-use Rattle.rp_search.specs.Fits.{Stands, StandsBy, StandsAtRow, StandsAtRowBy, Explores, AreAdmitted, ChoicesStand, LabelsStand, LabelsBelow, test_from, unless_open, left_in, left_by}
-use Rattle.rp_search.specs.Turned.{AddsLabel, AreCutBack, Goes, GoesOn, IsOpenAt, Searches}
+use Rattle.rp_search.specs.Fits.{ChoicesFit, StandsBy, StandsAtRow, StandsAtRowBy, Explores, AreAdmitted, ChoicesStand, LabelsStand, LabelsBelow, test_from, unless_open, left_given, left_by}
+use Rattle.rp_search.specs.Turned.{AddsLabel, AreCutBack, Goes, GoesOn, IsOpenAt, IsWithinRun}
 use Rattle.rp_search.proofs.ChoiceSteps.{GivesUp, now_later, finds_begun, goes_wordless, no_words}
 
 -- a fact at the rows and the end that were read is one at those of the tests
@@ -32,19 +32,19 @@ pub open_end : (e : End) → (e ≡ ClosedEnd → ⊥) → e ≡ OpenEnd
 open_end OpenEnd h = refl
 open_end ClosedEnd h = absurd (h refl)
 
-pub below_front : (k : ℕ) (ls ms : List Label) → IsFront ls ms → AreBelow k ms → AreBelow k ls
+pub below_front : (k : ℕ) (ls ms : List Label) → AreFirstOf ls ms → AreBelow k ms → AreBelow k ls
 below_front k ls ms cut h = subst (λ xs. AreBelow k xs) (sym cut.1) (All-take (λ l. l.var < k) cut.0 ms h)
 
 pub below_added : (k : ℕ) (ls : List Label) (a : AddsLabel (λ ms. AreBelow k ms) ls) → a.label.var < k → AreBelow k ls
 below_added k ls a h = subst (λ xs. AreBelow k xs) (sym a.added) (All-push (λ l. l.var < k) (take a.depth a.before) a.label (All-take (λ l. l.var < k) a.depth a.before a.entered_before) h)
 
 -- where no row is explored, the labels are tested true
-pub searches_plainly : (s : Search) (asked : Asked) (start : ℕ) → start_of s.choices ≡ start → s.outlook ≡ None → Stands s.choices asked.known asked.end (asked.outcome start) → tested (asked.outcome start) (entered s.choices) ≡ True → AreBelow asked.variables (entered s.choices) → Searches s asked
+pub searches_plainly : (s : Search) (asked : Asked) (start : ℕ) → start_of s.choices ≡ start → s.outlook ≡ None → ChoicesFit s.choices asked.known asked.end (asked.outcome start) → tested (asked.outcome start) (entered s.choices) ≡ True → AreBelow asked.variables (entered s.choices) → IsWithinRun s asked
 unfolding ChoicesStand LabelsStand LabelsBelow
 searches_plainly s asked start from none stands h below =
     record {
       fits = record {
-        stands = subst (λ i. Stands s.choices asked.known asked.end (asked.outcome i)) (sym from) stands;
+        stands = subst (λ i. ChoicesFit s.choices asked.known asked.end (asked.outcome i)) (sym from) stands;
         labels = subst (λ l. AreAdmitted l s.choices asked.known asked.end (asked.outcome (start_of s.choices))) (sym none)
             (subst (λ i. tested (asked.outcome i) (entered s.choices) ≡ True) (sym from) h);
         below = below;
@@ -55,23 +55,23 @@ searches_plainly s asked start from none stands h below =
 pub goes_on : (old new : Choices) (asked : Asked) → start_of new ≡ start_of old → Goes old new asked.known asked.end (asked.outcome (start_of old)) → AreBelow asked.variables (entered new) → GoesOn old new asked
 goes_on old new asked from g below = record { goes = subst (λ i. Goes old new asked.known asked.end (asked.outcome i)) (sym from) g; below = below }
 
-pub searches_settled : (s : Search) (old : Choices) (asked : Asked) → s.outlook ≡ None → GoesOn old s.choices asked → Searches s asked
+pub searches_settled : (s : Search) (old : Choices) (asked : Asked) → s.outlook ≡ None → GoesOn old s.choices asked → IsWithinRun s asked
 searches_settled s old asked none g = searches_plainly s asked (start_of s.choices) refl none g.goes.stands g.goes.admitted g.below
 
 pub admitted_plainly : (c : Choices) (p : Option Outlook) (n : ℕ) (e : End) (test : Test) → p ≡ None → AreAdmitted p c n e test → tested test (entered c) ≡ True
 admitted_plainly c p n e test none h = subst (λ q. AreAdmitted q c n e test) none h
 
-pub left_plainly : (c : Choices) (p : Option Outlook) (n : ℕ) (e : End) (test : Test) → p ≡ None → left_in p c n e test ≡ left c n e
-left_plainly c p n e test none = ap (λ q. left_in q c n e test) none
+pub left_plainly : (c : Choices) (p : Option Outlook) (n : ℕ) (e : End) (test : Test) → p ≡ None → left_given p c n e test ≡ turns_left c n e
+left_plainly c p n e test none = ap (λ q. left_given q c n e test) none
 
-pub fewer_plainly : (old new : Choices) (p : Option Outlook) (n : ℕ) (e : End) (test test' : Test) → p ≡ None → left new n e ≤ left old n e → left_in p new n e test' ≤ left_in p old n e test
+pub fewer_plainly : (old new : Choices) (p : Option Outlook) (n : ℕ) (e : End) (test test' : Test) → p ≡ None → turns_left new n e ≤ turns_left old n e → left_given p new n e test' ≤ left_given p old n e test
 fewer_plainly old new p n e test test' none h = omega (arith, h, left_plainly old p n e test none, left_plainly new p n e test' none)
 
 -- while a row is explored
-pub left_exploring : (c : Choices) (outlook : Outlook) (n : ℕ) (e : End) (test : Test) → test (entered c) ≡ OpenTest → left_in (Some outlook) c n e test ≡ below_left c n e + turns_ahead outlook n e
-left_exploring c outlook n e test h = ap (λ z. unless_open z (left c n e) (below_left c n e + turns_ahead outlook n e)) h
+pub left_exploring : (c : Choices) (outlook : Outlook) (n : ℕ) (e : End) (test : Test) → test (entered c) ≡ OpenTest → left_given (Some outlook) c n e test ≡ turns_left_below c n e + turns_ahead outlook n e
+left_exploring c outlook n e test h = ap (λ z. unless_open z (turns_left c n e) (turns_left_below c n e + turns_ahead outlook n e)) h
 
-pub fewer_exploring : (c : Choices) (old new : Outlook) (n : ℕ) (e : End) (test : Test) → test (entered c) ≡ OpenTest → turns_ahead new n e ≤ turns_ahead old n e → left_in (Some new) c n e test ≤ below_left c n e + turns_ahead old n e
+pub fewer_exploring : (c : Choices) (old new : Outlook) (n : ℕ) (e : End) (test : Test) → test (entered c) ≡ OpenTest → turns_ahead new n e ≤ turns_ahead old n e → left_given (Some new) c n e test ≤ turns_left_below c n e + turns_ahead old n e
 fewer_exploring c old new n e test seen h = omega (arith, h, left_exploring c new n e test seen)
 
 -- a row that is settled, in place of one that was explored
@@ -80,18 +80,18 @@ settled_in True new standing exploring h k = omega arith
 settled_in NotTrue new standing exploring h k = omega arith
 settled_in OpenTest new standing exploring h k = absurd (h refl)
 
-pub left_settled : (old new : Choices) (outlook : Outlook) (p q : Option Outlook) (n : ℕ) (e : End) (test : Test) → p ≡ Some outlook → q ≡ None → (test (entered old) ≡ OpenTest → ⊥) → left new n e < left old n e → left_in q new n e test ≤ left_in p old n e test
+pub left_settled : (old new : Choices) (outlook : Outlook) (p q : Option Outlook) (n : ℕ) (e : End) (test : Test) → p ≡ Some outlook → q ≡ None → (test (entered old) ≡ OpenTest → ⊥) → turns_left new n e < turns_left old n e → left_given q new n e test ≤ left_given p old n e test
 left_settled old new outlook p q n e test some none decided h =
-    let now : left_in q new n e test ≡ left new n e = left_plainly new q n e test none in
-    subst (λ k. k ≤ left_in p old n e test) (sym now)
-    (subst (λ r. left new n e ≤ left_in r old n e test) (sym some) (settled_in (test (entered old)) (left new n e) (left old n e) (below_left old n e + turns_ahead outlook n e) decided h))
+    let now : left_given q new n e test ≡ turns_left new n e = left_plainly new q n e test none in
+    subst (λ k. k ≤ left_given p old n e test) (sym now)
+    (subst (λ r. turns_left new n e ≤ left_given r old n e test) (sym some) (settled_in (test (entered old)) (turns_left new n e) (turns_left old n e) (turns_left_below old n e + turns_ahead outlook n e) decided h))
 
 -- a word would follow a row
-pub explored_word : (c : Choices) (outlook : Outlook) (n : ℕ) (e : End) (test : Test) → Stands c n e test → Explores c outlook n e test → test (entered c) ≡ OpenTest → 0 < words_ahead outlook n e → found test (whole c n e) ≡ Waits
+pub explored_word : (c : Choices) (outlook : Outlook) (n : ℕ) (e : End) (test : Test) → ChoicesFit c n e test → Explores c outlook n e test → test (entered c) ≡ OpenTest → 0 < words_ahead outlook n e → found test (whole c n e) ≡ Waits
 explored_word c outlook n e test s x seen some = finds_begun c n e test s x.row seen (omega (arith, some, x.words n e (now_later n e)))
 
 -- nothing would follow it
-pub explored_nothing : (c d : Choices) (outlook : Outlook) (n : ℕ) (e : End) (test : Test) → Stands c n e test → Explores c outlook n e test → ((n' : ℕ) (e' : End) → words_ahead outlook n' e' ≡ 0) → IsSameWhole c d → GivesUp c d → Goes c d n e test
+pub explored_nothing : (c d : Choices) (outlook : Outlook) (n : ℕ) (e : End) (test : Test) → ChoicesFit c n e test → Explores c outlook n e test → ((n' : ℕ) (e' : End) → words_ahead outlook n' e' ≡ 0) → IsSameWhole c d → GivesUp c d → Goes c d n e test
 explored_nothing c d outlook n e test s x none keeps g =
     goes_wordless c d n e test s x.row (λ n' e' h. no_words (after c n' e') (sym (x.words n' e' h) ∙ none n' e')) keeps g
 
@@ -115,7 +115,7 @@ none_begins k ls (Full ms ∷ ws) h a = absurd (h (All-from_recursion (λ l. l.v
 none_begins k ls (Open ms ∷ ws) h a = absurd (h (All-from_recursion (λ l. l.var < k) ls (front_below k ls ms a.0)))
 
 -- no word begins with labels of which one is not among the variables of the words
-pub untested_none : (c : Choices) (n : ℕ) (e : End) (test : Test) (k : ℕ) → Stands c n e test → StandsAtRow c n e test → ((n' : ℕ) (e' : End) → AllByRecursion (IsBelow k) (whole c n' e')) → (AreBelow k (entered c) → ⊥) → (n' : ℕ) (e' : End) → IsLater n e n' e' → after c n' e' ≡ []
+pub untested_none : (c : Choices) (n : ℕ) (e : End) (test : Test) (k : ℕ) → ChoicesFit c n e test → StandsAtRow c n e test → ((n' : ℕ) (e' : End) → AllByRecursion (IsBelow k) (whole c n' e')) → (AreBelow k (entered c) → ⊥) → (n' : ℕ) (e' : End) → IsLater n e n' e' → after c n' e' ≡ []
 untested_none c n e test k s r small not n' e' later =
     let b = s.words n' e' later in
     none_begins k (entered c) (after c n' e') not
@@ -130,7 +130,7 @@ take_of_take (suc k) (suc d) [] h = absurd (omega arith)
 take_of_take (suc k) (suc d) (l ∷ ls) h = ap (λ z. l ∷ z) (take_of_take k d ls (omega arith))
 
 -- labels that are cut back below the one that was added
-pub cut_added : (Entered : List Label → Type 0) (ls ms : List Label) → AddsLabel Entered ms → IsShorterFront ls ms → AreCutBack Entered ls
+pub cut_added : (Entered : List Label → Type 0) (ls ms : List Label) → AddsLabel Entered ms → AreStrictlyFirstOf ls ms → AreCutBack Entered ls
 cut_added Entered ls ms a f =
     let short : f.0 ≤ length (take a.depth a.before) = omega (arith, f.1, ap length a.added, length-append (take a.depth a.before) (a.label ∷ [])) in
     record {
@@ -159,8 +159,8 @@ yes_tested P is_tested iff h = iff.0 h
 -- ---- where a search stands
 
 -- a search that is at its start
-pub at_start : (s : Search) → s.outlook ≡ None → 1 ≤ start_of s.choices → entered s.choices ≡ [] → ((n : ℕ) (e : End) → remaining s.choices n e ≡ whole s.choices n e) → ((n : ℕ) (e : End) → left s.choices n e ≡ whole_left s.choices n e) → IsAtStart s
-unfolding labels_of_search start_of_search turns_from left_by ChoicesStand LabelsStand LabelsBelow whole_left whole_left_from start_of
+pub at_start : (s : Search) → s.outlook ≡ None → 1 ≤ start_of s.choices → entered s.choices ≡ [] → ((n : ℕ) (e : End) → remaining s.choices n e ≡ whole s.choices n e) → ((n : ℕ) (e : End) → turns_left s.choices n e ≡ whole_turns s.choices n e) → IsAtStart s
+unfolding labels_of_search start_of_search turns_from left_by ChoicesStand LabelsStand LabelsBelow whole_turns whole_turns_from start_of
 at_start s none one labels words most = record {
   labels = labels;
   fits = λ asked. record {
@@ -178,7 +178,7 @@ at_start s none one labels words most = record {
 }
 
 -- where a row's test is open, and what would follow it is explored
-pub searches_exploring : (s : Search) (outlook : Outlook) (asked : Asked) → s.outlook ≡ Some outlook → StandsBy s.choices asked → StandsAtRowBy s.choices asked → AreBelow asked.variables (entered s.choices) → ((n : ℕ) (e : End) → words_ahead outlook n e ≡ length (after s.choices n e)) → ((n : ℕ) (e : End) → turns_ahead outlook n e ≡ after_left s.choices n e) → test_from s.choices asked (entered s.choices) ≡ OpenTest → Searches s asked
+pub searches_exploring : (s : Search) (outlook : Outlook) (asked : Asked) → s.outlook ≡ Some outlook → StandsBy s.choices asked → StandsAtRowBy s.choices asked → AreBelow asked.variables (entered s.choices) → ((n : ℕ) (e : End) → words_ahead outlook n e ≡ length (after s.choices n e)) → ((n : ℕ) (e : End) → turns_ahead outlook n e ≡ turns_left_after s.choices n e) → test_from s.choices asked (entered s.choices) ≡ OpenTest → IsWithinRun s asked
 unfolding ChoicesStand LabelsStand LabelsBelow
 searches_exploring s outlook asked some stands row below words turns seen =
     record {

@@ -6,8 +6,9 @@ use Rattle.rp_pattern.specs.declared.word.Seen.{Seen}
 use Rattle.rp_pattern.specs.WordLaws.{IsLater}
 use Rattle.rp_search.specs.Found.{TestsStay}
 
+-- What a search asks of the rows of a partition.
 pub record Asked : Type 0 where
-  -- so many rows are known, from row 1 on
+  -- how many rows are known, from row 1 on
   pub known : ℕ
   -- whether further rows may come
   pub end : End
@@ -20,7 +21,7 @@ pub record Asked : Type 0 where
 abbrev pub AreBelow : ℕ → List Label → Type 0
 AreBelow variables labels = All (λ label. label.var < variables) labels
 
--- so many rows are known from a row on
+-- how many rows are known from a row on
 abbrev pub rows_from : ℕ → ℕ → ℕ
 rows_from start n = suc n - start
 

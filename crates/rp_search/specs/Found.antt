@@ -7,7 +7,7 @@ use Rattle.rp_pattern.specs.declared.word.Seen.TheVariants.{True, NotTrue, Open 
 use Rattle.rp_pattern.specs.Mapping.{Mapping, Full, Open, labels_of}
 use Rattle.rp_pattern.specs.WordLaws.{BeginsWith, Extends, IsFull}
 
--- What is seen of the last label's row, from the labels up to it
+-- a test: what is seen of the last label's row, from the labels up to it
 abbrev pub Test : Type 0
 Test = List Label → Seen
 
@@ -22,6 +22,7 @@ abbrev pub tested : Test → List Label → Seen
 tested test [] = True
 tested test (l ∷ ls) = first_not_true (test (l ∷ [])) (tested (λ ms. test (l ∷ ms)) ls)
 
+-- whether a word is admitted, refused, or not yet decided
 pub data Status : Type 0 where
   Good : Status
   Refused : Status
@@ -34,9 +35,11 @@ status_from (Open ls) True = Undecided
 status_from w NotTrue = Refused
 status_from w OpenTest = Undecided
 
+-- the status of a word: its labels are tested in turn
 abbrev pub status : Test → Mapping → Status
 status test w = status_from w (tested test (labels_of w))
 
+-- what is found among words
 pub data Found : Type 0 where
   Match : List Label → Found
   NoMatch : Found
@@ -53,15 +56,15 @@ abbrev pub found : Test → List Mapping → Found
 found test [] = NoMatch
 found test (w ∷ ws) = unless_refused w (status test w) (found test ws)
 
--- what is true or not true stays so, and what is open may become anything
-abbrev pub Stays : Seen → Seen → Type 0
-Stays True new = new ≡ True
-Stays NotTrue new = new ≡ NotTrue
-Stays OpenTest new = ⊤
+-- what was seen stays: what is true or not true is so later, and what is open may become anything
+abbrev pub SeenStays : Seen → Seen → Type 0
+SeenStays True new = new ≡ True
+SeenStays NotTrue new = new ≡ NotTrue
+SeenStays OpenTest new = ⊤
 
--- on labels of at most so many rows
+-- what was seen stays, on labels of at most `rows` rows
 abbrev pub TestsStay : ℕ → Test → Test → Type 0
-TestsStay rows old new = (ls : List Label) → length ls ≤ rows → Stays (old ls) (new ls)
+TestsStay rows old new = (ls : List Label) → length ls ≤ rows → SeenStays (old ls) (new ls)
 
 -- no word maps more rows than that
 abbrev pub AreShort : ℕ → List Mapping → Type 0
@@ -71,12 +74,13 @@ AreShort rows ws = AllByRecursion (λ w. length (labels_of w) ≤ rows) ws
 abbrev pub FoundStays : Type 0
 FoundStays = (rows : ℕ) (old new : Test) (ws ws' : List Mapping) → TestsStay rows old new → AreShort rows ws → Extends ws ws' → found old ws ≢ Waits → found new ws' ≡ found old ws
 
--- the words from the first one that is not refused on
+-- by the status of a word: it with those after it, or what is made of those after it where it is refused
 abbrev pub from_status : Status → List Mapping → List Mapping → List Mapping
 from_status Refused here later = later
 from_status Good here later = here
 from_status Undecided here later = here
 
+-- the words from the first one that isn't refused on
 abbrev pub unrefused : Test → List Mapping → List Mapping
 unrefused test [] = []
 unrefused test (w ∷ ws) = from_status (status test w) (w ∷ ws) (unrefused test ws)
@@ -87,6 +91,7 @@ pub record Resumes (old new : Test) (ws ws' : List Mapping) : Type 0 where
   pub extends : Extends (unrefused old ws) rest
   pub same : found new ws' ≡ found new rest
 
+-- Every search goes on so, over every continuation.
 abbrev pub FoundResumes : Type 0
 FoundResumes = (rows : ℕ) (old new : Test) (ws ws' : List Mapping) → TestsStay rows old new → AreShort rows ws → Extends ws ws' → Resumes old new ws ws'
 
@@ -102,6 +107,7 @@ pub record IsFirstMatch (test : Test) (ws : List Mapping) (ls : List Label) : Ty
   pub refused : AllByRecursion (λ w. status test w ≡ Refused) before
   pub admitted : tested test ls ≡ True
 
+-- Each match that is found is such a word.
 abbrev pub MatchIsWord : Type 0
 MatchIsWord = (test : Test) (ws : List Mapping) (ls : List Label) → found test ws ≡ Match ls → IsFirstMatch test ws ls
 

@@ -7,10 +7,12 @@ use Rattle.rp_pattern.specs.declared.word.Seen.{Seen}
 use Rattle.rp_pattern.specs.declared.word.Seen.TheVariants.{True, NotTrue, Open as OpenTest}
 use Rattle.rp_search.specs.Asked.{Asked}
 
+-- whether further rows may come
 abbrev pub may_go_on : End → Bool
 may_go_on OpenEnd = true
 may_go_on ClosedEnd = false
 
+-- open, or what is seen otherwise
 abbrev pub open_if : Bool → Seen → Seen
 open_if true seen = OpenTest
 open_if false seen = seen
@@ -29,10 +31,12 @@ row_answer first second reach known e row var =
     then open_if (may_go_on e && nat_lt (known - row) reach) (written (may_go_on e) (slice_get first row))
     else written (may_go_on e) (slice_get second row)
 
+-- what is answered for the variable of the last label
 abbrev pub last_answer : (ℕ → Seen) → Option Label → Seen
 last_answer answer None = NotTrue
 last_answer answer (Some l) = answer l.var
 
+-- the answer for the last label at its row
 abbrev pub grid_outcome : List Seen → List Seen → ℕ → ℕ → End → ℕ → List Label → Seen
 grid_outcome first second reach known e start labels = last_answer (row_answer first second reach known e (start + length labels - 1)) (slice_get labels (length labels - 1))
 

@@ -11,13 +11,13 @@ use Rattle.rp_pattern.specs.Words.{words}
 use Rattle.rp_pattern.specs.Turns.{turns}
 use Rattle.rp_pattern.specs.Variables.{are_below}
 use Rattle.rp_pattern.specs.LabelLaws.{IsBelow}
-use Rattle.rp_pattern.specs.Choices.{start_of, entered, whole_from, whole_left_from}
+use Rattle.rp_pattern.specs.Choices.{start_of, entered, whole_from, whole_turns_from}
 use Rattle.rp_search.specs.declared.search.Search.{Search}
 use Rattle.rp_search.specs.declared.search.Outcome.{Outcome}
 use Rattle.rp_search.specs.declared.search.Outcome.TheVariants.{Match as MatchOutcome, NoMatch as NoMatchOutcome, Waits as WaitsOutcome, Paused as PausedOutcome}
 use Rattle.rp_search.specs.Found.{Test, Found, found, Match, NoMatch, Waits}
 use Rattle.rp_search.specs.Asked.{Asked, AskedExtend}
-use Rattle.rp_search.specs.Fits.{Fits, left_by}
+use Rattle.rp_search.specs.Fits.{SearchFits, left_by}
 
 -- ---- what it is for
 
@@ -29,20 +29,20 @@ start_of_search s = start_of s.choices
 unfoldable pub words_from : Search → ℕ → End → ℕ → List Mapping
 words_from s n e row = whole_from s.choices n e row
 
--- at most so many turns it takes from that row
+-- how many turns it takes from that row at most
 unfoldable pub turns_from : Search → ℕ → End → ℕ → ℕ
-turns_from s n e row = whole_left_from s.choices n e row
+turns_from s n e row = whole_turns_from s.choices n e row
 
 -- the words from its start row
 abbrev pub words_of_search : Search → ℕ → End → List Mapping
 words_of_search s n e = words_from s n e (start_of_search s)
 
--- at most so many turns it takes from its start row
+-- how many turns it takes from its start row at most
 abbrev pub most_turns : Search → ℕ → End → ℕ
 most_turns s n e = turns_from s n e (start_of_search s)
 
--- It is for this pattern: it has the pattern's words from each row, and takes no more turns than their choices and themselves.
-pub record IsFor (form : Form) (s : Search) : Type 0 where
+-- It is a search for this pattern: from each row it has the pattern's words, and takes at most the pattern's turns and one for each word.
+pub record IsSearchFor (form : Form) (s : Search) : Type 0 where
   pub same_words : (n : ℕ) (e : End) (row : ℕ) → words_from s n e row ≡ words n e form row
   pub same_turns : (n : ℕ) (e : End) (row : ℕ) → turns_from s n e row ≡ turns n e form row + length (words n e form row)
 
@@ -51,7 +51,7 @@ pub record IsSamePattern (old new : Search) : Type 0 where
   pub words : (n : ℕ) (e : End) (row : ℕ) → words_from new n e row ≡ words_from old n e row
   pub turns : (n : ℕ) (e : End) (row : ℕ) → turns_from new n e row ≡ turns_from old n e row
 
--- what no run changes
+-- It is the same search: no run changes its start row, its pattern, the words from there and their turns.
 pub record IsSameSearch (old new : Search) : Type 0 where
   pub start : start_of_search new ≡ start_of_search old
   pub pattern : IsSamePattern old new
@@ -76,16 +76,16 @@ found_by s asked = found (test_of s asked) (words_of_search s asked.known asked.
 unfoldable pub labels_of_search : Search → List Label
 labels_of_search s = entered s.choices
 
--- what a run answers
-abbrev pub Answers : Search → Search → Asked → Outcome → Type 0
-Answers old new asked MatchOutcome = found_by old asked ≡ Match (labels_of_search new)
-Answers old new asked NoMatchOutcome = found_by old asked ≡ NoMatch
-Answers old new asked WaitsOutcome = (found_by old asked ≡ Waits) × (asked.end ≡ OpenEnd)
-Answers old new asked PausedOutcome = Unit {0}
+-- What a run answers is so: a match, whose labels the search has, no match, or a wait over an open end. A paused run says nothing.
+abbrev pub RunAnswers : Search → Search → Asked → Outcome → Type 0
+RunAnswers old new asked MatchOutcome = found_by old asked ≡ Match (labels_of_search new)
+RunAnswers old new asked NoMatchOutcome = found_by old asked ≡ NoMatch
+RunAnswers old new asked WaitsOutcome = (found_by old asked ≡ Waits) × (asked.end ≡ OpenEnd)
+RunAnswers old new asked PausedOutcome = Unit {0}
 
 -- ---- what a run takes
 
--- so many turns its last run took that had a budget
+-- how many turns its last run took that had a budget
 unfoldable pub turns_of_run : Search → ℕ
 turns_of_run s = s.taken
 
@@ -109,7 +109,7 @@ pub record Lowers (taken : ℕ) (old new : Search) (asked : Asked) (outcome : Ou
 -- It stands at its start row, as a new one does: nothing is mapped or given up, and it fits whatever is asked.
 pub record IsAtStart (s : Search) : Type 0 where
   pub labels : labels_of_search s ≡ []
-  pub fits : (asked : Asked) → Fits s asked
+  pub fits : (asked : Asked) → SearchFits s asked
   pub left : (asked : Asked) → left_by s asked ≡ most_turns s asked.known asked.end
 
 -- It may run on tests: its start row is known, the labels of its words are of variables that are tested, it fits what is asked,
@@ -117,17 +117,21 @@ pub record IsAtStart (s : Search) : Type 0 where
 pub record CanRun (s : Search) (asked : Asked) (Entered : ℕ → List Label → Type 0) : Type 0 where
   pub known : start_of_search s ≤ asked.known
   pub variables : HasVariablesBelow asked.variables s
-  pub fits : Fits s asked
+  pub fits : SearchFits s asked
   pub entered : Entered (start_of_search s) (labels_of_search s)
 
 -- A search that fits what is asked fits all that extends it.
-abbrev pub FitsStays : Type 0
-FitsStays = (s : Search) (old new : Asked) → AskedExtend (start_of_search s) old new → Fits s old → Fits s new
+abbrev pub SearchFitsStays : Type 0
+SearchFitsStays = (s : Search) (old new : Asked) → AskedExtend (start_of_search s) old new → SearchFits s old → SearchFits s new
 
 -- No more turns are left than the pattern takes from its start row.
 abbrev pub LeftIsBounded : Type 0
-LeftIsBounded = (s : Search) (asked : Asked) → Fits s asked → left_by s asked ≤ most_turns s asked.known asked.end
+LeftIsBounded = (s : Search) (asked : Asked) → SearchFits s asked → left_by s asked ≤ most_turns s asked.known asked.end
+
+-- As many turns are left over what answers the same, each extending the other.
+abbrev pub LeftIsSame : Type 0
+LeftIsSame = (s : Search) (old new : Asked) → AskedExtend (start_of_search s) old new → AskedExtend (start_of_search s) new old → SearchFits s old → left_by s new ≡ left_by s old
 
 -- Where each variable of its pattern is below a number, so is each in its words.
 abbrev pub VariablesAreBelow : Type 0
-VariablesAreBelow = (form : Form) (s : Search) (k : ℕ) → IsFor form s → are_below k form ≡ true → HasVariablesBelow k s
+VariablesAreBelow = (form : Form) (s : Search) (k : ℕ) → IsSearchFor form s → are_below k form ≡ true → HasVariablesBelow k s

@@ -7,13 +7,13 @@ use Rattle.rp_pattern.specs.declared.word.Seen.{Seen}
 use Rattle.rp_pattern.specs.declared.word.Seen.TheVariants.{True, NotTrue, Open as OpenTest}
 use Rattle.rp_pattern.specs.declared.choices.Choices.{Choices}
 use Rattle.rp_pattern.specs.declared.outlook.Outlook.{Outlook}
-use Rattle.rp_pattern.specs.Choices.{entered, left}
+use Rattle.rp_pattern.specs.Choices.{entered, turns_left}
 use Rattle.rp_search.specs.declared.search.Search.{Search}
 use Rattle.rp_search.specs.declared.search.Outcome.{Outcome}
 use Rattle.rp_search.specs.declared.search.Outcome.TheVariants.{Match as MatchOutcome, NoMatch as NoMatchOutcome, Waits as WaitsOutcome, Paused as PausedOutcome}
 use Rattle.rp_search.specs.Found.{Test, tested, Match, NoMatch, Waits}
 use Rattle.rp_search.specs.Asked.{Asked, AreBelow}
-use Rattle.rp_search.specs.Fits.{Stands, Fits, test_from, left_by}
+use Rattle.rp_search.specs.Fits.{ChoicesFit, SearchFits, test_from, left_by}
 use Rattle.rp_search.specs.Search.{HasVariablesBelow, found_by, labels_of_search, start_of_search}
 
 -- What is asked covers a search: its start row is known, and the labels of its words are of variables that are tested.
@@ -38,9 +38,9 @@ pub record AddsLabel (Entered : List Label → Type 0) (labels : List Label) : T
 
 -- the choices went on by a turn, and their labels are tested true
 pub record Goes (old new : Choices) (n : ℕ) (e : End) (test : Test) : Type 0 where
-  pub stands : Stands new n e test
+  pub stands : ChoicesFit new n e test
   pub admitted : tested test (entered new) ≡ True
-  pub turns : left new n e < left old n e
+  pub turns : turns_left new n e < turns_left old n e
 
 -- the choices went on by a turn, and so did what is said of their labels
 pub record GoesOn (old new : Choices) (asked : Asked) : Type 0 where
@@ -58,23 +58,23 @@ abbrev pub IsOpenAt : Option Outlook → Choices → Test → Type 0
 IsOpenAt None c test = Unit {0}
 IsOpenAt (Some outlook) c test = test (entered c) ≡ OpenTest
 
--- A search within a run: it fits, and the test of a row that is explored is open.
-pub record Searches (s : Search) (asked : Asked) : Type 0 where
-  pub fits : Fits s asked
+-- The search is within a run: it fits, and the test of a row that is explored is open.
+pub record IsWithinRun (s : Search) (asked : Asked) : Type 0 where
+  pub fits : SearchFits s asked
   pub is_open : IsOpenAt s.outlook s.choices (test_from s.choices asked)
 
 -- the search with this outlook
 abbrev pub exploring : Search → Outlook → Search
 exploring s outlook = record s { outlook = Some outlook }
 
--- What so many turns came to, from a search that had so many left: an answer, or a fall of what is left.
+-- What `taken` turns came to, from a search that had at most `before` left: an answer, with no more left, or as many fewer.
 abbrev pub Turned : ℕ → Search → Search → Asked → ℕ → Outcome → Type 0
 Turned taken old new asked before MatchOutcome = (found_by old asked ≡ Match (labels_of_search new)) × (left_by new asked ≤ before)
 Turned taken old new asked before NoMatchOutcome = (found_by old asked ≡ NoMatch) × (left_by new asked ≤ before)
 Turned taken old new asked before WaitsOutcome = (found_by old asked ≡ Waits) × (asked.end ≡ OpenEnd) × (left_by new asked ≤ before)
 Turned taken old new asked before PausedOutcome = left_by new asked + taken ≤ before
 
--- So many turns were taken and counted: one at least, and the whole budget where the search is paused.
+-- The turns taken are counted: one at least, and the whole budget where the search is paused.
 pub record CountsTurns (budget : ℕ) (outcome : Outcome) (taken steps steps' : ℕ) : Type 0 where
   pub counted : steps' ≡ steps + taken
   pub some : 0 < taken

@@ -1,6 +1,6 @@
 //! Laws over the definitions alone. A call does nothing, and its caller may then use them.
 ghost use Rattle.rp_search.specs.Found.{FoundStays, FoundResumes, ClosedDecides, MatchIsWord, RefusedStays, GoodStays};
-ghost use Rattle.rp_search.specs.Search.{FitsStays, LeftIsBounded, VariablesAreBelow};
+ghost use Rattle.rp_search.specs.Search.{SearchFitsStays, LeftIsBounded, LeftIsSame, VariablesAreBelow};
 
 use rp_pattern::law_labels;
 
@@ -17,10 +17,12 @@ pub fn law_found()
 {}
 
 /// The laws of a search that fits what is asked. It fits all that extends it, and has no more turns left than its
-/// pattern takes from its start row. The labels of its words are of the pattern's variables.
+/// pattern takes from its start row, and as many over what answers the same. The labels of its words are of the pattern's
+/// variables.
 pub fn law_search()
-    ensures stays { FitsStays }
+    ensures stays { SearchFitsStays }
     ensures bounded { LeftIsBounded }
+    ensures same { LeftIsSame }
     ensures variables { VariablesAreBelow }
 {
     law_labels();

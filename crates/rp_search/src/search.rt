@@ -46,14 +46,14 @@ pub struct Search {
 #[tactic(auto, unfolding(crate::specs::Search::start_of_search, crate::specs::Search::labels_of_search, crate::specs::Search::words_from, crate::specs::Search::turns_from, crate::specs::Search::turns_of_run, crate::specs::Fits::left_by, crate::specs::Fits::ChoicesStand, crate::specs::Fits::LabelsStand, crate::specs::Fits::LabelsBelow))]
 impl Search {
     ghost use Rattle.rp_search.specs.Asked.{AreBelow};
-    ghost use Rattle.rp_search.specs.Fits.{Fits, left_by, StandsBy, StandsAtRowBy};
-    ghost use Rattle.rp_search.specs.Search.{Answers, CanRun, IsAtStart, IsFor, IsSamePattern, IsSameSearch, Lowers, TakesTurns, labels_of_search, start_of_search, turns_of_run};
-    ghost use Rattle.rp_search.specs.Turned.{AddsLabel, CountsTurns, Covers, Searches, Turned};
+    ghost use Rattle.rp_search.specs.Fits.{SearchFits, left_by, StandsBy, StandsAtRowBy};
+    ghost use Rattle.rp_search.specs.Search.{RunAnswers, CanRun, IsAtStart, IsSearchFor, IsSamePattern, IsSameSearch, Lowers, TakesTurns, labels_of_search, start_of_search, turns_of_run};
+    ghost use Rattle.rp_search.specs.Turned.{AddsLabel, CountsTurns, Covers, IsWithinRun, Turned};
 
     /// A search from the row `start`, which is at least 1.
     pub fn new(alloc: Global, pattern: &Pattern, start: u64) -> Result<Search, AllocError>
         requires { 1 ≤ start }
-        ensures pattern { IfOk result (IsFor (form_of pattern.now)) }
+        ensures pattern { IfOk result (IsSearchFor (form_of pattern.now)) }
         ensures start { IfOk result (λ s. start_of_search s ≡ start) }
         ensures at_start { IfOk result IsAtStart }
     {
@@ -91,9 +91,9 @@ impl Search {
 
         ensures same { IsSameSearch self.old self.new }
         ensures subject { T.subject tests.new ≡ T.subject tests.old }
-        ensures fits { Fits self.new (T.asked (T.subject tests.old)) }
+        ensures fits { SearchFits self.new (T.asked (T.subject tests.old)) }
         ensures entered { T.entered tests.new (start_of_search self.new) (labels_of_search self.new) }
-        ensures answers { IfOk result (Answers self.old self.new (T.asked (T.subject tests.old))) }
+        ensures answers { IfOk result (RunAnswers self.old self.new (T.asked (T.subject tests.old))) }
 
         ensures turns { TakesTurns budget result steps.old steps.new (T.entries tests.old) (T.entries tests.new) }
         ensures left { IfOk result (Lowers (steps.new - steps.old) self.old self.new (T.asked (T.subject tests.old))) }
@@ -165,8 +165,8 @@ impl Search {
         ensures same { IsSameSearch self.old self.new }
         ensures subject { T.subject tests.new ≡ T.subject tests.old }
         ensures entered { OnOk result (T.entered tests.new (start_of_search self.new) (labels_of_search self.new)) }
-        ensures fits { OnOk result (Fits self.new (T.asked (T.subject tests.old))) }
-        ensures answers { IfOk result (λ r. Answers self.old self.new (T.asked (T.subject tests.old)) r.0) }
+        ensures fits { OnOk result (SearchFits self.new (T.asked (T.subject tests.old))) }
+        ensures answers { IfOk result (λ r. RunAnswers self.old self.new (T.asked (T.subject tests.old)) r.0) }
         ensures left { IfOk result (λ r. Lowers r.1 self.old self.new (T.asked (T.subject tests.old)) r.0) }
         ensures counted { IfOk result (λ r. CountsTurns budget r.0 r.1 steps.old steps.new) }
         ensures grows { steps.old ≤ steps.new }
@@ -192,7 +192,7 @@ impl Search {
         ensures subject { T.subject tests.new ≡ T.subject tests.old }
         ensures entries { T.entries tests.new ≡ T.entries tests.old }
         ensures entered { OnOk result (T.entered tests.new (start_of_search self.new) (labels_of_search self.new)) }
-        ensures searches { OnOk result (Searches self.new (T.asked (T.subject tests.old))) }
+        ensures searches { OnOk result (IsWithinRun self.new (T.asked (T.subject tests.old))) }
         ensures left { OnOk result
             (left_by self.new (T.asked (T.subject tests.old)) ≤ left_by self.old (T.asked (T.subject tests.old))) }
     {
@@ -209,14 +209,14 @@ impl Search {
     /// Takes up one choice. It answers `Paused` where the search isn't at its end.
     fn turn<T: Tests>(&mut self, tests: &mut T) -> Result<Outcome, AllocError>
         requires covers { Covers (T.asked (T.subject tests.old)) self.old }
-        requires searches { Searches self.old (T.asked (T.subject tests.old)) }
+        requires searches { IsWithinRun self.old (T.asked (T.subject tests.old)) }
         requires entered { T.entered tests.old (start_of_search self.old) (labels_of_search self.old) }
 
         ensures same { IsSameSearch self.old self.new }
         ensures subject { T.subject tests.new ≡ T.subject tests.old }
         ensures entries { T.entries tests.new ≤ T.entries tests.old + 1 }
         ensures entered { OnOk result (T.entered tests.new (start_of_search self.new) (labels_of_search self.new)) }
-        ensures searches { OnOk result (Searches self.new (T.asked (T.subject tests.old))) }
+        ensures searches { OnOk result (IsWithinRun self.new (T.asked (T.subject tests.old))) }
         ensures turned { IfOk result (Turned 1 self.old self.new
             (T.asked (T.subject tests.old)) (left_by self.old (T.asked (T.subject tests.old)))) }
     {
@@ -235,14 +235,14 @@ impl Search {
     fn take_up<T: Tests>(&mut self, tests: &mut T) -> Result<Outcome, AllocError>
         requires covers { Covers (T.asked (T.subject tests.old)) self.old }
         requires none { self.old.outlook ≡ None }
-        requires searches { Searches self.old (T.asked (T.subject tests.old)) }
+        requires searches { IsWithinRun self.old (T.asked (T.subject tests.old)) }
         requires entered { T.entered tests.old (start_of_search self.old) (labels_of_search self.old) }
 
         ensures same { IsSameSearch self.old self.new }
         ensures subject { T.subject tests.new ≡ T.subject tests.old }
         ensures entries { T.entries tests.new ≤ T.entries tests.old + 1 }
         ensures entered { OnOk result (T.entered tests.new (start_of_search self.new) (labels_of_search self.new)) }
-        ensures searches { OnOk result (Searches self.new (T.asked (T.subject tests.old))) }
+        ensures searches { OnOk result (IsWithinRun self.new (T.asked (T.subject tests.old))) }
         ensures turned { IfOk result (Turned 1 self.old self.new
             (T.asked (T.subject tests.old)) (left_by self.old (T.asked (T.subject tests.old)))) }
     {
@@ -284,7 +284,7 @@ impl Search {
         ensures subject { T.subject tests.new ≡ T.subject tests.old }
         ensures entries { T.entries tests.new ≤ T.entries tests.old + 1 }
         ensures entered { OnOk result (T.entered tests.new (start_of_search self.new) (labels_of_search self.new)) }
-        ensures searches { OnOk result (Searches self.new (T.asked (T.subject tests.old))) }
+        ensures searches { OnOk result (IsWithinRun self.new (T.asked (T.subject tests.old))) }
         ensures left { OnOk result
             (left_by self.new (T.asked (T.subject tests.old)) + 1 ≤ left_by self.old (T.asked (T.subject tests.old))) }
     {

@@ -1,5 +1,6 @@
 -- The packets of rows: partitions by first appearance, each in order, numbered from 1, and closed.
-use Rattle.std.specs.Prelude.{◌≡◌, ℕ, suc, List, [], ◌∷◌, ◌++◌, length}
+use Rattle.std.specs.Prelude.{◌≡◌, ⊤, ℕ, suc, List, [], ◌∷◌, ◌++◌, length}
+use Rattle.std.specs.List.{flat_map}
 use Rattle.rp_check.specs.declared.lists.OrderColumn.{OrderColumn}
 use Rattle.rp_codec.specs.declared.packet.Packet.{Packet}
 use Rattle.rp_codec.specs.declared.packet.Packet.TheVariants.{Row, Close}
@@ -7,21 +8,27 @@ use Rattle.rp_value.specs.declared.value.Value.{Value}
 use Rattle.rp_source.specs.Orders.{IsOrdered}
 use Rattle.rp_source.specs.Partitions.{Part, partitions}
 
+-- the same partitions, the rows of each put into order
+abbrev pub AreOrdered : List OrderColumn → List Part → List Part → Type 0
+AreOrdered order [] [] = ⊤
+AreOrdered order (part ∷ parts) (ordered ∷ others) =
+    (ordered.0 ≡ part.0) × IsOrdered order part.1 ordered.1 × AreOrdered order parts others
+AreOrdered order _ _ = ⊥
+
+-- the partitions of rows by these partition columns, each in this order
+abbrev pub AreOrderedParts : List ℕ → List OrderColumn → List (List Value) → List Part → Type 0
+AreOrderedParts columns order rows parts = AreOrdered order (partitions columns rows) parts
+
 -- rows numbered from n on
 abbrev pub numbered_from : ℕ → List (List Value) → List Packet
 numbered_from n [] = []
 numbered_from n (row ∷ rows) = Row n row ∷ numbered_from (suc n) rows
 
 -- the packets of a partition whose rows are in order: each row with its number, and then the close with their count
-abbrev pub part_packets : List Value → List (List Value) → List Packet
-part_packets key rows = numbered_from 1 rows ++ Close key (length rows) ∷ []
+abbrev pub part_packets : Part → List Packet
+part_packets part = numbered_from 1 part.1 ++ Close part.0 (length part.1) ∷ []
 
--- the packets of partitions, one after another, each put into order
-abbrev pub ArePackets : List OrderColumn → List Part → List Packet → Type 0
-ArePackets order [] packets = packets ≡ []
-ArePackets order (part ∷ parts) packets = (ordered : List (List Value)) × (rest : List Packet)
-    × IsOrdered order part.1 ordered × (packets ≡ part_packets part.0 ordered ++ rest) × ArePackets order parts rest
-
--- the packets of rows by these partition columns and this order
+-- the packets of rows: those of their partitions, one after another, each in order
 abbrev pub AreNumbered : List ℕ → List OrderColumn → List (List Value) → List Packet → Type 0
-AreNumbered columns order rows packets = ArePackets order (partitions columns rows) packets
+AreNumbered columns order rows packets =
+    (parts : List Part) × AreOrderedParts columns order rows parts × (packets ≡ flat_map part_packets parts)

@@ -1,5 +1,5 @@
 //! All bytes of an input, and their rows.
-ghost use Rattle.std.specs.Prelude.{◌≡◌, ◌≤◌, IfOk, IfErr, IfSome, OnOk, Err, true};
+ghost use Rattle.std.specs.Prelude.{◌≡◌, ◌≤◌, ℕ, IfOk, IfErr, IfSome, OnOk, Err, true};
 ghost use Rattle.std.specs.Io.KnownBytes.{Consumes, IsAtEnd};
 ghost use Rattle.rp_lines.specs.Devices.{after_calls};
 ghost use Rattle.rp_source.specs.CsvRows.{AreRowsOf};
@@ -13,36 +13,38 @@ use std::alloc::Global;
 /// The most bytes that one call reads.
 const CHUNK: usize = 65_536;
 
-/// The rows of a CSV input over a table, as `rows_of` has them. It is read to its end, by at most so many calls.
+/// The rows of a CSV input over a table, as `rows_of` has them. It is read to its end, by at most `reads` calls.
 pub fn read_rows<R: Intake>(
     alloc: Global,
     reader: &mut R,
     table: &Table,
-    turns: u64,
+    reads: u64,
 ) -> Result<Vec<Row>, CsvFault>
     ensures ok { IfOk result (λ rows. IfSome (R.remaining reader.old) (λ text. AreRowsOf table.now text rows.items)) }
     ensures err { IfErr result (λ fault. IfSome (R.remaining reader.old) (λ text. IsInputFault table.now text fault)) }
     ensures end { TellsEnd result (R.ended reader.old) (R.ended reader.new) }
     ensures failures { TellsFailure result (R.failures reader.old) (R.failures reader.new) }
-    ensures turns { result ≡ Err CsvFault.Turns → R.calls reader.new ≡ after_calls turns (R.calls reader.old) }
+    ensures turns { result ≡ Err CsvFault.Turns → R.calls reader.new ≡ after_calls reads (R.calls reader.old) }
+    ensures within { (left : ℕ) × (after_calls left (R.calls reader.new) ≡ after_calls reads (R.calls reader.old)) }
 {
-    let text = read_all(alloc, reader, turns)?;
+    let text = read_all(alloc, reader, reads)?;
     rows_of(alloc, &text, table)
 }
 
 /// All bytes of an input, by at most so many calls.
-fn read_all<R: Intake>(alloc: Global, reader: &mut R, turns: u64) -> Result<Vec<u8>, CsvFault>
+fn read_all<R: Intake>(alloc: Global, reader: &mut R, reads: u64) -> Result<Vec<u8>, CsvFault>
     ensures ok { IfOk result (λ bytes. Consumes (R.remaining reader.old) (R.remaining reader.new) bytes.items) }
     ensures at_end { OnOk result (IsAtEnd (R.remaining reader.new)) }
     ensures device { IfErr result (λ fault. IsOfDevice fault) }
     ensures end { TellsEnd result (R.ended reader.old) (R.ended reader.new) }
     ensures failures { TellsFailure result (R.failures reader.old) (R.failures reader.new) }
-    ensures turns { result ≡ Err CsvFault.Turns → R.calls reader.new ≡ after_calls turns (R.calls reader.old) }
+    ensures turns { result ≡ Err CsvFault.Turns → R.calls reader.new ≡ after_calls reads (R.calls reader.old) }
+    ensures within { (left : ℕ) × (after_calls left (R.calls reader.new) ≡ after_calls reads (R.calls reader.old)) }
 {
     let mut bytes = Vec::new(alloc);
     let mut chunk = Vec::new(alloc);
     chunk.resize(CHUNK, 0)?;
-    for _turn in 0..turns {
+    for _read in 0..reads {
         let Ok(count) = reader.read(chunk.as_mut_slice()) else {
             return Err(CsvFault::Read);
         };

@@ -22,5 +22,5 @@ mod rows;
 mod tests;
 
 pub use input::read_rows;
-pub use number::number_rows;
+pub use number::{number_rows, ordered_parts};
 pub use rows::{CsvFault, MAX_RECORDS, rows_of};

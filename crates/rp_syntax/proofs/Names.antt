@@ -1,7 +1,7 @@
 -- What a name means, as a function of its bytes.
 use Rattle.std.proofs.Common.{◌≡◌, ℕ, List, [], ◌∷◌, ◌++◌, Bool, true, false, ◌==◌, refl, ap, sym, ◌∙◌, if◌then◌else◌, rules}
 use Rattle.rp_lexer.specs.Forms.{doubled, enclosed}
-use Rattle.rp_lexer.specs.Meanings.{IsNameOf, IsTextOf, NameMeans, bytes_of}
+use Rattle.rp_lexer.specs.Meanings.{IsNameOf, IsTextOf, MeansName, bytes_of}
 use Rattle.rp_lexer.specs.declared.kind.TokenKind.{TokenKind}
 use Rattle.rp_lexer.specs.declared.kind.TokenKind.TheVariants as kind
 use Rattle.rp_lexer.specs.declared.token.Token.{Token}
@@ -24,7 +24,7 @@ text_is text n t means = sym (ap (λ bs. unquoted false 39 (behind_first bs)) me
 
 pub ruleset texts = (text_is)
 
-pub meaning-of : (k : TokenKind) (bytes n : List ℕ) → NameMeans k bytes n → n ≡ name_meaning k bytes
+pub meaning-of : (k : TokenKind) (bytes n : List ℕ) → MeansName k bytes n → n ≡ name_meaning k bytes
 unfolding name_meaning
 meaning-of kind.Name bytes n means = means
 meaning-of kind.Quoted bytes n means = sym (ap (λ bs. unquoted false 34 (behind_first bs)) means ∙ unquoted-doubled 34 n)

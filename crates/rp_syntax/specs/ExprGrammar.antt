@@ -126,16 +126,16 @@ tested t None = t
 tested t (Some f) = f t
 
 -- sum [nullness | comparison sum]
-unfoldable pub test : ℕ → Grammar Term → Grammar Term
-test room inner =
+unfoldable pub predicate : ℕ → Grammar Term → Grammar Term
+predicate room inner =
     gives (λ x. tested x.0 x.1)
     (sum room inner then optional (
     gives null_tested nullness
     or gives compared (comparison then sum room inner)))
 
--- [NOT] test
+-- [NOT] predicate
 unfoldable pub negation : ℕ → Grammar Term → Grammar Term
-negation room inner = gives (λ x. perhaps Not x.0 x.1) (optional (word (key keyword.Not)) then test room inner)
+negation room inner = gives (λ x. perhaps Not x.0 x.1) (optional (word (key keyword.Not)) then predicate room inner)
 
 -- negations with AND between them
 unfoldable pub conjunction : ℕ → Grammar Term → Grammar Term

@@ -13,7 +13,7 @@ use Rattle.rp_value.specs.declared.table.TableFault.{TableFault}
 use Rattle.rp_value.specs.declared.table.TableFault.TheVariants as table_fault_as
 use Rattle.rp_value.specs.declared.value.Kind.{Kind}
 use Rattle.rp_value.specs.declared.value.Kind.TheVariants as kind_as
-use Rattle.rp_value.specs.Tables.{table_fault, list_fault}
+use Rattle.rp_value.specs.Tables.{table_fault}
 use Rattle.rp_grammar.specs.Reading.{IsPlace}
 use Rattle.rp_grammar.specs.Grammar.{Grammar, ◌then◌, gives, listed}
 use Rattle.rp_grammar.specs.Meaning.{meaning_of}
@@ -56,7 +56,7 @@ pub record IsMisplaced (text : List ℕ) (at : ℕ) : Type 0 where
 pub record IsNoTable (text : List ℕ) (why : TableFault) : Type 0 where
   pub columns : List Column
   pub is : IsTableText text columns
-  pub because : table_fault columns ≡ list_fault why
+  pub because : table_fault columns ≡ Some why
 
 -- what is wrong with the text, unless memory ran out
 abbrev pub IsTextFault : List ℕ → TableTextFault → Type 0

@@ -7,7 +7,7 @@ ghost use Rattle.rp_grammar.specs.Reading.{Gives, starts};
 ghost use Rattle.rp_syntax.specs.Names.{unquoted, behind_first};
 ghost use Rattle.rp_grammar.specs.Grammar.{gives, one_of};
 ghost use Rattle.rp_syntax.specs.Terms.{IsNull, Negative, Not, Literal, Number, Operate, from_left, from_right, operand_of, term_of};
-ghost use Rattle.rp_syntax.specs.ExprGrammar.{aggregate, aggregated, comparison, conjunction, counted, deeper_expr, expr, inside_expr, negation, nullness, operation, over_column, product, scoped, sign, sign_kinds, comparison_kinds, signed, sum, test, value};
+ghost use Rattle.rp_syntax.specs.ExprGrammar.{aggregate, aggregated, comparison, conjunction, counted, deeper_expr, expr, inside_expr, negation, nullness, operation, over_column, product, scoped, sign, sign_kinds, comparison_kinds, signed, sum, predicate, value};
 
 use crate::name::name;
 use crate::navigation::{begins_plain, column, edge, plain, scope};
@@ -376,7 +376,7 @@ fn conjunction<'a>(
     Ok((from_right(alloc, first, others)?, rest))
 }
 
-/// A test, perhaps with NOT, and what follows.
+/// A predicate, perhaps with NOT, and what follows.
 #[cycle(expr)]
 #[tactic(auto, unfolding(crate::specs::ExprGrammar::negation))]
 fn negation<'a>(
@@ -392,17 +392,17 @@ fn negation<'a>(
     ensures shorter { IfOk result (λ x. length x.1.now < length tokens.now) }
 {
     if !begins(tokens, TokenKind::Keyword(Keyword::Not)) {
-        return test(alloc, text, tokens, room);
+        return predicate(alloc, text, tokens, room);
     }
     let (at, rest) = word(text, tokens, TokenKind::Keyword(Keyword::Not))?;
-    let (body, rest) = test(alloc, text, rest, room)?;
+    let (body, rest) = predicate(alloc, text, rest, room)?;
     Ok((negated(alloc, at, body)?, rest))
 }
 
 /// A sum, perhaps compared, and what follows.
 #[cycle(expr)]
-#[tactic(auto, unfolding(crate::specs::ExprGrammar::test, crate::specs::ExprGrammar::comparison, crate::specs::ExprGrammar::nullness))]
-fn test<'a>(
+#[tactic(auto, unfolding(crate::specs::ExprGrammar::predicate, crate::specs::ExprGrammar::comparison, crate::specs::ExprGrammar::nullness))]
+fn predicate<'a>(
     alloc: Global,
     text: &str,
     tokens: &'a [Token],
@@ -410,7 +410,7 @@ fn test<'a>(
 ) -> Result<(Expr, &'a [Token]), ParseFault>
     requires stands { All (IsToken text.now) tokens.now }
     ensures exact { Gives (λ x. (term_of x.0, x.1.now)) result
-        ((test room (inside_expr room)).read text.now tokens.now) }
+        ((predicate room (inside_expr room)).read text.now tokens.now) }
     ensures stands { IfOk result (λ x. All (IsToken text.now) x.1.now) }
     ensures shorter { IfOk result (λ x. length x.1.now < length tokens.now) }
 {

@@ -15,8 +15,6 @@ mod name;
 mod navigation;
 mod pattern;
 mod table;
-#[cfg(test)]
-mod tests;
 mod tree;
 
 pub use clause::parse;

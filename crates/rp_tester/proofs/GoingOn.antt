@@ -8,19 +8,19 @@ use Rattle.rp_eval.specs.Partition.{Rows}
 use Rattle.rp_eval.specs.Laws.{GoesOn, TotalsStay}
 use Rattle.rp_search.specs.declared.search.Search.{Search}
 use Rattle.rp_search.specs.Asked.{Asked, AskedExtend}
-use Rattle.rp_search.specs.Fits.{Fits, ChoicesStand}
-use Rattle.rp_search.specs.Search.{FitsStays, labels_of_search, start_of_search}
+use Rattle.rp_search.specs.Fits.{SearchFits, ChoicesStand}
+use Rattle.rp_search.specs.Search.{SearchFitsStays, labels_of_search, start_of_search}
 use Rattle.rp_tester.specs.Tested.{Tested, asked_of}
 use Rattle.rp_tester.specs.Outlives.{TestsGoOn, over}
 use Rattle.rp_tester.specs.Searched.{StandsOver}
 use Rattle.rp_tester.proofs.Outliving.{goes_on_from}
 
 -- the labels of a search lie on known rows
-labels_on_rows : (s : Search) (asked : Asked) → start_of_search s ≡ 1 → Fits s asked → length (labels_of_search s) ≤ asked.known
+labels_on_rows : (s : Search) (asked : Asked) → start_of_search s ≡ 1 → SearchFits s asked → length (labels_of_search s) ≤ asked.known
 unfolding start_of_search labels_of_search ChoicesStand
 labels_on_rows s asked start fits = let k = fits.stands.known in omega (arith, start, k)
 
-pub stands_on : TestsGoOn → FitsStays → TotalsStay → (p p' : Rows) (e e' : End) (q : QueryData) (s : Search) (t : Totals) → IsSound q → GoesOn 1 p e p' e' → StandsOver p e q s t → StandsOver p' e' q s t
+pub stands_on : TestsGoOn → SearchFitsStays → TotalsStay → (p p' : Rows) (e e' : End) (q : QueryData) (s : Search) (t : Totals) → IsSound q → GoesOn 1 p e p' e' → StandsOver p e q s t → StandsOver p' e' q s t
 stands_on tests fits totals p p' e e' q s t sound g h =
     let x : Tested = record { rows = p; ending = e; query = q } in
     let on : length (labels_of_search s) ≤ length p = labels_on_rows s (asked_of x) h.start h.fits in

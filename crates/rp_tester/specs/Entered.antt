@@ -16,6 +16,10 @@ module _ {R : Type 0} {g : Ghosts R} where
   unfoldable pub HasEntered : Tester R g → ℕ → List Label → Type 0
   HasEntered t start labels = AreTotals t.totals (g.known t.rows.now) start labels
 
+  -- how many calls of `enter` it has counted
+  unfoldable pub entries_of : Tester R g → ℕ
+  entries_of t = t.entries
+
   -- It stands here and not in proofs/, since what an impl owes its trait can only be cited from specs/.
   pub few_are_asked : (t : Tester R g) → length (g.known t.rows.now) < 2 ^ 64 - 1 → (asked_of (tested_by t)).known < 2 ^ 64 - 1
   unfolding tested_by

@@ -6,7 +6,7 @@ use Rattle.rp_eval.specs.declared.totals.Totals.{Totals}
 use Rattle.rp_eval.specs.Partition.{Rows}
 use Rattle.rp_eval.specs.Entered.{plan_of, totals_in, AreTotals}
 use Rattle.rp_search.specs.declared.search.Search.{Search}
-use Rattle.rp_search.specs.Fits.{Fits}
+use Rattle.rp_search.specs.Fits.{SearchFits}
 use Rattle.rp_search.specs.Search.{HasVariablesBelow, labels_of_search, start_of_search}
 use Rattle.rp_tester.specs.Tested.{asked_of}
 
@@ -14,6 +14,6 @@ use Rattle.rp_tester.specs.Tested.{asked_of}
 pub record StandsOver (rows : Rows) (ending : End) (query : QueryData) (search : Search) (totals : Totals) : Type 0 where
   pub start : start_of_search search ≡ 1
   pub variables : HasVariablesBelow (length query.plan.definitions.items) search
-  pub fits : Fits search (asked_of (record { rows = rows; ending = ending; query = query }))
+  pub fits : SearchFits search (asked_of (record { rows = rows; ending = ending; query = query }))
   pub plan : plan_of totals ≡ totals_in query
   pub entered : AreTotals totals rows 1 (labels_of_search search)

@@ -19,12 +19,12 @@ pub struct Tester<'a, R: Rows> {
     ghost for_query: { plan_of totals ≡ totals_in (data_of query.now) },
 }
 
-#[tactic(auto, unfolding(crate::specs::Entered::tested_by, crate::specs::Entered::HasEntered))]
+#[tactic(auto, unfolding(crate::specs::Entered::tested_by, crate::specs::Entered::HasEntered, crate::specs::Entered::entries_of))]
 impl<'a, R: Rows> Tester<'a, R> {
     ghost use Rattle.std.specs.Prelude.{ℕ, List};
     ghost use Rattle.rp_pattern.specs.declared.word.Label.{Label as Marked};
     ghost use Rattle.rp_eval.specs.Entered.{AreTotals};
-    ghost use Rattle.rp_tester.specs.Entered.{tested_by, HasEntered};
+    ghost use Rattle.rp_tester.specs.Entered.{tested_by, HasEntered, entries_of};
 
     /// Tests by totals of the query's plan. The labels of the totals are entered.
     pub fn new(rows: &'a R, query: &'a Query, totals: Totals) -> Tester<'a, R>
@@ -33,6 +33,7 @@ impl<'a, R: Rows> Tester<'a, R> {
             record { rows = R.known rows.now; ending = R.ending rows.now; query = data_of query.now } }
         ensures entered { (start : ℕ) (labels : List Marked) →
             AreTotals totals (R.known rows.now) start labels → HasEntered result start labels }
+        ensures none { entries_of result ≡ 0 }
     {
         Tester {
             rows,
@@ -40,6 +41,13 @@ impl<'a, R: Rows> Tester<'a, R> {
             totals,
             entries: 0,
         }
+    }
+
+    /// How many calls of `enter` were made. It stays at its last value.
+    pub fn entries(&self) -> u64
+        ensures { result ≡ entries_of self.now }
+    {
+        self.entries
     }
 
     /// The totals of the labels that are entered.
@@ -52,10 +60,10 @@ impl<'a, R: Rows> Tester<'a, R> {
     }
 }
 
-#[tactic(auto, unfolding(crate::specs::Entered::tested_by, crate::specs::Entered::HasEntered))]
+#[tactic(auto, unfolding(crate::specs::Entered::tested_by, crate::specs::Entered::HasEntered, crate::specs::Entered::entries_of))]
 impl<'a, R: Rows> Tests for Tester<'a, R> {
     ghost use Rattle.rp_tester.specs.Tested.{Tested, asked_of};
-    ghost use Rattle.rp_tester.specs.Entered.{tested_by, HasEntered, few_are_asked};
+    ghost use Rattle.rp_tester.specs.Entered.{tested_by, HasEntered, entries_of, few_are_asked};
     ghost use Rattle.rp_tester.specs.Decided.{tested_decides};
 
     ghost Subject = { Tested };
@@ -66,7 +74,7 @@ impl<'a, R: Rows> Tests for Tester<'a, R> {
 
     ghost entered = { λ t start labels. HasEntered t start labels };
 
-    ghost entries = { λ t. t.entries };
+    ghost entries = { λ t. entries_of t };
 
     fn known(&self) -> u64 {
         self.rows.last()

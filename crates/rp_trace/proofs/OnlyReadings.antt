@@ -1,5 +1,5 @@
 -- Each choice that a parse makes is the only one.
-use Rattle.std.proofs.Common.{◌≡◌, ℕ, ◌+◌, ◌≤◌, List, [], ◌∷◌, ◌++◌, Bool, true, false, refl, ap, ◌∙◌, sym, append_assoc, append-nil, arith, eqb, leb, ◌||◌}
+use Rattle.std.proofs.Common.{◌≡◌, ℕ, ◌+◌, ◌<◌, List, [], ◌∷◌, ◌++◌, Bool, true, false, refl, ap, ◌∙◌, sym, append_assoc, append-nil, arith, eqb, leb, ◌||◌}
 use Rattle.std.proofs.lemmas.Bool.Decides.{nat_tests}
 use Rattle.rp_trace.specs.Grammar.{Tree, Letter, Nothing, Both, Either, Star, Level, Alternatives, Sequences, Factors, Primaries, Derives, one_sequence, either, one_factor, both, one_primary, starred, letter, nothing, group}
 use Rattle.rp_trace.specs.Reading.{Lacks, Ends, ReadsNone, ReadsOnly, begins_primary}
@@ -14,7 +14,7 @@ tail_same a b s t e = cc
 other_mark : (a b : ℕ) (s : List ℕ) → (a ≡ b → ⊥) → Lacks b (a ∷ s)
 other_mark a b s other rest e = other (head_same a b s rest e)
 
-letter_begins : (v : ℕ) (rest : List ℕ) → v ≤ 25 → begins_primary ((v + 65) ∷ rest) ≡ true
+letter_begins : (v : ℕ) (rest : List ℕ) → v < 26 → begins_primary ((v + 65) ∷ rest) ≡ true
 letter_begins v rest few =
     let low : leb 65 (v + 65) ≡ true = grind (arith, nat_tests) in
     let high : leb (v + 65) 90 ≡ true = grind (arith, nat_tests) in
@@ -140,7 +140,7 @@ primaries-letter s r v first used rest tree (group {s = a} d) is ends =
     let same : v + 65 ≡ 40 = head_same (v + 65) 40 r ((a ++ 41 ∷ []) ++ rest) (sym first ∙ is) in
     absurd (omega arith)
 
-pub primaries-none : (s : List ℕ) → ((v : ℕ) → v ≤ 25 → Lacks (v + 65) s) → Lacks 40 s → ReadsNone Primaries s
+pub primaries-none : (s : List ℕ) → ((v : ℕ) → v < 26 → Lacks (v + 65) s) → Lacks 40 s → ReadsNone Primaries s
 primaries-none s letters bracket used rest tree (letter v few) is ends = letters v few rest is
 primaries-none s letters bracket used rest tree nothing is ends = bracket (41 ∷ rest) is
 primaries-none s letters bracket used rest tree (group {s = a} d) is ends = bracket ((a ++ 41 ∷ []) ++ rest) is

@@ -1,10 +1,10 @@
 -- What each step of a parse has read, or where it stops.
-use Rattle.std.proofs.Common.{◌≡◌, ℕ, suc, ◌+◌, ◌<◌, ◌≤◌, List, ◌∷◌, length, None, true, false, refl, sym, ap, subst, arith}
+use Rattle.std.proofs.Common.{◌≡◌, ℕ, suc, ◌+◌, ◌<◌, List, ◌∷◌, length, None, true, false, refl, sym, ap, subst, arith}
 use Rattle.rp_pattern.specs.Builders.{IsConcatenation, IsAlternation, IsQuantified}
 use Rattle.rp_pattern.specs.declared.form.Form.{Form}
 use Rattle.rp_pattern.specs.declared.form.Form.TheVariants as V
 use Rattle.rp_trace.specs.Grammar.{Tree, Star, Both, Either, Letter, Nothing, Level, Alternatives, Sequences, Factors, Primaries, IsLettered, tree_of}
-use Rattle.rp_trace.specs.Reading.{Lacks, Reads, ReadsOnly, ReadsForm, StopsAt, begins_primary}
+use Rattle.rp_trace.specs.Reading.{Lacks, ReadsTree, ReadsOnly, ReadsForm, StopsAt, begins_primary}
 use Rattle.rp_trace.proofs.Derivations.{reads_one_sequence, reads_either, reads_one_factor, reads_both, reads_one_primary, reads_starred, reads_letter, reads_nothing, reads_group}
 use Rattle.rp_trace.proofs.OnlyReadings.{alternatives-none, alternatives-one, alternatives-second_none, alternatives-either, sequences-none, sequences-one, sequences-second_none, sequences-both, factors-none, factors-one, factors-starred, primaries-letter, primaries-none, primaries-nothing, primaries-inner_none, primaries-unclosed, primaries-group}
 use Rattle.rp_trace.proofs.Trees.{tree_variable, tree_empty, tree_both, tree_either, tree_star, lettered_variable, lettered_empty, lettered_concatenation, lettered_alternation, lettered_star}
@@ -17,10 +17,10 @@ past_one : (s m : List ℕ) (mark : ℕ) → s ≡ mark ∷ m → length m < len
 past_one s m mark is = let mark : length s ≡ suc (length m) = ap length is in omega arith
 
 -- a tree in place of one that is the same
-with_tree : (level : Level) (s r : List ℕ) (form : Form) (tree : Tree) → tree_of form ≡ tree → IsLettered form → Reads level s tree r → ReadsOnly level s tree r → length r < length s → ReadsForm level s form r
+with_tree : (level : Level) (s r : List ℕ) (form : Form) (tree : Tree) → tree_of form ≡ tree → IsLettered form → ReadsTree level s tree r → ReadsOnly level s tree r → length r < length s → ReadsForm level s form r
 with_tree level s r form tree same lettered reads only shorter = record {
   lettered = lettered;
-  reads = subst (λ t. Reads level s t r) (sym same) reads;
+  reads = subst (λ t. ReadsTree level s t r) (sym same) reads;
   only = subst (λ t. ReadsOnly level s t r) (sym same) only;
   shorter = shorter;
 }
@@ -58,7 +58,7 @@ form_starred s m r p form read star made = with_tree Factors s r form (Star (tre
     (factors-starred s m r (tree_of p) read.only star)
     (let a = read.shorter in let b = past_one m r 42 star in omega (arith, a, b))
 
-pub form_letter : (s r : List ℕ) (v : ℕ) → s ≡ (v + 65) ∷ r → v ≤ 25 → ReadsForm Primaries s (V.Variable v) r
+pub form_letter : (s r : List ℕ) (v : ℕ) → s ≡ (v + 65) ∷ r → v < 26 → ReadsForm Primaries s (V.Variable v) r
 form_letter s r v first few = with_tree Primaries s r (V.Variable v) (Letter v) (tree_variable v) (lettered_variable v few)
     (reads_letter s r v few first) (primaries-letter s r v first) (past_one s r (v + 65) first)
 
@@ -94,7 +94,7 @@ stop_second_factor s m p left first goes stop = record {
 pub stop_primary : (s : List ℕ) (left : ℕ) → StopsAt Primaries s left → StopsAt Factors s left
 stop_primary s left stop = record { none = factors-none s stop.none; within = stop.within }
 
-pub stop_symbol : (s : List ℕ) (left : ℕ) → left ≡ length s → ((v : ℕ) → v ≤ 25 → Lacks (v + 65) s) → Lacks 40 s → StopsAt Primaries s left
+pub stop_symbol : (s : List ℕ) (left : ℕ) → left ≡ length s → ((v : ℕ) → v < 26 → Lacks (v + 65) s) → Lacks 40 s → StopsAt Primaries s left
 stop_symbol s left all letters bracket = record { none = primaries-none s letters bracket; within = omega (arith, all) }
 
 pub stop_inner : (s m : List ℕ) (left : ℕ) → s ≡ 40 ∷ m → Lacks 41 m → StopsAt Alternatives m left → StopsAt Primaries s left

@@ -1,5 +1,5 @@
 -- The trees of forms, and which forms have letters.
-use Rattle.std.proofs.Common.{◌≡◌, ℕ, ◌≤◌, nat_lt, arith, Bool, true, false, None, IsTrue, refl, sym, ap, ◌∙◌, subst, ◌&&◌, rules}
+use Rattle.std.proofs.Common.{◌≡◌, ℕ, ◌<◌, nat_lt, arith, Bool, true, false, None, IsTrue, refl, sym, ap, ◌∙◌, subst, ◌&&◌, rules}
 use Rattle.std.proofs.lemmas.Bool.Decides.{nat_tests}
 use Rattle.std.specs.declared.rc.Rc.{Rc}
 use Rattle.std.specs.declared.alloc.Global.{Global}
@@ -82,7 +82,7 @@ lettered_body p a = (subst IsTrue (sym allowed) a.0, below ∙ a.1)
 pub lettered_star : (p form : Form) → IsLettered p → IsQuantified p 0 None false form → IsLettered form
 lettered_star p form a m = subst IsLettered (sym m.made) (lettered_body m.body (subst IsLettered (sym m.is_body) a))
 
-pub lettered_variable : (v : ℕ) → v ≤ 25 → IsLettered (V.Variable v)
+pub lettered_variable : (v : ℕ) → v < 26 → IsLettered (V.Variable v)
 lettered_variable v few = (
   subst IsTrue (sym (ap is_allowed (sym (V.rolls-Variable v)) ∙ fold-roll-Form Bool allowed_step (F.Variable v))) (search rules),
   ap (are_below 26) (sym (V.rolls-Variable v)) ∙ fold-roll-Form Bool (below_step 26) (F.Variable v) ∙ below,

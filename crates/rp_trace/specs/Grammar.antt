@@ -1,11 +1,13 @@
 -- The grammar of the patterns of `trace`, over a text without its spaces.
-use Rattle.std.specs.Prelude.{◌≡◌, ℕ, zero, ◌+◌, ◌≤◌, List, [], ◌∷◌, ◌++◌, Option, None, Bool, true, false, IsTrue, ◌==◌, not}
+use Rattle.std.specs.Prelude.{◌≡◌, ℕ, zero, ◌+◌, ◌<◌, List, [], ◌∷◌, ◌++◌, Option, None, Bool, true, false, IsTrue, ◌==◌, not, codes}
 use Rattle.std.specs.List.{filter}
 use Rattle.rp_pattern.specs.declared.form.Form.{Form}
 use Rattle.rp_pattern.specs.declared.form.Form.TheOpen.{Form-F, Variable, Empty, Concatenation, Alternation, PartitionStart, PartitionEnd, Permute, Exclusion, Quantified}
 use Rattle.rp_pattern.specs.declared.form.Form.TheFolds.{fold-Form}
 use Rattle.rp_pattern.specs.Bounds.{is_allowed}
 use Rattle.rp_pattern.specs.Variables.{are_below}
+use Rattle.rp_trace.specs.Bytes.{space, upper_a}
+use Rattle.rp_trace.specs.declared.letters.TheConstants.{VARIABLES}
 
 -- a pattern, wherever its parts are kept
 pub data Tree : Type 0 where
@@ -21,6 +23,7 @@ abbrev pub quantified_tree : ℕ → Option ℕ → Bool → Tree → Tree
 quantified_tree zero None false body = Star body
 quantified_tree lower upper reluctant body = Other
 
+-- one layer of a pattern, with the tree of each part in its place
 abbrev pub tree_step : Form-F Tree → Tree
 tree_step (Variable v) = Letter v
 tree_step Empty = Nothing
@@ -32,31 +35,33 @@ tree_step (Permute ps) = Other
 tree_step (Exclusion p) = Other
 tree_step (Quantified p lower upper reluctant) = quantified_tree lower upper reluctant p.value
 
+-- the tree of a pattern
 abbrev pub tree_of : Form → Tree
 tree_of = fold-Form Tree tree_step
 
+-- the rules of the grammar
 pub data Level : Type 0 where
   Alternatives : Level
   Sequences : Level
   Factors : Level
   Primaries : Level
 
--- the symbols derive the tree, at this level of the grammar
+-- by this rule of the grammar the symbols derive the tree
 pub data Derives : Level → List ℕ → Tree → Type 0 where
   one_sequence : {s : List ℕ} {t : Tree} → Derives Sequences s t → Derives Alternatives s t
-  either : {s s' : List ℕ} {t t' : Tree} → Derives Sequences s t → Derives Alternatives s' t' → Derives Alternatives (s ++ 124 ∷ s') (Either t t')
+  either : {s s' : List ℕ} {t t' : Tree} → Derives Sequences s t → Derives Alternatives s' t' → Derives Alternatives (s ++ (codes "|" ++ s')) (Either t t')
   one_factor : {s : List ℕ} {t : Tree} → Derives Factors s t → Derives Sequences s t
   both : {s s' : List ℕ} {t t' : Tree} → Derives Factors s t → Derives Sequences s' t' → Derives Sequences (s ++ s') (Both t t')
   one_primary : {s : List ℕ} {t : Tree} → Derives Primaries s t → Derives Factors s t
-  starred : {s : List ℕ} {t : Tree} → Derives Primaries s t → Derives Factors (s ++ 42 ∷ []) (Star t)
-  letter : (v : ℕ) → v ≤ 25 → Derives Primaries ((v + 65) ∷ []) (Letter v)
-  nothing : Derives Primaries (40 ∷ 41 ∷ []) Nothing
-  group : {s : List ℕ} {t : Tree} → Derives Alternatives s t → Derives Primaries (40 ∷ (s ++ 41 ∷ [])) t
+  starred : {s : List ℕ} {t : Tree} → Derives Primaries s t → Derives Factors (s ++ codes "*") (Star t)
+  letter : (v : ℕ) → v < VARIABLES → Derives Primaries ((v + upper_a) ∷ []) (Letter v)
+  nothing : Derives Primaries (codes "()") Nothing
+  group : {s : List ℕ} {t : Tree} → Derives Alternatives s t → Derives Primaries (codes "(" ++ (s ++ codes ")")) t
 
--- what the grammar sees of a text
+-- what the grammar sees of a text: its bytes but the spaces
 abbrev pub symbols_of : List ℕ → List ℕ
-symbols_of text = filter (λ b. not (b == 32)) text
+symbols_of text = filter (λ b. not (b == space)) text
 
--- its bounds are in order, and each variable has a letter
+-- the bounds of its quantifiers are in order, and each of its variables has a letter
 abbrev pub IsLettered : Form → Type 0
-IsLettered form = IsTrue (is_allowed form) × (are_below 26 form ≡ true)
+IsLettered form = IsTrue (is_allowed form) × (are_below VARIABLES form ≡ true)

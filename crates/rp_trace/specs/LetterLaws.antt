@@ -4,6 +4,7 @@ use Rattle.std.specs.Prelude.{◌≢◌, ℕ, ◌+◌, ◌-◌, ◌^◌, ◌<◌
 use Rattle.std.proofs.Common.{arith}
 use Rattle.rp_pattern.specs.declared.word.Label.{Label}
 use Rattle.rp_pattern.specs.declared.word.Seen.TheVariants.{Open}
+use Rattle.rp_trace.specs.declared.letters.TheConstants.{MAX_LINE}
 use Rattle.rp_trace.specs.LetterTest.{admits_letter, label_test, letter_test, seen_if}
 
 seen_if-decided : (b : Bool) → seen_if b ≢ Open
@@ -17,5 +18,5 @@ label_test-decided (Some label) letter = seen_if-decided (admits_letter label.va
 pub letter_test-decided : (line : List ℕ) (start : ℕ) (labels : List Label) → letter_test line start labels ≢ Open
 letter_test-decided line start labels = label_test-decided (slice_get labels (length labels - 1)) (slice_index line (start + length labels - 2))
 
-pub short_fits : (n : ℕ) → n ≤ 4096 → n < 2 ^ 64 - 1
+pub short_fits : (n : ℕ) → n ≤ MAX_LINE → n < 2 ^ 64 - 1
 short_fits n short = omega arith

@@ -3,12 +3,13 @@ use Rattle.std.specs.Prelude.{ℕ, List, length}
 use Rattle.rp_pattern.specs.declared.word.End.TheVariants.{Closed}
 use Rattle.rp_search.specs.Asked.{Asked}
 use Rattle.rp_trace.specs.declared.letters.Letters.{Letters}
+use Rattle.rp_trace.specs.declared.letters.TheConstants.{VARIABLES}
 use Rattle.rp_trace.specs.LetterTest.{letter_test}
 
 -- the line whose letters are the rows
 abbrev pub line_of : Letters → List ℕ
 line_of letters = letters.line.now
 
--- a closed partition with a row for each letter, and the 26 variables of a pattern
+-- a closed partition with a row for each letter, and the variables A to Z of a pattern
 abbrev pub asked_of_line : List ℕ → Asked
-asked_of_line line = record { known = length line; end = Closed; variables = 26; outcome = letter_test line }
+asked_of_line line = record { known = length line; end = Closed; variables = VARIABLES; outcome = letter_test line }

@@ -1,50 +1,51 @@
 -- What a front of some symbols derives, where what follows can't go on with it.
 use Rattle.std.specs.Prelude.{◌≡◌, ℕ, ◌<◌, ◌≤◌, List, [], ◌∷◌, ◌++◌, length, drop, Bool, false, ◌&&◌, ◌||◌, nat_eq, nat_le}
 use Rattle.rp_pattern.specs.declared.form.Form.{Form}
+use Rattle.rp_trace.specs.Bytes.{asterisk, left_parenthesis, space, upper_a, upper_z, vertical_bar}
 use Rattle.rp_trace.specs.Grammar.{Tree, Level, Alternatives, Sequences, Factors, Primaries, Derives, IsLettered, symbols_of, tree_of}
 
--- So many symbols of a text are left from an offset on, and the byte there is the first of them, if there is one.
+-- From an offset of the text on there are `left` symbols, and the byte at the offset is the first of them, if there is one.
 pub record LeavesSymbols (text : List ℕ) (left offset : ℕ) : Type 0 where
   pub within : offset ≤ length text
   pub symbols : length (symbols_of (drop offset text)) ≡ left
-  pub first : (rest : List ℕ) → drop offset text ≡ 32 ∷ rest → ⊥
+  pub first : (rest : List ℕ) → drop offset text ≡ space ∷ rest → ⊥
 
--- the symbols don't begin with this one
+-- this symbol isn't the first of them
 abbrev pub Lacks : ℕ → List ℕ → Type 0
 Lacks mark symbols = (rest : List ℕ) → symbols ≡ mark ∷ rest → ⊥
 
 -- a letter or an opening bracket is first
 abbrev pub begins_primary : List ℕ → Bool
 begins_primary [] = false
-begins_primary (b ∷ rest) = nat_eq b 40 || (nat_le 65 b && nat_le b 90)
+begins_primary (b ∷ rest) = nat_eq b left_parenthesis || (nat_le upper_a b && nat_le b upper_z)
 
--- the symbols can't go on with a front of this level
+-- what was read by this rule can't go on with these symbols
 abbrev pub Ends : Level → List ℕ → Type 0
-Ends Alternatives symbols = Lacks 42 symbols × (begins_primary symbols ≡ false) × Lacks 124 symbols
-Ends Sequences symbols = Lacks 42 symbols × (begins_primary symbols ≡ false)
-Ends Factors symbols = Lacks 42 symbols
+Ends Alternatives symbols = Lacks asterisk symbols × (begins_primary symbols ≡ false) × Lacks vertical_bar symbols
+Ends Sequences symbols = Lacks asterisk symbols × (begins_primary symbols ≡ false)
+Ends Factors symbols = Lacks asterisk symbols
 Ends Primaries symbols = Unit {0}
 
 -- a front of the symbols derives the tree, and these are left
-abbrev pub Reads : Level → List ℕ → Tree → List ℕ → Type 0
-Reads level symbols tree rest = (used : List ℕ) × Derives level used tree × (symbols ≡ used ++ rest)
+abbrev pub ReadsTree : Level → List ℕ → Tree → List ℕ → Type 0
+ReadsTree level symbols tree rest = (used : List ℕ) × Derives level used tree × (symbols ≡ used ++ rest)
 
--- no other front derives a tree, and this one no other tree
+-- No other front of the symbols derives a tree where what follows can't go on with it, and this one no other tree.
 abbrev pub ReadsOnly : Level → List ℕ → Tree → List ℕ → Type 0
 ReadsOnly level symbols tree rest = (used rest' : List ℕ) (tree' : Tree) → Derives level used tree' → symbols ≡ used ++ rest' → Ends level rest' → (tree ≡ tree') × (rest ≡ rest')
 
--- no front derives a tree
+-- no front of the symbols derives a tree where what follows can't go on with it
 abbrev pub ReadsNone : Level → List ℕ → Type 0
 ReadsNone level symbols = (used rest : List ℕ) (tree : Tree) → Derives level used tree → symbols ≡ used ++ rest → Ends level rest → ⊥
 
 -- A front of the symbols derives the form, no other front derives a tree, and fewer symbols are left.
 pub record ReadsForm (level : Level) (symbols : List ℕ) (form : Form) (rest : List ℕ) : Type 0 where
   pub lettered : IsLettered form
-  pub reads : Reads level symbols (tree_of form) rest
+  pub reads : ReadsTree level symbols (tree_of form) rest
   pub only : ReadsOnly level symbols (tree_of form) rest
   pub shorter : length rest < length symbols
 
--- No front derives a tree, and so many of the symbols are left where that shows.
+-- No front of the symbols derives a tree, and where that shows `left` of them still follow.
 pub record StopsAt (level : Level) (symbols : List ℕ) (left : ℕ) : Type 0 where
   pub none : ReadsNone level symbols
   pub within : left ≤ length symbols

@@ -8,20 +8,25 @@ use Rattle.rp_pattern.specs.declared.word.Label.{Label}
 use Rattle.rp_pattern.specs.declared.word.End.TheVariants.{Closed}
 use Rattle.rp_pattern.specs.declared.form.Form.{Form}
 use Rattle.rp_pattern.specs.Words.{words}
+use Rattle.rp_trace.specs.Bytes.{lower_a, lower_z, upper_a}
+use Rattle.rp_trace.specs.declared.letters.TheConstants.{MAX_LINE}
 use Rattle.rp_trace.specs.LetterTest.{letter_test}
 use Rattle.rp_search.specs.Found.{Found, Match, Waits, NoMatch, found}
 
+-- a to z
 abbrev pub is_letter : ℕ → Bool
-is_letter byte = nat_le 97 byte && nat_le byte 122
+is_letter byte = nat_le lower_a byte && nat_le byte lower_z
 
--- at most 4096 letters
+-- at most MAX_LINE bytes, each a letter
 abbrev pub is_looked_at : List ℕ → Bool
-is_looked_at line = nat_le (length line) 4096 && list_all is_letter line
+is_looked_at line = nat_le (length line) MAX_LINE && list_all is_letter line
 
+-- the letters of a match's variables, or `empty` where it maps no row
 abbrev pub match_text : List Label → List ℕ
 match_text [] = codes "empty"
-match_text (label ∷ labels) = map (λ l. l.var + 65) (label ∷ labels)
+match_text (label ∷ labels) = map (λ l. l.var + upper_a) (label ∷ labels)
 
+-- what is written for what was found. Over a closed partition nothing is waited for
 abbrev pub found_text : Found → List ℕ
 found_text (Match labels) = match_text labels
 found_text Waits = []
@@ -32,13 +37,15 @@ abbrev pub search_text : Form → List ℕ → List ℕ
 search_text form [] = codes "none"
 search_text form (letter ∷ letters) = found_text (found (letter_test (letter ∷ letters) 1) (words (length (letter ∷ letters)) Closed form 1))
 
+-- what is written for a line, without its LF
 abbrev pub reply_text : Form → List ℕ → List ℕ
 reply_text form line = if is_looked_at line then search_text form line else codes "refused"
 
+-- the reply to a line
 abbrev pub reply_to : Form → List ℕ → List ℕ
-reply_to form line = reply_text form line ++ 10 ∷ []
+reply_to form line = reply_text form line ++ codes "\n"
 
--- the part behind the last LF is a line unless it is empty
+-- the reply to the part behind the last LF, which is a line unless it is empty
 abbrev pub last_reply : Form → List ℕ → List ℕ
 last_reply form [] = []
 last_reply form (byte ∷ part) = reply_to form (byte ∷ part)
@@ -51,6 +58,6 @@ replies_to form lines = flat_map (reply_to form) lines
 abbrev pub WritesReplies : Form → Option (List ℕ) → Option (List ℕ) → Option (List ℕ) → Type 0
 WritesReplies form input old new = IfSome input (λ bytes. Appends old new (replies_to form (lines_of bytes)))
 
--- a front of these replies is written
+-- the first bytes of these replies are written, perhaps none or all of them
 abbrev pub WritesFront : Form → Option (List ℕ) → Option (List ℕ) → Option (List ℕ) → Type 0
 WritesFront form input old new = IfSome input (λ bytes. AppendsFront old new (replies_to form (lines_of bytes)))

@@ -1,6 +1,8 @@
 //! The patterns of `trace`, as its command line gives them.
-ghost use Rattle.std.specs.Prelude.{◌≡◌, ℕ, ◌+◌, ◌≤◌, List, [], ◌∷◌, length, IfOk, IfSome, IfNone};
+ghost use Rattle.std.specs.Prelude.{◌≡◌, ℕ, ◌+◌, ◌<◌, ◌≤◌, List, [], ◌∷◌, length, IfOk, IfSome, IfNone};
 ghost use Rattle.rp_pattern.specs.PatternForm.{form_of};
+ghost use Rattle.rp_trace.specs.Bytes.{upper_a};
+ghost use Rattle.rp_trace.specs.declared.letters.TheConstants.{VARIABLES};
 ghost use Rattle.rp_trace.specs.Grammar.{Tree, Alternatives, Sequences, Factors, Primaries, Derives, IsLettered, symbols_of, tree_of};
 ghost use Rattle.rp_trace.specs.Reading.{LeavesSymbols, Lacks, ReadsForm, StopsAt, begins_primary};
 
@@ -42,7 +44,7 @@ pub fn trace_pattern(alloc: Global, text: &str) -> Result<Pattern, TracePatternF
 /// Why no form begins here.
 #[derive(Clone, Copy, Debug, PartialEq, Eq)]
 enum Stop {
-    /// With so many symbols left, the next one can't follow.
+    /// Where this many symbols are left, the next one can't follow.
     At(usize),
     /// Memory was refused.
     OutOfMemory,
@@ -57,7 +59,7 @@ fn without_spaces(alloc: Global, text: &[u8]) -> Result<Vec<u8>, AllocError>
         .collect(alloc)
 }
 
-/// The fault at the symbol that has so many from it on, or at the end of the text where that is none.
+/// The fault at the symbol from which on `left` symbols follow, itself counted, or at the end of the text where `left` is 0.
 fn expected(text: &[u8], left: usize) -> TracePatternFault
     requires { left ≤ length (symbols_of text.now) }
     ensures { (offset : ℕ) × (result ≡ TracePatternFault.Expected offset) × LeavesSymbols text.now left offset }
@@ -165,9 +167,9 @@ fn after_mark(symbols: &[u8], mark: u8) -> Option<&[u8]>
 
 /// The variable whose letter the symbols begin with, and what follows.
 fn letter(symbols: &[u8]) -> Option<(usize, &[u8])>
-    ensures some { IfSome result (λ read. symbols.now ≡ (read.0 + 65) ∷ read.1.now) }
-    ensures range { IfSome result (λ read. read.0 ≤ 25) }
-    ensures none { IfNone result ((var : ℕ) → var ≤ 25 → Lacks (var + 65) symbols.now) }
+    ensures some { IfSome result (λ read. symbols.now ≡ (read.0 + upper_a) ∷ read.1.now) }
+    ensures range { IfSome result (λ read. read.0 < VARIABLES) }
+    ensures none { IfNone result ((var : ℕ) → var < VARIABLES → Lacks (var + upper_a) symbols.now) }
 {
     let (first, rest) = symbols.split_first()?;
     if *first < b'A' || *first > b'Z' {

@@ -1,6 +1,7 @@
 //! A line as the rows of a partition.
 ghost use Rattle.std.specs.Prelude.{◌≡◌, ◌≤◌, length};
 ghost use Rattle.rp_trace.specs.LetterTest.{admits_letter};
+ghost use Rattle.rp_trace.specs.declared.letters.TheConstants.{MAX_LINE};
 
 use rp_pattern::{End, Label, Seen};
 use rp_search::Tests;
@@ -12,11 +13,14 @@ pub struct Letters<'a> {
     line: &'a [u8],
     /// How many calls of `enter` were made. It stays at its last value.
     entries: u64,
-    ghost short: { length line.now ≤ 4096 },
+    ghost short: { length line.now ≤ MAX_LINE },
 }
 
+/// The longest line that is looked at.
+pub const MAX_LINE: usize = 4096;
+
 /// The variables of a pattern are the letters A to Z.
-const VARIABLES: usize = 26;
+pub const VARIABLES: usize = 26;
 
 /// The variable that admits every row.
 const ANY: usize = 25;
@@ -27,7 +31,7 @@ impl<'a> Letters<'a> {
 
     /// The rows of a line, none of which was entered yet.
     pub fn new(line: &'a [u8]) -> Self
-        requires { length line.now ≤ 4096 }
+        requires { length line.now ≤ MAX_LINE }
         ensures { line_of result ≡ line.entry.now }
     {
         Letters { line, entries: 0 }

@@ -1,4 +1,14 @@
 //! The matches of lines of letters: the text of a pattern, the rows of a line, and a reply for each line.
+//!
+//! Over the lines `abac` and `aab` this writes the lines `ABAC` and `none`:
+//!
+//! ```text
+//! let pattern = trace_pattern(alloc, "(A B | A)* C")?;
+//! let (mut reader, mut writer) = (Port::new(stdin), Port::new(stdout)); // of rp_lines
+//! run_trace(alloc, &mut reader, &mut writer, &pattern, READS)?;
+//! ```
+//!
+//! Which texts are patterns is said by `specs/Grammar`, and what is written for a line by `specs/Replies`.
 #![tactic(auto)]
 
 mod grammar;

@@ -2,6 +2,7 @@
 ghost use Rattle.std.specs.Prelude.{◌≡◌, ◌≤◌, length, true};
 ghost use Rattle.rp_pattern.specs.PatternForm.{form_of};
 ghost use Rattle.rp_pattern.specs.Variables.{are_below};
+ghost use Rattle.rp_trace.specs.declared.letters.TheConstants.{VARIABLES};
 
 use crate::grammar::{TracePatternFault, trace_pattern};
 use crate::matching::BUDGET;
@@ -52,7 +53,7 @@ fn run_once(
     lines: &[u8],
     limits: Limits,
 ) -> Result<Ran, AllocError>
-    requires { are_below 26 (form_of pattern.now) ≡ true }
+    requires { are_below VARIABLES (form_of pattern.now) ≡ true }
 {
     let mut source = Source::new(lines, 3, limits.read);
     let mut sink = Sink::new(alloc, 10_000, 2, limits.write)?;
@@ -72,7 +73,7 @@ fn run_lines(
     lines: &[u8],
     limits: Limits,
 ) -> Result<Ran, AllocError>
-    requires { are_below 26 (form_of pattern.now) ≡ true }
+    requires { are_below VARIABLES (form_of pattern.now) ≡ true }
 {
     let ran = run_once(alloc, pattern, lines, limits)?;
     if ran.result == Err(TraceFault::OutOfMemory) {
@@ -83,7 +84,7 @@ fn run_lines(
 
 /// A pattern that was refused memory is read again.
 fn pattern_of(alloc: Global, text: &str) -> Result<Pattern, TracePatternFault>
-    ensures { (pattern : Pattern) → result ≡ Ok pattern → are_below 26 (form_of pattern) ≡ true }
+    ensures { (pattern : Pattern) → result ≡ Ok pattern → are_below VARIABLES (form_of pattern) ≡ true }
 {
     match trace_pattern(alloc, text) {
         Ok(pattern) => Ok(pattern),
@@ -138,7 +139,7 @@ fn longest_line(rt: HostRuntime) -> Result<(), Fail> {
 
 /// A run that reads and writes in large pieces, and at most `reads` times.
 fn run_wide(alloc: Global, pattern: &Pattern, lines: &[u8], reads: u64) -> Result<Ran, AllocError>
-    requires { are_below 26 (form_of pattern.now) ≡ true }
+    requires { are_below VARIABLES (form_of pattern.now) ≡ true }
 {
     let mut source = Source::new(lines, 100_000, NEVER);
     let mut sink = Sink::new(alloc, 100_000, 7_000, NEVER)?;
@@ -189,7 +190,7 @@ fn longest_lines(rt: HostRuntime) -> Result<(), Fail> {
     Ok(())
 }
 
-/// A text so many times.
+/// A text `times` times.
 fn repeated(alloc: Global, text: &[u8], times: usize) -> Result<Vec<u8>, AllocError>
     requires times { times ≤ 50000 }
     requires short { length text.now ≤ 8 }

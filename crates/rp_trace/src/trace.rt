@@ -5,10 +5,11 @@ ghost use Rattle.rp_pattern.specs.PatternForm.{form_of};
 ghost use Rattle.rp_pattern.specs.Variables.{are_below};
 ghost use Rattle.rp_lines.specs.Counts.{raised};
 ghost use Rattle.rp_lines.specs.Devices.{after_calls};
+ghost use Rattle.rp_trace.specs.declared.letters.TheConstants.{MAX_LINE, VARIABLES};
 ghost use Rattle.rp_trace.specs.Replies.{WritesFront, WritesReplies};
 ghost use Rattle.rp_trace.specs.Replies.{is_letter, is_looked_at, last_reply, match_text, reply_text, reply_to, search_text};
 
-use crate::letters::Letters;
+use crate::letters::{Letters, MAX_LINE};
 use crate::matching::find;
 use rp_lines::{Intake, LineFault, Lines, Outlet, WriteFailed, write_all, write_block};
 use rp_pattern::{Label, Pattern, law_labels};
@@ -38,9 +39,6 @@ pub enum TraceFault {
 /// How often the program reads its input at most.
 pub const READS: u64 = 1_000_000_000;
 
-/// The longest line that is looked at.
-const MAX_LINE: usize = 4096;
-
 /// Writes a line for each line that is read: the labels of its match at row 1, where each letter is a row.
 ///
 /// Of a line `abac` and the pattern `(A B | A)* C` the line is `ABAC`. A match without rows is told as `empty`, and no
@@ -54,7 +52,7 @@ pub fn run_trace<R: Intake, W: Outlet>(
     pattern: &Pattern,
     reads: u64,
 ) -> Result<(), TraceFault>
-    requires { are_below 26 (form_of pattern.now) ≡ true }
+    requires { are_below VARIABLES (form_of pattern.now) ≡ true }
     ensures written { OnOk result (WritesReplies
         (form_of pattern.now) (R.remaining reader.old) (W.contents writer.old) (W.contents writer.new)) }
     ensures front { OnErr result (WritesFront
@@ -88,7 +86,7 @@ fn push_last(
     pattern: &Pattern,
     part: &[u8],
 ) -> Result<(), AllocError>
-    requires { are_below 26 (form_of pattern.now) ≡ true }
+    requires { are_below VARIABLES (form_of pattern.now) ≡ true }
     ensures { OnOk result (text.new.items ≡ text.old.items ++ last_reply (form_of pattern.now) part.now) }
 {
     if part.is_empty() {
@@ -104,7 +102,7 @@ fn push_reply(
     pattern: &Pattern,
     line: &[u8],
 ) -> Result<(), AllocError>
-    requires { are_below 26 (form_of pattern.now) ≡ true }
+    requires { are_below VARIABLES (form_of pattern.now) ≡ true }
     ensures { OnOk result (text.new.items ≡ text.old.items ++ reply_to (form_of pattern.now) line.now) }
 {
     push_answer(alloc, text, pattern, line)?;
@@ -118,7 +116,7 @@ fn push_answer(
     pattern: &Pattern,
     line: &[u8],
 ) -> Result<(), AllocError>
-    requires { are_below 26 (form_of pattern.now) ≡ true }
+    requires { are_below VARIABLES (form_of pattern.now) ≡ true }
     ensures { OnOk result (text.new.items ≡ text.old.items ++ reply_text (form_of pattern.now) line.now) }
 {
     if !is_looked_at(line) {
@@ -138,9 +136,9 @@ fn push_match<L: Ledger>(
     line: &[u8],
     blank: Blank,
 ) -> Result<(), AllocError>
-    requires lettered { are_below 26 (form_of pattern.now) ≡ true }
+    requires lettered { are_below VARIABLES (form_of pattern.now) ≡ true }
     requires some { 0 < length line.now }
-    requires short { length line.now ≤ 4096 }
+    requires short { length line.now ≤ MAX_LINE }
     requires name { blank.name ≡ L.name }
     requires parts { blank.parts ≡ L.parts }
     requires counts { 0 < blank.parts }
@@ -158,7 +156,7 @@ fn push_match<L: Ledger>(
 
 /// Adds the letters of a match's labels.
 fn push_labels(text: &mut Vec<u8>, labels: &[Label]) -> Result<(), AllocError>
-    requires { All (λ label. label.var < 26) labels.now }
+    requires { All (λ label. label.var < VARIABLES) labels.now }
     ensures { OnOk result (text.new.items ≡ text.old.items ++ match_text labels.now) }
 {
     if labels.is_empty() {

@@ -31,10 +31,10 @@ holds GreaterOrEqual order.Equal = true
 holds _ _ = false
 
 -- the truth value of a comparison of two values in this order: unknown where they have none
-abbrev pub judged_order : Comparison → Option Ordering → Tri
-judged_order compares None = Unknown
-judged_order compares (Some order) = if holds compares order then True else False
+abbrev pub order_truth : Comparison → Option Ordering → Tri
+order_truth compares None = Unknown
+order_truth compares (Some order) = if holds compares order then True else False
 
 -- the truth value of a comparison: unknown where one of the values is null, and where their kinds differ
-abbrev pub judged : Comparison → Value → Value → Tri
-judged compares a b = judged_order compares (comparison a b)
+abbrev pub comparison_truth : Comparison → Value → Value → Tri
+comparison_truth compares a b = order_truth compares (comparison a b)

@@ -22,10 +22,10 @@ row_fault kinds values =
     then option_map (λ k. KindAt (k + 1)) (position (λ p. not (admits p.0 p.1)) (zip kinds values))
     else Some Width
 
--- the fault of the values that a refusal tells of: none where it tells of want of memory
-abbrev pub cells_fault : RowFault → Option RowFault
-cells_fault OutOfMemory = None
-cells_fault fault = Some fault
+-- what a refusal says of the values: that they have this fault, or none where only memory was refused
+abbrev pub said_of_cells : RowFault → Option RowFault
+said_of_cells OutOfMemory = None
+said_of_cells fault = Some fault
 
 -- the value in a column, from 1
 abbrev pub cell_at : List Value → ℕ → Option Value

@@ -33,10 +33,10 @@ table_fault (c ∷ cs) =
     if has_bad_name (c ∷ cs) then Some BadName
     else (if has_double_name (c ∷ cs) then Some DoubleName else None)
 
--- the fault of the list that a refusal tells of: none where it tells of want of memory
-abbrev pub list_fault : TableFault → Option TableFault
-list_fault OutOfMemory = None
-list_fault fault = Some fault
+-- what a refusal says of the columns: that they have this fault, or none where only memory was refused
+abbrev pub said_of_columns : TableFault → Option TableFault
+said_of_columns OutOfMemory = None
+said_of_columns fault = Some fault
 
 -- the column of a name and a kind
 abbrev pub column_of : String Global × Kind → Column

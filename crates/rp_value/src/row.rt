@@ -15,7 +15,7 @@ use thiserror::Error;
 
 /// A row, whose cells further owners share. Contracts see it as the list of its cells.
 ///
-/// `Table::row` makes it.
+/// `Table::row` makes one that fits its table.
 #[derive(Debug, Drop)]
 pub struct Row {
     cells: Rc<Vec<Value>>,
@@ -45,8 +45,8 @@ impl Eq for Row {
 }
 
 impl Row {
-    /// A row of these cells.
-    pub(crate) fn new(alloc: Global, cells: Vec<Value>) -> Result<Row, AllocError>
+    /// A row of these cells, which need not fit any table: `check_cells` says whether they do.
+    pub fn new(alloc: Global, cells: Vec<Value>) -> Result<Row, AllocError>
         ensures { IfOk result (λ row. row ≡ cells.items) }
     {
         let cells = Rc::new(alloc, cells)?;

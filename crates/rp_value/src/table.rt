@@ -2,8 +2,8 @@
 ghost use Rattle.std.specs.Prelude.{◌≡◌, ◌↔◌, IsTrue, IfOk, IfErr, IfSome, None, not, position, zip, length, ◌<◌, ◌==◌, string_bytes};
 ghost use Rattle.std.specs.List.{list_any};
 ghost use Rattle.std.specs.Cmp.Lexicographic.{pointwise, lists_per, lists_equiv};
-ghost use Rattle.rp_value.specs.Rows.{row_fault, cells_fault, admits};
-ghost use Rattle.rp_value.specs.Tables.{is_bad_name, has_double_name, table_fault, list_fault, columns_of, kinds_of};
+ghost use Rattle.rp_value.specs.Rows.{row_fault, said_of_cells, admits};
+ghost use Rattle.rp_value.specs.Tables.{is_bad_name, has_double_name, table_fault, said_of_columns, columns_of, kinds_of};
 ghost use Rattle.rp_value.specs.declared.table.TableFault.TheVariants.{OutOfMemory};
 ghost use Rattle.rp_value.specs.contracts.table.ColumnPartialEq.TheImpl.Laws.{laws-law as column_per};
 ghost use Rattle.rp_value.specs.contracts.table.ColumnEq.TheImpl.Laws.{laws-law as column_equiv};
@@ -69,7 +69,7 @@ impl Table {
         ensures ok { IfOk result
             (λ table. (table ≡ columns_of columns.items) × (table_fault table ≡ None)) }
         ensures err { IfErr result
-            (λ fault. table_fault (columns_of columns.items) ≡ list_fault fault) }
+            (λ fault. table_fault (columns_of columns.items) ≡ said_of_columns fault) }
     {
         if let Some(fault) = fault_of(&columns) {
             return Err(fault);
@@ -94,7 +94,7 @@ impl Table {
         ensures ok { IfOk result
             (λ row. (row ≡ cells.items) × (row_fault (kinds_of self.now) row ≡ None)) }
         ensures err { IfErr result
-            (λ fault. row_fault (kinds_of self.now) cells.items ≡ cells_fault fault) }
+            (λ fault. row_fault (kinds_of self.now) cells.items ≡ said_of_cells fault) }
     {
         if let Some(fault) = fault_in(self.columns(), &cells) {
             return Err(fault);

@@ -2,7 +2,7 @@
 ghost use Rattle.std.specs.Prelude.{◌≡◌, ◌+ℤ◌, ◌-ℤ◌, ◌*ℤ◌, IfOk};
 ghost use Rattle.std.specs.Option.{option_map_or};
 ghost use Rattle.rp_value.specs.Arithmetic.{on_numbers};
-ghost use Rattle.rp_value.specs.Compared.{comparison, judged};
+ghost use Rattle.rp_value.specs.Compared.{comparison, comparison_truth};
 ghost use Rattle.rp_value.specs.Order.{value_order, OrderIsComparison, NullIsLast, DescendingIsReverse};
 ghost use Rattle.rp_value.specs.Rows.{admits};
 
@@ -62,7 +62,7 @@ impl Value {
     /// The truth value of a comparison with another value, as `p < 5` has it. A comparison with null is unknown, `=` with
     /// null on both sides too; and so is one of a whole number with a text.
     pub fn judged(&self, comparison: Comparison, other: &Value) -> Tri
-        ensures { result ≡ judged comparison self.now other.now }
+        ensures { result ≡ comparison_truth comparison self.now other.now }
     {
         match self.compare(other) {
             Some(order) if comparison.holds(order) => Tri::True,

@@ -27,13 +27,14 @@ use Rattle.rp_walker.specs.Steps.{IsDone, IsStop, IsEnd, HasEnded, ended_by, Mov
 use Rattle.rp_walker.specs.declared.ahead.Ahead.{Ahead}
 use Rattle.rp_walker.specs.declared.record.MatcherState.{MatcherState}
 use Rattle.rp_walker.specs.declared.run.Run.{Run}
+use Rattle.rp_walker.specs.declared.stage.Ended.{Ended}
 use Rattle.rp_walker.specs.declared.stage.Stage.{Stage}
 use Rattle.rp_walker.specs.declared.stage.Stage.TheVariants.{Begin, Searching, Giving}
 use Rattle.rp_walker.specs.declared.stage.Step.{Step}
 use Rattle.rp_walker.specs.declared.stage.Step.TheVariants.{Went, Gave, Idle}
 use Rattle.rp_walker.specs.declared.walker.Walker.{Walker}
-use Rattle.rp_walker.specs.Given.{is_excluded, is_hidden, shown_from, result_of}
-use Rattle.rp_walker.specs.Stages.{Searches, Gives, MatchTotalled, rows_ahead, asked_by, IsGoing, StageStands, stage_left, starts_to, left_with, Lowers}
+use Rattle.rp_walker.specs.Given.{is_excluded, is_hidden, shown_from, result_of, run_of}
+use Rattle.rp_walker.specs.Stages.{Searches, Gives, MatchTotalled, Serves, rows_ahead, asked_by, IsGoing, StageStands, stage_left, starts_to, left_with, Lowers}
 use Rattle.rp_walker.specs.Walking.{KeepsGoing}
 use Rattle.rp_walker.proofs.Steps.{leg_of, left_going, stays_put, stands_going}
 use Rattle.rp_walker.proofs.Ends.{LastItem}
@@ -89,13 +90,13 @@ pub gives_first : (q : QueryData) (p : Known) (place : Place) (result : Found) (
 gives_first q p place result a known found in_rows seen low ordered high rows =
     record { known = known; found = found; in_rows = in_rows; passed = []; rows = rows; seen = seen; fewer = omega (arith, seen, low); low = low; ordered = ordered; high = high }
 
-pub begins_giving : (q : QueryData) (p : Known) (w : Walker) (found : Option Run) (a : Ahead) (run : Run) → IsGoing q w.state → Gives q p (place_of w.state) (result_of found) a → a.seen ≡ 0 → MatchTotalled q p w.state.at found →
+pub begins_giving : (q : QueryData) (p : Known) (w : Walker) (found : Ended) (a : Ahead) (run : Run) → IsGoing q w.state → Gives q p (place_of w.state) (result_of found) a → a.seen ≡ 0 → MatchTotalled q p w.state.at found → Serves q (run_of found) →
     KeepsGoing q p w.state (Searching run) (record w { stage = Giving found a }) Went
-begins_giving q p w found a run g gives seen totals =
+begins_giving q p w found a run g gives seen totals serves =
     record {
       given = refl;
       first = refl;
-      stands = stands_going q p (record w { stage = Giving found a }) g (gives, omega (arith, seen), totals);
+      stands = stands_going q p (record w { stage = Giving found a }) g (gives, omega (arith, seen), totals, serves);
       lowers = omega (arith, gives.low, gives.ordered, gives.high, left_going q p w.state (Giving found a) g.going gives.known, left_going q p w.state (Searching run) g.going gives.known);
       follows = λ within. record { moves = stays_put q p w.state g.going within; is = refl };
     }
@@ -145,9 +146,9 @@ pub most_of : (q : QueryData) (p : Known) (start : ℕ) (run : Run) → Searches
 most_of q p start run h =
     h.pattern.same_turns (count p) p.end _ ∙ ap (λ i. turns (count p) p.end (form_of q.pattern) i + length (words (count p) p.end (form_of q.pattern) i)) h.begins
 
-pub search_begins : LeftIsBounded → (q : QueryData) (p : Known) (r : MatcherState) (run : Run) → IsGoing q r → Searches q p r.at run → left_with q p r (Searching run) ≤ left_with q p r Begin
-search_begins bounded q p r run g h =
-    omega (arith, left_going q p r (Searching run) g.going h.known, left_going q p r Begin g.going h.known, bounded run.search (asked_by q p) h.fits, most_of q p r.at run h)
+pub search_begins : LeftIsBounded → (q : QueryData) (p : Known) (r : MatcherState) (run : Run) (spare : Option Run) → IsGoing q r → Searches q p r.at run → left_with q p r (Searching run) ≤ left_with q p r (Begin spare)
+search_begins bounded q p r run spare g h =
+    omega (arith, left_going q p r (Searching run) g.going h.known, left_going q p r (Begin spare) g.going h.known, bounded run.search (asked_by q p) h.fits, most_of q p r.at run h)
 
 -- ---- past the last start row
 
@@ -162,14 +163,14 @@ left_past q p r stage going h =
     let some : ℕ = stage_left q p r stage + (starts_to q p (count p) - starts_to q p r.at) in
     ap (λ b. cond b 0 (1 + cond (nat_le r.at (count p)) some 0)) going ∙ ap (λ b. 1 + cond b some 0) past
 
-pub waits_past : (q : QueryData) (p : Known) (w : Walker) → IsGoing q w.state → w.stage ≡ Begin → count p < w.state.at → p.end ≡ OpenEnd → KeepsGoing q p w.state Begin w Idle
-waits_past q p w g begun past is_open =
+pub waits_past : (q : QueryData) (p : Known) (w : Walker) → IsGoing q w.state → StageStands q p w.state w.stage → count p < w.state.at → p.end ≡ OpenEnd → KeepsGoing q p w.state w.stage w Idle
+waits_past q p w g stands past is_open =
     let none : leg q p (place_of w.state) ≡ Pauses [] = leg_past q p (place_of w.state) past ∙ ap at_last is_open in
     record {
       given = refl;
       first = refl;
-      stands = stands_going q p w g (subst (λ s. StageStands q p w.state s) (sym begun) tt);
-      lowers = omega (arith, left_past q p w.state Begin g.going past, left_past q p w.state w.stage g.going past);
+      stands = stands_going q p w g stands;
+      lowers = omega arith;
       follows = λ within. let h = stops_here q p w.state g none within in record { moves = h.0; is = (refl, h.1) };
     }
 

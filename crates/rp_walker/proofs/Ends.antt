@@ -20,13 +20,14 @@ use Rattle.rp_walker.specs.Steps.{IsDone, IsStop, IsEnd, HasEnded, ended_by, Mov
 use Rattle.rp_walker.specs.declared.ahead.Ahead.{Ahead}
 use Rattle.rp_walker.specs.declared.record.MatcherState.{MatcherState}
 use Rattle.rp_walker.specs.declared.run.Run.{Run}
+use Rattle.rp_walker.specs.declared.stage.Ended.{Ended}
 use Rattle.rp_walker.specs.declared.stage.Stage.{Stage}
 use Rattle.rp_walker.specs.declared.stage.Stage.TheVariants.{Begin, Giving}
 use Rattle.rp_walker.specs.declared.stage.Step.{Step}
 use Rattle.rp_walker.specs.declared.stage.Step.TheVariants.{Went, Gave, Idle}
 use Rattle.rp_walker.specs.declared.walker.Walker.{Walker}
-use Rattle.rp_walker.specs.Given.{result_of, shown_from, is_hidden}
-use Rattle.rp_walker.specs.Stages.{Gives, rows_ahead, IsGoing, stage_left, starts_to, left_with}
+use Rattle.rp_walker.specs.Given.{result_of, run_of, shown_from, is_hidden}
+use Rattle.rp_walker.specs.Stages.{Gives, Serves, rows_ahead, IsGoing, stage_left, starts_to, left_with}
 use Rattle.rp_walker.specs.Walking.{KeepsGoing}
 use Rattle.rp_walker.proofs.Shown.{Adds, all_here}
 use Rattle.rp_walker.proofs.Steps.{leg_of, left_going, stands_going}
@@ -51,12 +52,12 @@ starts_before n e f (suc s) h =
     ap (λ k. starts_turns n e f k + (turns n e f (suc s) + length (words n e f (suc s)) + (n - suc s) + 4)) before
 
 -- at a later start row no more is left than the rows after this one take
-pub left_later : (q : QueryData) (p : Known) (r r' : MatcherState) → r'.over ≡ false → r.at < r'.at →
-    left_with q p r' Begin ≤ 1 + (starts_to q p (count p) - starts_to q p r.at)
-left_later q p r r' going h =
-    subst (λ b. cond b 0 (1 + cond (nat_le r'.at (count p)) (stage_left q p r' Begin + (starts_to q p (count p) - starts_to q p r'.at)) 0) ≤ 1 + (starts_to q p (count p) - starts_to q p r.at)) (sym going) (go (nat_le r'.at (count p)) refl)
+pub left_later : (q : QueryData) (p : Known) (r r' : MatcherState) (spare : Option Run) → r'.over ≡ false → r.at < r'.at →
+    left_with q p r' (Begin spare) ≤ 1 + (starts_to q p (count p) - starts_to q p r.at)
+left_later q p r r' spare going h =
+    subst (λ b. cond b 0 (1 + cond (nat_le r'.at (count p)) (stage_left q p r' (Begin spare) + (starts_to q p (count p) - starts_to q p r'.at)) 0) ≤ 1 + (starts_to q p (count p) - starts_to q p r.at)) (sym going) (go (nat_le r'.at (count p)) refl)
   where
-    go : (b : Bool) → nat_le r'.at (count p) ≡ b → 1 + cond b (stage_left q p r' Begin + (starts_to q p (count p) - starts_to q p r'.at)) 0 ≤ 1 + (starts_to q p (count p) - starts_to q p r.at)
+    go : (b : Bool) → nat_le r'.at (count p) ≡ b → 1 + cond b (stage_left q p r' (Begin spare) + (starts_to q p (count p) - starts_to q p r'.at)) 0 ≤ 1 + (starts_to q p (count p) - starts_to q p r.at)
     go false e = omega arith
     go true e =
         let low : r'.at ≤ count p = grind (arith, nat_tests) in
@@ -90,8 +91,8 @@ module _ (q : QueryData) (p : Known) (place : Place) (result : Found) (a : Ahead
 still_kept : (x y b first : ℕ) → x ≤ y → first ≤ max 1 (x - b) → first ≤ max 1 (y - b)
 still_kept x y b first h k = omega (arith, h, k)
 
-module _ (leads : SearchesLeadOn) (q : QueryData) (p : Known) (w : Walker) (found : Option Run) (a : Ahead) (g : IsGoing q w.state) (gives : Gives q p (place_of w.state) (result_of found) a)
-    (not_past : a.seen ≤ w.state.here) (all : a.next ≡ a.end) (next : Place) (follows : after_found q (place_of w.state) (result_of found) ≡ Goes [] next) where
+module _ (leads : SearchesLeadOn) (q : QueryData) (p : Known) (w : Walker) (found : Ended) (a : Ahead) (g : IsGoing q w.state) (gives : Gives q p (place_of w.state) (result_of found) a)
+    (serves : Serves q (run_of found)) (not_past : a.seen ≤ w.state.here) (all : a.next ≡ a.end) (next : Place) (follows : after_found q (place_of w.state) (result_of found) ≡ Goes [] next) where
   abbrev moved_on : MatcherState
   moved_on = record w.state { at = next.start; matches = next.matches; covered = next.covered; here = 0 }
 
@@ -125,13 +126,13 @@ module _ (leads : SearchesLeadOn) (q : QueryData) (p : Known) (w : Walker) (foun
         first = refl;
       }
 
-  pub goes_to : KeepsGoing q p w.state (Giving found a) (record w { state = moved_on; stage = Begin }) Went
+  pub goes_to : KeepsGoing q p w.state (Giving found a) (record w { state = moved_on; stage = Begin (Some (run_of found)) }) Went
   goes_to =
       record {
         given = refl;
         first = refl;
-        stands = stands_going q p (record w { state = moved_on; stage = Begin }) going_on tt;
-        lowers = omega (arith, left_going q p w.state (Giving found a) g.going gives.known, left_later q p w.state moved_on g.going later);
+        stands = stands_going q p (record w { state = moved_on; stage = Begin (Some (run_of found)) }) going_on serves;
+        lowers = omega (arith, left_going q p w.state (Giving found a) g.going gives.known, left_later q p w.state moved_on (Some (run_of found)) g.going later);
         follows = λ within_old. record { moves = moves_on within_old; is = refl };
       }
 
@@ -160,7 +161,7 @@ module _ (q : QueryData) (p : Known) (w : Walker) (stage : Stage) (x : Item) (k 
       let e : length (h.items ++ x ∷ []) ≡ k + 1 = omega (arith, h.many, length-append h.items (x ∷ [])) in
       (ap (λ u. length (leg_items u)) h.is ∙ e, subst IsEnd (sym h.is) tt, subst IsStop (sym h.is) tt)
 
-  gives_last : w.state.here ≡ k → KeepsGoing q p w.state stage (record w { state = gave_last; stage = Begin }) (Gave x)
+  gives_last : w.state.here ≡ k → KeepsGoing q p w.state stage (record w { state = gave_last; stage = Begin None }) (Gave x)
   gives_last due =
       record {
         given = refl;
@@ -178,7 +179,7 @@ module _ (q : QueryData) (p : Known) (w : Walker) (stage : Stage) (x : Item) (k 
             };
       }
 
-  gave_last_before : w.state.here ≢ k → KeepsGoing q p w.state stage (record w { state = was_last; stage = Begin }) Idle
+  gave_last_before : w.state.here ≢ k → KeepsGoing q p w.state stage (record w { state = was_last; stage = Begin None }) Idle
   gave_last_before other =
       record {
         given = refl;
@@ -195,7 +196,7 @@ module _ (q : QueryData) (p : Known) (w : Walker) (stage : Stage) (x : Item) (k 
       }
 
   -- whichever it is
-  pub ends_with : (new : Walker) (step : Step) → (w.state.here ≢ k → (step ≡ Idle) × (new ≡ record w { state = was_last; stage = Begin })) → (w.state.here ≡ k → (step ≡ Gave x) × (new ≡ record w { state = gave_last; stage = Begin })) →
+  pub ends_with : (new : Walker) (step : Step) → (w.state.here ≢ k → (step ≡ Idle) × (new ≡ record w { state = was_last; stage = Begin None })) → (w.state.here ≡ k → (step ≡ Gave x) × (new ≡ record w { state = gave_last; stage = Begin None })) →
       KeepsGoing q p w.state stage new step
   ends_with new step other due = go (nat_eq w.state.here k) refl
     where

@@ -68,6 +68,11 @@ leg_well q p place = go (nat_le place.start (count p))
 
 -- ---- where the walk stops
 
+abbrev next_in : Place → Leg → Place
+next_in other (Goes xs next) = next
+next_in other (Pauses xs) = other
+next_in other (Ends xs) = other
+
 stop_walk : (q : QueryData) (p : Known) (place : Place) → IsStop (leg q p place) → walk_from q p place ≡ leg_items (leg q p place)
 stop_walk q p place = go (leg q p place)
   where
@@ -91,6 +96,14 @@ module _ (leads : LegsLeadOn) where
       let l : LeadsOn place (Goes xs next) = subst (LeadsOn place) is (leads q p place) in
       let later : place.start < next.start = l.0 in
       omega (arith, later, comes_up r)
+
+  -- no place that a walk comes to lies behind the one where it stops
+  pub comes_no_further : {q : QueryData} {p : Known} {d d' : ℕ} {x y z : Place} → ComesTo q p x d y → IsStop (leg q p y) → ComesTo q p x d' z → z.start ≤ y.start
+  comes_no_further r stop here = comes_up r
+  comes_no_further here stop (on is r) = absurd (subst IsStop is stop)
+  comes_no_further {q = q} {p = p} {z = z} (on {next = next} {xs = xs} is r) stop (on {next = next'} {xs = ys} {d = d'} is' r') =
+      let same : next' ≡ next = ap (next_in next) (sym is' ∙ is) in
+      comes_no_further r stop (subst (λ n. ComesTo q p n d' z) same r')
 
 module _ (law : LegStays) (leads : LegsLeadOn) (q : QueryData) (reaches : IsSound q) (old new : MatcherState) (k p : Known) (from_one : 1 ≤ old.at) (a : AgreesFrom old.first p k) (fits : IsOnWalk q old p) where
   pub within_kept : IsWithin q k old
@@ -154,5 +167,6 @@ module _ (law : LegStays) (leads : LegsLeadOn) (q : QueryData) (reaches : IsSoun
               let place : old.given ≡ length b.front + old.here = omega (arith, fits.counted, b.many) in
               ap (slice_get (known q p)) place ∙ ap (λ z. slice_get z (length b.front + old.here)) b.is ∙ get_behind leads q p b.front (walk_from q p (place_of old)) old.here
               ∙ ap (λ z. slice_get z old.here) (sym (walk_agrees law leads q reaches p k old.first a (place_of old) fits.kept from_one)) ∙ h;
+          last = λ d before place came. comes_no_further leads comes (subst IsStop same_leg d.stops) came;
           done = λ d. all_of (stop_walk q p (place_of new) (subst IsStop same_leg d.stops)) (d.all ∙ ap (λ t. length (leg_items t)) same_leg);
         }

@@ -4,9 +4,9 @@ use Rattle.std.specs.Prelude.{◌≢◌, ⊤}
 use Rattle.rp_pattern.specs.declared.word.Label.{Label}
 use Rattle.rp_search.specs.declared.search.Search.{Search}
 use Rattle.rp_search.specs.Asked.{Asked, AskedExtend, rows_from}
-use Rattle.rp_search.specs.Fits.{Fits as SearchFits, ChoicesStand}
+use Rattle.rp_search.specs.Fits.{SearchFits, ChoicesStand}
 use Rattle.rp_search.specs.Found.{Found, Match, NoMatch, Waits}
-use Rattle.rp_search.specs.Search.{FitsStays, start_of_search, labels_of_search}
+use Rattle.rp_search.specs.Search.{SearchFitsStays, start_of_search, labels_of_search}
 use Rattle.rp_check.specs.declared.query.QueryData.{QueryData}
 use Rattle.rp_check.specs.Sound.{IsSound}
 use Rattle.rp_eval.specs.Laws.{TotalsStay}
@@ -18,6 +18,8 @@ use Rattle.rp_known.specs.WalkLaws.{AreKnown, FindingsStay}
 use Rattle.rp_walker.specs.declared.ahead.Ahead.{Ahead}
 use Rattle.rp_walker.specs.declared.record.MatcherState.{MatcherState}
 use Rattle.rp_walker.specs.declared.run.Run.{Run}
+use Rattle.rp_walker.specs.declared.stage.Ended.{Ended}
+use Rattle.rp_walker.specs.declared.stage.Ended.TheVariants.{Match as EndedMatch, NoMatch as EndedNoMatch}
 use Rattle.rp_walker.specs.declared.stage.Stage.{Stage}
 use Rattle.rp_walker.specs.declared.stage.Stage.TheVariants.{Begin, Searching, Giving}
 use Rattle.rp_walker.specs.declared.walker.Walker.{Walker}
@@ -26,9 +28,9 @@ use Rattle.rp_walker.specs.Records.{place_of}
 use Rattle.rp_walker.specs.Stages.{Searches, Gives, Totalled, MatchTotalled, StageStands, asked_by}
 use Rattle.rp_walker.specs.Walking.{GoesOnWell, stands_by, Stands, StandsStays, record_of}
 
-not_waits : (found : Option Run) → result_of found ≢ Waits
-not_waits None = λ e. cc
-not_waits (Some run) = λ e. cc
+not_waits : (found : Ended) → result_of found ≢ Waits
+not_waits (EndedNoMatch run) = λ e. cc
+not_waits (EndedMatch run) = λ e. cc
 
 still_known : (from n n' : ℕ) (result : Found) → n ≤ n' → AreKnown from n result → AreKnown from n' result
 still_known from n n' (Match ls) h k = omega (arith, h, k)
@@ -40,7 +42,7 @@ labels_known : (s : Search) (asked : Asked) → SearchFits s asked → length (l
 unfolding ChoicesStand labels_of_search start_of_search
 labels_known s asked h = h.stands.known
 
-module _ (found_stays : FindingsStay) (fits_stay : FitsStays) (tests : TestsGoOn) (totals_stay : TotalsStay) (q : QueryData) (p p' : Known) (sound : IsSound q) where
+module _ (found_stays : FindingsStay) (fits_stay : SearchFitsStays) (tests : TestsGoOn) (totals_stay : TotalsStay) (q : QueryData) (p p' : Known) (sound : IsSound q) where
   totals_later : (start : ℕ) (run : Run) → 1 ≤ start → GoesOnFrom (first_read q start) p p' → start + length (labels_of_search run.search) ≤ suc (count p) → Totalled q p start run → Totalled q p' start run
   totals_later start run one g within h =
       record {
@@ -61,11 +63,11 @@ module _ (found_stays : FindingsStay) (fits_stay : FitsStays) (tests : TestsGoOn
         totalled = totals_later start run one g (omega (arith, h.known, subst (λ i. length (labels_of_search run.search) ≤ rows_from i (count p)) h.begins short)) h.totalled;
       }
 
-  match_later : (start : ℕ) (found : Option Run) → 1 ≤ start → GoesOnFrom (first_read q start) p p' → AreKnown start (count p) (result_of found) → MatchTotalled q p start found → MatchTotalled q p' start found
-  match_later start None one g known h = tt
-  match_later start (Some run) one g known h = totals_later start run one g known h
+  match_later : (start : ℕ) (found : Ended) → 1 ≤ start → GoesOnFrom (first_read q start) p p' → AreKnown start (count p) (result_of found) → MatchTotalled q p start found → MatchTotalled q p' start found
+  match_later start (EndedNoMatch run) one g known h = tt
+  match_later start (EndedMatch run) one g known h = totals_later start run one g known h
 
-  gives_later : (place : Place) (found : Option Run) (a : Ahead) → 1 ≤ place.start → GoesOnFrom (first_read q place.start) p p' → Gives q p place (result_of found) a → Gives q p' place (result_of found) a
+  gives_later : (place : Place) (found : Ended) (a : Ahead) → 1 ≤ place.start → GoesOnFrom (first_read q place.start) p p' → Gives q p place (result_of found) a → Gives q p' place (result_of found) a
   gives_later place found a one g h =
       let more : count p ≤ count p' = g.later.0 in
       record {
@@ -82,9 +84,9 @@ module _ (found_stays : FindingsStay) (fits_stay : FitsStays) (tests : TestsGoOn
       }
 
   stage_later : (r : MatcherState) (stage : Stage) → 1 ≤ r.at → GoesOnFrom (first_read q r.at) p p' → StageStands q p r stage → StageStands q p' r stage
-  stage_later r Begin one g h = tt
+  stage_later r (Begin spare) one g h = h
   stage_later r (Searching run) one g h = searches_later r.at run one g h
-  stage_later r (Giving found a) one g h = (gives_later (place_of r) found a one g h.0, h.1, match_later r.at found one g h.0.in_rows h.2)
+  stage_later r (Giving found a) one g h = (gives_later (place_of r) found a one g h.0, h.1, match_later r.at found one g h.0.in_rows h.2, h.3)
 
   by_later : (b : Bool) (w : Walker) → GoesOnFrom (first_read q w.state.at) p p' → stands_by b q p w → stands_by b q p' w
   by_later true w g h = h

@@ -1,26 +1,26 @@
 -- Rows that give no item.
-use Rattle.std.proofs.Common.{◌≡◌, ◌+◌, ◌-◌, ◌<◌, ◌≤◌, Bool, true, false, Option, refl, sym, subst, arith}
+use Rattle.std.proofs.Common.{◌≡◌, ◌+◌, ◌-◌, ◌<◌, ◌≤◌, Bool, true, false, refl, sym, subst, arith}
 use Rattle.rp_check.specs.declared.query.QueryData.{QueryData}
 use Rattle.rp_known.specs.Known.{Known}
 use Rattle.rp_walker.specs.declared.ahead.Ahead.{Ahead}
-use Rattle.rp_walker.specs.declared.run.Run.{Run}
+use Rattle.rp_walker.specs.declared.stage.Ended.{Ended}
 use Rattle.rp_walker.specs.declared.stage.Stage.TheVariants.{Giving}
 use Rattle.rp_walker.specs.declared.stage.Step.{Step}
 use Rattle.rp_walker.specs.declared.stage.Step.TheVariants.{Went}
 use Rattle.rp_walker.specs.declared.walker.Walker.{Walker}
-use Rattle.rp_walker.specs.Given.{is_hidden, result_of}
+use Rattle.rp_walker.specs.Given.{is_hidden, result_of, run_of}
 use Rattle.rp_walker.specs.Records.{place_of}
-use Rattle.rp_walker.specs.Stages.{IsGoing, Gives, MatchTotalled}
+use Rattle.rp_walker.specs.Stages.{IsGoing, Gives, MatchTotalled, Serves}
 use Rattle.rp_walker.specs.Walking.{KeepsGoing}
 use Rattle.rp_walker.proofs.Steps.{past_hidden, past_shown, gives_hidden, gives_shown, left_going, stays_put, stands_going}
 
-module _ (q : QueryData) (p : Known) (w : Walker) (found : Option Run) (a : Ahead) (g : IsGoing q w.state) (gives : Gives q p (place_of w.state) (result_of found) a) (totals : MatchTotalled q p w.state.at found) where
+module _ (q : QueryData) (p : Known) (w : Walker) (found : Ended) (a : Ahead) (g : IsGoing q w.state) (gives : Gives q p (place_of w.state) (result_of found) a) (totals : MatchTotalled q p w.state.at found) (serves : Serves q (run_of found)) where
   went_to : (b : Ahead) → b.next ≡ a.next + 1 → b.end ≡ a.end → a.next < a.end → Gives q p (place_of w.state) (result_of found) b → b.seen ≤ w.state.here → KeepsGoing q p w.state (Giving found a) (record w { stage = Giving found b }) Went
   went_to b next end more after enough =
       record {
         given = refl;
         first = refl;
-        stands = stands_going q p (record w { stage = Giving found b }) g (after, enough, totals);
+        stands = stands_going q p (record w { stage = Giving found b }) g (after, enough, totals, serves);
         lowers = omega (arith, more, next, end, left_going q p w.state (Giving found a) g.going gives.known, left_going q p w.state (Giving found b) g.going gives.known);
         follows = λ within. record { moves = stays_put q p w.state g.going within; is = refl };
       }

@@ -11,10 +11,10 @@ use Rattle.rp_known.specs.WalkLaws.{LegsLeadOn, KnownIsShort}
 use Rattle.rp_walker.specs.declared.poll.Poll.{Poll}
 use Rattle.rp_walker.specs.declared.poll.Poll.TheVariants.{Item as ItemPoll, Idle as IdlePoll, Paused as PausedPoll}
 use Rattle.rp_walker.specs.declared.record.MatcherState.{MatcherState}
-use Rattle.rp_walker.specs.Records.{place_of, IsWithin, IsOnWalk, IsOver, Fits, fits_by}
+use Rattle.rp_walker.specs.Records.{place_of, IsWithin, IsOnWalk, IsOver, IsLastStart, Fits, fits_by}
 use Rattle.rp_walker.specs.Steps.{IsDone, Moves}
 use Rattle.rp_walker.specs.FitLaws.{AgreesFrom, Meant, StepsMean}
-use Rattle.rp_walker.specs.Polls.{Polled, PollIs, AnswerIs, Answers, StillFits}
+use Rattle.rp_walker.specs.Polls.{Polled, PollIs, AnswerIs, Answers, StopsAtLast, StillFits}
 use Rattle.rp_walker.proofs.Moving.{comes_after}
 
 -- no more items than known were given
@@ -55,6 +55,16 @@ module _ (means : StepsMean) (leads : LegsLeadOn) (short : KnownIsShort) (q : Qu
       let meant = h.1 a.moves in
       (meant.fits, answer_is p are answer meant a.is)
 
+  idle_last : (p : Known) → AgreesFrom old.first k p → Meant q old new k p → IsDone q k new ⊎ (new.given ≡ 2 ^ 128 - 1) → IsLastStart q p new.at
+  idle_last p are h (inl d) = h.last d
+  idle_last p are h (inr e) = absurd (omega (arith, e, short q p (subst (λ n. n < 2 ^ 64 - 1) (sym (same_count are)) few), given_known leads new.over q new p h.fits))
+
+  pub stops_at_last : (answer : Poll) → (IsWithin q k old → Polled q k old new answer) → StopsAtLast q k old new answer
+  stops_at_last answer polled p are fits idle over =
+      let h = on_kept p are fits in
+      let a = polled h.0 in
+      idle_last p are (h.1 a.moves) (subst (λ x. PollIs q k old new x) idle a.is).1
+
   pub still_fits : (IsWithin q k old → Moves q k old new) → StillFits q k old new
   still_fits moved p are fits = let h = on_kept p are fits in (h.1 (moved h.0)).fits
 
@@ -64,6 +74,13 @@ over_answers q k r over p are fits =
     let h : IsOver q r p = subst (λ b. fits_by b q r p) over fits in
     (fits, (refl, sym h.counted))
 
+pub over_stops : (q : QueryData) (k : Known) (r : MatcherState) (answer : Poll) → r.over ≡ true → StopsAtLast q k r r answer
+over_stops q k r answer over p are fits idle going = absurd (let e : true ≡ false = sym over ∙ going in cc)
+
 pub on_err_map : {A E : Type 0} (P Q : Type 0) (r : Result A E) → (P → Q) → OnErr r P → OnErr r Q
 on_err_map P Q (Ok x) h k = k
 on_err_map P Q (Err e) h k = h k
+
+pub on_err_of : {A E : Type 0} (P : Type 0) (r : Result A E) → P → OnErr r P
+on_err_of P (Ok x) h = tt
+on_err_of P (Err e) h = h

@@ -6,9 +6,9 @@ use Rattle.rp_search.specs.declared.search.Outcome.{Outcome}
 use Rattle.rp_search.specs.declared.search.Outcome.TheVariants.{Match as MatchOutcome, NoMatch as NoMatchOutcome, Waits as WaitsOutcome, Paused as PausedOutcome}
 use Rattle.rp_search.specs.declared.search.Search.{Search}
 use Rattle.rp_search.specs.Asked.{Asked}
-use Rattle.rp_search.specs.Fits.{Fits as SearchFits, left_by}
+use Rattle.rp_search.specs.Fits.{SearchFits, left_by}
 use Rattle.rp_search.specs.Found.{found}
-use Rattle.rp_search.specs.Search.{IsFor, IsSameSearch, Answers, Lowers, found_by, start_of_search, labels_of_search}
+use Rattle.rp_search.specs.Search.{IsSearchFor, IsSameSearch, RunAnswers, Lowers, found_by, start_of_search, labels_of_search}
 use Rattle.rp_check.specs.declared.query.QueryData.{QueryData}
 use Rattle.rp_eval.specs.declared.totals.Totals.{Totals}
 use Rattle.rp_eval.specs.Entered.{AreTotals, plan_of, totals_in}
@@ -20,23 +20,23 @@ use Rattle.rp_walker.specs.declared.run.Run.{Run}
 use Rattle.rp_walker.specs.Stages.{Searches, asked_by}
 use Rattle.rp_walker.specs.Runs.{Ran, CameTo}
 
-found_same : (q : QueryData) (p : Known) (start : ℕ) (s : Search) → start_of_search s ≡ start → IsFor (form_of q.pattern) s → found_by s (asked_by q p) ≡ found_at q p start
+found_same : (q : QueryData) (p : Known) (start : ℕ) (s : Search) → start_of_search s ≡ start → IsSearchFor (form_of q.pattern) s → found_by s (asked_by q p) ≡ found_at q p start
 found_same q p start s begins pattern =
     ap (found (outcome_of (tested_by q p) (start_of_search s))) (pattern.same_words (count p) p.end (start_of_search s))
     ∙ ap (λ i. found (outcome_of (tested_by q p) i) (words (count p) p.end (form_of q.pattern) i)) begins
 
-same_pattern : (q : QueryData) (old new : Search) → IsSameSearch old new → IsFor (form_of q.pattern) old → IsFor (form_of q.pattern) new
+same_pattern : (q : QueryData) (old new : Search) → IsSameSearch old new → IsSearchFor (form_of q.pattern) old → IsSearchFor (form_of q.pattern) new
 same_pattern q old new same h =
     record { same_words = λ n e row. same.pattern.words n e row ∙ h.same_words n e row; same_turns = λ n e row. same.pattern.turns n e row ∙ h.same_turns n e row }
 
-came_to : (q : QueryData) (p : Known) (start : ℕ) (old : Search) (new : Run) (outcome : Outcome) → found_by old (asked_by q p) ≡ found_at q p start → Answers old new.search (asked_by q p) outcome → CameTo q p start new outcome
+came_to : (q : QueryData) (p : Known) (start : ℕ) (old : Search) (new : Run) (outcome : Outcome) → found_by old (asked_by q p) ≡ found_at q p start → RunAnswers old new.search (asked_by q p) outcome → CameTo q p start new outcome
 came_to q p start old new MatchOutcome e a = sym e ∙ a
 came_to q p start old new NoMatchOutcome e a = sym e ∙ a
 came_to q p start old new WaitsOutcome e a = sym e ∙ a.0
 came_to q p start old new PausedOutcome e a = tt
 
 pub ran_of : (q : QueryData) (p : Known) (start : ℕ) (old : Run) (new : Search) (totals : Totals) (outcome : Outcome) (a : Asked) (taken : ℕ) → a ≡ asked_by q p → Searches q p start old → IsSameSearch old.search new →
-    SearchFits new a → Answers old.search new a outcome → Lowers taken old.search new a outcome → taken ≡ 1 → plan_of totals ≡ totals_in q → AreTotals totals p.rows start (labels_of_search new) →
+    SearchFits new a → RunAnswers old.search new a outcome → Lowers taken old.search new a outcome → taken ≡ 1 → plan_of totals ≡ totals_in q → AreTotals totals p.rows start (labels_of_search new) →
     Ran q p start old (record { search = new; totals = totals }) outcome
 ran_of q p start old new totals outcome a taken e h same fits answers lowers one plan entered =
     let now : Lowers taken old.search new (asked_by q p) outcome = subst (λ x. Lowers taken old.search new x outcome) e lowers in
@@ -49,7 +49,7 @@ ran_of q p start old new totals outcome a taken e h same fits answers lowers one
             fits = subst (λ x. SearchFits new x) e fits;
             totalled = record { plan = plan; totals = entered };
           };
-      came = came_to q p start old.search (record { search = new; totals = totals }) outcome (found_same q p start old.search h.begins h.pattern) (subst (λ x. Answers old.search new x outcome) e answers);
+      came = came_to q p start old.search (record { search = new; totals = totals }) outcome (found_same q p start old.search h.begins h.pattern) (subst (λ x. RunAnswers old.search new x outcome) e answers);
       left = now.never_rises;
       paused = λ is. omega (arith, now.paused is, one);
     }

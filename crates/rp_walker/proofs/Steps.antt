@@ -138,3 +138,8 @@ stays_put q p r going w =
 
 pub stands_going : (q : QueryData) (p : Known) (w : Walker) → IsGoing q w.state → StageStands q p w.state w.stage → stands_by w.state.over q p w
 stands_going q p w g s = subst (λ b. stands_by b q p w) (sym g.going) (record { going = g; stands = s })
+
+-- the count of the rows entered has no part in it
+pub stands_counted : (over : Bool) (q : QueryData) (p : Known) (w : Walker) (n : ℕ) → stands_by over q p w → stands_by over q p (record w { entered = n })
+stands_counted true q p w n h = h
+stands_counted false q p w n h = record { going = h.going; stands = h.stands }

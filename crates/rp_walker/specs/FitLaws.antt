@@ -6,7 +6,7 @@ use Rattle.rp_known.specs.Known.{Known, GoesOnFrom, Continues}
 use Rattle.rp_check.specs.Sound.{IsSound}
 use Rattle.rp_known.specs.Walk.{known, walk_from}
 use Rattle.rp_walker.specs.declared.record.MatcherState.{MatcherState}
-use Rattle.rp_walker.specs.Records.{place_of, IsWithin, IsOnWalk, Fits, first_state}
+use Rattle.rp_walker.specs.Records.{place_of, IsWithin, IsOnWalk, IsLastStart, Fits, first_state}
 use Rattle.rp_walker.specs.Steps.{IsDone, Moves}
 
 -- The one is the other, as far as the rows from this one on are looked at.
@@ -19,6 +19,7 @@ pub record Meant (q : QueryData) (old new : MatcherState) (k p : Known) : Type 0
   pub fits : Fits q new p
   pub next : (x : Item) → slice_get (walk_from q k (place_of old)) old.here ≡ Some x → slice_get (known q p) old.given ≡ Some x
   pub done : IsDone q k new → length (known q p) ≡ new.given
+  pub last : IsDone q k new → IsLastStart q p new.at
 
 -- A step over the rows that are kept of a partition is one over the partition.
 abbrev pub StepsMean : Type 0

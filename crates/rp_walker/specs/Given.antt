@@ -6,6 +6,8 @@ use Rattle.rp_pattern.specs.declared.word.Label.{Label}
 use Rattle.rp_search.specs.Found.{Found, Match, NoMatch, Waits}
 use Rattle.rp_search.specs.Search.{labels_of_search}
 use Rattle.rp_walker.specs.declared.run.Run.{Run}
+use Rattle.rp_walker.specs.declared.stage.Ended.{Ended}
+use Rattle.rp_walker.specs.declared.stage.Ended.TheVariants.{Match as EndedMatch, NoMatch as EndedNoMatch}
 
 abbrev pub is_excluded : Option Label → Bool
 is_excluded None = false
@@ -24,6 +26,10 @@ shown_from hidden zero row = []
 shown_from hidden (suc k) row = if hidden row then shown_from hidden k (suc row) else row ∷ shown_from hidden k (suc row)
 
 -- what an ended search has found
-abbrev pub result_of : Option Run → Found
-result_of None = NoMatch
-result_of (Some run) = Match (labels_of_search run.search)
+abbrev pub result_of : Ended → Found
+result_of (EndedNoMatch run) = NoMatch
+result_of (EndedMatch run) = Match (labels_of_search run.search)
+
+abbrev pub run_of : Ended → Run
+run_of (EndedNoMatch run) = run
+run_of (EndedMatch run) = run

@@ -1,5 +1,5 @@
 -- What a poll comes to.
-use Rattle.std.specs.Prelude.{◌≡◌, ℕ, ◌+◌, ◌-◌, ◌^◌, ◌<◌, ◌≤◌, ◌⊎◌, length, Some, slice_get}
+use Rattle.std.specs.Prelude.{◌≡◌, ℕ, ◌+◌, ◌-◌, ◌^◌, ◌<◌, ◌≤◌, ◌⊎◌, false, length, Some, slice_get}
 use Rattle.rp_check.specs.declared.query.QueryData.{QueryData}
 use Rattle.rp_known.specs.declared.item.Item.{Item}
 use Rattle.rp_known.specs.Known.{Known}
@@ -9,7 +9,7 @@ use Rattle.rp_walker.specs.declared.poll.Poll.TheVariants.{Item as ItemPoll, Idl
 use Rattle.rp_walker.specs.declared.record.MatcherState.{MatcherState}
 use Rattle.rp_walker.specs.declared.walker.Walker.{Walker}
 use Rattle.rp_walker.specs.FitLaws.{AgreesFrom}
-use Rattle.rp_walker.specs.Records.{place_of, Fits}
+use Rattle.rp_walker.specs.Records.{place_of, Fits, IsLastStart}
 use Rattle.rp_walker.specs.Steps.{IsDone, Moves}
 use Rattle.rp_walker.specs.Stages.{left_with}
 
@@ -27,11 +27,25 @@ PollIs q p old new PausedPoll = new.given ≡ old.given
 unfoldable pub left_in : QueryData → Known → Walker → ℕ
 left_in q p w = left_with q p w.state w.stage
 
+-- how many calls of `enter` its searches have made, by the count of their tests
+unfoldable pub entered_by : Walker → ℕ
+entered_by w = w.entered
+
+-- no more rows are entered than the budget, and their count never falls
+abbrev pub EntersAtMost : ℕ → ℕ → ℕ → Type 0
+EntersAtMost budget before after = (before ≤ after) × (after ≤ before + budget)
+
 -- so many turns at least are taken off what is left
 abbrev pub PollLowers : ℕ → ℕ → ℕ → Poll → Type 0
 PollLowers budget before after (ItemPoll k x) = after < before
 PollLowers budget before after IdlePoll = after ≤ before
 PollLowers budget before after PausedPoll = after + budget ≤ before
+
+-- an item's place is the number of given items, which it raises by one; nothing else changes it
+abbrev pub GivenBy : ℕ → ℕ → Poll → Type 0
+GivenBy before after (ItemPoll k x) = (k ≡ after) × (after ≡ before + 1)
+GivenBy before after IdlePoll = after ≡ before
+GivenBy before after PausedPoll = after ≡ before
 
 -- the walk's part of a poll, where the answer wasn't over
 pub record Polled (q : QueryData) (p : Known) (old new : MatcherState) (answer : Poll) : Type 0 where
@@ -47,6 +61,10 @@ AnswerIs q p old new PausedPoll = new.given ≡ old.given
 -- What a poll over lent rows answers, for each partition that the rows are of and the record fits.
 abbrev pub Answers : QueryData → Known → MatcherState → MatcherState → Poll → Type 0
 Answers q k old new answer = (p : Known) → AgreesFrom old.first k p → Fits q old p → Fits q new p × AnswerIs q p old new answer
+
+-- Where a poll comes to nothing and the answer isn't over, the walk comes to no later start row than that of the record.
+abbrev pub StopsAtLast : QueryData → Known → MatcherState → MatcherState → Poll → Type 0
+StopsAtLast q k old new answer = (p : Known) → AgreesFrom old.first k p → Fits q old p → answer ≡ IdlePoll → new.over ≡ false → IsLastStart q p new.at
 
 -- A refused poll leaves a record that fits what it fitted.
 abbrev pub StillFits : QueryData → Known → MatcherState → MatcherState → Type 0

@@ -24,6 +24,10 @@ pub record IsOnWalk (q : QueryData) (r : MatcherState) (p : Known) : Type 0 wher
   pub within : IsWithin q p r
   pub kept : r.first ≤ first_read q r.at
 
+-- no start row that the walk comes to is greater
+abbrev pub IsLastStart : QueryData → Known → ℕ → Type 0
+IsLastStart q p row = (before : ℕ) (place : Place) → ComesTo q p first_place before place → place.start ≤ row
+
 abbrev pub IsLast : Item → Type 0
 IsLast (RowItem number cells) = ⊥
 IsLast (FaultItem fault) = ⊤

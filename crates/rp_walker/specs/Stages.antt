@@ -4,9 +4,9 @@ use Rattle.rp_pattern.specs.PatternForm.{form_of}
 use Rattle.rp_pattern.specs.Words.{words}
 use Rattle.rp_pattern.specs.Turns.{turns, starts_turns}
 use Rattle.rp_search.specs.Asked.{Asked}
-use Rattle.rp_search.specs.Fits.{left_by, Fits as SearchFits}
+use Rattle.rp_search.specs.Fits.{left_by, SearchFits}
 use Rattle.rp_search.specs.Found.{Found, Match, NoMatch, Waits}
-use Rattle.rp_search.specs.Search.{IsFor, start_of_search, labels_of_search}
+use Rattle.rp_search.specs.Search.{IsSearchFor, start_of_search, labels_of_search}
 use Rattle.rp_check.specs.declared.query.QueryData.{QueryData}
 use Rattle.rp_eval.specs.Entered.{AreTotals, plan_of, totals_in}
 use Rattle.rp_tester.specs.Tested.{asked_of}
@@ -20,11 +20,13 @@ use Rattle.rp_known.specs.WalkLaws.{AreKnown}
 use Rattle.rp_walker.specs.declared.ahead.Ahead.{Ahead}
 use Rattle.rp_walker.specs.declared.record.MatcherState.{MatcherState}
 use Rattle.rp_walker.specs.declared.run.Run.{Run}
+use Rattle.rp_walker.specs.declared.stage.Ended.{Ended}
+use Rattle.rp_walker.specs.declared.stage.Ended.TheVariants.{Match as EndedMatch, NoMatch as EndedNoMatch}
 use Rattle.rp_walker.specs.declared.stage.Stage.{Stage}
 use Rattle.rp_walker.specs.declared.stage.Stage.TheVariants.{Begin, Searching, Giving}
 use Rattle.rp_walker.specs.declared.stage.Step.{Step}
 use Rattle.rp_walker.specs.declared.stage.Step.TheVariants.{Went, Gave, Idle}
-use Rattle.rp_walker.specs.Given.{is_hidden, shown_from, result_of}
+use Rattle.rp_walker.specs.Given.{is_hidden, shown_from, result_of, run_of}
 use Rattle.rp_walker.specs.Records.{place_of}
 use Rattle.rp_walker.specs.Steps.{IsDone}
 
@@ -41,7 +43,7 @@ pub record Totalled (q : QueryData) (p : Known) (start : ℕ) (run : Run) : Type
 pub record Searches (q : QueryData) (p : Known) (start : ℕ) (run : Run) : Type 0 where
   pub known : start ≤ count p
   pub begins : start_of_search run.search ≡ start
-  pub pattern : IsFor (form_of q.pattern) run.search
+  pub pattern : IsSearchFor (form_of q.pattern) run.search
   pub fits : SearchFits run.search (asked_by q p)
   pub totalled : Totalled q p start run
 
@@ -49,9 +51,19 @@ pub record Searches (q : QueryData) (p : Known) (start : ℕ) (run : Run) : Type
 abbrev pub rows_ahead : QueryData → ℕ → Found → Ahead → List ℕ
 rows_ahead q start result ahead = shown_from (is_hidden q.plan.rows start result) (ahead.end - ahead.next) ahead.next
 
-abbrev pub MatchTotalled : QueryData → Known → ℕ → Option Run → Type 0
-MatchTotalled q p start None = ⊤
-MatchTotalled q p start (Some run) = Totalled q p start run
+abbrev pub MatchTotalled : QueryData → Known → ℕ → Ended → Type 0
+MatchTotalled q p start (EndedNoMatch run) = ⊤
+MatchTotalled q p start (EndedMatch run) = Totalled q p start run
+
+-- A run is of the query, so that it can begin again from any row.
+pub record Serves (q : QueryData) (run : Run) : Type 0 where
+  pub pattern : IsSearchFor (form_of q.pattern) run.search
+  pub plan : plan_of run.totals ≡ totals_in q
+
+-- a run that is kept, if any
+abbrev pub IsSpare : QueryData → Option Run → Type 0
+IsSpare q None = ⊤
+IsSpare q (Some run) = Serves q run
 
 -- The search at a place has ended, and the items of the rows ahead are still to come.
 pub record Gives (q : QueryData) (p : Known) (place : Place) (result : Found) (ahead : Ahead) : Type 0 where
@@ -75,13 +87,13 @@ pub record IsGoing (q : QueryData) (r : MatcherState) : Type 0 where
   pub enough : r.here ≤ r.given
 
 abbrev pub StageStands : QueryData → Known → MatcherState → Stage → Type 0
-StageStands q p r Begin = ⊤
+StageStands q p r (Begin spare) = IsSpare q spare
 StageStands q p r (Searching run) = Searches q p r.at run
-StageStands q p r (Giving found ahead) = Gives q p (place_of r) (result_of found) ahead × (ahead.seen ≤ r.here) × MatchTotalled q p r.at found
+StageStands q p r (Giving found ahead) = Gives q p (place_of r) (result_of found) ahead × (ahead.seen ≤ r.here) × MatchTotalled q p r.at found × Serves q (run_of found)
 
 -- turns of the present start row
 abbrev pub stage_left : QueryData → Known → MatcherState → Stage → ℕ
-stage_left q p r Begin = turns (count p) p.end (form_of q.pattern) r.at + length (words (count p) p.end (form_of q.pattern) r.at) + (count p - r.at) + 4
+stage_left q p r (Begin spare) = turns (count p) p.end (form_of q.pattern) r.at + length (words (count p) p.end (form_of q.pattern) r.at) + (count p - r.at) + 4
 stage_left q p r (Searching run) = left_by run.search (asked_by q p) + (count p - r.at) + 4
 stage_left q p r (Giving found ahead) = ahead.end - ahead.next + 2
 

@@ -14,7 +14,7 @@ ghost use Rattle.rp_walker.specs.Stages.{rows_ahead, MatchTotalled};
 
 use crate::ahead::Ahead;
 use crate::record::MatcherState;
-use crate::run::Run;
+use crate::stage::Ended;
 use rp_check::Query;
 use rp_eval::Rows;
 use rp_known::{Item, Place, SkipFault, match_item, next_start, unmatched_item};
@@ -35,7 +35,7 @@ pub(crate) fn place_of(state: &MatcherState) -> Place
 }
 
 /// Whether a row is one that isn't shown.
-pub(crate) fn is_hidden(query: &Query, start: u64, found: &Option<Run>, row: u64) -> bool
+pub(crate) fn is_hidden(query: &Query, start: u64, found: &Ended, row: u64) -> bool
     requires { start ≤ row }
     ensures { result ≡ is_hidden (data_of query.now).plan.rows start (result_of found.now) row }
 {
@@ -43,8 +43,8 @@ pub(crate) fn is_hidden(query: &Query, start: u64, found: &Option<Run>, row: u64
         return false;
     }
     match found {
-        None => false,
-        Some(run) => is_excluded(&run.search, (row - start) as usize),
+        Ended::NoMatch(_) => false,
+        Ended::Match(run) => is_excluded(&run.search, (row - start) as usize),
     }
 }
 
@@ -64,7 +64,7 @@ pub(crate) fn make_item<R: Rows>(
     query: &Query,
     rows: &R,
     place: Place,
-    found: &Option<Run>,
+    found: &Ended,
     row: u64,
 ) -> Result<Option<Item>, AllocError>
     requires one { 1 ≤ place.start }
@@ -75,11 +75,11 @@ pub(crate) fn make_item<R: Rows>(
     ensures { IfOk result (λ item. item ≡ item_at (data_of query.now) (known_in R.known R.ending rows.now) place (result_of found.now) row) }
 {
     match found {
-        None => {
+        Ended::NoMatch(_) => {
             let item = unmatched_item(alloc, query, rows, place, row)?;
             Ok(Some(item))
         }
-        Some(run) => match_item(
+        Ended::Match(run) => match_item(
             alloc,
             query,
             rows,
@@ -92,7 +92,7 @@ pub(crate) fn make_item<R: Rows>(
 }
 
 /// The rows at which what was found is shown.
-pub(crate) fn ahead_of(query: &Query, place: Place, last: u64, found: &Option<Run>) -> Ahead
+pub(crate) fn ahead_of(query: &Query, place: Place, last: u64, found: &Ended) -> Ahead
     requires few { last < 2 ^ 64 - 1 }
     requires known { place.start ≤ last }
     requires in_rows { AreKnown place.start last (result_of found.now) }
@@ -103,13 +103,13 @@ pub(crate) fn ahead_of(query: &Query, place: Place, last: u64, found: &Option<Ru
     ensures rows { item_rows (data_of query.now).plan.rows place (result_of found.now) ≡ rows_ahead (data_of query.now) place.start (result_of found.now) result }
 {
     match found {
-        None => {
+        Ended::NoMatch(_) => {
             if query.plan().rows == RowsPerMatch::AllWithUnmatched && place.covered < place.start {
                 return rows_from(place.start, 1);
             }
             rows_from(place.start, 0)
         }
-        Some(run) => ahead_in(query, place, run.search.labels()),
+        Ended::Match(run) => ahead_in(query, place, run.search.labels()),
     }
 }
 
@@ -153,7 +153,7 @@ pub(crate) fn next_of(
     query: &Query,
     place: Place,
     last: u64,
-    found: &Option<Run>,
+    found: &Ended,
 ) -> Result<Place, SkipFault>
     requires few { last < 2 ^ 64 - 1 }
     requires known { place.start ≤ last }
@@ -162,12 +162,12 @@ pub(crate) fn next_of(
     ensures { after_found (data_of query.now) place (result_of found.now) ≡ leg_by result }
 {
     match found {
-        None => Ok(Place {
+        Ended::NoMatch(_) => Ok(Place {
             start: place.start + 1,
             matches: place.matches,
             covered: place.covered,
         }),
-        Some(run) => after_match(query, place, run.search.labels()),
+        Ended::Match(run) => after_match(query, place, run.search.labels()),
     }
 }
 

@@ -1,6 +1,6 @@
 //! Laws over the definitions alone. A call does nothing, and its caller may then use them.
 ghost use Rattle.rp_walker.specs.FitLaws.{StepsMean, FitsStay, FirstFits};
-ghost use Rattle.rp_walker.specs.LeftLaw.{LeftIsBounded};
+ghost use Rattle.rp_walker.specs.LeftLaw.{LeftIsBounded, LeftIsSame};
 ghost use Rattle.rp_walker.specs.Walking.{StandsStays};
 
 /// What steps over the rows that are kept of a partition mean for the partition.
@@ -32,9 +32,12 @@ pub fn law_walkers()
     rp_eval::law_totals();
 }
 
-/// A walker never has more turns left than all starts of the known rows take.
+/// A walker never has more turns left than all starts of the known rows take, and as many over rows that agree from the
+/// first one on that it still reads.
 pub fn law_left()
-    ensures { LeftIsBounded }
+    ensures bounded { LeftIsBounded }
+    ensures same { LeftIsSame }
 {
     rp_search::law_search();
+    rp_tester::law_tests();
 }

@@ -1,8 +1,9 @@
 //! Searches over lent rows.
 ghost use Rattle.std.specs.Prelude.{◌≡◌, ◌+◌, ◌≤◌, length, IfOk, OnOk};
 ghost use Rattle.rp_check.specs.QueryView.{data_of};
-ghost use Rattle.rp_known.specs.Known.{known_in, count};
-ghost use Rattle.rp_walker.specs.Stages.{Searches};
+ghost use Rattle.rp_check.specs.declared.query.QueryData.{QueryData};
+ghost use Rattle.rp_known.specs.Known.{Known, known_in, count};
+ghost use Rattle.rp_walker.specs.Stages.{Searches, Serves, IsSpare};
 ghost use Rattle.rp_walker.specs.Runs.{Ran};
 
 use rp_check::Query;
@@ -19,41 +20,65 @@ pub struct Run {
     pub(crate) totals: Totals,
 }
 
-/// A search for the query's pattern from a row.
+/// A search for the query's pattern from a row, by the run of an earlier row where there is one.
 pub(crate) fn begin<R: Rows>(
     alloc: Global,
     query: &Query,
     rows: &R,
     start: u64,
+    spare: Option<Run>,
 ) -> Result<Run, AllocError>
     requires one { 1 ≤ start }
     requires known { start ≤ length (R.known rows.now) }
+    requires spare { IsSpare (data_of query.now) spare }
     ensures { IfOk result (Searches (data_of query.now) (known_in R.known R.ending rows.now) start) }
 {
     let _end = rows.end();
-    let search = Search::new(alloc, query.pattern(), start)?;
-    let totals = Totals::new(alloc, query)?;
-    Ok(Run { search, totals })
+    match spare {
+        Some(run) => Ok(begin_again(run, start)),
+        None => {
+            let search = Search::new(alloc, query.pattern(), start)?;
+            let totals = Totals::new(alloc, query)?;
+            Ok(Run { search, totals })
+        }
+    }
 }
 
-/// Takes one turn of a search.
+/// A run that goes to another row. It takes no memory and keeps the room that it has.
+fn begin_again(run: Run, start: u64) -> Run
+    requires { 1 ≤ start }
+    ensures { (q : QueryData) (p : Known) → start ≤ count p → Serves q run → Searches q p start result }
+{
+    let mut search = run.search;
+    search.restart(start);
+    let mut totals = run.totals;
+    totals.cut(0);
+    Run { search, totals }
+}
+
+/// Takes one turn of a search, and adds the rows that it enters to their count.
 pub(crate) fn run_one<R: Rows, L: Ledger>(
     query: &Query,
     rows: &R,
     start: u64,
     run: Run,
+    entered: &mut u64,
     steps: &mut Steps<L>,
 ) -> Result<(Outcome, Run), AllocError>
     requires searches { Searches (data_of query.now) (known_in R.known R.ending rows.now) start run }
     ensures ran { IfOk result (λ r. Ran (data_of query.now) (known_in R.known R.ending rows.now) start run r.1 r.0) }
     ensures ticked { OnOk result (steps.new ≡ steps.old + 1) }
     ensures counted { steps.new ≤ steps.old + 1 }
+    ensures entered { entered.new + steps.old ≤ entered.old + steps.new }
+    ensures grows { entered.old ≤ entered.new }
 {
     rp_search::law_search();
     let _plan = query.plan();
     let mut search = run.search;
     let mut tester = Tester::new(rows, query, run.totals);
-    let outcome = search.run(&mut tester, 1, steps)?;
+    let ran = search.run(&mut tester, 1, steps);
+    *entered = entered.saturating_add(tester.entries());
+    let outcome = ran?;
     let totals = tester.into_totals();
     Ok((outcome, Run { search, totals }))
 }

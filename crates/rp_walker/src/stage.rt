@@ -1,4 +1,7 @@
 //! Where a walker stands at its start row.
+ghost use Rattle.std.specs.Prelude.{◌≡◌};
+ghost use Rattle.rp_walker.specs.Given.{run_of};
+
 use crate::ahead::Ahead;
 use crate::run::Run;
 use rp_known::Item;
@@ -6,12 +9,32 @@ use rp_known::Item;
 /// What is done at the present start row.
 #[derive(Drop)]
 pub enum Stage {
-    /// Nothing is searched yet.
-    Begin,
+    /// Nothing is searched yet. A run of an earlier start row is begun again.
+    Begin(Option<Run>),
     /// The search goes on.
     Searching(Run),
-    /// It has ended, with a match where the run is there, and the items of these rows are still to come.
-    Giving(Option<Run>, Ahead),
+    /// It has ended, and the items of these rows are still to come.
+    Giving(Ended, Ahead),
+}
+
+/// A search that has ended.
+#[derive(Drop)]
+pub enum Ended {
+    /// With a match.
+    Match(Run),
+    /// Without one.
+    NoMatch(Run),
+}
+
+impl Ended {
+    /// The run, to be begun again.
+    pub(crate) fn into_run(self) -> Run
+        ensures { result ≡ run_of self }
+    {
+        match self {
+            Ended::Match(run) | Ended::NoMatch(run) => run,
+        }
+    }
 }
 
 /// What one turn came to.

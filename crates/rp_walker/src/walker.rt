@@ -1,17 +1,17 @@
 //! A walker gives the items of a partition's known answer, one after another, over rows that are lent.
-ghost use Rattle.std.specs.Prelude.{◌≡◌, ◌≢◌, ◌+◌, ◌-◌, ◌^◌, ◌<◌, ◌≤◌, Bool, true, false, length, OnOk, OnErr, IfOk};
+ghost use Rattle.std.specs.Prelude.{◌≡◌, ◌≢◌, ◌+◌, ◌-◌, ◌^◌, ◌<◌, ◌≤◌, Bool, true, false, length, Some, None, OnOk, OnErr, IfOk};
 ghost use Rattle.rp_check.specs.QueryView.{data_of};
 ghost use Rattle.rp_check.specs.declared.query.QueryData.{QueryData};
 ghost use Rattle.rp_known.specs.Known.{Known, known_in};
 ghost use Rattle.rp_known.specs.Plans.{first_read};
 ghost use Rattle.rp_known.specs.Walk.{found_at};
 ghost use Rattle.rp_walker.specs.declared.stage.Stage.TheVariants.{Begin as BeginStage, Searching as SearchingStage, Giving as GivingStage};
-ghost use Rattle.rp_walker.specs.Given.{is_hidden, result_of};
+ghost use Rattle.rp_walker.specs.Given.{is_hidden, result_of, run_of};
 ghost use Rattle.rp_walker.specs.Records.{place_of, first_state, horizon_of, IsWithin};
 ghost use Rattle.rp_walker.specs.Steps.{Moves};
-ghost use Rattle.rp_walker.specs.Stages.{left_with, IsGoing, Searches, Gives, MatchTotalled, StageStands};
+ghost use Rattle.rp_walker.specs.Stages.{left_with, IsGoing, Searches, Gives, MatchTotalled, Serves, IsSpare, StageStands};
 ghost use Rattle.rp_walker.specs.Walking.{KeepsGoing, GoesOnWell, stands_by, Stands, CanGoOn, record_of};
-ghost use Rattle.rp_walker.specs.Polls.{left_in, PollLowers, Polled, Answers, StillFits};
+ghost use Rattle.rp_walker.specs.Polls.{left_in, entered_by, EntersAtMost, GivenBy, PollLowers, Polled, Answers, StopsAtLast, StillFits};
 
 use crate::ahead::Ahead;
 use crate::giving::{ahead_of, is_hidden, make_item, next_of, place_of};
@@ -19,7 +19,7 @@ use crate::laws::law_steps;
 use crate::poll::Poll;
 use crate::record::MatcherState;
 use crate::run::{Run, begin, run_one};
-use crate::stage::{Stage, Step};
+use crate::stage::{Ended, Stage, Step};
 use rp_check::Query;
 use rp_eval::Rows;
 use rp_known::{Item, Place};
@@ -35,11 +35,13 @@ pub struct Walker {
     alloc: Global,
     state: MatcherState,
     stage: Stage,
+    /// How many rows its searches have entered. It stays at its last value, and nothing is decided by it.
+    entered: u64,
 }
 
 impl Walker {
     /// The next row gives no item: it isn't shown, or its item was given before.
-    fn pass(&mut self, found: Option<Run>, ahead: Ahead, seen: u64) -> Step
+    fn pass(&mut self, found: Ended, ahead: Ahead, seen: u64) -> Step
         requires { ahead.next < 2 ^ 64 - 1 }
         ensures went { result ≡ Step.Went }
         ensures now { self.new ≡ record self.old { stage = GivingStage found (record { next = ahead.next + 1; end = ahead.end; seen = seen }) } }
@@ -61,12 +63,13 @@ impl Walker {
         &mut self,
         query: &Query,
         rows: &R,
-        found: Option<Run>,
+        found: Ended,
         ahead: Ahead,
     ) -> Result<Step, AllocError>
         requires going { IsGoing (data_of query.now) self.old.state }
         requires gives { Gives (data_of query.now) (known_in R.known R.ending rows.now) (place_of self.old.state) (result_of found) ahead }
         requires totals { MatchTotalled (data_of query.now) (known_in R.known R.ending rows.now) self.old.state.at found }
+        requires serves { Serves (data_of query.now) (run_of found) }
         requires due { ahead.seen ≡ self.old.state.here }
         requires more { ahead.next < ahead.end }
         requires shown { is_hidden (data_of query.now).plan.rows self.old.state.at (result_of found) ahead.next ≡ false }
@@ -100,15 +103,10 @@ impl Walker {
     }
 
     /// The present start row has ended.
-    fn end_row<R: Rows>(
-        &mut self,
-        query: &Query,
-        rows: &R,
-        found: Option<Run>,
-        ahead: Ahead,
-    ) -> Step
+    fn end_row<R: Rows>(&mut self, query: &Query, rows: &R, found: Ended, ahead: Ahead) -> Step
         requires going { IsGoing (data_of query.now) self.old.state }
         requires gives { Gives (data_of query.now) (known_in R.known R.ending rows.now) (place_of self.old.state) (result_of found) ahead }
+        requires serves { Serves (data_of query.now) (run_of found) }
         requires not_past { ahead.seen ≤ self.old.state.here }
         requires all { ahead.next ≡ ahead.end }
         requires few { self.old.state.given < 2 ^ 128 - 1 }
@@ -117,21 +115,21 @@ impl Walker {
         rp_known::law_legs();
         let place = place_of(&self.state);
         match next_of(query, place, rows.last(), &found) {
-            Ok(next) => self.go_to(next),
+            Ok(next) => self.go_to(next, found.into_run()),
             Err(fault) => self.end_with(Item::Fault(fault), ahead.seen),
         }
     }
 
-    /// The search from another row is next.
-    fn go_to(&mut self, next: Place) -> Step
+    /// The search from another row is next. It takes up this run.
+    fn go_to(&mut self, next: Place, run: Run) -> Step
         ensures went { result ≡ Step.Went }
-        ensures now { self.new ≡ record self.old { state = record self.old.state { at = next.start; matches = next.matches; covered = next.covered; here = 0 }; stage = BeginStage } }
+        ensures now { self.new ≡ record self.old { state = record self.old.state { at = next.start; matches = next.matches; covered = next.covered; here = 0 }; stage = BeginStage (Some run) } }
     {
         self.state.at = next.start;
         self.state.matches = next.matches;
         self.state.covered = next.covered;
         self.state.here = 0;
-        self.stage = Stage::Begin;
+        self.stage = Stage::Begin(Some(run));
         Step::Went
     }
 
@@ -139,10 +137,10 @@ impl Walker {
     fn end_with(&mut self, item: Item, before: u64) -> Step
         requires few { self.old.state.given < 2 ^ 128 - 1 }
         requires room { before < 2 ^ 64 - 1 }
-        ensures given { self.old.state.here ≢ before → (result ≡ Step.Idle) × (self.new ≡ record self.old { state = record self.old.state { over = true }; stage = BeginStage }) }
-        ensures gives { self.old.state.here ≡ before → (result ≡ Step.Gave item) × (self.new ≡ record self.old { state = record self.old.state { here = before + 1; given = self.old.state.given + 1; over = true }; stage = BeginStage }) }
+        ensures given { self.old.state.here ≢ before → (result ≡ Step.Idle) × (self.new ≡ record self.old { state = record self.old.state { over = true }; stage = BeginStage None }) }
+        ensures gives { self.old.state.here ≡ before → (result ≡ Step.Gave item) × (self.new ≡ record self.old { state = record self.old.state { here = before + 1; given = self.old.state.given + 1; over = true }; stage = BeginStage None }) }
     {
-        self.stage = Stage::Begin;
+        self.stage = Stage::Begin(None);
         self.state.over = true;
         if self.state.here != before {
             return Step::Idle;
@@ -157,13 +155,14 @@ impl Walker {
         &mut self,
         query: &Query,
         rows: &R,
-        found: Option<Run>,
+        found: Ended,
         ahead: Ahead,
         steps: &mut Steps<L>,
     ) -> Result<Step, AllocError>
         requires going { IsGoing (data_of query.now) self.old.state }
         requires gives { Gives (data_of query.now) (known_in R.known R.ending rows.now) (place_of self.old.state) (result_of found) ahead }
         requires totals { MatchTotalled (data_of query.now) (known_in R.known R.ending rows.now) self.old.state.at found }
+        requires serves { Serves (data_of query.now) (run_of found) }
         requires not_past { ahead.seen ≤ self.old.state.here }
         requires few { self.old.state.given < 2 ^ 128 - 1 }
         ensures kept { OnErr result (self.new ≡ self.old) }
@@ -185,11 +184,12 @@ impl Walker {
     }
 
     /// The search has ended.
-    fn begin_giving<R: Rows>(&mut self, query: &Query, rows: &R, found: Option<Run>) -> Step
+    fn begin_giving<R: Rows>(&mut self, query: &Query, rows: &R, found: Ended) -> Step
         requires going { IsGoing (data_of query.now) self.old.state }
         requires known { self.old.state.at ≤ length (R.known rows.now) }
         requires found { found_at (data_of query.now) (known_in R.known R.ending rows.now) self.old.state.at ≡ result_of found }
         requires totals { MatchTotalled (data_of query.now) (known_in R.known R.ending rows.now) self.old.state.at found }
+        requires serves { Serves (data_of query.now) (run_of found) }
         ensures { (run : Run) → KeepsGoing (data_of query.now) (known_in R.known R.ending rows.now) self.old.state (SearchingStage run) self.new result }
     {
         rp_known::law_legs();
@@ -205,6 +205,7 @@ impl Walker {
         query: &Query,
         rows: &R,
         run: Run,
+        entered: &mut u64,
         steps: &mut Steps<L>,
     ) -> Result<Step, AllocError>
         requires going { IsGoing (data_of query.now) self.old.state }
@@ -213,8 +214,10 @@ impl Walker {
         ensures keeps { IfOk result (KeepsGoing (data_of query.now) (known_in R.known R.ending rows.now) self.old.state (SearchingStage run) self.new) }
         ensures steps { steps.new ≤ steps.old + 1 }
         ensures ticked { OnOk result (steps.new ≡ steps.old + 1) }
+        ensures entered { entered.new + steps.old ≤ entered.old + steps.new }
+        ensures grows { entered.old ≤ entered.new }
     {
-        let (outcome, run) = run_one(query, rows, self.state.at, run, steps)?;
+        let (outcome, run) = run_one(query, rows, self.state.at, run, entered, steps)?;
         match outcome {
             Outcome::Paused => {
                 self.stage = Stage::Searching(run);
@@ -224,18 +227,18 @@ impl Walker {
                 self.stage = Stage::Searching(run);
                 Ok(Step::Idle)
             }
-            Outcome::Match => Ok(self.begin_giving(query, rows, Some(run))),
-            Outcome::NoMatch => Ok(self.begin_giving(query, rows, None)),
+            Outcome::Match => Ok(self.begin_giving(query, rows, Ended::Match(run))),
+            Outcome::NoMatch => Ok(self.begin_giving(query, rows, Ended::NoMatch(run))),
         }
     }
 
     /// Past the last start row.
     fn at_last<R: Rows>(&mut self, query: &Query, rows: &R) -> Step
         requires going { IsGoing (data_of query.now) self.old.state }
-        requires stage { self.old.stage ≡ BeginStage }
+        requires stands { StageStands (data_of query.now) (known_in R.known R.ending rows.now) self.old.state self.old.stage }
         requires past { length (R.known rows.now) < self.old.state.at }
         requires few { self.old.state.given < 2 ^ 128 - 1 }
-        ensures { KeepsGoing (data_of query.now) (known_in R.known R.ending rows.now) self.old.state BeginStage self.new result }
+        ensures { KeepsGoing (data_of query.now) (known_in R.known R.ending rows.now) self.old.state self.old.stage self.new result }
     {
         let _query = query;
         match rows.end() {
@@ -249,23 +252,29 @@ impl Walker {
         &mut self,
         query: &Query,
         rows: &R,
+        spare: Option<Run>,
+        entered: &mut u64,
         steps: &mut Steps<L>,
     ) -> Result<Step, AllocError>
         requires going { IsGoing (data_of query.now) self.old.state }
-        requires stage { self.old.stage ≡ BeginStage }
+        requires stage { self.old.stage ≡ BeginStage None }
+        requires spare { IsSpare (data_of query.now) spare }
         requires few { self.old.state.given < 2 ^ 128 - 1 }
         ensures kept { OnErr result (self.new ≡ self.old) }
-        ensures keeps { IfOk result (KeepsGoing (data_of query.now) (known_in R.known R.ending rows.now) self.old.state BeginStage self.new) }
+        ensures keeps { IfOk result (KeepsGoing (data_of query.now) (known_in R.known R.ending rows.now) self.old.state (BeginStage spare) self.new) }
         ensures steps { steps.new ≤ steps.old + 1 }
         ensures ticked { OnOk result (steps.new ≡ steps.old + 1) }
+        ensures entered { entered.new + steps.old ≤ entered.old + steps.new }
+        ensures grows { entered.old ≤ entered.new }
     {
         rp_search::law_search();
         if rows.last() < self.state.at {
             steps.tick();
+            self.stage = Stage::Begin(spare);
             return Ok(self.at_last(query, rows));
         }
-        let run = begin(self.alloc, query, rows, self.state.at)?;
-        self.search(query, rows, run, steps)
+        let run = begin(self.alloc, query, rows, self.state.at, spare)?;
+        self.search(query, rows, run, entered, steps)
     }
 
     /// Takes one turn.
@@ -273,18 +282,21 @@ impl Walker {
         &mut self,
         query: &Query,
         rows: &R,
+        entered: &mut u64,
         steps: &mut Steps<L>,
     ) -> Result<Step, AllocError>
         requires stands { GoesOnWell (data_of query.now) (known_in R.known R.ending rows.now) self.old }
         requires few { self.old.state.given < 2 ^ 128 - 1 }
-        ensures kept { OnErr result (self.new ≡ record self.old { stage = BeginStage }) }
+        ensures kept { OnErr result (self.new ≡ record self.old { stage = BeginStage None }) }
         ensures keeps { IfOk result (KeepsGoing (data_of query.now) (known_in R.known R.ending rows.now) self.old.state self.old.stage self.new) }
         ensures steps { steps.new ≤ steps.old + 1 }
         ensures ticked { OnOk result (steps.new ≡ steps.old + 1) }
+        ensures entered { entered.new + steps.old ≤ entered.old + steps.new }
+        ensures grows { entered.old ≤ entered.new }
     {
-        match mem::replace(&mut self.stage, Stage::Begin) {
-            Stage::Begin => self.begin_row(query, rows, steps),
-            Stage::Searching(run) => self.search(query, rows, run, steps),
+        match mem::replace(&mut self.stage, Stage::Begin(None)) {
+            Stage::Begin(spare) => self.begin_row(query, rows, spare, entered, steps),
+            Stage::Searching(run) => self.search(query, rows, run, entered, steps),
             Stage::Giving(found, ahead) => self.give(query, rows, found, ahead, steps),
         }
     }
@@ -295,11 +307,13 @@ impl Walker {
         query: &Query,
         rows: &R,
         budget: u32,
+        entered: &mut u64,
         steps: &mut Steps<L>,
     ) -> Result<Poll, AllocError>
         requires stands { GoesOnWell (data_of query.now) (known_in R.known R.ending rows.now) self.old }
         ensures stands { stands_by self.new.state.over (data_of query.now) (known_in R.known R.ending rows.now) self.new }
         ensures first { self.new.state.first ≡ self.old.state.first }
+        ensures given { IfOk result (GivenBy self.old.state.given self.new.state.given) }
         ensures kept { OnErr result (self.new.state.given ≡ self.old.state.given) }
         ensures lowers { IfOk result (PollLowers budget (left_with (data_of query.now) (known_in R.known R.ending rows.now) self.old.state self.old.stage) (left_with (data_of query.now) (known_in R.known R.ending rows.now) self.new.state self.new.stage)) }
         ensures polled { IfOk result (λ answer. IsWithin (data_of query.now) (known_in R.known R.ending rows.now) self.old.state →
@@ -307,6 +321,7 @@ impl Walker {
         ensures refused { OnErr result (IsWithin (data_of query.now) (known_in R.known R.ending rows.now) self.old.state →
             Moves (data_of query.now) (known_in R.known R.ending rows.now) self.old.state self.new.state) }
         ensures turns { steps.new ≤ steps.old + budget }
+        ensures entered { EntersAtMost budget entered.old entered.new }
         ensures spent { result ≡ Ok Poll.Paused → steps.new ≡ steps.old + budget }
     {
         rp_known::law_legs();
@@ -314,7 +329,7 @@ impl Walker {
             if self.state.over || self.state.given == u128::MAX {
                 return Ok(Poll::Idle);
             }
-            match self.turn(query, rows, steps)? {
+            match self.turn(query, rows, entered, steps)? {
                 Step::Went => {}
                 Step::Gave(item) => return Ok(Poll::Item(self.state.given, item)),
                 Step::Idle => return Ok(Poll::Idle),
@@ -324,11 +339,12 @@ impl Walker {
     }
 }
 
-#[tactic(auto, unfolding(crate::specs::Walking::record_of, crate::specs::Walking::Stands, crate::specs::Polls::left_in))]
+#[tactic(auto, unfolding(crate::specs::Walking::record_of, crate::specs::Walking::Stands, crate::specs::Polls::left_in, crate::specs::Polls::entered_by))]
 impl Walker {
     /// A walker that has known nothing.
     pub fn new(alloc: Global) -> Walker
         ensures record { record_of result ≡ first_state }
+        ensures entered { entered_by result ≡ 0 }
         ensures stands { (q : QueryData) (p : Known) → Stands q p result }
     {
         Walker {
@@ -342,19 +358,22 @@ impl Walker {
                 given: 0,
                 over: false,
             },
-            stage: Stage::Begin,
+            stage: Stage::Begin(None),
+            entered: 0,
         }
     }
 
     /// A walker that goes on from a record.
     pub fn resume(alloc: Global, state: MatcherState) -> Walker
         ensures record { record_of result ≡ state }
+        ensures entered { entered_by result ≡ 0 }
         ensures stands { (q : QueryData) (p : Known) → CanGoOn q state → Stands q p result }
     {
         Walker {
             alloc,
             state,
-            stage: Stage::Begin,
+            stage: Stage::Begin(None),
+            entered: 0,
         }
     }
 
@@ -371,6 +390,7 @@ impl Walker {
         ensures stands { (q : QueryData) (p : Known) →
             ((record_of self.old).over ≡ false → first ≤ first_read q (record_of self.old).at) → Stands q p self.old → Stands q p self.new }
         ensures left { (q : QueryData) (p : Known) → left_in q p self.new ≡ left_in q p self.old }
+        ensures entered { entered_by self.new ≡ entered_by self.old }
     {
         self.state.first = first;
     }
@@ -399,12 +419,15 @@ impl Walker {
         ensures stands { Stands (data_of query.now) (known_in R.known R.ending rows.now) self.new }
         ensures answers { IfOk result (Answers (data_of query.now) (known_in R.known R.ending rows.now) (record_of self.old) (record_of self.new)) }
         ensures refused { OnErr result (StillFits (data_of query.now) (known_in R.known R.ending rows.now) (record_of self.old) (record_of self.new)) }
+        ensures stops { IfOk result (StopsAtLast (data_of query.now) (known_in R.known R.ending rows.now) (record_of self.old) (record_of self.new)) }
         ensures first { (record_of self.new).first ≡ (record_of self.old).first }
-        ensures given { OnErr result ((record_of self.new).given ≡ (record_of self.old).given) }
+        ensures given { IfOk result (GivenBy (record_of self.old).given (record_of self.new).given) }
+        ensures kept { OnErr result ((record_of self.new).given ≡ (record_of self.old).given) }
         ensures lowers { IfOk result (PollLowers budget
             (left_in (data_of query.now) (known_in R.known R.ending rows.now) self.old)
             (left_in (data_of query.now) (known_in R.known R.ending rows.now) self.new)) }
         ensures turns { steps.new ≤ steps.old + budget }
+        ensures entered { EntersAtMost budget (entered_by self.old) (entered_by self.new) }
         ensures nothing { budget ≡ 0 → (result ≡ Ok Poll.Paused) × (self.new ≡ self.old) × (steps.new ≡ steps.old) }
     {
         if budget == 0 {
@@ -417,6 +440,9 @@ impl Walker {
         rp_known::law_legs();
         law_steps();
         let _plan = query.plan();
-        self.go_on(query, rows, budget, steps)
+        let mut entered = self.entered;
+        let answer = self.go_on(query, rows, budget, &mut entered, steps);
+        self.entered = entered;
+        answer
     }
 }

@@ -58,7 +58,7 @@ fn shown(
     Ok(text)
 }
 
-/// Whether there are more than `cap` words over so many closed rows.
+/// Whether there are more than `cap` words over the rows 1 to `last` of a closed partition.
 fn is_too_many(
     rt: &impl Abort,
     alloc: Global,

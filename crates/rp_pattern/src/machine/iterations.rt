@@ -99,7 +99,7 @@ impl Iterations {
         }
     }
 
-    /// An iteration, and then so many required ones.
+    /// An iteration, and then `lower` required ones.
     #[inline(always)]
     fn take_required(
         &self,

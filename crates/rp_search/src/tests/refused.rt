@@ -6,7 +6,7 @@ use super::script::{MANY, a, any, b, play};
 use rp_pattern::{End, Form, Seen};
 use std::test::Fail;
 
-/// One run, or one after another with so many turns each.
+/// One run, or one after another with a budget of few turns each.
 #[test]
 fn refused_run_is_made_again(rt: HostRuntime) -> Result<(), Fail> {
     let alloc = rt.alloc();

@@ -1,9 +1,8 @@
 //! Searches over stages, for the tests.
-ghost use Rattle.std.specs.Prelude.{◌≡◌, ◌<◌, ◌≤◌, true, [], IfOk, OnOk};
+ghost use Rattle.std.specs.Prelude.{◌≡◌, ◌<◌, true, [], IfOk, OnOk};
 ghost use Rattle.rp_pattern.specs.PatternForm.{form_of};
 ghost use Rattle.rp_pattern.specs.Variables.{are_below};
-ghost use Rattle.rp_search.specs.Fits.{Fits};
-ghost use Rattle.rp_search.specs.Search.{HasVariablesBelow, IsAtStart, labels_of_search, start_of_search};
+ghost use Rattle.rp_search.specs.Search.{CanRun, HasVariablesBelow, IsAtStart, IsSameSearch, RunAnswers, start_of_search};
 
 use super::grid::{Grid, write_letters};
 use crate::conditions::Tests;
@@ -47,7 +46,7 @@ pub struct Played {
     pub taken: u32,
 }
 
-/// A search from row 1 over stages, each a known last row and an end, at most so many runs a stage.
+/// A search from row 1 over stages, each a known last row and an end, at most `most` runs a stage.
 pub fn play(
     alloc: Global,
     form: Form,
@@ -124,7 +123,7 @@ pub struct Decided {
     pub began_again: bool,
 }
 
-/// Runs until the search isn't paused, at most so many times. A refused run is made again, once.
+/// Runs until the search isn't paused, at most `most` times. A refused run is made again, once.
 pub fn decide<L: Ledger>(
     search: &mut Search,
     grid: &mut Grid,
@@ -132,15 +131,13 @@ pub fn decide<L: Ledger>(
     most: u64,
     steps: &mut Steps<L>,
 ) -> Result<Decided, AllocError>
-    requires start { start_of_search search.old ≡ 1 }
-    requires known { 1 ≤ grid.old.known }
-    requires variables { HasVariablesBelow 2 search.old }
-    requires fits { Fits search.old (⟦<Grid as Tests>⟧.subject grid.old) }
-    requires entered { grid.old.entered.items ≡ labels_of_search search.old }
-    ensures start { OnOk result (start_of_search search.new ≡ 1) }
-    ensures variables { OnOk result (HasVariablesBelow 2 search.new) }
-    ensures fits { OnOk result (Fits search.new (⟦<Grid as Tests>⟧.subject grid.new)) }
-    ensures entered { OnOk result (grid.new.entered.items ≡ labels_of_search search.new) }
+    requires can_run { CanRun search.old (⟦<Grid as Tests>⟧.subject grid.old) (⟦<Grid as Tests>⟧.entered grid.old) }
+    ensures answers { IfOk result (λ decided.
+        RunAnswers search.old search.new (⟦<Grid as Tests>⟧.subject grid.old) decided.outcome) }
+    ensures same { OnOk result (IsSameSearch search.old search.new) }
+    ensures subject { OnOk result (⟦<Grid as Tests>⟧.subject grid.new ≡ ⟦<Grid as Tests>⟧.subject grid.old) }
+    ensures can_run { OnOk result
+        (CanRun search.new (⟦<Grid as Tests>⟧.subject grid.new) (⟦<Grid as Tests>⟧.entered grid.new)) }
 {
     let mut decided = Decided {
         outcome: Outcome::Paused,
@@ -163,16 +160,14 @@ fn run_once<L: Ledger>(
     steps: &mut Steps<L>,
     decided: &mut Decided,
 ) -> Result<(), AllocError>
-    requires start { start_of_search search.old ≡ 1 }
-    requires known { 1 ≤ grid.old.known }
-    requires variables { HasVariablesBelow 2 search.old }
-    requires fits { Fits search.old (⟦<Grid as Tests>⟧.subject grid.old) }
-    requires entered { grid.old.entered.items ≡ labels_of_search search.old }
-    ensures start { OnOk result (start_of_search search.new ≡ 1) }
-    ensures known { OnOk result (1 ≤ grid.new.known) }
-    ensures variables { OnOk result (HasVariablesBelow 2 search.new) }
-    ensures fits { OnOk result (Fits search.new (⟦<Grid as Tests>⟧.subject grid.new)) }
-    ensures entered { OnOk result (grid.new.entered.items ≡ labels_of_search search.new) }
+    requires paused { decided.old.outcome ≡ Outcome.Paused }
+    requires can_run { CanRun search.old (⟦<Grid as Tests>⟧.subject grid.old) (⟦<Grid as Tests>⟧.entered grid.old) }
+    ensures answers { OnOk result (RunAnswers search.old search.new
+        (⟦<Grid as Tests>⟧.subject grid.old) decided.new.outcome) }
+    ensures same { OnOk result (IsSameSearch search.old search.new) }
+    ensures subject { OnOk result (⟦<Grid as Tests>⟧.subject grid.new ≡ ⟦<Grid as Tests>⟧.subject grid.old) }
+    ensures can_run { OnOk result
+        (CanRun search.new (⟦<Grid as Tests>⟧.subject grid.new) (⟦<Grid as Tests>⟧.entered grid.new)) }
 {
     match search.run(grid, budget, steps) {
         Ok(outcome) => {

@@ -14,7 +14,7 @@ const FIRST_REFUSED: [Seen; 2] = [Seen::True, Seen::NotTrue];
 /// The row 1 stays open.
 const FIRST_OPEN: [Seen; 2] = [Seen::True, Seen::Open];
 
-/// The runs of budget 1, so the turns, until a search over so many rows is at its end.
+/// The runs of budget 1, so the turns, until a search over the rows 1 to `known` is at its end.
 fn turns(
     alloc: Global,
     form: Form,

@@ -6,7 +6,7 @@ use Rattle.rp_pattern.proofs.AllForms.{words_extend_later}
 use Rattle.rp_pattern.proofs.Within.{words_within, words_wait, words_full}
 use Rattle.rp_pattern.proofs.Bounds.{unbounded, optional_enough}
 use Rattle.rp_pattern.proofs.Maps.{words_are_mappings}
-use Rattle.rp_pattern.proofs.Readings.{words_are_readings, choices_decide}
+use Rattle.rp_pattern.proofs.Readings.{words_are_readings, one_mapping_each}
 use Rattle.rp_pattern.proofs.OneList.{readings_are_one}
 use Rattle.rp_pattern.proofs.laws.law_words.Goals as goal
 
@@ -19,8 +19,8 @@ returns-clause-readings c = words_are_readings
 pub returns-clause-one_list : goal.returns-clause-one_list
 returns-clause-one_list c = readings_are_one
 
-pub returns-clause-choices : goal.returns-clause-choices
-returns-clause-choices c = choices_decide
+pub returns-clause-decisions : goal.returns-clause-decisions
+returns-clause-decisions c = one_mapping_each
 
 pub returns-clause-extend : goal.returns-clause-extend
 returns-clause-extend c = λ f n n' e e' i later. words_extend_later f n n' e e' i later

@@ -1,5 +1,5 @@
 use Rattle.std.proofs.Common.{suc, ◌+◌, ◌*◌, arith, ap}
-use Rattle.rp_pattern.proofs.Places.{factorial_small}
+use Rattle.rp_pattern.proofs.OrdersAt.{factorial_small}
 use Rattle.rp_pattern.proofs.lexicographic.factorial.Goals as goal
 
 pub overflow_mul-product : goal.overflow_mul-product

@@ -1,5 +1,5 @@
 use Rattle.std.proofs.Common.{◌-◌, ◌<◌, sym, subst, arith}
-use Rattle.rp_pattern.proofs.Places.{factorial_positive}
+use Rattle.rp_pattern.proofs.OrdersAt.{factorial_positive}
 use Rattle.rp_pattern.proofs.OrderSteps.{starts, leads, goes_on, ends}
 use Rattle.rp_pattern.proofs.lexicographic.permutation_at.Goals as goal
 

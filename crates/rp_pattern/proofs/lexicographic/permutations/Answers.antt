@@ -4,7 +4,7 @@ use Rattle.std.proofs.lemmas.List.FromFn.{length-range_with_len}
 use Rattle.rp_pattern.specs.Words.{orders}
 use Rattle.rp_pattern.specs.Permutations.{upto, factorial, AreAllPermutations}
 use Rattle.rp_pattern.proofs.AllPermutations.{all_permutations}
-use Rattle.rp_pattern.proofs.Places.{length-orders, take_next}
+use Rattle.rp_pattern.proofs.OrdersAt.{length-orders, take_next}
 use Rattle.rp_pattern.proofs.lexicographic.permutations.Goals as goal
 
 pub loop-place-preserved : goal.loop-place-preserved

@@ -1,7 +1,7 @@
 use Rattle.std.proofs.Common.{◌≡◌, ◌≤◌, ◌++◌, length}
 use Rattle.rp_pattern.specs.PatternForm.{form_of}
 use Rattle.rp_pattern.specs.Words.{words}
-use Rattle.rp_pattern.specs.Choices.{remaining, left}
+use Rattle.rp_pattern.specs.Choices.{remaining, turns_left}
 use Rattle.rp_pattern.proofs.list.list_words.Given as goal
 
 -- the words listed, and those to come
@@ -12,4 +12,4 @@ invariant-loop-list l = record {
 }
 
 abbrev pub decreases-loop-list : goal.decreases-loop-list
-decreases-loop-list l = left l.choices l.last l.end
+decreases-loop-list l = turns_left l.choices l.last l.end

@@ -5,17 +5,18 @@ use Rattle.rp_pattern.specs.declared.word.End.{End}
 use Rattle.rp_pattern.specs.declared.word.Seen.{Seen}
 use Rattle.rp_pattern.specs.declared.word.Seen.TheVariants.{True, NotTrue, Open as OpenTest}
 use Rattle.rp_pattern.specs.declared.choices.Choices.{Choices}
-use Rattle.rp_pattern.specs.Choices.{start_of, entered, left, whole_left, whole_left_from, below_left}
+use Rattle.rp_pattern.specs.Choices.{start_of, entered, turns_left, whole_turns, whole_turns_from, turns_left_below}
 use Rattle.rp_pattern.specs.declared.outlook.Outlook.{Outlook}
 use Rattle.rp_pattern.specs.Outlooks.{turns_ahead}
 use Rattle.rp_search.specs.Found.{Test}
 use Rattle.rp_search.specs.Asked.{Asked, AskedExtend, AreBelow, rows_from}
 use Rattle.rp_search.specs.Search.{start_of_search, turns_from}
-use Rattle.rp_search.specs.Fits.{Stands, AreAdmitted, unless_open, left_in, left_by, ChoicesStand, LabelsStand, LabelsBelow}
+use Rattle.rp_search.specs.Fits.{ChoicesFit, AreAdmitted, unless_open, left_given, left_by, ChoicesStand, LabelsStand, LabelsBelow}
 use Rattle.rp_search.proofs.ChoiceSteps.{now_later, stands_later, true_later, explores_later}
+use Rattle.rp_search.proofs.LeftAlike.{left_alike}
 use Rattle.rp_search.proofs.laws.law_search.Goals as goal
 
-admitted_later : (outlook : Option Outlook) (c : Choices) (old new : Asked) → AskedExtend (start_of c) old new → Stands c old.known old.end (old.outcome (start_of c)) → AreAdmitted outlook c old.known old.end (old.outcome (start_of c)) → AreAdmitted outlook c new.known new.end (new.outcome (start_of c))
+admitted_later : (outlook : Option Outlook) (c : Choices) (old new : Asked) → AskedExtend (start_of c) old new → ChoicesFit c old.known old.end (old.outcome (start_of c)) → AreAdmitted outlook c old.known old.end (old.outcome (start_of c)) → AreAdmitted outlook c new.known new.end (new.outcome (start_of c))
 admitted_later None c old new x s a = true_later old.known new.known old.end new.end (old.outcome (start_of c)) (new.outcome (start_of c)) x.later (entered c) (rows_from (start_of c) old.known) x.stay s.known a
 admitted_later (Some outlook) c old new x s a = explores_later old.known new.known old.end new.end (old.outcome (start_of c)) (new.outcome (start_of c)) x.later c outlook x.stay s.known a
 
@@ -33,15 +34,19 @@ either_bounded True standing exploring most h k = h
 either_bounded NotTrue standing exploring most h k = h
 either_bounded OpenTest standing exploring most h k = k
 
-bounded : (outlook : Option Outlook) (c : Choices) (n : ℕ) (e : End) (test : Test) → Stands c n e test → AreAdmitted outlook c n e test → left_in outlook c n e test ≤ whole_left c n e
+bounded : (outlook : Option Outlook) (c : Choices) (n : ℕ) (e : End) (test : Test) → ChoicesFit c n e test → AreAdmitted outlook c n e test → left_given outlook c n e test ≤ whole_turns c n e
 bounded None c n e test s a = s.turns n e (now_later n e)
 bounded (Some outlook) c n e test s a =
-    either_bounded (test (entered c)) (left c n e) (below_left c n e + turns_ahead outlook n e) (whole_left c n e) (s.turns n e (now_later n e))
+    either_bounded (test (entered c)) (turns_left c n e) (turns_left_below c n e + turns_ahead outlook n e) (whole_turns c n e) (s.turns n e (now_later n e))
     (omega (arith, s.turns n e (now_later n e), a.row.turns n e (now_later n e), a.turns n e (now_later n e)))
 
 pub returns-clause-bounded : goal.returns-clause-bounded
-unfolding left_by turns_from start_of_search ChoicesStand LabelsStand whole_left whole_left_from start_of
+unfolding left_by turns_from start_of_search ChoicesStand LabelsStand whole_turns whole_turns_from start_of
 returns-clause-bounded c = λ s asked f. bounded s.outlook s.choices asked.known asked.end (asked.outcome (start_of s.choices)) f.stands f.labels
+
+pub returns-clause-same : goal.returns-clause-same
+unfolding left_by start_of_search ChoicesStand LabelsStand
+returns-clause-same c = λ s old new on back f. left_alike s old new on back f.stands.known
 
 pub returns-clause-variables : goal.returns-clause-variables
 returns-clause-variables c = λ form s k is below n e row.

@@ -5,7 +5,7 @@ use Rattle.rp_lines.specs.Pending.{coming}
 use Rattle.rp_trace.specs.Replies.{last_reply, reply_to}
 use Rattle.rp_lines.proofs.Cutting.{on_err_from}
 use Rattle.rp_trace.proofs.RepliesSoFar.{AppendsFront-none, Replied-start, Replied-more, Replied-moved, Replied-last, Replied-end, Replied-fault}
-use Rattle.rp_lines.proofs.Giving.{GivesEach-start, GivesEach-trans}
+use Rattle.rp_lines.proofs.Giving.{AsManyBytesAsReads-start, AsManyBytesAsReads-trans}
 use Rattle.rp_lines.proofs.Told.{told_more}
 use Rattle.rp_trace.proofs.trace.run_trace.Goals as goal
 
@@ -16,7 +16,7 @@ loop-text-init g c = record {
   read = refl;
   write = refl;
   ended = refl;
-  gives = rw c.new-lines.ensures.reads (GivesEach-start c.args.reads (g.R.Intake.remaining c.args.reader.now));
+  gives = rw c.new-lines.ensures.reads (AsManyBytesAsReads-start c.args.reads (g.R.Intake.remaining c.args.reader.now));
   calls = ap (λ reads. after_calls reads (g.R.Intake.calls c.args.reader.now)) c.new-lines.ensures.reads;
 }
 
@@ -46,7 +46,7 @@ loop-text-preserved g c =
       read = c.in_ok-next.ensures.failures ∙ c.loop-text.invariant.read;
       write = c.in_ok-write_block.ensures.goes ∙ c.loop-text.invariant.write;
       ended = told_more _ _ _ (search rules) c.in_ok-next.ensures.told ∙ c.loop-text.invariant.ended;
-      gives = GivesEach-trans _ _ _ _ _ _ c.loop-text.invariant.gives (c.in_ok-next.ensures.gives (search rules));
+      gives = AsManyBytesAsReads-trans _ _ _ _ _ _ c.loop-text.invariant.gives (c.in_ok-next.ensures.gives (search rules));
       calls = c.in_ok-next.ensures.calls ∙ c.loop-text.invariant.calls;
     }
 

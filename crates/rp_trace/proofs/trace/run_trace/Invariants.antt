@@ -1,7 +1,7 @@
 use Rattle.std.proofs.Common.{◌≡◌}
 use Rattle.rp_pattern.specs.PatternForm.{form_of}
-use Rattle.rp_lines.specs.Devices.{GivesEach, after_calls}
-use Rattle.rp_lines.specs.Pending.{coming, most_lines_left}
+use Rattle.rp_lines.specs.Devices.{AsManyBytesAsReads, after_calls}
+use Rattle.rp_lines.specs.Pending.{coming, most_lines_to_come}
 use Rattle.rp_trace.proofs.RepliesSoFar.{Replied}
 use Rattle.rp_trace.proofs.trace.run_trace.Given as goal
 
@@ -12,9 +12,9 @@ invariant-loop-text g l = record {
   read : g.R.Intake.failures l.reader ≡ g.R.Intake.failures l.fn.reader;
   write : g.W.Outlet.failures l.writer ≡ g.W.Outlet.failures l.fn.writer;
   ended : g.R.Intake.ended l.reader ≡ g.R.Intake.ended l.fn.reader;
-  gives : GivesEach l.reads l.lines.reads (g.R.Intake.remaining l.fn.reader) (g.R.Intake.remaining l.reader);
+  gives : AsManyBytesAsReads l.reads l.lines.reads (g.R.Intake.remaining l.fn.reader) (g.R.Intake.remaining l.reader);
   calls : after_calls l.lines.reads (g.R.Intake.calls l.reader) ≡ after_calls l.reads (g.R.Intake.calls l.fn.reader);
 }
 
 abbrev pub decreases-loop-text : goal.decreases-loop-text
-decreases-loop-text g l = most_lines_left l.lines
+decreases-loop-text g l = most_lines_to_come l.lines

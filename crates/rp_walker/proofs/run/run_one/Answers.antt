@@ -1,6 +1,6 @@
 use Rattle.std.proofs.Common.{◌≡◌, ◌+◌, ◌-◌, ◌<◌, ◌≤◌, sym, subst, ap, ◌∙◌, arith}
 use Rattle.rp_pattern.specs.PatternForm.{form_of}
-use Rattle.rp_search.specs.Fits.{Fits as SearchFits}
+use Rattle.rp_search.specs.Fits.{SearchFits}
 use Rattle.rp_search.specs.Search.{HasVariablesBelow, labels_of_search, start_of_search}
 use Rattle.rp_check.specs.QueryView.{data_of}
 use Rattle.rp_eval.specs.Entered.{AreTotals, plan_of, totals_in}
@@ -11,8 +11,8 @@ use Rattle.rp_known.specs.Plans.{tested_by}
 use Rattle.rp_walker.proofs.Running.{ran_of}
 use Rattle.rp_walker.proofs.run.run_one.Goals as goal
 
-pub run-requires : goal.run-requires
-run-requires g c =
+pub run-ran-requires : goal.run-ran-requires
+run-ran-requires g c =
     let q = data_of c.args.query.now in
     let p = known_in g.R.Rows.known g.R.Rows.ending c.args.rows.now in
     let s = c.args.run.search in
@@ -31,12 +31,12 @@ pub returns-clause-ran : goal.returns-clause-ran
 returns-clause-ran g c =
     let q = data_of c.args.query.now in
     let p = known_in g.R.Rows.known g.R.Rows.ending c.args.rows.now in
-    let s = c.run.new.self in
+    let s = c.run-ran.new.self in
     let totals = c.into_totals-totals.result in
-    let same : tester_of c.run.new.tests ≡ tested_by q p = c.run.ensures.subject ∙ c.new-tester.ensures.subject in
-    let same_start : start_of_search s ≡ c.args.start = c.run.ensures.same.start ∙ c.requires.searches.begins in
-    let here = c.into_totals-totals.ensures.entered (start_of_search s) (labels_of_search s) c.run.ensures.entered in
-    ran_of q p c.args.start c.args.run s totals c.in_ok-outcome.outcome (asked_of (tester_of c.new-tester.result)) (c.run.new.steps - c.args.steps.now) (ap asked_of c.new-tester.ensures.subject) c.requires.searches c.run.ensures.same c.run.ensures.fits
+    let same : tester_of c.run-ran.new.tests ≡ tested_by q p = c.run-ran.ensures.subject ∙ c.new-tester.ensures.subject in
+    let same_start : start_of_search s ≡ c.args.start = c.run-ran.ensures.same.start ∙ c.requires.searches.begins in
+    let here = c.into_totals-totals.ensures.entered (start_of_search s) (labels_of_search s) c.run-ran.ensures.entered in
+    ran_of q p c.args.start c.args.run s totals c.in_ok-outcome.outcome (asked_of (tester_of c.new-tester.result)) (c.run-ran.new.steps - c.args.steps.now) (ap asked_of c.new-tester.ensures.subject) c.requires.searches c.run-ran.ensures.same c.run-ran.ensures.fits
     c.in_ok-outcome.ensures.answers c.in_ok-outcome.ensures.left (omega (arith, c.in_ok-outcome.ensures.turns.within, c.in_ok-outcome.ensures.turns.some))
     (c.into_totals-totals.ensures.totals ∙ ap (λ (t : Tested). totals_in t.query) same)
     (subst (λ i. AreTotals totals p.rows i (labels_of_search s)) same_start (subst (λ (t : Tested). AreTotals totals t.rows (start_of_search s) (labels_of_search s)) same here))

@@ -6,7 +6,7 @@ use Rattle.rp_walker.specs.declared.record.MatcherState.{MatcherState}
 use Rattle.rp_walker.specs.Walking.{record_of, Stands}
 use Rattle.rp_answer.specs.Kept.{kept_rows}
 use Rattle.rp_answer.specs.Matching.{known_by, Ready}
-use Rattle.rp_answer.proofs.Dropping.{drops_agree, same_count, holds_no_more, forget_bound, stands_dropped}
+use Rattle.rp_answer.proofs.Dropping.{drops_agree, agrees_later, same_count, holds_no_more, forget_bound, stands_dropped}
 use Rattle.rp_answer.proofs.matcher.Matcher.drop_rows.Goals as goal
 
 pub returns-clause-agrees : goal.returns-clause-agrees
@@ -48,3 +48,16 @@ returns-clause-ready c =
       first = first;
       needed = is_bound;
     }
+
+pub returns-clause-left : goal.returns-clause-left
+returns-clause-left c =
+    let m = c.args.self.now in
+    let q = data_of m.query in
+    let k = m.rows in
+    let n = c.forget.new.self in
+    let e = c.forget.ensures in
+    let r : MatcherState = record_of m.walker in
+    let agree = drops_agree k n e.low e.rows e.last e.end in
+    let bound = forget_bound q k n r c.horizon-horizon.result e.not_past c.horizon-horizon.ensures c.requires.needed in
+    c.dropped.ensures.left q (known_by n)
+    ∙ c.law_left.ensures.same q (known_by k) (known_by n) m.walker c.plan-plan.ensures.sound (λ going. agrees_later n.first (first_read q r.at) (known_by k) (known_by n) (bound going) agree) c.requires.stands

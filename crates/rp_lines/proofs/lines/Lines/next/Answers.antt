@@ -1,7 +1,7 @@
 use Rattle.std.proofs.Common.{rules, ◌++◌, ◌∙◌, ap, take}
 use Rattle.rp_lines.specs.Pending.{pending_of, coming}
 use Rattle.rp_lines.proofs.Cutting.{cut-whole, cut-part, fill-more, end-part, when_true, when_false}
-use Rattle.rp_lines.proofs.Giving.{GivesEach-trans}
+use Rattle.rp_lines.proofs.Giving.{AsManyBytesAsReads-trans}
 use Rattle.rp_lines.proofs.lines.Lines.next.Goals as goal
 
 pub returns-then-branch-clause-line : goal.returns-then-branch-clause-line
@@ -37,6 +37,6 @@ loop-self-preserved g c =
       goes = search rules;
       calls = search rules;
       ended = search rules;
-      gives = GivesEach-trans _ _ _ _ _ _ c.loop-self.invariant.gives (rw c.in_ok-cut.ensures.reads at c.in_ok-fill.ensures.gives (search rules));
+      gives = AsManyBytesAsReads-trans _ _ _ _ _ _ c.loop-self.invariant.gives (rw c.in_ok-cut.ensures.reads at c.in_ok-fill.ensures.gives (search rules));
       left = search rules;
     }

@@ -1,6 +1,6 @@
 use Rattle.std.proofs.Common.{◌≡◌, ◌≤◌, vec_len}
-use Rattle.rp_lines.specs.Devices.{GivesEach, after_calls}
-use Rattle.rp_lines.specs.Pending.{coming, most_lines_left}
+use Rattle.rp_lines.specs.Devices.{AsManyBytesAsReads, after_calls}
+use Rattle.rp_lines.specs.Pending.{coming, most_lines_to_come}
 use Rattle.rp_lines.proofs.Cutting.{ReadFront}
 use Rattle.rp_lines.proofs.lines.Lines.next.Given as goal
 
@@ -12,8 +12,8 @@ invariant-loop-self g l = record {
   goes : g.R.Intake.failures l.reader ≡ g.R.Intake.failures l.fn.reader;
   calls : after_calls l.self.reads (g.R.Intake.calls l.reader) ≡ after_calls l.fn.self.reads (g.R.Intake.calls l.fn.reader);
   ended : g.R.Intake.ended l.reader ≡ g.R.Intake.ended l.fn.reader;
-  gives : GivesEach l.fn.self.reads l.self.reads (g.R.Intake.remaining l.fn.reader) (g.R.Intake.remaining l.reader);
-  left : most_lines_left l.self ≤ most_lines_left l.fn.self;
+  gives : AsManyBytesAsReads l.fn.self.reads l.self.reads (g.R.Intake.remaining l.fn.reader) (g.R.Intake.remaining l.reader);
+  left : most_lines_to_come l.self ≤ most_lines_to_come l.fn.self;
 }
 
 abbrev pub decreases-loop-self : goal.decreases-loop-self

@@ -45,8 +45,8 @@ returns-clause-whole c = λ n e.
     let t = ap (turns n e) is ∙ same.turns n e ∙ ap (turns n e) c.form.ensures.tree in
     new_whole _ _ f n e c.in_ok-linked.ensures refl w t
 
-pub returns-clause-whole_left : goal.returns-clause-whole_left
-returns-clause-whole_left c = λ n e.
+pub returns-clause-whole_turns : goal.returns-clause-whole_turns
+returns-clause-whole_turns c = λ n e.
     let is = c.in_ok-form.ensures.ok in
     let same = c.in_ok-share.ensures in
     let f = form_of c.args.pattern.now in

@@ -6,7 +6,7 @@ use Rattle.rp_search.specs.declared.search.Search.{Search}
 use Rattle.rp_search.specs.Asked.{Asked}
 use Rattle.rp_search.specs.Search.{start_of_search, labels_of_search, words_from}
 use Rattle.rp_search.specs.Fits.{left_by, ChoicesStand, LabelsStand, LabelsBelow}
-use Rattle.rp_search.specs.Turned.{Goes, Searches}
+use Rattle.rp_search.specs.Turned.{Goes, IsWithinRun}
 use Rattle.rp_search.proofs.TurnEnds.{at_known, below_front, open_end, searches_plainly, left_exploring, explored_word, explored_nothing}
 use Rattle.rp_search.proofs.search.Search.explore.Goals as goal
 
@@ -36,5 +36,5 @@ take_up-requires-in-Nothing-clause-searches g c =
     let goes : Goes choices c.give_up.new.self asked.known asked.end (asked.outcome (start_of choices)) =
     explored_nothing choices c.give_up.new.self c.args.outlook _ _ _ fits.stands fits.labels read.1 gave.whole (record { cut = gave.labels; cut_off = gave.cut_off; words = gave.remaining; turns = gave.left }) in
     let after : Search = record { choices = c.give_up.new.self; outlook = c.args.self.now.outlook; taken = c.args.self.now.taken } in
-    subst (λ s. Searches after (g.T.Tests.asked s)) (sym c.cut_back.ensures.subject)
+    subst (λ s. IsWithinRun after (g.T.Tests.asked s)) (sym c.cut_back.ensures.subject)
     (searches_plainly after asked (start_of choices) gave.whole.start c.requires.none goes.stands goes.admitted (below_front asked.variables (entered c.give_up.new.self) (entered choices) gave.labels fits.below))

@@ -1,6 +1,6 @@
 use Rattle.std.proofs.Common.{arith, subst, sym}
 use Rattle.rp_pattern.specs.declared.choices.Taken.TheVariants.{Row as RowTaken, Split as SplitTaken, Full as FullTaken, Open as OpenTaken, Nothing as NothingTaken}
-use Rattle.rp_pattern.specs.Choices.{start_of, entered, whole, whole_from, TakenAs, IsSplit, MapsRow, IsFullWord, IsOpenWord, IsNothing}
+use Rattle.rp_pattern.specs.Choices.{start_of, entered, whole, whole_from, TakenAs, IsSplit, IsMappedRow, IsFullWord, IsOpenWord, IsNothing}
 use Rattle.rp_search.specs.Asked.{Asked}
 use Rattle.rp_search.specs.Search.{start_of_search, labels_of_search, words_from}
 use Rattle.rp_search.specs.Fits.{StandsAtRow, left_by, ChoicesStand, LabelsStand, LabelsBelow}
@@ -15,7 +15,7 @@ map_row-requires-clause-row g c =
     let old = c.args.self.now.choices in
     let new = c.take_up.new.self in
     let read : TakenAs old new c.known.result c.end.result RowTaken = rw c.in-Row.is at c.in_ok-take_up.ensures.taken in
-    let taken : MapsRow old new asked.known asked.end = at_known (λ n e. MapsRow old new n e) _ _ _ _ c.known.ensures c.end.ensures read in
+    let taken : IsMappedRow old new asked.known asked.end = at_known (λ n e. IsMappedRow old new n e) _ _ _ _ c.known.ensures c.end.ensures read in
     let admitted = admitted_plainly old c.args.self.now.outlook _ _ _ c.requires.none c.requires.searches.fits.labels in
     subst (λ i. StandsAtRow new asked.known asked.end (asked.outcome i)) (sym c.in_ok-take_up.ensures.whole.start) (maps_row old new _ _ _ admitted taken)
 

@@ -1,6 +1,6 @@
 use Rattle.std.proofs.Common.{◌≡◌}
 use Rattle.rp_search.specs.Grid.{grid_asked}
-use Rattle.rp_search.specs.Fits.{Fits}
+use Rattle.rp_search.specs.Fits.{SearchFits}
 use Rattle.rp_search.specs.Search.{HasVariablesBelow, start_of_search, labels_of_search}
 use Rattle.rp_search.proofs.tests.script.counted.Given as goal
 
@@ -9,4 +9,4 @@ invariant-stages g l =
     (start_of_search l.search ≡ 1)
     × (l.grid.entered.items ≡ labels_of_search l.search)
     × HasVariablesBelow 2 l.search
-    × Fits l.search (grid_asked l.grid.first.items l.grid.second.items l.grid.reach l.grid.known l.grid.end)
+    × SearchFits l.search (grid_asked l.grid.first.items l.grid.second.items l.grid.reach l.grid.known l.grid.end)

@@ -4,10 +4,10 @@ use Rattle.rp_pattern.specs.declared.form.Form.{Form}
 use Rattle.rp_pattern.specs.PatternForm.{form_of}
 use Rattle.rp_pattern.specs.Variables.{are_below}
 use Rattle.rp_search.specs.declared.search.Search.{Search}
-use Rattle.rp_search.specs.Search.{HasVariablesBelow, IsFor, VariablesAreBelow}
+use Rattle.rp_search.specs.Search.{HasVariablesBelow, IsSearchFor, VariablesAreBelow}
 use Rattle.rp_search.proofs.tests.script.created.Goals as goal
 
-where_made : (form : Form) (r : Result Search AllocError) → VariablesAreBelow → are_below 2 form ≡ true → IfOk r (IsFor form) → IfOk r (HasVariablesBelow 2)
+where_made : (form : Form) (r : Result Search AllocError) → VariablesAreBelow → are_below 2 form ≡ true → IfOk r (IsSearchFor form) → IfOk r (HasVariablesBelow 2)
 where_made form (Ok search) law below is = law form search 2 is below
 where_made form (Err refused) law below is = tt
 

@@ -1,13 +1,13 @@
-use Rattle.std.proofs.Common.{◌≡◌, ◌≤◌}
+use Rattle.std.proofs.Common.{◌≡◌}
 use Rattle.rp_search.specs.Grid.{grid_asked}
-use Rattle.rp_search.specs.Fits.{Fits}
-use Rattle.rp_search.specs.Search.{HasVariablesBelow, start_of_search, labels_of_search}
+use Rattle.rp_search.specs.Search.{CanRun, IsSameSearch}
+use Rattle.rp_search.specs.declared.search.Outcome.TheVariants.{Paused}
 use Rattle.rp_search.proofs.tests.script.decide.Given as goal
 
 abbrev pub invariant-runs : goal.invariant-runs
 invariant-runs g l =
-    (start_of_search l.search ≡ 1)
-    × (1 ≤ l.grid.known)
-    × (l.grid.entered.items ≡ labels_of_search l.search)
-    × HasVariablesBelow 2 l.search
-    × Fits l.search (grid_asked l.grid.first.items l.grid.second.items l.grid.reach l.grid.known l.grid.end)
+    CanRun l.search (grid_asked l.grid.first.items l.grid.second.items l.grid.reach l.grid.known l.grid.end) (λ start labels. l.grid.entered.items ≡ labels)
+    × IsSameSearch l.fn.search l.search
+    × (grid_asked l.grid.first.items l.grid.second.items l.grid.reach l.grid.known l.grid.end
+    ≡ grid_asked l.fn.grid.first.items l.fn.grid.second.items l.fn.grid.reach l.fn.grid.known l.fn.grid.end)
+    × (l.decided.outcome ≡ Paused)

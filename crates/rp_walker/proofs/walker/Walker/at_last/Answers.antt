@@ -2,20 +2,19 @@ use Rattle.std.proofs.Common.{◌≡◌, ◌<◌, ◌≤◌, sym, ◌∙◌, ari
 use Rattle.rp_check.specs.QueryView.{data_of}
 use Rattle.rp_known.specs.declared.item.Item.TheVariants.{End as EndItem}
 use Rattle.rp_known.specs.Known.{known_in}
-use Rattle.rp_walker.specs.declared.stage.Stage.TheVariants.{Begin}
 use Rattle.rp_walker.proofs.Ends.{ends_with}
 use Rattle.rp_walker.proofs.Begins.{waits_past, end_past, left_past}
 use Rattle.rp_walker.proofs.walker.Walker.at_last.Goals as goal
 
 pub returns-in-Open : goal.returns-in-Open
 returns-in-Open g c =
-    waits_past (data_of c.args.query.now) (known_in g.R.Rows.known g.R.Rows.ending c.args.rows.now) c.args.self.now c.requires.going c.requires.stage c.requires.past (sym c.end.ensures ∙ c.in-Open.is)
+    waits_past (data_of c.args.query.now) (known_in g.R.Rows.known g.R.Rows.ending c.args.rows.now) c.args.self.now c.requires.going c.requires.stands c.requires.past (sym c.end.ensures ∙ c.in-Open.is)
 
 pub returns-in-Closed : goal.returns-in-Closed
 returns-in-Closed g c =
     let w = c.args.self.now in
     let q = data_of c.args.query.now in
     let p = known_in g.R.Rows.known g.R.Rows.ending c.args.rows.now in
-    ends_with q p w Begin EndItem 0 c.requires.going (omega (arith, left_past q p w.state Begin c.requires.going.going c.requires.past)) (omega arith)
+    ends_with q p w w.stage EndItem 0 c.requires.going (omega (arith, left_past q p w.state w.stage c.requires.going.going c.requires.past)) (omega arith)
     (λ within. end_past q p w c.requires.past (sym c.end.ensures ∙ c.in-Closed.is))
     c.end_with.new.self c.end_with.result c.end_with.ensures.given c.end_with.ensures.gives

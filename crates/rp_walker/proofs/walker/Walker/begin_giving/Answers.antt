@@ -33,4 +33,4 @@ returns g c = λ run.
     begins_giving q p w c.args.found a run c.requires.going
     (subst (λ (x : Place). Gives q p x (result_of c.args.found) a) here
     (gives_first q p c.place_of-place.result (result_of c.args.found) a (omega (arith, start, c.requires.known)) found in_rows e.seen e.low e.ordered (omega (arith, e.high, c.last.ensures)) e.rows))
-    e.seen c.requires.totals
+    e.seen c.requires.totals c.requires.serves

@@ -1,10 +1,11 @@
-use Rattle.std.proofs.Common.{◌≡◌, ◌<◌, ◌≤◌, ◌++◌, ◌∷◌, [], length, sym, ap, ◌∙◌, subst, arith}
+use Rattle.std.proofs.Common.{◌≡◌, ◌<◌, ◌≤◌, ◌++◌, ◌∷◌, [], length, Some, sym, ap, ◌∙◌, subst, arith}
 use Rattle.rp_check.specs.QueryView.{data_of}
 use Rattle.rp_known.specs.declared.item.Item.TheVariants.{Fault as FaultItem}
 use Rattle.rp_known.specs.declared.place.Place.{Place}
 use Rattle.rp_known.specs.Known.{known_in}
 use Rattle.rp_known.specs.Walk.{after_found}
-use Rattle.rp_walker.specs.declared.stage.Stage.TheVariants.{Giving as GivingStage}
+use Rattle.rp_walker.specs.declared.stage.Stage.TheVariants.{Begin as BeginStage, Giving as GivingStage}
+use Rattle.rp_walker.specs.declared.stage.Step.TheVariants.{Went}
 use Rattle.rp_walker.specs.Given.{result_of}
 use Rattle.rp_walker.specs.Records.{place_of}
 use Rattle.rp_walker.specs.Walking.{KeepsGoing}
@@ -20,10 +21,11 @@ returns-in-Ok g c =
     let follows = ap (λ (x : Place). after_found q x (result_of c.args.found)) (sym c.place_of-place.ensures) ∙ c.in-Ok.ensures in
     subst (λ s. KeepsGoing q p w.state (GivingStage c.args.found c.args.ahead) c.go_to.new.self s) (sym c.go_to.ensures.went)
     (subst (λ n. KeepsGoing q p w.state (GivingStage c.args.found c.args.ahead) n _) (sym c.go_to.ensures.now)
-    (goes_to c.law_legs.ensures.searches q p w c.args.found c.args.ahead c.requires.going c.requires.gives c.requires.not_past c.requires.all c.in-Ok.next follows))
+    (subst (λ r. KeepsGoing q p w.state (GivingStage c.args.found c.args.ahead) (record w { state = record w.state { at = c.in-Ok.next.start; matches = c.in-Ok.next.matches; covered = c.in-Ok.next.covered; here = 0 }; stage = BeginStage (Some r) }) Went) (sym c.into_run.ensures)
+    (goes_to c.law_legs.ensures.searches q p w c.args.found c.args.ahead c.requires.going c.requires.gives c.requires.serves c.requires.not_past c.requires.all c.in-Ok.next follows)))
 
-pub returns : goal.returns
-returns g c =
+pub returns-in-Err : goal.returns-in-Err
+returns-in-Err g c =
     let w = c.args.self.now in
     let q = data_of c.args.query.now in
     let p = known_in g.R.Rows.known g.R.Rows.ending c.args.rows.now in

@@ -12,12 +12,12 @@ pub returns-then-is_hidden-clause-keeps : goal.returns-then-is_hidden-clause-kee
 returns-then-is_hidden-clause-keeps g c =
     let q = data_of c.args.query.now in
     let p = known_in g.R.Rows.known g.R.Rows.ending c.args.rows.now in
-    passes_hidden q p c.args.self.now c.args.found c.args.ahead c.requires.going c.requires.gives c.requires.totals c.requires.not_past (omega (arith, c.requires.gives.ordered, c.if-ahead.false))
+    passes_hidden q p c.args.self.now c.args.found c.args.ahead c.requires.going c.requires.gives c.requires.totals c.requires.serves c.requires.not_past (omega (arith, c.requires.gives.ordered, c.if-ahead.false))
     (sym c.is_hidden.ensures ∙ c.if-is_hidden.true) c.pass.new.self c.pass.result c.pass.ensures.went c.pass.ensures.now
 
 pub returns-then-ahead-self-clause-keeps : goal.returns-then-ahead-self-clause-keeps
 returns-then-ahead-self-clause-keeps g c =
     let q = data_of c.args.query.now in
     let p = known_in g.R.Rows.known g.R.Rows.ending c.args.rows.now in
-    passes_given q p c.args.self.now c.args.found c.args.ahead c.requires.going c.requires.gives c.requires.totals c.if-ahead-self.true (omega (arith, c.requires.gives.ordered, c.if-ahead.false))
+    passes_given q p c.args.self.now c.args.found c.args.ahead c.requires.going c.requires.gives c.requires.totals c.requires.serves c.if-ahead-self.true (omega (arith, c.requires.gives.ordered, c.if-ahead.false))
     (sym c.is_hidden.ensures ∙ c.if-is_hidden.false) c.pass-then-ahead-self.new.self c.pass-then-ahead-self.result c.pass-then-ahead-self.ensures.went c.pass-then-ahead-self.ensures.now

@@ -17,4 +17,6 @@ invariant-loop-turn g l = record {
   moved : IsWithin (data_of l.query) (known_in g.R.Rows.known g.R.Rows.ending l.rows) l.fn.self.state →
       Moves (data_of l.query) (known_in g.R.Rows.known g.R.Rows.ending l.rows) l.fn.self.state l.self.state;
   counted : l.steps ≡ l.fn.steps + l._turn;
+  entered : l.entered ≤ l.fn.entered + l._turn;
+  grows : l.fn.entered ≤ l.entered;
 }

@@ -5,31 +5,52 @@ use Rattle.rp_known.specs.Known.{known_in}
 use Rattle.rp_walker.specs.Records.{IsWithin}
 use Rattle.rp_walker.specs.Steps.{Moves}
 use Rattle.rp_walker.specs.Walking.{GoesOnWell, stands_by, Stands, record_of}
-use Rattle.rp_walker.specs.Polls.{Polled, Answers, StillFits, left_in}
+use Rattle.rp_walker.specs.Polls.{Polled, Answers, StopsAtLast, StillFits, left_in, entered_by}
 use Rattle.rp_walker.proofs.Begins.{if_ok_map}
-use Rattle.rp_walker.proofs.Public.{answers, still_fits, on_err_map}
+use Rattle.rp_walker.proofs.Steps.{stands_counted}
+use Rattle.rp_walker.proofs.Public.{answers, stops_at_last, still_fits, on_err_map}
 use Rattle.rp_walker.proofs.walker.Walker.poll.Goals as goal
 
+pub returns-clause-stands : goal.returns-clause-stands
+unfolding Stands record_of left_in entered_by
+returns-clause-stands g c =
+    let q = data_of c.args.query.now in
+    let k = known_in g.R.Rows.known g.R.Rows.ending c.args.rows.now in
+    let new = c.go_on-answer.new.self in
+    stands_counted new.state.over q k new c.go_on-answer.new.entered c.go_on-answer.ensures.stands
+
 pub returns-clause-answers : goal.returns-clause-answers
-unfolding Stands record_of left_in
+unfolding Stands record_of left_in entered_by
 returns-clause-answers g c =
     let q = data_of c.args.query.now in
     let k = known_in g.R.Rows.known g.R.Rows.ending c.args.rows.now in
     let w = c.args.self.now in
-    let new = c.go_on.new.self in
+    let new = c.go_on-answer.new.self in
     let well : GoesOnWell q k w = subst (λ b. stands_by b q k w) c.if-self.false c.requires.stands in
-    if_ok_map (λ answer. IsWithin q k w.state → Polled q k w.state new.state answer) (Answers q k w.state new.state) c.go_on.result
+    if_ok_map (λ answer. IsWithin q k w.state → Polled q k w.state new.state answer) (Answers q k w.state new.state) c.go_on-answer.result
     (λ answer polled. answers c.law_steps.ensures c.law_legs.ensures.lead c.law_known.ensures.short q c.plan-plan.ensures.sound k (g.met.R.Rows.few c.args.rows.now) w.state new.state c.if-self.false well.going.from_one answer polled)
-    c.go_on.ensures.polled
+    c.go_on-answer.ensures.polled
+
+pub returns-clause-stops : goal.returns-clause-stops
+unfolding Stands record_of left_in entered_by
+returns-clause-stops g c =
+    let q = data_of c.args.query.now in
+    let k = known_in g.R.Rows.known g.R.Rows.ending c.args.rows.now in
+    let w = c.args.self.now in
+    let new = c.go_on-answer.new.self in
+    let well : GoesOnWell q k w = subst (λ b. stands_by b q k w) c.if-self.false c.requires.stands in
+    if_ok_map (λ answer. IsWithin q k w.state → Polled q k w.state new.state answer) (StopsAtLast q k w.state new.state) c.go_on-answer.result
+    (λ answer polled. stops_at_last c.law_steps.ensures c.law_legs.ensures.lead c.law_known.ensures.short q c.plan-plan.ensures.sound k (g.met.R.Rows.few c.args.rows.now) w.state new.state c.if-self.false well.going.from_one answer polled)
+    c.go_on-answer.ensures.polled
 
 pub returns-clause-refused : goal.returns-clause-refused
-unfolding Stands record_of left_in
+unfolding Stands record_of left_in entered_by
 returns-clause-refused g c =
     let q = data_of c.args.query.now in
     let k = known_in g.R.Rows.known g.R.Rows.ending c.args.rows.now in
     let w = c.args.self.now in
-    let new = c.go_on.new.self in
+    let new = c.go_on-answer.new.self in
     let well : GoesOnWell q k w = subst (λ b. stands_by b q k w) c.if-self.false c.requires.stands in
-    on_err_map (IsWithin q k w.state → Moves q k w.state new.state) (StillFits q k w.state new.state) c.go_on.result
+    on_err_map (IsWithin q k w.state → Moves q k w.state new.state) (StillFits q k w.state new.state) c.go_on-answer.result
     (λ moved. still_fits c.law_steps.ensures c.law_legs.ensures.lead c.law_known.ensures.short q c.plan-plan.ensures.sound k (g.met.R.Rows.few c.args.rows.now) w.state new.state c.if-self.false well.going.from_one moved)
-    c.go_on.ensures.refused
+    c.go_on-answer.ensures.refused

@@ -3,7 +3,7 @@ use Rattle.std.proofs.lemmas.List.{length-map}
 use Rattle.rp_pattern.specs.PermutedParts.{permuted_parts}
 use Rattle.rp_pattern.specs.Permutations.{factorial}
 use Rattle.rp_pattern.specs.Continuations.{permuted_form_parts, links_parts, tail_parts, reached_parts, form_part}
-use Rattle.rp_pattern.proofs.Places.{factorial_small}
+use Rattle.rp_pattern.proofs.OrdersAt.{factorial_small}
 use Rattle.rp_pattern.proofs.OrderRests.{no_order, permuted_same}
 use Rattle.rp_pattern.proofs.Steps.{stands_as}
 use Rattle.rp_pattern.specs.declared.machine.continuation.Continuation.TheVariants.{Reached}

@@ -1,0 +1,138 @@
+//! A long match, and a stream of short ones. What an item or a row costs doesn't go up with their number, which `.ci/cost`
+//! shows.
+ghost use Rattle.std.specs.Prelude.{◌≡◌, ◌<◌};
+ghost use Rattle.rp_answer.specs.Matching.{IsReady};
+
+use super::driven::Driven;
+use rp_check::{Query, compile};
+use rp_search::Steps;
+use rp_syntax::read_table;
+use rp_value::{Row, Table, Value};
+use rp_walker::Poll;
+use std::alloc::Global;
+use std::marker::Brand;
+use std::process::Abort;
+use std::sync::ledger::{Blank, Ledger};
+use std::test::Fail;
+
+/// What came of a run.
+#[derive(Clone, Copy)]
+struct Ran {
+    items: u64,
+    /// The most rows that were kept once it was idle.
+    kept: u64,
+}
+
+/// Rows whose numbers are 1 and 2 in turn, each polled as it comes, or all at once after the close.
+fn run<L: Ledger>(
+    blank: Blank,
+    alloc: Global,
+    query: Query,
+    rows: u64,
+    each: bool,
+) -> Result<Ran, Fail>
+    requires name { blank.name ≡ L.name }
+    requires parts { blank.parts ≡ L.parts }
+    requires shared { 0 < blank.parts }
+{
+    let odd = row_of(alloc, query.table(), 1)?;
+    let even = row_of(alloc, query.table(), 2)?;
+    let mut driven = Driven::new(alloc, query, false);
+    let mut steps = Steps::<L>::new(blank);
+    let mut ran = Ran { items: 0, kept: 0 };
+    'rows: for number in 0..rows {
+        let row = if number % 2 == 0 {
+            odd.share()?
+        } else {
+            even.share()?
+        };
+        driven.push(row)?;
+        if each {
+            drain(&mut driven, &mut steps, &mut ran)?;
+        }
+    }
+    driven.close()?;
+    drain(&mut driven, &mut steps, &mut ran)?;
+    Ok(ran)
+}
+
+fn query_of(alloc: Global, text: &str) -> Result<Query, Fail> {
+    let table = read_table(alloc, "p int")?;
+    Ok(compile(alloc, text, &table)?)
+}
+
+fn row_of(alloc: Global, table: &Table, number: i64) -> Result<Row, Fail> {
+    Ok(table.row(alloc, vec![in alloc; Value::Int(number)]?)?)
+}
+
+/// Polls until it is idle.
+fn drain<L: Ledger>(driven: &mut Driven, steps: &mut Steps<L>, ran: &mut Ran) -> Result<(), Fail>
+    requires { IsReady driven.old.matcher }
+    ensures { IsReady driven.new.matcher }
+{
+    'polls: for _poll in 0..1_000_000 {
+        match driven.poll(1_000, steps)? {
+            Poll::Item(_place, _item) => ran.items = ran.items.saturating_add(1),
+            Poll::Paused => {}
+            Poll::Idle => {
+                let kept = driven
+                    .last()
+                    .saturating_sub(driven.state().first)
+                    .saturating_add(1);
+                ran.kept = ran.kept.max(kept);
+                return Ok(());
+            }
+        }
+    }
+    Err(Fail::from("idle after a million polls"))
+}
+
+/// One match of all rows, of which each gives an item, and the end.
+fn long_match(rt: &impl Abort, alloc: Global, rows: u64) -> Result<(), Fail> {
+    let text =
+        "MEASURES COUNT(*) AS c, SUM(p) AS s ALL ROWS PER MATCH PATTERN (A+) DEFINE A AS p > 0";
+    let query = query_of(alloc, text)?;
+    let ran = run::<Brand>(Blank::new(1), alloc, query, rows, false)?;
+    assert_eq!(rt; ran.items, rows.saturating_add(1));
+    Ok(())
+}
+
+/// A match of each two rows, and the end. The row before a start row is still read.
+fn stream(rt: &impl Abort, alloc: Global, rows: u64) -> Result<(), Fail> {
+    let text = "MEASURES B.p AS b PATTERN (A B) DEFINE A AS p = 1, B AS PREV(p) = 1";
+    let query = query_of(alloc, text)?;
+    let ran = run::<Brand>(Blank::new(1), alloc, query, rows, true)?;
+    assert_eq!(rt; ran.items, (rows / 2).saturating_add(1));
+    assert!(rt; ran.kept <= 2, "{} rows kept", ran.kept);
+    Ok(())
+}
+
+#[test]
+fn match_of_1_000_rows(rt: HostRuntime) -> Result<(), Fail> {
+    long_match(&rt, rt.alloc(), 1_000)
+}
+
+#[test]
+fn match_of_10_000_rows(rt: HostRuntime) -> Result<(), Fail> {
+    long_match(&rt, rt.alloc(), 10_000)
+}
+
+#[test]
+fn match_of_100_000_rows(rt: HostRuntime) -> Result<(), Fail> {
+    long_match(&rt, rt.alloc(), 100_000)
+}
+
+#[test]
+fn stream_of_10_000_rows(rt: HostRuntime) -> Result<(), Fail> {
+    stream(&rt, rt.alloc(), 10_000)
+}
+
+#[test]
+fn stream_of_100_000_rows(rt: HostRuntime) -> Result<(), Fail> {
+    stream(&rt, rt.alloc(), 100_000)
+}
+
+#[test]
+fn stream_of_1_000_000_rows(rt: HostRuntime) -> Result<(), Fail> {
+    stream(&rt, rt.alloc(), 1_000_000)
+}

@@ -1,0 +1,2 @@
+mod NodeObjects
+mod Sealing

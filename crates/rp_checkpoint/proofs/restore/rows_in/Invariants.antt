@@ -1,0 +1,9 @@
+use Rattle.std.proofs.Common.{◌≡◌, drop}
+use Rattle.serde_json.specs.View.{items_view}
+use Rattle.rp_checkpoint.specs.Checkpoints.{row_of}
+use Rattle.rp_fields.specs.Forms.{list_in}
+use Rattle.rp_fields.proofs.Steps.{joined}
+use Rattle.rp_checkpoint.proofs.restore.rows_in.Given as goal
+
+abbrev pub invariant-loop-json : goal.invariant-loop-json
+invariant-loop-json l = list_in row_of (items_view l.list) ≡ joined row_of l.rows.items (drop l.json-index l.list)

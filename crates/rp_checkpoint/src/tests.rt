@@ -1,0 +1,365 @@
+//! Checkpoints, against bytes written by hand. The digests in full are those of `sha256sum`.
+use crate::seal::seal;
+use crate::{
+    CheckpointFault, Columns, HeldRow, HeldRows, NodeData, PartitionData, Partitions, ascend,
+    checkpoint_of, read_checkpoint,
+};
+use rp_value::{Cells, Column, Kind, Row, Text, Value};
+use std::alloc::{AllocError, Global};
+use std::test::Fail;
+
+const FRESH: &str =
+    "3435687f8cb34f454bce57a8b76fd78ebd5afca36a69d5ce7899db5ee61e6442\n{\"clause\":\"PATTERN (A) DEFINE A AS p = 1\",\"partitions\":[],\"table\":[[\"P\",\"int\"]],\"version\":2}";
+
+/// Partitions of all shapes in version 1, whose counts of items given are numbers.
+const FIRST: &str =
+    "a97fb6a26669d3f7f842fa6b4bf8b282ed980d003179f7aacdc1fc9f02fdccb6\n{\"clause\":\"A \\\"q\\\"\",\"partitions\":[{\"at\":6,\"close\":null,\"covered\":5,\"first\":5,\"given\":1,\"here\":0,\"key\":[\"x\"],\"matches\":1,\"over\":false,\"rows\":[[5,[\"x\",5,9]],[6,[\"x\",6,9]]]},{\"at\":1,\"close\":1099511627776,\"covered\":0,\"first\":1,\"given\":18446744073709551615,\"here\":18446744073709551615,\"key\":[null,-1],\"matches\":0,\"over\":true,\"rows\":[]}],\"table\":[[\"P\",\"int\"],[\"SYM\",\"text\"]],\"version\":1}";
+
+/// The same in version 2, with the greatest count that a text may have.
+const SECOND: &str =
+    "9963664378ae195d6f395ac9b083ade7f5e17886ed2a6c3daa78c17696a18e8e\n{\"clause\":\"A \\\"q\\\"\",\"partitions\":[{\"at\":6,\"close\":null,\"covered\":5,\"first\":5,\"given\":\"1\",\"here\":0,\"key\":[\"x\"],\"matches\":1,\"over\":false,\"rows\":[[5,[\"x\",5,9]],[6,[\"x\",6,9]]]},{\"at\":1,\"close\":1099511627776,\"covered\":0,\"first\":1,\"given\":\"340282366920938463463374607431768211455\",\"here\":18446744073709551615,\"key\":[null,-1],\"matches\":0,\"over\":true,\"rows\":[]}],\"table\":[[\"P\",\"int\"],[\"SYM\",\"text\"]],\"version\":2}";
+
+/// The partition of which the tests of faults change one field each.
+const PARTITION: &str =
+    "{\"at\":1,\"close\":null,\"covered\":0,\"first\":1,\"given\":\"0\",\"here\":0,\"key\":[],\"matches\":0,\"over\":false,\"rows\":[[1,[1]]]}";
+
+fn text(alloc: Global, text: &str) -> Result<Text, AllocError> {
+    Ok(Text::new(String::from_str(alloc, text)?))
+}
+
+fn fresh(alloc: Global) -> Result<NodeData, AllocError> {
+    let name = text(alloc, "P")?;
+    let kind = Kind::Int;
+    let mut columns = Vec::new(alloc);
+    columns.push(Column { name, kind })?;
+    Ok(NodeData {
+        clause: text(alloc, "PATTERN (A) DEFINE A AS p = 1")?,
+        table: Columns::new(columns),
+        partitions: Partitions::new(Vec::new(alloc)),
+    })
+}
+
+/// The fault of bytes, want of memory aside.
+fn fault_of(alloc: Global, bytes: &[u8]) -> Result<Option<CheckpointFault>, CheckpointFault> {
+    match read_checkpoint(alloc, bytes) {
+        Ok(_) => Ok(None),
+        Err(CheckpointFault::OutOfMemory) => Err(CheckpointFault::OutOfMemory),
+        Err(fault) => Ok(Some(fault)),
+    }
+}
+
+/// The fault of an object behind its own digest.
+fn fault_in(alloc: Global, object: &str) -> Result<Option<CheckpointFault>, CheckpointFault> {
+    let bytes = seal(alloc, object.as_bytes())?;
+    fault_of(alloc, bytes.as_slice())
+}
+
+/// An object with this partition.
+fn with_partition(alloc: Global, partition: &str) -> Result<String, AllocError> {
+    format!(in alloc; "{{\"clause\":\"\",\"partitions\":[{partition}],\"table\":[],\"version\":2}}")
+}
+
+/// A checkpoint that is read, written anew.
+fn read_again(alloc: Global, bytes: &str) -> Result<Vec<u8>, CheckpointFault> {
+    let node = read_checkpoint(alloc, bytes.as_bytes())?;
+    Ok(checkpoint_of(alloc, &node)?)
+}
+
+#[test]
+fn fresh_node(rt: HostRuntime) -> Result<(), Fail> {
+    let alloc = rt.alloc();
+    let bytes = checkpoint_of(alloc, &fresh(alloc)?)?;
+    assert_eq!(rt; bytes.len(), 157);
+    assert!(rt; bytes.as_slice() == FRESH.as_bytes());
+    let node = read_checkpoint(alloc, bytes.as_slice())?;
+    assert_eq!(rt; node.clause.as_str(), "PATTERN (A) DEFINE A AS p = 1");
+    assert_eq!(rt; node.table.as_slice().len(), 1);
+    assert_eq!(rt; node.partitions.as_slice().len(), 0);
+    Ok(())
+}
+
+#[test]
+fn version_2_there_and_back(rt: HostRuntime) -> Result<(), Fail> {
+    let again = read_again(rt.alloc(), SECOND)?;
+    assert!(rt; again.as_slice() == SECOND.as_bytes());
+    Ok(())
+}
+
+#[test]
+fn version_1_is_read(rt: HostRuntime) -> Result<(), Fail> {
+    let node = read_checkpoint(rt.alloc(), FIRST.as_bytes())?;
+    let [first, second] = node.partitions.as_slice() else {
+        return Err("two partitions".into());
+    };
+    assert_eq!(rt;
+        (first.at, first.close, first.covered, first.first),
+        (6, None, 5, 5)
+    );
+    assert_eq!(rt;
+        (first.given, first.here, first.matches, first.over),
+        (1, 0, 1, false)
+    );
+    assert_eq!(rt; first.rows.as_slice().len(), 2);
+    assert_eq!(rt; second.close, Some(1_099_511_627_776));
+    assert_eq!(rt;
+        (second.given, second.here),
+        (18_446_744_073_709_551_615, u64::MAX)
+    );
+    assert_eq!(rt; (second.over, second.rows.as_slice().len()), (true, 0));
+    assert!(rt; second.key.as_slice() == [Value::Null, Value::Int(-1)].as_slice());
+    Ok(())
+}
+
+#[test]
+fn version_1_is_written_as_2(rt: HostRuntime) -> Result<(), Fail> {
+    let alloc = rt.alloc();
+    let again = read_again(alloc, FIRST)?;
+    let want = SECOND.replace(
+        alloc,
+        "340282366920938463463374607431768211455",
+        "18446744073709551615",
+    )?;
+    let Some(object) = want.as_bytes().get(65..) else {
+        return Err("an object".into());
+    };
+    assert!(rt; again.as_slice() == seal(alloc, object)?.as_slice());
+    Ok(())
+}
+
+#[test]
+fn cut_short(rt: HostRuntime) -> Result<(), Fail> {
+    let alloc = rt.alloc();
+    for bytes in [FRESH.as_bytes(), SECOND.as_bytes()] {
+        for end in 0..bytes.len() {
+            let fault = fault_of(alloc, bytes.get(..end).unwrap_or(bytes))?;
+            assert_eq!(rt; fault, Some(CheckpointFault::Digest), "{end}");
+        }
+    }
+    Ok(())
+}
+
+#[test]
+fn digest_of_other_bytes(rt: HostRuntime) -> Result<(), Fail> {
+    let alloc = rt.alloc();
+    for (old, new) in [
+        ("3435687f", "3435687e"),
+        ("3435687f", "3435687F"),
+        ("3435687f", "343568.f"),
+        ("6442\n", "6442 "),
+        ("= 1\"", "= 2\""),
+        ("\"version\":2}", "\"version\":2} "),
+    ] {
+        let bytes = FRESH.replace(alloc, old, new)?;
+        let fault = fault_of(alloc, bytes.as_bytes())?;
+        assert_eq!(rt; fault, Some(CheckpointFault::Digest), "{new}");
+    }
+    Ok(())
+}
+
+#[test]
+fn first_fault_of_an_object(rt: HostRuntime) -> Result<(), Fail> {
+    let alloc = rt.alloc();
+    for (object, want) in [
+        ("", CheckpointFault::NotJson),
+        ("[]", CheckpointFault::NotJson),
+        ("{", CheckpointFault::NotJson),
+        ("{}", CheckpointFault::Version),
+        ("{\"version\":0}", CheckpointFault::Version),
+        ("{\"version\":3}", CheckpointFault::Version),
+        ("{\"version\":\"2\"}", CheckpointFault::Version),
+        ("{\"version\":2.0}", CheckpointFault::Version),
+        ("{\"version\":2}", CheckpointFault::BadField),
+        (
+            "{\"clause\":\"\",\"partitions\":[],\"version\":2}",
+            CheckpointFault::BadField,
+        ),
+        (
+            "{\"clause\":\"\",\"table\":[],\"version\":2}",
+            CheckpointFault::BadField,
+        ),
+        (
+            "{\"partitions\":[],\"table\":[],\"version\":2}",
+            CheckpointFault::BadField,
+        ),
+        (
+            "{\"clause\":null,\"partitions\":[],\"table\":[],\"version\":2}",
+            CheckpointFault::BadField,
+        ),
+        (
+            "{\"clause\":\"\",\"partitions\":{},\"table\":[],\"version\":2}",
+            CheckpointFault::BadField,
+        ),
+        (
+            "{\"clause\":\"\",\"partitions\":[],\"table\":[[\"P\",\"INT\"]],\"version\":2}",
+            CheckpointFault::BadField,
+        ),
+        (
+            "{\"clause\":\"\",\"partitions\":[],\"table\":[[\"P\"]],\"version\":2}",
+            CheckpointFault::BadField,
+        ),
+        (
+            "{\"clause\":\"\",\"partitions\":[],\"table\":[[\"P\",\"int\",1]],\"version\":2}",
+            CheckpointFault::BadField,
+        ),
+        (
+            "{\"clause\":\"\",\"partitions\":[],\"table\":[],\"version\":2,\"x\":1}",
+            CheckpointFault::BadField,
+        ),
+    ] {
+        assert_eq!(rt; fault_in(alloc, object)?, Some(want), "{object}");
+    }
+    let blanks = " {\"version\" : 1, \"table\" : [], \"partitions\" : [], \"clause\" : \"\" } ";
+    assert_eq!(rt; fault_in(alloc, blanks)?, None);
+    Ok(())
+}
+
+#[test]
+fn fields_of_a_partition(rt: HostRuntime) -> Result<(), Fail> {
+    let alloc = rt.alloc();
+    let whole = with_partition(alloc, PARTITION)?;
+    assert_eq!(rt; fault_in(alloc, whole.as_str())?, None);
+    for (old, new) in [
+        ("\"at\":1,", ""),
+        ("\"close\":null,", ""),
+        ("\"covered\":0,", ""),
+        ("\"first\":1,", ""),
+        ("\"given\":\"0\",", ""),
+        ("\"here\":0,", ""),
+        ("\"key\":[],", ""),
+        ("\"matches\":0,", ""),
+        ("\"over\":false,", ""),
+        (",\"rows\":[[1,[1]]]", ""),
+        ("\"at\":1", "\"at\":\"1\""),
+        ("\"close\":null", "\"close\":-1"),
+        ("\"covered\":0", "\"covered\":0.5"),
+        ("\"first\":1", "\"first\":null"),
+        ("\"given\":\"0\"", "\"given\":0"),
+        ("\"given\":\"0\"", "\"given\":\"00\""),
+        ("\"here\":0", "\"here\":18446744073709551616"),
+        ("\"key\":[]", "\"key\":[[]]"),
+        ("\"matches\":0", "\"matches\":true"),
+        ("\"over\":false", "\"over\":0"),
+        ("[[1,[1]]]", "[[1,[1]],[1,[1]]]"),
+        ("[[1,[1]]]", "[[2,[1]],[1,[1]]]"),
+        ("[[1,[1]]]", "[[1,[1],1]]"),
+        ("[[1,[1]]]", "[[\"1\",[1]]]"),
+        ("[[1,[1]]]", "[[1,[1.5]]]"),
+        ("\"at\":1", "\"at\":1,\"x\":1"),
+    ] {
+        let object = whole.replace(alloc, old, new)?;
+        let fault = fault_in(alloc, object.as_str())?;
+        assert_eq!(rt; fault, Some(CheckpointFault::BadField), "{new} for {old}");
+    }
+    let older = whole.replace(alloc, "\"version\":2", "\"version\":1")?;
+    assert_eq!(rt;
+        fault_in(alloc, older.as_str())?,
+        Some(CheckpointFault::BadField)
+    );
+    Ok(())
+}
+
+/// A stream of numbers that look random, by Knuth's multiplier.
+#[derive(Drop)]
+struct Chance {
+    state: u64,
+}
+
+impl Chance {
+    fn next(&mut self) -> u64 {
+        self.state = self.state.wrapping_mul(6_364_136_223_846_793_005);
+        self.state = self.state.wrapping_add(1_442_695_040_888_963_407);
+        self.state.wrapping_shr(33)
+    }
+
+    /// A number of any length.
+    fn number(&mut self) -> u64 {
+        let places = u32::try_from(self.next()).unwrap_or(0);
+        self.next();
+        self.state.wrapping_shr(places)
+    }
+
+    fn value(&mut self, alloc: Global) -> Result<Value, AllocError> {
+        match self.next() % 4 {
+            0 => Ok(Value::Null),
+            1 => Ok(Value::Int(i64::MIN)),
+            2 => Ok(Value::Int(i64::try_from(self.number()).unwrap_or(-1))),
+            _ => Ok(Value::Text(text(alloc, "\"\\\n\u{1f600}")?)),
+        }
+    }
+
+    fn values(&mut self, alloc: Global) -> Result<Vec<Value>, AllocError> {
+        let mut values = Vec::new(alloc);
+        for _ in 0..self.next() % 4 {
+            values.push(self.value(alloc)?)?;
+        }
+        Ok(values)
+    }
+
+    fn rows(&mut self, alloc: Global) -> Result<HeldRows, Fail> {
+        let mut rows = Vec::new(alloc);
+        let mut number = self.next();
+        for _ in 0..self.next() % 4 {
+            let cells = Row::new(alloc, self.values(alloc)?)?;
+            rows.push(HeldRow { number, cells })?;
+            number = number.saturating_add(1).saturating_add(self.next());
+        }
+        if !ascend(rows.as_slice()) {
+            return Err("the numbers ascend".into());
+        }
+        Ok(HeldRows::new(rows))
+    }
+
+    fn partition(&mut self, alloc: Global) -> Result<PartitionData, Fail> {
+        let count = self.number();
+        let rows = self.rows(alloc)?;
+        let key = Cells::new(self.values(alloc)?);
+        Ok(PartitionData {
+            at: self.number(),
+            close: if count % 2 == 0 { None } else { Some(count) },
+            covered: self.number(),
+            first: self.number(),
+            given: u128::from(self.number()).wrapping_mul(u128::from(self.number())),
+            here: self.number(),
+            key,
+            matches: self.number(),
+            over: self.next() % 2 == 0,
+            rows,
+        })
+    }
+
+    fn node(&mut self, alloc: Global) -> Result<NodeData, Fail> {
+        let mut partitions = Vec::new(alloc);
+        for _ in 0..self.next() % 4 {
+            partitions.push(self.partition(alloc)?)?;
+        }
+        Ok(NodeData {
+            clause: text(alloc, "A")?,
+            table: Columns::new(Vec::new(alloc)),
+            partitions: Partitions::new(partitions),
+        })
+    }
+}
+
+#[test]
+fn random_nodes_there_and_back(rt: HostRuntime) -> Result<(), Fail> {
+    let alloc = rt.alloc();
+    let mut chance = Chance { state: 1 };
+    for _ in 0..1000 {
+        let bytes = checkpoint_of(alloc, &chance.node(alloc)?)?;
+        let again = read_checkpoint(alloc, bytes.as_slice())?;
+        assert!(rt; checkpoint_of(alloc, &again)? == bytes);
+    }
+    Ok(())
+}
+
+// A call that is refused memory, made again, gives what it gives with ample memory.
+
+#[test]
+fn refused_checkpoint(rt: HostRuntime) -> Result<(), Fail> {
+    let alloc = rt.alloc();
+    let bytes = SECOND.as_bytes();
+    let node = read_checkpoint(alloc, bytes).or_else(|_| read_checkpoint(alloc, bytes))?;
+    let again = checkpoint_of(alloc, &node).or_else(|_| checkpoint_of(alloc, &node))?;
+    assert!(rt; again.as_slice() == bytes);
+    Ok(())
+}

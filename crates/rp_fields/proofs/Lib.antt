@@ -1,0 +1,3 @@
+pub mod Steps
+pub mod Parsed
+pub mod Reading

@@ -1,0 +1,50 @@
+-- The known answer as it was before a decided side decided: AND and OR were open where either side was. It stands for the law alone that it begins the present one.
+use Rattle.std.specs.Prelude.{ℕ, zero, suc, ◌-◌, List, [], length, nat_le, Option, Some, None, slice_get, if◌then◌else◌}
+use Rattle.rp_pattern.specs.declared.word.Label.{Label}
+use Rattle.rp_pattern.specs.declared.word.Seen.{Seen}
+use Rattle.rp_pattern.specs.declared.word.Seen.TheVariants.{True, NotTrue}
+use Rattle.rp_pattern.specs.PatternForm.{form_of}
+use Rattle.rp_pattern.specs.Words.{words}
+use Rattle.rp_search.specs.Found.{Found, found}
+use Rattle.rp_check.specs.declared.plan.Condition.{Condition}
+use Rattle.rp_check.specs.declared.query.QueryData.{QueryData}
+use Rattle.rp_check.specs.Definitions.{definition_of}
+use Rattle.rp_eval.specs.Early.{early_judged}
+use Rattle.rp_eval.specs.ValueOf.{Setting, seen_as}
+use Rattle.rp_tester.specs.Tested.{Tested, last_row}
+use Rattle.rp_known.specs.declared.item.Item.{Item}
+use Rattle.rp_known.specs.declared.place.Place.{Place}
+use Rattle.rp_known.specs.Known.{Known, count}
+use Rattle.rp_known.specs.Plans.{tested_by}
+use Rattle.rp_known.specs.Walk.{Leg, at_last, searched, and_then, first_place, known}
+use Rattle.rp_known.specs.WalkLaws.{IsPrefixOf}
+
+-- a variable without a definition admits each row
+abbrev pub early_seen_by : Setting → Option Condition → Seen
+early_seen_by s (Some c) = seen_as (early_judged s c)
+early_seen_by s None = True
+
+abbrev pub early_seen_at : Tested → Setting → Option Label → Seen
+early_seen_at t s None = NotTrue
+early_seen_at t s (Some l) = early_seen_by s (definition_of t.query.plan l.var)
+
+abbrev pub early_outcome : Tested → ℕ → List Label → Seen
+early_outcome t start labels = early_seen_at t (last_row t start labels) (slice_get labels (length labels - 1))
+
+-- what the search from a row found
+abbrev pub early_found : QueryData → Known → ℕ → Found
+early_found q p start = found (early_outcome (tested_by q p) start) (words (count p) p.end (form_of q.pattern) start)
+
+abbrev pub early_leg : QueryData → Known → Place → Leg
+early_leg q p place = if nat_le place.start (count p) then searched q p place (early_found q p place.start) else at_last p.end
+
+abbrev pub early_walk : ℕ → QueryData → Known → Place → List Item
+early_walk zero q p place = []
+early_walk (suc legs) q p place = and_then (early_leg q p place) (early_walk legs q p)
+
+abbrev pub early_known : QueryData → Known → List Item
+early_known q p = early_walk (suc (suc (count p) - first_place.start)) q p first_place
+
+-- What was known then begins what is known now of the same rows.
+abbrev pub EarlierBegins : Type 0
+EarlierBegins = (q : QueryData) (p : Known) → IsPrefixOf (early_known q p) (known q p)

@@ -1,0 +1,5 @@
+mod ToCome
+mod Writes
+mod Items
+mod Parts
+mod Told

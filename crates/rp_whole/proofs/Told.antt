@@ -1,0 +1,80 @@
+-- What a fault of reading is told as, and what it says.
+use Rattle.std.proofs.Common.{◌≡◌, ℕ, List, Option, Some, None, IfErr, IfSome, OnErr, OnOk, Result, Ok, Err, refl, inl, inr}
+use Rattle.std.specs.List.{flat_map}
+use Rattle.std.specs.Io.KnownBytes.{Appends}
+use Rattle.rp_value.specs.declared.value.Value.{Value}
+use Rattle.rp_check.specs.declared.query.QueryData.{QueryData}
+use Rattle.rp_lines.specs.Devices.{AppendsFront}
+use Rattle.rp_source.specs.CsvRows.{AreRowsOf}
+use Rattle.rp_source.specs.Devices.{IsInputFault, TellsFailure}
+use Rattle.rp_source.specs.Numbered.{AreOrderedParts}
+use Rattle.rp_source.specs.Partitions.{Part}
+use Rattle.rp_source.specs.declared.rows.CsvFault.{CsvFault}
+use Rattle.rp_source.specs.declared.rows.CsvFault.TheVariants.{Header, Record, Field, Read, Turns, OutOfMemory}
+use Rattle.rp_whole.specs.AnswerLines.{AreLinesOf, WritesFront, WritesLines, part_lines}
+use Rattle.rp_whole.specs.Faults.{IsOfOutput, LeavesFront, TellsRead, TellsWrite, told_csv}
+use Rattle.rp_whole.specs.declared.fault.WholeFault.{WholeFault}
+use Rattle.rp_whole.specs.declared.fault.WholeFault.TheVariants.{Csv, Write, OutOfMemory as WholeOutOfMemory}
+
+module _ (q : QueryData) (input old : Option (List ℕ)) where
+  -- a fault of the input, of which nothing was written
+  pub told_front : (why : CsvFault) → IfSome input (λ text. IsInputFault q.table text why) → LeavesFront q input old old (told_csv why)
+  told_front Header is = (refl, is)
+  told_front (Record n) is = (refl, is)
+  told_front (Field n) is = (refl, is)
+  told_front Read is = (refl, is)
+  told_front Turns is = (refl, is)
+  told_front OutOfMemory is = inl refl
+
+  -- a fault of the output, after a front of the lines
+  pub wrote_front : {Y : Type 0} (r : Result Y WholeFault) (new : Option (List ℕ)) → IfErr r IsOfOutput → OnErr r (WritesFront q input old new) → IfErr r (LeavesFront q input old new)
+  wrote_front (Ok y) new of_output front = tt
+  wrote_front (Err (Csv why)) new of_output front = absurd of_output
+  wrote_front (Err Write) new of_output front = front
+  wrote_front (Err WholeOutOfMemory) new of_output front = inr front
+
+pub told_read : (X Y : Type 0) (why : CsvFault) (old new : ℕ) → TellsFailure {X = X} (Err why) old new → TellsRead {X = Y} (Err (told_csv why)) old new
+told_read X Y Header old new h = h
+told_read X Y (Record n) old new h = h
+told_read X Y (Field n) old new h = h
+told_read X Y Read old new h = h
+told_read X Y Turns old new h = h
+told_read X Y OutOfMemory old new h = h
+
+pub output_read : {Y : Type 0} (r : Result Y WholeFault) (old new : ℕ) → IfErr r IsOfOutput → new ≡ old → TellsRead r old new
+output_read (Ok y) old new of_output h = h
+output_read (Err (Csv why)) old new of_output h = absurd of_output
+output_read (Err Write) old new of_output h = h
+output_read (Err WholeOutOfMemory) old new of_output h = h
+
+pub told_write : (Y : Type 0) (why : CsvFault) (old : ℕ) → TellsWrite {X = Y} (Err (told_csv why)) old old
+told_write Y Header old = refl
+told_write Y (Record n) old = refl
+told_write Y (Field n) old = refl
+told_write Y Read old = refl
+told_write Y Turns old = refl
+told_write Y OutOfMemory old = refl
+
+pub told_turns : (why : CsvFault) → told_csv why ≡ Csv Turns → why ≡ Turns
+told_turns Header is = cc
+told_turns (Record n) is = cc
+told_turns (Field n) is = cc
+told_turns Read is = cc
+told_turns Turns is = refl
+told_turns OutOfMemory is = cc
+
+module _ (q : QueryData) (rows : List (List Value)) (parts : List Part) (ordered : AreOrderedParts q.partition.items q.order.items rows parts) where
+  lines : (text : List ℕ) → AreRowsOf q.table text rows → AreLinesOf q text (flat_map (part_lines q) parts)
+  lines text read = record { rows = rows; read = read; parts = parts; ordered = ordered; are = refl }
+
+  pub wrote_lines : {Y : Type 0} (r : Result Y WholeFault) (input old new : Option (List ℕ)) → IfSome input (λ text. AreRowsOf q.table text rows)
+      → OnOk r (Appends old new (flat_map (part_lines q) parts)) → OnOk r (WritesLines q input old new)
+  wrote_lines (Err fault) input old new read wrote = tt
+  wrote_lines (Ok y) None old new read wrote = tt
+  wrote_lines (Ok y) (Some text) old new read wrote = (flat_map (part_lines q) parts, lines text read, wrote)
+
+  pub front_of_lines : {Y : Type 0} (r : Result Y WholeFault) (input old new : Option (List ℕ)) → IfSome input (λ text. AreRowsOf q.table text rows)
+      → OnErr r (AppendsFront old new (flat_map (part_lines q) parts)) → OnErr r (WritesFront q input old new)
+  front_of_lines (Ok y) input old new read wrote = tt
+  front_of_lines (Err fault) None old new read wrote = tt
+  front_of_lines (Err fault) (Some text) old new read wrote = (flat_map (part_lines q) parts, lines text read, wrote)

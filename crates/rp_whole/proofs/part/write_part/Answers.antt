@@ -1,0 +1,46 @@
+use Rattle.std.proofs.Common.{rules, ◌≡◌, ◌∙◌, refl, sym, ap, subst}
+use Rattle.rp_check.specs.QueryView.{data_of}
+use Rattle.rp_lines.proofs.Cutting.{on_err_from}
+use Rattle.rp_walker.specs.Records.{Fits, first_state}
+use Rattle.rp_walker.specs.Walking.{record_of}
+use Rattle.rp_whole.specs.AnswerLines.{closed}
+use Rattle.rp_whole.specs.Writing.{part_of}
+use Rattle.rp_whole.proofs.Items.{none_written, written_all, written_front, written_more}
+use Rattle.rp_whole.proofs.part.write_part.Goals as goal
+
+pub loop-walker-init : goal.loop-walker-init
+loop-walker-init g c =
+    let q = data_of c.args.query.now in
+    let p = closed c.args.part.now.rows.items in
+    let first : record_of c.new-walker.result ≡ first_state = c.new-walker.ensures.record in
+    record {
+      stands = c.new-walker.ensures.stands q p;
+      fits = subst (λ r. Fits q r p) (sym first) (c.law_records.ensures.first q p);
+      writes = none_written q (part_of c.args.part.now) first_state (record_of c.new-walker.result) (g.W.Outlet.contents c.args.writer.now) c.args.gathered.now.text.items (ap (λ r. r.given) first);
+      failures = refl;
+    }
+
+pub returns-in_err-write_next-clause-front : goal.returns-in_err-write_next-clause-front
+returns-in_err-write_next-clause-front g c =
+    on_err_from _ (written_front (data_of c.args.query.now) (part_of c.args.part.now) first_state (record_of c.loop-walker.walker) (g.W.Outlet.contents c.args.writer.now) (g.W.Outlet.contents c.loop-walker.writer) (g.W.Outlet.contents c.write_next.new.writer)
+    c.args.gathered.now.text.items c.loop-walker.gathered.text.items c.loop-walker.invariant.writes c.in_err-write_next.ensures.front)
+
+pub loop-walker-preserved : goal.loop-walker-preserved
+loop-walker-preserved g c = record {
+  stands = c.in_ok-write_next.ensures.stands;
+  fits = c.in_ok-write_next.ensures.fits;
+  writes = written_more (data_of c.args.query.now) (part_of c.args.part.now) first_state (record_of c.loop-walker.walker) (record_of c.write_next.new.walker)
+      (g.W.Outlet.contents c.args.writer.now) (g.W.Outlet.contents c.loop-walker.writer) (g.W.Outlet.contents c.write_next.new.writer)
+      c.args.gathered.now.text.items c.loop-walker.gathered.text.items c.write_next.new.gathered.text.items c.loop-walker.invariant.writes c.in_ok-write_next.ensures.written;
+  failures = c.in_ok-write_next.ensures.failures ∙ c.loop-walker.invariant.failures;
+}
+
+pub returns-clause-written : goal.returns-clause-written
+returns-clause-written g c =
+    let q = data_of c.args.query.now in
+    let last = record_of c.write_next.new.walker in
+    let all = written_more q (part_of c.args.part.now) first_state (record_of c.loop-walker.walker) last
+    (g.W.Outlet.contents c.args.writer.now) (g.W.Outlet.contents c.loop-walker.writer) (g.W.Outlet.contents c.write_next.new.writer)
+    c.args.gathered.now.text.items c.loop-walker.gathered.text.items c.write_next.new.gathered.text.items c.loop-walker.invariant.writes c.in_ok-write_next.ensures.written in
+    written_all q (part_of c.args.part.now) first_state last (g.W.Outlet.contents c.args.writer.now) (g.W.Outlet.contents c.write_next.new.writer)
+    c.args.gathered.now.text.items c.write_next.new.gathered.text.items all (c.in_ok-write_next.ensures.all (search rules))

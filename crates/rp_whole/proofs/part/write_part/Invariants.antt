@@ -1,0 +1,20 @@
+use Rattle.std.proofs.Common.{◌≡◌}
+use Rattle.rp_check.specs.QueryView.{data_of}
+use Rattle.rp_walker.specs.Polls.{left_in}
+use Rattle.rp_walker.specs.Records.{Fits, first_state}
+use Rattle.rp_walker.specs.Walking.{Stands, record_of}
+use Rattle.rp_whole.specs.AnswerLines.{closed}
+use Rattle.rp_whole.specs.Writing.{WritesOn, part_of}
+use Rattle.rp_whole.proofs.part.write_part.Given as goal
+
+abbrev pub invariant-loop-walker : goal.invariant-loop-walker
+invariant-loop-walker g l = record {
+  stands : Stands (data_of l.query) (closed l.part.rows.items) l.walker;
+  fits : Fits (data_of l.query) (record_of l.walker) (closed l.part.rows.items);
+  writes : WritesOn (data_of l.query) (part_of l.part) first_state (record_of l.walker)
+      (g.W.Outlet.contents l.fn.writer) l.fn.gathered.text.items (g.W.Outlet.contents l.writer) l.gathered.text.items;
+  failures : g.W.Outlet.failures l.writer ≡ g.W.Outlet.failures l.fn.writer;
+}
+
+abbrev pub decreases-loop-walker : goal.decreases-loop-walker
+decreases-loop-walker g l = left_in (data_of l.query) (closed l.part.rows.items) l.walker

@@ -1,0 +1,42 @@
+-- What a fault of a run says of the input and of the devices.
+use Rattle.std.specs.Prelude.{◌≡◌, ◌⊎◌, ⊤, ℕ, List, Option, IfSome, Result, Ok, Err}
+use Rattle.rp_check.specs.declared.query.QueryData.{QueryData}
+use Rattle.rp_lines.specs.Counts.{raised}
+use Rattle.rp_source.specs.Devices.{IsInputFault}
+use Rattle.rp_source.specs.declared.rows.CsvFault.{CsvFault}
+use Rattle.rp_source.specs.declared.rows.CsvFault.TheVariants.{Header, Record, Field, Read, Turns, OutOfMemory}
+use Rattle.rp_whole.specs.AnswerLines.{WritesFront}
+use Rattle.rp_whole.specs.declared.fault.WholeFault.{WholeFault}
+use Rattle.rp_whole.specs.declared.fault.WholeFault.TheVariants.{Csv, Write, OutOfMemory as WholeOutOfMemory}
+
+-- the fault of a run for one of its input
+abbrev pub told_csv : CsvFault → WholeFault
+told_csv Header = Csv Header
+told_csv (Record n) = Csv (Record n)
+told_csv (Field n) = Csv (Field n)
+told_csv Read = Csv Read
+told_csv Turns = Csv Turns
+told_csv OutOfMemory = WholeOutOfMemory
+
+-- Of a refused input nothing is written. A write that fails leaves a front of the lines, and want of memory nothing or a
+-- front of them.
+abbrev pub LeavesFront : QueryData → Option (List ℕ) → Option (List ℕ) → Option (List ℕ) → WholeFault → Type 0
+LeavesFront q input old new (Csv why) = (new ≡ old) × IfSome input (λ text. IsInputFault q.table text why)
+LeavesFront q input old new Write = WritesFront q input old new
+LeavesFront q input old new WholeOutOfMemory = (new ≡ old) ⊎ WritesFront q input old new
+
+-- One more read has failed where that is the fault, and else none.
+abbrev pub TellsRead : {X : Type 0} → Result X WholeFault → ℕ → ℕ → Type 0
+TellsRead (Err (Csv Read)) old new = new ≡ raised old
+TellsRead _ old new = new ≡ old
+
+-- One more write has failed where that is the fault, and else none.
+abbrev pub TellsWrite : {X : Type 0} → Result X WholeFault → ℕ → ℕ → Type 0
+TellsWrite (Err Write) old new = new ≡ raised old
+TellsWrite _ old new = new ≡ old
+
+-- a fault that says nothing of the input
+abbrev pub IsOfOutput : WholeFault → Type 0
+IsOfOutput (Csv why) = ⊥
+IsOfOutput Write = ⊤
+IsOfOutput WholeOutOfMemory = ⊤

@@ -1,0 +1,3 @@
+pub mod AnswerLines
+pub mod Faults
+pub mod Writing

@@ -1,0 +1,79 @@
+//! From a CSV input to the lines of its answers.
+ghost use Rattle.std.specs.Prelude.{◌≡◌, ℕ, ◌<◌, true, IfErr, OnErr, OnOk};
+ghost use Rattle.std.specs.Io.KnownBytes.{Appends};
+ghost use Rattle.std.specs.List.{flat_map};
+ghost use Rattle.rp_check.specs.QueryView.{data_of};
+ghost use Rattle.rp_lines.specs.Devices.{AppendsFront, after_calls};
+ghost use Rattle.rp_source.specs.Gathering.{parts_of};
+ghost use Rattle.rp_source.specs.declared.rows.CsvFault.TheVariants.{Turns};
+ghost use Rattle.rp_whole.specs.AnswerLines.{WritesLines, part_lines};
+ghost use Rattle.rp_whole.specs.Faults.{IsOfOutput, LeavesFront, TellsRead, TellsWrite};
+
+use crate::closed::Part;
+use crate::fault::WholeFault;
+use crate::gathered::Gathered;
+use crate::part::write_part;
+use rp_check::Query;
+use rp_lines::{Intake, Outlet, write_all};
+use rp_search::Steps;
+use rp_source::{ordered_parts, read_rows};
+use rp_value::{Cells, Row};
+use std::alloc::Global;
+use std::marker::Brand;
+use std::sync::ledger::{Blank, Ledger};
+
+/// Writes the answers of a CSV input: of each partition, by first appearance, the lines of the items of its answer, with
+/// their places from 1.
+///
+/// All is read before the first line is written, by at most `reads` calls of the reader. Bytes are written in blocks, so
+/// after a fault of the writer or of memory some lines may be missing.
+pub fn run_whole<R: Intake, W: Outlet>(
+    alloc: Global,
+    query: Query,
+    reader: &mut R,
+    writer: &mut W,
+    reads: u64,
+) -> Result<(), WholeFault>
+    ensures written { OnOk result
+        (WritesLines (data_of query) (R.remaining reader.old) (W.contents writer.old) (W.contents writer.new)) }
+    ensures front { IfErr result
+        (LeavesFront (data_of query) (R.remaining reader.old) (W.contents writer.old) (W.contents writer.new)) }
+    ensures end { OnOk result (R.ended reader.new ≡ true) }
+    ensures read { TellsRead result (R.failures reader.old) (R.failures reader.new) }
+    ensures write { TellsWrite result (W.failures writer.old) (W.failures writer.new) }
+    ensures turns { result ≡ Err (WholeFault.Csv Turns) → R.calls reader.new ≡ after_calls reads (R.calls reader.old) }
+    ensures due { result ≡ Err (WholeFault.Csv Turns) → R.ended reader.new ≡ R.ended reader.old }
+    ensures within { (left : ℕ) × (after_calls left (R.calls reader.new) ≡ after_calls reads (R.calls reader.old)) }
+{
+    let rows = read_rows(alloc, reader, query.table(), reads)?;
+    let parts = ordered_parts(alloc, &query, rows)?;
+    write_parts::<W, Brand>(alloc, &query, parts, writer, Blank::new(1))
+}
+
+/// Writes the lines of partitions, one after another. Turns aren't counted.
+fn write_parts<W: Outlet, L: Ledger>(
+    alloc: Global,
+    query: &Query,
+    parts: Vec<(Cells, Vec<Row>)>,
+    writer: &mut W,
+    blank: Blank,
+) -> Result<(), WholeFault>
+    requires name { blank.name ≡ L.name }
+    requires parts { blank.parts ≡ L.parts }
+    requires counts { 0 < blank.parts }
+    ensures written { OnOk result (Appends (W.contents writer.old) (W.contents writer.new)
+        (flat_map (part_lines (data_of query.now)) (parts_of parts.items))) }
+    ensures front { OnErr result (AppendsFront (W.contents writer.old) (W.contents writer.new)
+        (flat_map (part_lines (data_of query.now)) (parts_of parts.items))) }
+    ensures fault { IfErr result IsOfOutput }
+    ensures failures { TellsWrite result (W.failures writer.old) (W.failures writer.new) }
+{
+    let mut steps = Steps::<L>::new(blank);
+    let mut gathered = Gathered::new(alloc);
+    for (key, rows) in parts {
+        let part = Part { key, rows };
+        write_part(alloc, query, &part, &mut gathered, writer, &mut steps)?;
+    }
+    write_all(writer, gathered.text.as_slice())?;
+    Ok(())
+}

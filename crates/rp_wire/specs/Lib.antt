@@ -1,0 +1,3 @@
+pub mod RefusalTexts
+pub mod Replies
+pub mod Requests

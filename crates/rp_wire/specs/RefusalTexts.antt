@@ -1,0 +1,22 @@
+-- The refusal of a text.
+use Rattle.std.specs.Prelude.{ℕ, Bool, List, [], ◌∷◌, nat_eq, take, drop, Option, option_map, codes, if◌then◌else◌}
+use Rattle.std.specs.Cmp.Lexicographic.{pointwise}
+use Rattle.rp_codec.specs.Refusals.{refusal_word}
+use Rattle.rp_codec.specs.declared.refusal.Field.TheVariants as f
+use Rattle.rp_codec.specs.declared.refusal.Refusal.{Refusal}
+use Rattle.rp_codec.specs.declared.refusal.Refusal.TheVariants.{TooLong, NotJson, BadField, BadRowWidth, BadRowKind, NumberRange, PastClose, Conflict, TooFar, CloseDiffers, CloseBelow, UnknownPartition}
+use Rattle.rp_fields.specs.Digits.{short_digits_of}
+use Rattle.rp_fields.specs.Forms.{named}
+
+-- all that name no column
+abbrev pub plain_refusals : List Refusal
+plain_refusals =
+    TooLong ∷ NotJson ∷ BadField f.Row ∷ BadField f.Cells ∷ BadField f.Close ∷ BadField f.Key ∷ BadField f.Poll ∷ BadField f.Budget ∷ BadField f.Other
+    ∷ BadRowWidth ∷ NumberRange ∷ PastClose ∷ Conflict ∷ TooFar ∷ CloseDiffers ∷ CloseBelow ∷ UnknownPartition ∷ []
+
+-- the text begins so
+abbrev pub begins_with_kind : List ℕ → Bool
+begins_with_kind text = pointwise nat_eq (take 12 text) (codes "BadRow kind ")
+
+abbrev pub refusal_of : List ℕ → Option Refusal
+refusal_of text = if begins_with_kind text then option_map BadRowKind (short_digits_of (drop 12 text)) else named refusal_word plain_refusals text

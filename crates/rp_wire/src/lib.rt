@@ -1,0 +1,29 @@
+//! Lines between a source and a node: what is asked and what is answered, each as the text of a line and back.
+//!
+//! A line is one object of JSON. Written lines are compact, their keys in ascending byte order; read are spaces and other
+//! orders too:
+//!
+//!     {"cells":["x",1,10],"row":1}        {"taken":"new"}
+//!     {"close":1,"key":["x"]}             {"taken":"new"}
+//!     {"budget":50,"poll":["x"]}          {"end":true,"key":["x"],"place":"1"}
+//!
+//! What stands on a line is said in `specs/Requests` and `specs/Replies`.
+#![tactic(auto)]
+
+mod fault;
+mod read_refusal;
+mod read_reply;
+mod read_request;
+mod request;
+#[cfg(test)]
+mod tests;
+mod write_reply;
+mod write_request;
+
+pub use fault::{LineFault, MAX_LINE_LEN};
+pub use read_reply::reply_of;
+pub use read_request::request_of;
+pub use request::Request;
+pub use rp_codec::{Field, Item, Packet, Refusal, Reply, SkipFault, Taken};
+pub use write_reply::reply_line;
+pub use write_request::request_line;
