@@ -105,7 +105,6 @@ fn add_other(
 
 /// The columns that neither the partition nor the order has.
 fn add_others(
-    alloc: Global,
     output: &mut Vec<Text>,
     partition: &[Name],
     order: &[Order],
@@ -140,7 +139,7 @@ pub(crate) fn output_names(
     }
     add_order(&mut output, order)?;
     add_measures(&mut output, measures)?;
-    add_others(alloc, &mut output, partition, order, columns)?;
+    add_others(&mut output, partition, order, columns)?;
     Ok(output)
 }
 
