@@ -21,7 +21,7 @@ use Rattle.rp_pattern.specs.Turns.{turns, turns_after, chain_turns, within}
 use Rattle.rp_pattern.specs.WordLaws.{IsLater}
 use Rattle.rp_pattern.specs.Continuations.{links_from, reached_parts, tail_links, links_parts, tail_parts, continuation_parts, later_parts, chain_words, chain_left, choice_words, stack_words, stack_left, rises, pushed}
 use Rattle.rp_pattern.specs.Splits.{StandsFor, option_words, option_turns, Splits, TakesRow, Waits}
-use Rattle.rp_pattern.specs.Choices.{start_of, entered, whole, whole_turns, whole_from, whole_turns_from, remaining, turns_left, below, turns_left_below, after, turns_left_after, first_later, OfFirst, HasTop, AtRow, AreFirstOf, AreStrictlyFirstOf, IsSamePattern, IsSameWhole, IsSplit, IsMappedRow, IsFullWord, IsOpenWord, IsNothing}
+use Rattle.rp_pattern.specs.Choices.{start_of, entered, whole, whole_turns, whole_from, whole_turns_from, remaining, turns_left, below, turns_left_below, after, turns_left_after, first_later, OfFirst, HasTop, AtRow, AreFirstOf, AreStrictlyFirstOf, IsSamePattern, IsSameWhole, IsSameRemaining, IsSplit, IsMappedRow, IsFullWord, IsOpenWord, IsNothing}
 use Rattle.rp_pattern.proofs.Lists.{map-map}
 use Rattle.rp_pattern.proofs.Algebra.{append_nil, concatenation_nothing_last, map_same, preceded_twice, map_preceded_nothing}
 
@@ -179,6 +179,13 @@ module _ (old new : Choices) (s : ℕ) (ls : List Label) (t : Choice) (cs : List
   all_cut : (n' : ℕ) (e' : End) → stack_words n' e' s ls (t ∷ cs) ≡ stack_words n' e' s (take t.depth ls) (t ∷ cs)
   all_cut n' e' = same_labels n' e' s t.depth ls (take t.depth ls) (t ∷ cs) deep (omega (arith, cut_long)) cut_same (rises_on t.depth t cs (omega arith) lower)
 
+  -- the choice stays on top, with the labels cut to those before it
+  same_cut : Stack new s (take t.depth ls) (t ∷ cs) → IsSameRemaining old new n e
+  same_cut m = record {
+    words = λ n' e' later. remaining_is new s (take t.depth ls) (t ∷ cs) m n' e' ∙ sym (all_cut n' e') ∙ sym (remaining_is old s ls (t ∷ cs) k n' e');
+    turns = λ n' e' later. left_is new s (take t.depth ls) (t ∷ cs) m n' e' ∙ sym (left_is old s ls (t ∷ cs) k n' e');
+  }
+
   pub is_full : Stack new s (take t.depth ls) (t ∷ cs) → ((n' : ℕ) (e' : End) → chain_words (continuation_parts n' e' t.continuation) (s + t.depth) ≡ Full [] ∷ []) → IsFullWord old new n e
   is_full m w =
       let front : entered new ≡ take t.depth ls = entered_is new s (take t.depth ls) (t ∷ cs) m in
@@ -190,9 +197,8 @@ module _ (old new : Choices) (s : ℕ) (ls : List Label) (t : Choice) (cs : List
       record {
         cut = (t.depth, front ∙ ap (take t.depth) (sym (entered_is old s ls (t ∷ cs) k)));
         has_top = has_top new s (take t.depth ls) t cs m;
-        was = λ n' e' later. remaining_is old s ls (t ∷ cs) k n' e' ∙ now n' e';
-        now = λ n' e' later. remaining_is new s (take t.depth ls) (t ∷ cs) m n' e' ∙ sym (all_cut n' e') ∙ now n' e';
-        same_left = λ n' e' later. left_is new s (take t.depth ls) (t ∷ cs) m n' e' ∙ sym (left_is old s ls (t ∷ cs) k n' e');
+        same = same_cut m;
+        first = λ n' e' later. remaining_is new s (take t.depth ls) (t ∷ cs) m n' e' ∙ sym (all_cut n' e') ∙ now n' e';
         less_below = λ n' e' later. omega (arith, left_is new s (take t.depth ls) (t ∷ cs) m n' e', below_left_is new s (take t.depth ls) (t ∷ cs) m n' e', ap length (w n' e'));
       }
 
@@ -204,12 +210,11 @@ module _ (old new : Choices) (s : ℕ) (ls : List Label) (t : Choice) (cs : List
         end = w.end;
         cut = (t.depth, front ∙ ap (take t.depth) (sym (entered_is old s ls (t ∷ cs) k)));
         has_top = has_top new s (take t.depth ls) t cs m;
-        same = λ n' e' later. remaining_is new s (take t.depth ls) (t ∷ cs) m n' e' ∙ sym (all_cut n' e') ∙ sym (remaining_is old s ls (t ∷ cs) k n' e');
-        was = remaining_is old s ls (t ∷ cs) k n e
+        same = same_cut m;
+        first = remaining_is new s (take t.depth ls) (t ∷ cs) m n e ∙ sym (all_cut n e)
             ∙ ap (λ z. map (preceded (take t.depth ls)) z ++ stack_words n e s ls cs) w.words
             ∙ ap (λ z. Open z ∷ stack_words n e s ls cs) word
             ∙ ap (λ z. Open (entered new) ∷ z) (below_cut n e ∙ sym (below_is new s (take t.depth ls) (t ∷ cs) m n e));
-        same_left = λ n' e' later. left_is new s (take t.depth ls) (t ∷ cs) m n' e' ∙ sym (left_is old s ls (t ∷ cs) k n' e');
         less_below = λ n' e' later. omega (arith, left_is new s (take t.depth ls) (t ∷ cs) m n' e', below_left_is new s (take t.depth ls) (t ∷ cs) m n' e', w.turns n' e');
       }
 
@@ -260,16 +265,18 @@ module _ (old new : Choices) (s : ℕ) (ls : List Label) (t : Choice) (cs : List
       let turns : (n' : ℕ) (e' : End) → IsLater n e n' e' → chain_turns (continuation_parts n' e' t.continuation) i ≡ 1 + chain_turns (later_parts n' e' t.continuation) (s + length ms) = λ n' e' more.
       w.turns n' e' more.0 ∙ ap (λ ps. 1 + chain_turns ps (i + 1)) (later_is n' e' t.continuation) ∙ ap (λ j. 1 + chain_turns (later_parts n' e' t.continuation) j) at in
       record {
-        depth = t.depth;
-        label = l;
-        enters = entered_is new s ms (t ∷ cs) m ∙ ap (λ z. take t.depth z ++ l ∷ []) (sym (entered_is old s ls (t ∷ cs) k));
+        enters = record { depth = t.depth; label = l; is = entered_is new s ms (t ∷ cs) m ∙ ap (λ z. take t.depth z ++ l ∷ []) (sym (entered_is old s ls (t ∷ cs) k)) };
         known = omega (arith, start_is new s ms (t ∷ cs) m, ap length (entered_is new s ms (t ∷ cs) m), long, w.known);
         at_row = at_row new s ms t cs m (sym long);
         has_top = has_top new s ms t cs m;
-        was = λ n' e' more. remaining_is old s ls (t ∷ cs) k n' e' ∙ words n' e' more;
-        now = λ n' e' more. remaining_is new s ms (t ∷ cs) m n' e' ∙ sym (all_same n' e') ∙ words n' e' more;
-        same_left = λ n' e' more. left_is new s ms (t ∷ cs) m n' e' ∙ sym (left_is old s ls (t ∷ cs) k n' e');
-        parts_left = λ n' e' more. omega (arith, left_is new s ms (t ∷ cs) m n' e', after_left_is new s ms (t ∷ cs) m n' e', below_left_is new s ms (t ∷ cs) m n' e', count n' e' more, turns n' e' more);
+        same = record {
+          words = λ n' e' more. remaining_is new s ms (t ∷ cs) m n' e' ∙ sym (all_same n' e') ∙ sym (remaining_is old s ls (t ∷ cs) k n' e');
+          turns = λ n' e' more. left_is new s ms (t ∷ cs) m n' e' ∙ sym (left_is old s ls (t ∷ cs) k n' e');
+        };
+        divides = record {
+          words = λ n' e' more. remaining_is new s ms (t ∷ cs) m n' e' ∙ sym (all_same n' e') ∙ words n' e' more;
+          turns = λ n' e' more. omega (arith, left_is new s ms (t ∷ cs) m n' e', after_left_is new s ms (t ∷ cs) m n' e', below_left_is new s ms (t ∷ cs) m n' e', count n' e' more, turns n' e' more);
+        };
       }
 
 pub take-all : (ls : List Label) → take (length ls) ls ≡ ls
@@ -279,9 +286,11 @@ take-all (l ∷ ls) = ap (λ z. l ∷ z) (take-all ls)
 pub is_nothing : (old new : Choices) (s : ℕ) (ls : List Label) (n : ℕ) (e : End) → Stack old s ls [] → Stack new s ls [] → IsNothing old new n e
 is_nothing old new s ls n e k m = record {
   cut = (length ls, entered_is new s ls [] m ∙ sym (take-all ls) ∙ ap (take (length ls)) (sym (entered_is old s ls [] k)));
-  was = λ n' e' later. remaining_is old s ls [] k n' e';
-  now = λ n' e' later. remaining_is new s ls [] m n' e';
-  less = λ n' e' later. omega (arith, left_is new s ls [] m n' e', left_is old s ls [] k n' e');
+  same = record {
+    words = λ n' e' later. remaining_is new s ls [] m n' e' ∙ sym (remaining_is old s ls [] k n' e');
+    turns = λ n' e' later. left_is new s ls [] m n' e' ∙ sym (left_is old s ls [] k n' e');
+  };
+  none = λ n' e' later. remaining_is new s ls [] m n' e';
 }
 
 pub same_pattern : (old new : Choices) → new.origin ≡ old.origin → IsSamePattern old new

@@ -1,4 +1,5 @@
--- What a stack of choices stands for.
+-- What a stack of choices stands for. A choice is a way to go on: so many labels come before it, and its continuation
+-- is what of the pattern is still to be mapped. The preferred one is on top.
 use Rattle.std.specs.Prelude.{◌≡◌, ℕ, ◌+◌, ◌<◌, ◌≤◌, true, cond, List, [], ◌∷◌, ◌++◌, map, length, take, drop}
 use Rattle.rp_pattern.specs.declared.word.End.{End}
 use Rattle.rp_pattern.specs.declared.word.End.TheVariants.{Open as OpenEnd}
@@ -9,22 +10,18 @@ use Rattle.rp_pattern.specs.declared.choices.Taken.{Taken}
 use Rattle.rp_pattern.specs.declared.choices.Taken.TheVariants.{Row, Split, Full as FullTaken, Open as OpenTaken, Nothing}
 use Rattle.rp_pattern.specs.Mapping.{Mapping, Full, Open, preceded}
 use Rattle.rp_pattern.specs.Turns.{WordsAndTurns}
-use Rattle.rp_pattern.specs.WordLaws.{IsLater}
+use Rattle.rp_pattern.specs.WordLaws.{AtEachLater}
 use Rattle.rp_pattern.specs.Continuations.{tail_parts, later_parts, chain_words, chain_left, stack_words, stack_left}
 
 -- the start row
 unfoldable pub start_of : Choices → ℕ
 start_of c = c.start
 
--- the labels now
+-- the labels as they stand: those of the rows before the preferred choice, and of the row that it maps
 unfoldable pub entered : Choices → List Label
 entered c = c.labels.items
 
--- the choices that are not taken up, the preferred one first
-unfoldable pub standing : Choices → List Choice
-standing c = c.stack
-
--- the words of its pattern from any row
+-- the words of its pattern from any row, over the rows 1 to n and that end
 unfoldable pub whole_from : Choices → ℕ → End → ℕ → List Mapping
 whole_from c n e row = chain_words (tail_parts n e c.origin) row
 
@@ -32,23 +29,25 @@ whole_from c n e row = chain_words (tail_parts n e c.origin) row
 unfoldable pub whole_turns_from : Choices → ℕ → End → ℕ → ℕ
 whole_turns_from c n e row = chain_left (tail_parts n e c.origin) row
 
--- the words that it stood for when it was made
+-- the whole: the words of its pattern from the start row
 unfoldable pub whole : Choices → ℕ → End → List Mapping
 whole c n e = chain_words (tail_parts n e c.origin) c.start
 
--- how many turns those take at most, and one more for each of them
+-- how many turns the whole takes at most, and one more for each of its words
 unfoldable pub whole_turns : Choices → ℕ → End → ℕ
 whole_turns c n e = chain_left (tail_parts n e c.origin) c.start
 
--- the words of the choices that are not given up, in preferment order. Before the first one is taken up, it is the whole.
+-- the words of the choices on the stack, which are not given up, in preferment order. Before the first is taken up,
+-- they are the whole.
 unfoldable pub remaining : Choices → ℕ → End → List Mapping
-remaining c n e = cond c.begun (stack_words n e c.start c.labels.items c.stack) (chain_words (tail_parts n e c.origin) c.start)
+remaining c n e =
+    cond c.begun (stack_words n e c.start c.labels.items c.stack) (chain_words (tail_parts n e c.origin) c.start)
 
--- how many turns these take at most, and one more for each of them
+-- how many turns the remaining words take at most, and one more for each of them
 unfoldable pub turns_left : Choices → ℕ → End → ℕ
 turns_left c n e = cond c.begun (stack_left n e c.start c.stack) (chain_left (tail_parts n e c.origin) c.start)
 
--- the remaining words without those of the preferred choice
+-- the words of the choices under the preferred one
 unfoldable pub below : Choices → ℕ → End → List Mapping
 below c n e = stack_words n e c.start c.labels.items (drop 1 c.stack)
 
@@ -56,7 +55,7 @@ below c n e = stack_words n e c.start c.labels.items (drop 1 c.stack)
 unfoldable pub turns_left_below : Choices → ℕ → End → ℕ
 turns_left_below c n e = stack_left n e c.start (drop 1 c.stack)
 
--- what comes after the first part of the preferred choice
+-- the parts of the pattern after the first one of the preferred choice
 abbrev pub first_later : ℕ → End → List Choice → List WordsAndTurns
 first_later n e [] = []
 first_later n e (c ∷ cs) = later_parts n e c.continuation
@@ -74,17 +73,18 @@ abbrev pub OfFirst : (Choice → Type 0) → List Choice → Type 0
 OfFirst P [] = ⊥
 OfFirst P (c ∷ cs) = P c
 
--- a choice is preferred, and can be given up
+-- there is a preferred choice, so that it can be given up
 unfoldable pub HasTop : Choices → Type 0
 HasTop c = (c.begun ≡ true) × OfFirst (λ t. Unit {0}) c.stack
 
--- The preferred choice maps a row, whose label is the last one.
+-- There is a preferred choice, and one label more than come before it. So it is where that choice maps a row: the last
+-- label is that row's.
 unfoldable pub AtRow : Choices → Type 0
 AtRow c = (c.begun ≡ true) × OfFirst (λ t. t.depth + 1 ≡ length c.labels.items) c.stack
 
 -- ---- what an operation does
 
--- the whole was put on the stack, for its first choice to be taken up
+-- the stack has been filled with the whole, for its first choice to be taken up
 abbrev pub HasBegun : Choices → Type 0
 HasBegun c = c.begun ≡ true
 
@@ -96,67 +96,78 @@ AreFirstOf ls of = (k : ℕ) × (ls ≡ take k of)
 abbrev pub AreStrictlyFirstOf : List Label → List Label → Type 0
 AreStrictlyFirstOf ls of = (k : ℕ) × (k < length of) × (ls ≡ take k of)
 
--- The pattern stays, by its words from every row.
+-- labels cut back, with one more behind them: the first ones of these, as many as `depth`, and then the label
+pub record AreFirstAndOne (ls of : List Label) : Type 0 where
+  pub depth : ℕ
+  pub label : Label
+  pub is : ls ≡ take depth of ++ label ∷ []
+
+-- The pattern stays: from every row it has the words that it had, and as many turns.
 pub record IsSamePattern (old new : Choices) : Type 0 where
   pub words : (n : ℕ) (e : End) (row : ℕ) → whole_from new n e row ≡ whole_from old n e row
   pub left : (n : ℕ) (e : End) (row : ℕ) → whole_turns_from new n e row ≡ whole_turns_from old n e row
 
--- The start row and the whole stay.
+-- The start row and the pattern stay, and so does the whole, the words from the start row.
 pub record IsSameWhole (old new : Choices) : Type 0 where
   pub start : start_of new ≡ start_of old
   pub words : (n : ℕ) (e : End) → whole new n e ≡ whole old n e
   pub left : (n : ℕ) (e : End) → whole_turns new n e ≡ whole_turns old n e
   pub pattern : IsSamePattern old new
 
--- The preferred choice gave way to others, which have its words and take fewer turns.
+-- The remaining words stay, and so does the number of turns left for them, now and whatever comes later.
+pub record IsSameRemaining (old new : Choices) (n : ℕ) (e : End) : Type 0 where
+  pub words : AtEachLater n e (λ n' e'. remaining new n' e' ≡ remaining old n' e')
+  pub turns : AtEachLater n e (λ n' e'. turns_left new n' e' ≡ turns_left old n' e')
+
+-- The preferred choice maps a row: the remaining words are those that may follow the row, each behind the labels up to
+-- it, and then those below. So are the turns left, with one for admitting the row.
+pub record DividesAtRow (c : Choices) (n : ℕ) (e : End) : Type 0 where
+  pub words : AtEachLater n e (λ n' e'. remaining c n' e' ≡ map (preceded (entered c)) (after c n' e') ++ below c n' e')
+  pub turns : AtEachLater n e (λ n' e'. turns_left c n' e' ≡ 1 + turns_left_after c n' e' + turns_left_below c n' e')
+
+-- The preferred choice gave way to others, none to two: the remaining words stay, and fewer turns are left for them.
 pub record IsSplit (old new : Choices) (n : ℕ) (e : End) : Type 0 where
   pub cut : AreFirstOf (entered new) (entered old)
-  pub same : (n' : ℕ) (e' : End) → IsLater n e n' e' → remaining new n' e' ≡ remaining old n' e'
-  pub less : (n' : ℕ) (e' : End) → IsLater n e n' e' → turns_left new n' e' < turns_left old n' e'
+  pub same : AtEachLater n e (λ n' e'. remaining new n' e' ≡ remaining old n' e')
+  pub less : AtEachLater n e (λ n' e'. turns_left new n' e' < turns_left old n' e')
 
--- The preferred choice maps the next known row: its label is entered, behind those before the choice. The words stay what they were. They
--- are the words that may follow that row, with the labels before them, and then those of the choices below; so are their turns, with one
--- for admitting the row.
+-- The preferred choice maps a known row, the next one: its label is entered behind those before the choice. The
+-- remaining words stay.
 pub record IsMappedRow (old new : Choices) (n : ℕ) (e : End) : Type 0 where
-  pub depth : ℕ
-  pub label : Label
-  pub enters : entered new ≡ take depth (entered old) ++ label ∷ []
+  pub enters : AreFirstAndOne (entered new) (entered old)
   pub known : start_of new + length (entered new) ≤ n + 1
   pub at_row : AtRow new
   pub has_top : HasTop new
-  pub was : (n' : ℕ) (e' : End) → IsLater n e n' e' → remaining old n' e' ≡ map (preceded (entered new)) (after new n' e') ++ below new n' e'
-  pub now : (n' : ℕ) (e' : End) → IsLater n e n' e' → remaining new n' e' ≡ map (preceded (entered new)) (after new n' e') ++ below new n' e'
-  pub same_left : (n' : ℕ) (e' : End) → IsLater n e n' e' → turns_left new n' e' ≡ turns_left old n' e'
-  pub parts_left : (n' : ℕ) (e' : End) → IsLater n e n' e' → turns_left new n' e' ≡ 1 + turns_left_after new n' e' + turns_left_below new n' e'
+  pub same : IsSameRemaining old new n e
+  pub divides : DividesAtRow new n e
 
--- The preferred choice is a full word, of the labels entered: the words stay what they were, it and then those of the choices below.
+-- The preferred choice is a full word, of the labels entered. The remaining words stay: it is the first, and the others
+-- are those below.
 pub record IsFullWord (old new : Choices) (n : ℕ) (e : End) : Type 0 where
   pub cut : AreFirstOf (entered new) (entered old)
   pub has_top : HasTop new
-  pub was : (n' : ℕ) (e' : End) → IsLater n e n' e' → remaining old n' e' ≡ Full (entered new) ∷ below new n' e'
-  pub now : (n' : ℕ) (e' : End) → IsLater n e n' e' → remaining new n' e' ≡ Full (entered new) ∷ below new n' e'
-  pub same_left : (n' : ℕ) (e' : End) → IsLater n e n' e' → turns_left new n' e' ≡ turns_left old n' e'
-  pub less_below : (n' : ℕ) (e' : End) → IsLater n e n' e' → turns_left_below new n' e' < turns_left new n' e'
+  pub same : IsSameRemaining old new n e
+  pub first : AtEachLater n e (λ n' e'. remaining new n' e' ≡ Full (entered new) ∷ below new n' e')
+  pub less_below : AtEachLater n e (λ n' e'. turns_left_below new n' e' < turns_left new n' e')
 
--- The preferred choice runs into the row after the last known one. The words stay what they were: over the known rows an open one, of the
--- labels entered, and then those of the choices below.
+-- The preferred choice runs into the row after the last known one. The remaining words stay: over the known rows an
+-- open word, of the labels entered, is the first, and the others are those below.
 pub record IsOpenWord (old new : Choices) (n : ℕ) (e : End) : Type 0 where
   pub end : e ≡ OpenEnd
   pub cut : AreFirstOf (entered new) (entered old)
   pub has_top : HasTop new
-  pub same : (n' : ℕ) (e' : End) → IsLater n e n' e' → remaining new n' e' ≡ remaining old n' e'
-  pub was : remaining old n e ≡ Open (entered new) ∷ below new n e
-  pub same_left : (n' : ℕ) (e' : End) → IsLater n e n' e' → turns_left new n' e' ≡ turns_left old n' e'
-  pub less_below : (n' : ℕ) (e' : End) → IsLater n e n' e' → turns_left_below new n' e' < turns_left new n' e'
+  pub same : IsSameRemaining old new n e
+  pub first : remaining new n e ≡ Open (entered new) ∷ below new n e
+  pub less_below : AtEachLater n e (λ n' e'. turns_left_below new n' e' < turns_left new n' e')
 
--- No choice is left, and no word.
+-- No choice remains, and no word did before.
 pub record IsNothing (old new : Choices) (n : ℕ) (e : End) : Type 0 where
   pub cut : AreFirstOf (entered new) (entered old)
-  pub was : (n' : ℕ) (e' : End) → IsLater n e n' e' → remaining old n' e' ≡ []
-  pub now : (n' : ℕ) (e' : End) → IsLater n e n' e' → remaining new n' e' ≡ []
-  pub less : (n' : ℕ) (e' : End) → IsLater n e n' e' → turns_left new n' e' ≤ turns_left old n' e'
+  pub same : IsSameRemaining old new n e
+  pub none : AtEachLater n e (λ n' e'. remaining new n' e' ≡ [])
 
--- what the preferred choice came to when it was taken up, over the rows 1 to n and that end
+-- what the preferred choice came to when it was taken up, over the rows 1 to n and that end: a row, other choices, a
+-- full word, an open one, or that there was none
 abbrev pub TakenAs : Choices → Choices → ℕ → End → Taken → Type 0
 TakenAs old new n e Row = IsMappedRow old new n e
 TakenAs old new n e Split = IsSplit old new n e

@@ -7,10 +7,11 @@ use Rattle.rp_pattern.specs.Words.{words}
 use Rattle.rp_pattern.specs.declared.form.Form.{Form}
 use Rattle.rp_pattern.specs.declared.word.End.{End}
 
--- each label of the word is of a variable below k
+-- each label of the word is of a variable with a number below k
 abbrev pub IsBelow : ℕ → Mapping → Type 0
 IsBelow k w = AllByRecursion (λ l. l.var < k) (labels_of w)
 
--- Where each variable of a pattern is below k, so is each variable in the labels of its words.
+-- Where each variable of a pattern has a number below k, so has each variable in the labels of its words.
 abbrev pub VariablesStayBelow : Type 0
-VariablesStayBelow = (k : ℕ) (f : Form) → are_below k f ≡ true → (n : ℕ) (e : End) (i : ℕ) → AllByRecursion (IsBelow k) (words n e f i)
+VariablesStayBelow = (k : ℕ) (f : Form) →
+    are_below k f ≡ true → (n : ℕ) (e : End) (i : ℕ) → AllByRecursion (IsBelow k) (words n e f i)

@@ -1,5 +1,6 @@
 -- What contracts of public calls cite: the rules of row patterns, and the list of words.
 pub mod Mapping
+pub mod Numbers
 pub mod Maps
 pub mod Readings
 pub mod Words

@@ -1,10 +1,10 @@
--- What a contract sees of a word: the labels of consecutive rows, and whether they are a whole mapping.
+-- What a contract sees of a word: the labels of consecutive rows, and whether all of the pattern is mapped.
 use Rattle.std.specs.Prelude.{true, List, ◌++◌, map}
 use Rattle.rp_pattern.specs.declared.word.Label.{Label}
 use Rattle.rp_pattern.specs.declared.word.Mark.{Mark}
 use Rattle.rp_pattern.specs.declared.word.Mark.TheVariants.{Full as FullMark, Open as OpenMark}
 
--- A full mapping is whole. An open one runs into the row after the last known one.
+-- A full mapping maps all of the pattern. An open one runs into the row after the last known one.
 pub data Mapping : Type 0 where
   Full : List Label → Mapping
   Open : List Label → Mapping

@@ -1,11 +1,11 @@
--- What would follow a row, by the number of its words.
+-- What would follow a row whose test is open, by the number of words.
 use Rattle.std.specs.Prelude.{◌≡◌, ℕ, ◌+◌, ◌<◌, List, [], ◌∷◌, length}
 use Rattle.rp_pattern.specs.declared.word.End.{End}
 use Rattle.rp_pattern.specs.declared.machine.continuation.Choice.{Choice}
 use Rattle.rp_pattern.specs.declared.outlook.Outlook.{Outlook}
 use Rattle.rp_pattern.specs.declared.outlook.Sight.{Sight}
 use Rattle.rp_pattern.specs.declared.outlook.Sight.TheVariants.{Further, Word, Nothing}
-use Rattle.rp_pattern.specs.WordLaws.{IsLater}
+use Rattle.rp_pattern.specs.WordLaws.{AtEachLater}
 use Rattle.rp_pattern.specs.Continuations.{continuation_parts, chain_words, stack_left}
 
 -- how many words the choices have together
@@ -21,12 +21,13 @@ words_ahead o n e = stack_count n e o.start o.stack
 unfoldable pub turns_ahead : Outlook → ℕ → End → ℕ
 turns_ahead o n e = stack_left n e o.start o.stack
 
--- The preferred choice gave way to others, with as many words and fewer turns.
+-- The preferred choice gave way to others: as many words would follow, and fewer turns are left for them.
 pub record LooksFurther (old new : Outlook) (n : ℕ) (e : End) : Type 0 where
-  pub same : (n' : ℕ) (e' : End) → IsLater n e n' e' → words_ahead new n' e' ≡ words_ahead old n' e'
-  pub less : (n' : ℕ) (e' : End) → IsLater n e n' e' → turns_ahead new n' e' < turns_ahead old n' e'
+  pub same : AtEachLater n e (λ n' e'. words_ahead new n' e' ≡ words_ahead old n' e')
+  pub less : AtEachLater n e (λ n' e'. turns_ahead new n' e' < turns_ahead old n' e')
 
--- what an outlook came to, over the rows 1 to n and that end
+-- what an outlook came to, over the rows 1 to n and that end: it looks further, or it stays, since a word follows
+-- there, or since none follows whatever rows come
 abbrev pub SeenAs : Outlook → Outlook → ℕ → End → Sight → Type 0
 SeenAs old new n e Further = LooksFurther old new n e
 SeenAs old new n e Word = (new ≡ old) × (0 < words_ahead old n e)

@@ -1,6 +1,8 @@
 -- The readings of a pattern: the decisions that lead to a mapping, and which of them are preferred.
--- Source: the parenthesized language and its order of preferment, as ISO/IEC TR 19075-5:2016 explains them. What is this project's own
--- is as for `Maps`. A decision is the rank of what is taken, 0 for what is preferred.
+-- Source: the parenthesized language and its order of preferment, as ISO/IEC TR 19075-5:2016 explains them. What is this
+-- project's own is as for `Maps`.
+-- A decision is the rank of what is taken, 0 for what is preferred. Those of a PERMUTE are the places of its parts, counted
+-- from 0, in the order in which the parts are mapped; behind them come the decisions in the parts.
 use Rattle.std.specs.Prelude.{◌≡◌, ℕ, zero, suc, ◌+◌, ◌<◌, ◌≤◌, Bool, true, false, List, [], ◌∷◌, ◌++◌, map, length, slice_index_or, Option, All, AllPairs, Contains, IsPermutation}
 use Rattle.std.specs.declared.vec.Vec.{Vec}
 use Rattle.std.specs.declared.rc.Rc.{Rc}
@@ -25,7 +27,7 @@ abbrev pub to_stop : Bool → ℕ
 to_stop false = 1
 to_stop true = 0
 
--- the parts at these places
+-- the parts at these places, counted from 0. No place is beyond the last part, where it would be `( )`
 abbrev pub parts_at : Vec (Rc Form Global) Global → List ℕ → List Form
 parts_at ps order = map (λ k. slice_index_or (map (λ p. p.value) ps.items) k Empty) order
 
@@ -36,32 +38,52 @@ mutual
     later_row : {v i : ℕ} → n < i → e ≡ OpenEnd → MapsBy n e (Variable v) i [] (Open [])
     nothing : {i : ℕ} → MapsBy n e Empty i [] (Full [])
     -- the decisions in the earlier part count first
-    both : {p q : Rc Form Global} {i : ℕ} {c d : List ℕ} {ls : List Label} {w : Mapping} → MapsBy n e p.value i c (Full ls) → MapsBy n e q.value (i + length ls) d w → MapsBy n e (Concatenation p q) i (c ++ d) (preceded ls w)
-    first_open : {p q : Rc Form Global} {i : ℕ} {c : List ℕ} {ls : List Label} → MapsBy n e p.value i c (Open ls) → MapsBy n e (Concatenation p q) i c (Open ls)
+    both : {p q : Rc Form Global} {i : ℕ} {c d : List ℕ} {ls : List Label} {w : Mapping} →
+        MapsBy n e p.value i c (Full ls) → MapsBy n e q.value (i + length ls) d w →
+        MapsBy n e (Concatenation p q) i (c ++ d) (preceded ls w)
+    first_open : {p q : Rc Form Global} {i : ℕ} {c : List ℕ} {ls : List Label} →
+        MapsBy n e p.value i c (Open ls) → MapsBy n e (Concatenation p q) i c (Open ls)
     -- the first part is preferred
-    left : {p q : Rc Form Global} {i : ℕ} {c : List ℕ} {w : Mapping} → MapsBy n e p.value i c w → MapsBy n e (Alternation p q) i (0 ∷ c) w
-    right : {p q : Rc Form Global} {i : ℕ} {c : List ℕ} {w : Mapping} → MapsBy n e q.value i c w → MapsBy n e (Alternation p q) i (1 ∷ c) w
+    left : {p q : Rc Form Global} {i : ℕ} {c : List ℕ} {w : Mapping} →
+        MapsBy n e p.value i c w → MapsBy n e (Alternation p q) i (0 ∷ c) w
+    right : {p q : Rc Form Global} {i : ℕ} {c : List ℕ} {w : Mapping} →
+        MapsBy n e q.value i c w → MapsBy n e (Alternation p q) i (1 ∷ c) w
     start : MapsBy n e PartitionStart 1 [] (Full [])
     end : {i : ℕ} → n < i → e ≡ ClosedEnd → MapsBy n e PartitionEnd i [] (Full [])
     may_end : {i : ℕ} → n < i → e ≡ OpenEnd → MapsBy n e PartitionEnd i [] (Open [])
     -- the order of the parts counts first, from its first place on
-    permuted : (ps : Vec (Rc Form Global) Global) {order : List ℕ} {i : ℕ} {c : List ℕ} {w : Mapping} → IsPermutation (upto (length ps.items)) order → MapsInOrderBy n e (parts_at ps order) i c w → MapsBy n e (Permute ps) i (order ++ c) w
-    excluded : {p : Rc Form Global} {i : ℕ} {c : List ℕ} {w : Mapping} → MapsBy n e p.value i c w → MapsBy n e (Exclusion p) i c (excluded_mapping w)
-    iterated : {p : Rc Form Global} {lower : ℕ} {upper : Option ℕ} {reluctant : Bool} {k i : ℕ} {c : List ℕ} {w : Mapping} → MayFollow lower upper k → IteratesBy n e p.value reluctant lower k i c w → MapsBy n e (Quantified p lower upper reluctant) i c w
+    permuted : (ps : Vec (Rc Form Global) Global) {order : List ℕ} {i : ℕ} {c : List ℕ} {w : Mapping} →
+        IsPermutation (upto (length ps.items)) order → MapsInOrderBy n e (parts_at ps order) i c w →
+        MapsBy n e (Permute ps) i (order ++ c) w
+    excluded : {p : Rc Form Global} {i : ℕ} {c : List ℕ} {w : Mapping} →
+        MapsBy n e p.value i c w → MapsBy n e (Exclusion p) i c (excluded_mapping w)
+    iterated : {p : Rc Form Global} {lower : ℕ} {upper : Option ℕ} {reluctant : Bool} {k i : ℕ} {c : List ℕ} {w : Mapping} →
+        MayFollow lower upper k → IteratesBy n e p.value reluctant lower k i c w →
+        MapsBy n e (Quantified p lower upper reluctant) i c w
 
   -- several patterns, one after another, by these decisions
   pub data MapsInOrderBy (n : ℕ) (e : End) : List Form → ℕ → List ℕ → Mapping → Type 0 where
     no_more : {i : ℕ} → MapsInOrderBy n e [] i [] (Full [])
-    next : {f : Form} {fs : List Form} {i : ℕ} {c d : List ℕ} {ls : List Label} {w : Mapping} → MapsBy n e f i c (Full ls) → MapsInOrderBy n e fs (i + length ls) d w → MapsInOrderBy n e (f ∷ fs) i (c ++ d) (preceded ls w)
-    next_open : {f : Form} {fs : List Form} {i : ℕ} {c : List ℕ} {ls : List Label} → MapsBy n e f i c (Open ls) → MapsInOrderBy n e (f ∷ fs) i c (Open ls)
+    next : {f : Form} {fs : List Form} {i : ℕ} {c d : List ℕ} {ls : List Label} {w : Mapping} →
+        MapsBy n e f i c (Full ls) → MapsInOrderBy n e fs (i + length ls) d w →
+        MapsInOrderBy n e (f ∷ fs) i (c ++ d) (preceded ls w)
+    next_open : {f : Form} {fs : List Form} {i : ℕ} {c : List ℕ} {ls : List Label} →
+        MapsBy n e f i c (Open ls) → MapsInOrderBy n e (f ∷ fs) i c (Open ls)
 
-  -- l required iterations, and then k others, by these decisions: before each of the others, and before stopping, one of whether to go on
+  -- l required iterations, and then k others, by these decisions: before each of the others, and before stopping, one
+  -- of whether to go on
   pub data IteratesBy (n : ℕ) (e : End) : Form → Bool → ℕ → ℕ → ℕ → List ℕ → Mapping → Type 0 where
     stop : {f : Form} {r : Bool} {i : ℕ} → IteratesBy n e f r zero zero i (to_stop r ∷ []) (Full [])
-    required : {f : Form} {r : Bool} {l k i : ℕ} {c d : List ℕ} {ls : List Label} {w : Mapping} → MapsBy n e f i c (Full ls) → IteratesBy n e f r l k (i + length ls) d w → IteratesBy n e f r (suc l) k i (c ++ d) (preceded ls w)
-    required_open : {f : Form} {r : Bool} {l k i : ℕ} {c : List ℕ} {ls : List Label} → MapsBy n e f i c (Open ls) → IteratesBy n e f r (suc l) k i c (Open ls)
-    another : {f : Form} {r : Bool} {k i : ℕ} {c d : List ℕ} {l : Label} {ls : List Label} {w : Mapping} → MapsBy n e f i c (Full (l ∷ ls)) → IteratesBy n e f r zero k (i + length (l ∷ ls)) d w → IteratesBy n e f r zero (suc k) i (to_go_on r ∷ (c ++ d)) (preceded (l ∷ ls) w)
-    another_open : {f : Form} {r : Bool} {k i : ℕ} {c : List ℕ} {ls : List Label} → MapsBy n e f i c (Open ls) → IteratesBy n e f r zero (suc k) i (to_go_on r ∷ c) (Open ls)
+    required : {f : Form} {r : Bool} {l k i : ℕ} {c d : List ℕ} {ls : List Label} {w : Mapping} →
+        MapsBy n e f i c (Full ls) → IteratesBy n e f r l k (i + length ls) d w →
+        IteratesBy n e f r (suc l) k i (c ++ d) (preceded ls w)
+    required_open : {f : Form} {r : Bool} {l k i : ℕ} {c : List ℕ} {ls : List Label} →
+        MapsBy n e f i c (Open ls) → IteratesBy n e f r (suc l) k i c (Open ls)
+    another : {f : Form} {r : Bool} {k i : ℕ} {c d : List ℕ} {l : Label} {ls : List Label} {w : Mapping} →
+        MapsBy n e f i c (Full (l ∷ ls)) → IteratesBy n e f r zero k (i + length (l ∷ ls)) d w →
+        IteratesBy n e f r zero (suc k) i (to_go_on r ∷ (c ++ d)) (preceded (l ∷ ls) w)
+    another_open : {f : Form} {r : Bool} {k i : ℕ} {c : List ℕ} {ls : List Label} →
+        MapsBy n e f i c (Open ls) → IteratesBy n e f r zero (suc k) i (to_go_on r ∷ c) (Open ls)
 
 -- Decisions are preferred to others where at the first difference they have the lesser rank.
 pub data IsPreferred : List ℕ → List ℕ → Type 0 where
@@ -76,12 +98,15 @@ pub record AreReadings (n : ℕ) (e : End) (f : Form) (i : ℕ) (readings : List
 
 -- The list of words is that of the mappings of all readings, in the order of preferment.
 abbrev pub WordsAreReadings : Type 0
-WordsAreReadings = (f : Form) (n : ℕ) (e : End) (i : ℕ) → (readings : List (List ℕ × Mapping)) × AreReadings n e f i readings × (words n e f i ≡ map (λ r. r.1) readings)
+WordsAreReadings = (f : Form) (n : ℕ) (e : End) (i : ℕ) →
+    (readings : List (List ℕ × Mapping)) × AreReadings n e f i readings × (words n e f i ≡ map (λ r. r.1) readings)
 
 -- No other list has the readings so.
 abbrev pub ReadingsAreOne : Type 0
-ReadingsAreOne = (f : Form) (n : ℕ) (e : End) (i : ℕ) (readings others : List (List ℕ × Mapping)) → AreReadings n e f i readings → AreReadings n e f i others → readings ≡ others
+ReadingsAreOne = (f : Form) (n : ℕ) (e : End) (i : ℕ) (readings others : List (List ℕ × Mapping)) →
+    AreReadings n e f i readings → AreReadings n e f i others → readings ≡ others
 
 -- Equal decisions lead to one mapping.
 abbrev pub OneMappingEach : Type 0
-OneMappingEach = (f : Form) (n : ℕ) (e : End) (i : ℕ) (c : List ℕ) (w w' : Mapping) → MapsBy n e f i c w → MapsBy n e f i c w' → w ≡ w'
+OneMappingEach = (f : Form) (n : ℕ) (e : End) (i : ℕ) (c : List ℕ) (w w' : Mapping) →
+    MapsBy n e f i c w → MapsBy n e f i c w' → w ≡ w'

@@ -30,7 +30,8 @@ one_turn i = 1
 abbrev pub concatenation_turns : WordsAndTurns → TurnCounts → TurnCounts
 concatenation_turns p later i = 1 + p.1 i + sum_by (turns_after later i) (p.0 i)
 
--- the turns of at most h iterations, each of which takes a row: to stop, or for another one and what comes after each of its words
+-- the turns of at most h iterations, each of which takes a row: to stop, or for another one and what comes after each
+-- of its words
 abbrev pub optional_turns : WordsAndTurns → ℕ → TurnCounts
 optional_turns p zero i = 1
 optional_turns p (suc h) i = 2 + p.1 i + sum_by (turns_after (optional_turns p h) i) (moving p.0 i)
@@ -64,7 +65,8 @@ turns_step n e PartitionStart = one_turn
 turns_step n e PartitionEnd = one_turn
 turns_step n e (Permute ps) = permuted_turns (map (λ p. part n e p.value) ps.items)
 turns_step n e (Exclusion p) = λ i. 1 + p.value.1 i
-turns_step n e (Quantified p lower upper reluctant) = required_turns lower (part n e p.value) (optional_turns (part n e p.value) (further n lower upper))
+turns_step n e (Quantified p lower upper reluctant) =
+    required_turns lower (part n e p.value) (optional_turns (part n e p.value) (further n lower upper))
 
 -- how many choices a search takes up at most, from a row, over the rows 1 to n and that end
 abbrev pub turns : ℕ → End → Form → TurnCounts
@@ -102,11 +104,14 @@ orders_from from ps = (
   λ i. sum_by (λ order. 1 + chain_turns order i) (drop from (orders ps)),
 )
 
--- the turns of the starts 1 to s: the search's own, one for each word, and some for items and skips
+-- The most turns over the start rows 1 to s: of each those of its search, one for each word, and n - s + 4 more. These
+-- are one for each row from the start row to row n, whose item may be given, one in which the search ends, one that
+-- goes on to the next start row, and one to spare.
 abbrev pub starts_turns : ℕ → End → Form → ℕ → ℕ
 starts_turns n e f zero = 0
-starts_turns n e f (suc s) = starts_turns n e f s + (turns n e f (suc s) + length (words n e f (suc s)) + (n - suc s) + 4)
+starts_turns n e f (suc s) =
+    starts_turns n e f s + (turns n e f (suc s) + length (words n e f (suc s)) + (n - suc s) + 4)
 
--- the most turns over all start rows of a partition
+-- the most turns over all start rows of a partition, and one for its end
 abbrev pub all_turns : ℕ → End → Form → ℕ
 all_turns n e f = 1 + starts_turns n e f n

@@ -21,6 +21,6 @@ below_step k (Permute ps) = all_true (map (λ p. p.value) ps.items)
 below_step k (Exclusion p) = p.value
 below_step k (Quantified p lower upper reluctant) = p.value
 
--- each variable is below k
+-- each variable of a pattern has a number below k
 abbrev pub are_below : ℕ → Form → Bool
 are_below k = fold-Form Bool (below_step k)

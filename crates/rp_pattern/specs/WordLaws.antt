@@ -16,16 +16,23 @@ pub record BeginsWith (ls : List Label) (w : Mapping) : Type 0 where
   pub rest : List Label
   pub begins : ls ++ rest ≡ labels_of w
 
--- A full word stays, and an open one is replaced in its own place by words that begin with its labels.
+-- A full word stays, and an open one is replaced in its own place by words that begin with its labels, none or more of
+-- them.
 pub data Extends : List Mapping → List Mapping → Type 0 where
   done : Extends [] []
   stays : {ls : List Label} {old new : List Mapping} → Extends old new → Extends (Full ls ∷ old) (Full ls ∷ new)
   gone : {ls : List Label} {old new : List Mapping} → Extends old new → Extends (Open ls ∷ old) new
-  grows : {ls : List Label} {w : Mapping} {old new : List Mapping} → BeginsWith ls w → Extends (Open ls ∷ old) new → Extends (Open ls ∷ old) (w ∷ new)
+  grows : {ls : List Label} {w : Mapping} {old new : List Mapping} →
+      BeginsWith ls w → Extends (Open ls ∷ old) new → Extends (Open ls ∷ old) (w ∷ new)
 
--- later rows, or the close: a closed end stays, and so do its rows
+-- The rows 1 to n and this end may come to the rows 1 to n' and that end: no row goes, and a closed partition stays as
+-- it is.
 abbrev pub IsLater : ℕ → End → ℕ → End → Type 0
 IsLater n e n' e' = (n ≤ n') × (e ≡ ClosedEnd → (n' ≡ n) × (e' ≡ ClosedEnd))
+
+-- it holds of the rows 1 to n and this end, and of all that they may come to
+abbrev pub AtEachLater : ℕ → End → (ℕ → End → Type 0) → Type 0
+AtEachLater n e Holds = (n' : ℕ) (e' : End) → IsLater n e n' e' → Holds n' e'
 
 -- More rows, or the close, extend the words of every pattern from every row.
 abbrev pub WordsExtend : Type 0
@@ -33,18 +40,21 @@ WordsExtend = (f : Form) (n n' : ℕ) (e e' : End) (i : ℕ) → IsLater n e n' 
 
 -- ---- iterations without an upper bound
 
--- The equation of `*`: another iteration, which takes a row, and then again `*`; or to stop.
+-- The equation of `*`: another iteration, which takes a row or may take one, and then again `*`; or to stop. The greedy
+-- one prefers the first, the reluctant one the second.
 abbrev pub StarEquation : Type 0
 StarEquation = (f : Form) (n : ℕ) (e : End) (reluctant : Bool) (i : ℕ) →
-    quantified n 0 None reluctant (words n e f) i ≡ preferred reluctant (concatenation (moving (words n e f)) (quantified n 0 None reluctant (words n e f)) i) (Full [] ∷ [])
+    quantified n 0 None reluctant (words n e f) i ≡
+    preferred reluctant (concatenation (moving (words n e f)) (quantified n 0 None reluctant (words n e f)) i) (Full [] ∷ [])
 
--- Over n known rows a quantifier from 0 to n + 2 or more iterations says the same as one from 0 without an upper bound. Of a quantifier
--- with a greater lower bound nothing is said.
+-- Over n known rows a quantifier from 0 to n + 2 or more iterations has the words of one from 0 without an upper bound.
+-- Of a quantifier with a greater lower bound nothing is said.
 abbrev pub GreatBoundsAgree : Type 0
 GreatBoundsAgree = (f : Form) (n : ℕ) (e : End) (reluctant : Bool) (h i : ℕ) → n + 2 ≤ h →
     quantified n 0 (Some h) reluctant (words n e f) i ≡ quantified n 0 None reluctant (words n e f) i
 
--- Nor does it take another number of turns: as many as one from 0 to n + 2.
+-- Over n known rows n + 2 or more optional iterations take as many turns as n + 2, which is what `turns` counts without
+-- an upper bound.
 abbrev pub GreatBoundsTakeAsMany : Type 0
 GreatBoundsTakeAsMany = (f : Form) (n : ℕ) (e : End) (h i : ℕ) → n + 2 ≤ h →
     optional_turns (words n e f, turns n e f) h i ≡ optional_turns (words n e f, turns n e f) (n + 2) i
@@ -55,7 +65,7 @@ GreatBoundsTakeAsMany = (f : Form) (n : ℕ) (e : End) (h i : ℕ) → n + 2 ≤
 abbrev pub EndsByRow : ℕ → ℕ → Mapping → Type 0
 EndsByRow n i w = length (labels_of w) ≤ suc n - i
 
--- A word's labels are of known rows.
+-- The labels of each word are of known rows.
 abbrev pub WordsEnd : Type 0
 WordsEnd = (f : Form) (n : ℕ) (e : End) (i : ℕ) → AllByRecursion (EndsByRow n i) (words n e f i)
 
@@ -64,11 +74,11 @@ abbrev pub RunsToEnd : ℕ → ℕ → Mapping → Type 0
 RunsToEnd n i (Full ls) = ⊤
 RunsToEnd n i (Open ls) = length ls ≡ suc n - i
 
--- What an open word waits for is the row after the last known one.
+-- Each open word has a label for each row to the last known one: it waits for the row after that.
 abbrev pub WordsWait : Type 0
 WordsWait = (f : Form) (n : ℕ) (e : End) (i : ℕ) → AllByRecursion (RunsToEnd n i) (words n e f i)
 
--- a whole mapping
+-- a full mapping
 abbrev pub IsFull : Mapping → Type 0
 IsFull (Full ls) = ⊤
 IsFull (Open ls) = ⊥

@@ -1,6 +1,7 @@
 -- The words of a pattern: the ways to map rows to it from a row on, in preferment order.
--- Source: the row patterns of ISO/IEC 9075-2:2016, as ISO/IEC TR 19075-5:2016 explains them. Three rules are this project's own:
--- an iteration past the required ones takes a row, a bound may be 0, and past the last row of an open partition a word is open.
+-- Source: the row patterns of ISO/IEC 9075-2:2016, as ISO/IEC TR 19075-5:2016 explains them. Three rules are this
+-- project's own: an iteration past the required ones takes a row, a bound may be 0, and past the last row of an open
+-- partition a word is open.
 use Rattle.std.specs.Prelude.{ℕ, zero, suc, ◌+◌, ◌-◌, Bool, true, false, List, [], ◌∷◌, ◌++◌, map, length, nat_le, nat_lt, nat_eq, if◌then◌else◌, Option, Some, None}
 use Rattle.std.specs.List.{flat_map, filter}
 use Rattle.rp_pattern.specs.declared.form.Form.{Form}
@@ -18,25 +19,27 @@ Mappings = ℕ → List Mapping
 abbrev pub nothing_mapped : Mappings
 nothing_mapped i = Full [] ∷ []
 
--- past the last known row an open partition may go on, and a closed one does not
+-- the words of a variable past the last known row: over an open end an open one, since a row may come, over a closed
+-- one none
 abbrev pub may_go_on : End → List Mapping
 may_go_on OpenEnd = Open [] ∷ []
 may_go_on ClosedEnd = []
 
--- past the last known row a closed partition has ended, and an open one may have
+-- the words of `$` past the last known row: over a closed end the one of no row, over an open one an open one, since a
+-- row may come
 abbrev pub may_end : End → List Mapping
 may_end OpenEnd = Open [] ∷ []
 may_end ClosedEnd = Full [] ∷ []
 
--- one row, mapped to the variable
+-- the words of a variable: a known row, mapped to it, or what the row after the last known one may be
 abbrev pub one_row : ℕ → End → ℕ → Mappings
 one_row n e v i = if nat_le i n then Full (record { var = v; excluded = false } ∷ []) ∷ [] else may_go_on e
 
--- before row 1
+-- the words of `^`: no row, before row 1 alone
 abbrev pub at_start : Mappings
 at_start i = if nat_eq i 1 then Full [] ∷ [] else []
 
--- after the last row
+-- the words of `$`: none before a known row, and past the last known one whether the partition may have ended there
 abbrev pub at_end : ℕ → End → Mappings
 at_end n e i = if nat_le i n then [] else may_end e
 
@@ -62,13 +65,13 @@ abbrev pub within_exclusion : Bool → Mappings → Mappings
 within_exclusion false p = p
 within_exclusion true p = exclusion p
 
--- it takes a row, or may take one
+-- it takes a row, or it is open and may take one
 abbrev pub moves : Mapping → Bool
 moves (Full []) = false
 moves (Full (l ∷ ls)) = true
 moves (Open ls) = true
 
--- the words that take a row, or may take one
+-- the words that take a row, and the open ones, which may take one
 abbrev pub moving : Mappings → Mappings
 moving p i = filter moves (p i)
 
@@ -81,7 +84,7 @@ abbrev pub preferred : Bool → List Mapping → List Mapping → List Mapping
 preferred false another stop = another ++ stop
 preferred true another stop = stop ++ another
 
--- at most h iterations, each of which takes a row
+-- at most h iterations, each of which takes a row or is open
 abbrev pub optional : Bool → Mappings → ℕ → Mappings
 optional reluctant p zero i = Full [] ∷ []
 optional reluctant p (suc h) i = preferred reluctant (concatenation (moving p) (optional reluctant p h) i) (Full [] ∷ [])
@@ -91,8 +94,8 @@ abbrev pub required : ℕ → Mappings → Mappings → Mappings
 required zero p rest = rest
 required (suc l) p rest = concatenation p (required l p rest)
 
--- How many iterations may follow the required ones. With no upper bound the rows are a bound: each such iteration takes one of the n rows,
--- and the last may run into row n + 1.
+-- How many iterations may follow the required ones. With no upper bound the rows are a bound: each such iteration takes
+-- one of the n rows, and the last may run into row n + 1.
 abbrev pub further : ℕ → ℕ → Option ℕ → ℕ
 further n lower (Some upper) = upper - lower
 further n lower None = suc (suc n)

@@ -1,6 +1,7 @@
 //! The words of a pattern listed lazily, by a stack of choices.
-ghost use Rattle.std.specs.Prelude.{◌≡◌, ℕ, ◌∷◌, ◌++◌, ◌+◌, ◌-◌, ◌^◌, ◌<◌, ◌≤◌, IfOk, OnOk, IsTrue, false, List, [], map, length, drop};
+ghost use Rattle.std.specs.Prelude.{◌≡◌, ℕ, ◌∷◌, ◌++◌, ◌+◌, ◌^◌, ◌<◌, ◌≤◌, IfOk, OnOk, IsTrue, false, List, [], map, length, drop};
 ghost use Rattle.rp_pattern.specs.Continuations.{rises, pushed};
+ghost use Rattle.rp_pattern.specs.Numbers.{most_u64};
 
 use crate::form::{Form, Pattern};
 use crate::machine::continuation::{Choice, Continuation};
@@ -16,15 +17,15 @@ use std::rc::Rc;
 /// What the preferred choice came to when it was taken up.
 #[derive(Clone, Copy, Debug, PartialEq, Eq)]
 pub enum Taken {
-    /// It maps the next known row: the label is the last of `labels`. The choice stays until `admit` or `give_up`.
+    /// It maps a known row, the next one: the label is the last of `labels`. The choice stays until `admit` or `give_up`.
     Row,
-    /// It was replaced by the choices that it stands for, if any.
+    /// It was replaced by the choices that it gives way to, none to two.
     Split,
     /// It is a full word, of `labels`. The choice stays until `give_up`.
     Full,
     /// It runs into the row after the last known one. The choice stays until `give_up`.
     Open,
-    /// No choice is left.
+    /// There was no choice any more.
     Nothing,
 }
 
@@ -101,10 +102,10 @@ impl Choices {
     }
 
     /// Takes up the preferred choice, over the rows 1 to n and that end. Where memory is refused, nothing is said of the
-    /// choices that are left: `reset` them.
+    /// choices on the stack: `reset` them.
     #[inline]
     pub fn take_up(&mut self, n: u64, end: End) -> Result<Taken, AllocError>
-        requires { n < 2 ^ 64 - 1 }
+        requires { n < most_u64 }
         ensures whole { IsSameWhole self.old self.new }
         ensures taken { IfOk result (TakenAs self.old self.new n end) }
     {
@@ -134,7 +135,7 @@ impl Choices {
     /// Takes up the choice on the stack's top. Rows come up most often, and go their own way.
     #[inline(always)]
     fn take_up_top(&mut self, n: u64, end: End) -> Result<Taken, AllocError>
-        requires rows { n < 2 ^ 64 - 1 }
+        requires rows { n < most_u64 }
         requires begun { HasBegun self.old }
         ensures whole { IsSameWhole self.old self.new }
         ensures taken { IfOk result (TakenAs self.old self.new n end) }
@@ -151,7 +152,7 @@ impl Choices {
     /// Takes up the top choice, which maps a row first.
     #[inline(always)]
     fn take_top_row(&mut self, label: Label, n: u64, end: End) -> Result<Taken, AllocError>
-        requires rows { n < 2 ^ 64 - 1 }
+        requires rows { n < most_u64 }
         requires begun { HasBegun self.old }
         requires first { OfFirst (λ t. BeginsWithRow label t.continuation) self.old.stack }
         ensures whole { IsSameWhole self.old self.new }
@@ -178,7 +179,7 @@ impl Choices {
     /// Takes up the top choice, whatever it is.
     #[inline(always)]
     fn take_top(&mut self, n: u64, end: End) -> Result<Taken, AllocError>
-        requires rows { n < 2 ^ 64 - 1 }
+        requires rows { n < most_u64 }
         requires begun { HasBegun self.old }
         ensures whole { IsSameWhole self.old self.new }
         ensures taken { IfOk result (TakenAs self.old self.new n end) }
@@ -228,7 +229,7 @@ impl Choices {
         Ok(())
     }
 
-    /// What is left at a row when the first part of the preferred choice is mapped before it.
+    /// The continuation at a row, where the first part of the preferred choice is mapped before it.
     fn follow_first(&self, row: u64) -> Result<Option<Continuation>, AllocError>
         ensures { IfOk result (λ continuation. (n : ℕ) (e : End) →
             StandsFor n e row (first_later n e self.now.stack) continuation) }
@@ -290,7 +291,7 @@ impl Choices {
         self.start = start;
     }
 
-    /// No choice is taken up, and none is left of those that were.
+    /// As before the first choice is taken up: the stack is empty.
     fn empty(&mut self)
         ensures begun { self.new.begun ≡ false }
         ensures start { self.new.start ≡ self.old.start }

@@ -8,10 +8,10 @@ use std::alloc::{AllocError, Global};
 use std::rc::Rc;
 
 /// The greatest bound of a quantifier.
-const MAX_BOUND: u32 = 1000;
+pub const MAX_BOUND: u32 = 1000;
 
 /// The most parts of a PERMUTE, which stands for all their orders.
-const MAX_PARTS: usize = 8;
+pub const MAX_PARTS: usize = 8;
 
 /// A row pattern as a tree, a variant for each form. Parts are shared, so that a search may keep them.
 #[derive(Debug, Drop)]
@@ -41,7 +41,8 @@ pub enum Form {
     },
 }
 
-/// A row pattern whose quantifiers have bounds in order of at most 1,000, and whose PERMUTEs have 1 to 8 parts.
+/// A row pattern whose quantifiers have bounds in order, none above `MAX_BOUND`, and whose PERMUTEs have 1 to `MAX_PARTS`
+/// parts.
 #[derive(Debug, Drop)]
 pub struct Pattern {
     form: Form,
@@ -103,7 +104,7 @@ impl Form {
         }
     }
 
-    /// Whether each variable is below `k`.
+    /// Whether each variable has a number below `k`.
     pub fn are_below(&self, k: usize) -> bool
         ensures { result ≡ are_below k self.now }
     {
@@ -139,7 +140,7 @@ impl Form {
         }
     }
 
-    /// Whether `Pattern::new` takes it: bounds in order and at most 1,000, and PERMUTEs of 1 to 8 parts.
+    /// Whether `Pattern::new` takes it: bounds in order, none above `MAX_BOUND`, and PERMUTEs of 1 to `MAX_PARTS` parts.
     pub fn is_allowed(&self) -> bool
         ensures { result ≡ is_allowed self.now }
     {

@@ -3,11 +3,12 @@ ghost use Rattle.std.specs.Prelude.{◌≡◌, ◌≤◌, ◌<◌, ◌+◌, ◌�
 ghost use Rattle.rp_pattern.specs.Permutations.{upto, factorial, AreAllPermutations};
 ghost use Rattle.rp_pattern.specs.Words.{orders};
 
+use crate::form::MAX_PARTS;
 use std::alloc::{AllocError, Global};
 
 /// The number of orders of `n` things.
 pub(crate) fn factorial(n: usize) -> usize
-    requires { n ≤ 8 }
+    requires { n ≤ MAX_PARTS }
     ensures { result ≡ factorial n }
 {
     let mut product = 1;
@@ -31,7 +32,7 @@ pub(crate) fn permutation_at(
     k: usize,
     mut place: usize,
 ) -> Result<Vec<usize>, AllocError>
-    requires few { k ≤ 8 }
+    requires few { k ≤ MAX_PARTS }
     requires within { place < factorial k }
     ensures { IfOk result (λ v. drop place (orders (upto k)) ≡ v.items ∷ drop (place + 1) (orders (upto k))) }
 {
@@ -48,7 +49,7 @@ pub(crate) fn permutation_at(
 /// All permutations of 0 to k - 1, each once, in lexicographic order: of 0 to 2 they are 0 1 2, 0 2 1, 1 0 2, 1 2 0,
 /// 2 0 1 and 2 1 0.
 pub fn permutations(alloc: Global, k: usize) -> Result<Vec<Vec<usize>>, AllocError>
-    requires { k ≤ 8 }
+    requires { k ≤ MAX_PARTS }
     ensures orders { IfOk result (λ vs. map (λ v. v.items) vs.items ≡ orders (upto k)) }
     ensures all { IfOk result (λ vs. AreAllPermutations k (map (λ v. v.items) vs.items)) }
 {

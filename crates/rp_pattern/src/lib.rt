@@ -25,7 +25,7 @@ mod stack;
 mod word;
 
 pub use choices::{Choices, Taken};
-pub use form::{Form, Pattern};
+pub use form::{Form, MAX_BOUND, MAX_PARTS, Pattern};
 pub use laws::{law_labels, law_words};
 pub use lexicographic::permutations;
 pub use list::{ListFault, list_words};

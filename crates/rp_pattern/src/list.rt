@@ -1,9 +1,10 @@
 //! All words of a pattern, up to a given number of them.
-ghost use Rattle.std.specs.Prelude.{◌≡◌, ℕ, ◌+◌, ◌-◌, ◌^◌, ◌<◌, ◌≤◌, [], ◌∷◌, ◌++◌, length, IfOk, OnOk};
+ghost use Rattle.std.specs.Prelude.{◌≡◌, ℕ, ◌+◌, ◌<◌, ◌≤◌, [], ◌∷◌, ◌++◌, length, IfOk, OnOk};
 ghost use Rattle.rp_pattern.specs.Choices.{HasTop, entered, remaining, turns_left, below, turns_left_below};
 ghost use Rattle.rp_pattern.specs.declared.word.End.{End};
 ghost use Rattle.rp_pattern.specs.Listing.{ListsNext};
 ghost use Rattle.rp_pattern.specs.Mapping.{marked};
+ghost use Rattle.rp_pattern.specs.Numbers.{most_u64};
 ghost use Rattle.rp_pattern.specs.PatternForm.{form_of};
 ghost use Rattle.rp_pattern.specs.Words.{words};
 ghost use Rattle.rp_pattern.specs.declared.list.ListFault.TheVariants.{OutOfMemory};
@@ -54,7 +55,7 @@ pub fn list_words(
 ) -> Result<Vec<Word>, ListFault>
     requires from_one { 1 ≤ row }
     requires known { row ≤ last + 1 }
-    requires fits { last < 2 ^ 64 - 1 }
+    requires fits { last < most_u64 }
     ensures words { IfOk result (λ list. list.items ≡ words last end (form_of pattern.now) row) }
     ensures few { IfOk result (λ list. length list.items ≤ cap) }
     ensures many { result ≡ Err ListFault.TooMany → cap < length (words last end (form_of pattern.now) row) }
@@ -77,7 +78,7 @@ fn list_next(
     end: End,
     list: &mut Vec<Word>,
 ) -> Result<bool, AllocError>
-    requires { last < 2 ^ 64 - 1 }
+    requires { last < most_u64 }
     ensures { IfOk result (λ more. ListsNext choices.old choices.new last end list.old.items list.new.items more) }
 {
     match choices.take_up(last, end)? {

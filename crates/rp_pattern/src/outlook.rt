@@ -2,6 +2,7 @@
 ghost use Rattle.std.specs.Prelude.{◌≡◌, ℕ, ◌+◌, ◌-◌, ◌^◌, ◌<◌, ◌≤◌, IfOk, IsTrue, length};
 ghost use Rattle.rp_pattern.specs.declared.word.End.{End};
 ghost use Rattle.rp_pattern.specs.Continuations.{rises};
+ghost use Rattle.rp_pattern.specs.Numbers.{most_u64};
 ghost use Rattle.rp_pattern.specs.Splits.{option_words, option_turns};
 
 use crate::choices::push;
@@ -29,13 +30,13 @@ pub struct Outlook {
     start: u64,
     stack: Stack<Choice>,
     ghost starts: { start < 2 ^ 64 },
-    ghost within: { IsTrue (rises (2 ^ 64 - 1 - start) stack) },
+    ghost within: { IsTrue (rises (most_u64 - start) stack) },
 }
 
 impl Outlook {
     ghost use Rattle.rp_pattern.specs.Outlooks.{words_ahead, turns_ahead, SeenAs};
 
-    /// What is left at a row, if anything is.
+    /// The continuation at a row, if there is one.
     pub(crate) fn at(
         alloc: Global,
         row: u64,
@@ -55,10 +56,10 @@ impl Outlook {
         })
     }
 
-    /// Takes up the preferred choice, over the rows 1 to n and that end. Each row is taken, since none is tested. Where
-    /// memory is refused, nothing is said of the choices that are left.
+    /// Takes up the preferred choice, over the rows 1 to n and that end. Each row is mapped, since none is tested. Where
+    /// memory is refused, nothing is said of the outlook: drop it.
     pub fn take_up(&mut self, n: u64, end: End) -> Result<Sight, AllocError>
-        requires { n < 2 ^ 64 - 1 }
+        requires { n < most_u64 }
         ensures { IfOk result (SeenAs self.old self.new n end) }
     {
         let Some(choice) = self.stack.top() else {

@@ -19,7 +19,7 @@ pub enum End {
     Closed,
 }
 
-/// What a condition says of a row: false and unknown are one.
+/// What a condition says of a row, a *test* of it: false and unknown are one.
 #[derive(Clone, Copy, Debug, PartialEq, Eq)]
 pub enum Seen {
     /// The row is admitted.
@@ -30,10 +30,10 @@ pub enum Seen {
     Open,
 }
 
-/// Whether a word is a whole mapping, or runs into the row after the last known one.
+/// Whether a word maps all of the pattern, or runs into the row after the last known one.
 #[derive(Clone, Copy, Debug, PartialEq, Eq)]
 pub enum Mark {
-    /// The whole pattern is mapped.
+    /// All of the pattern is mapped.
     Full,
     /// A further row, or the close, decides how it goes on.
     Open,
@@ -44,7 +44,7 @@ pub enum Mark {
 pub struct Word {
     /// One for each row, in row order.
     pub labels: Vec<Label>,
-    /// Whether it is a whole mapping.
+    /// Whether all of the pattern is mapped.
     pub mark: Mark,
 }
 

@@ -8,7 +8,7 @@ use Rattle.rp_pattern.specs.Mapping.{Mapping, preceded}
 use Rattle.rp_pattern.specs.declared.choices.Choices.{Choices}
 use Rattle.rp_pattern.specs.declared.outlook.Outlook.{Outlook}
 use Rattle.rp_pattern.specs.WordLaws.{IsLater}
-use Rattle.rp_pattern.specs.Choices.{AtRow, start_of, entered, whole, whole_turns, remaining, turns_left, below, turns_left_below, after, turns_left_after, AreFirstOf, AreStrictlyFirstOf, IsSameWhole, IsSplit, IsMappedRow as TakesRow, IsFullWord, IsOpenWord, IsNothing}
+use Rattle.rp_pattern.specs.Choices.{AtRow, start_of, entered, whole, whole_turns, remaining, turns_left, below, turns_left_below, after, turns_left_after, AreFirstOf, AreStrictlyFirstOf, IsSameWhole, IsSameRemaining, IsSplit, IsMappedRow as TakesRow, IsFullWord, IsOpenWord, IsNothing}
 use Rattle.rp_search.specs.Found.{Test, tested, SeenStays, TestsStay, found, Match, NoMatch, Waits}
 use Rattle.rp_search.specs.Asked.{rows_from}
 use Rattle.rp_search.specs.Fits.{RefusedUpTo, ChoicesFit, StandsAtRow, Explores}
@@ -56,32 +56,35 @@ cut_true old new test cut h = subst (λ ls. tested test ls ≡ True) (sym cut.1)
 pub stands_splits : (old new : Choices) (n : ℕ) (e : End) (test : Test) → ChoicesFit old n e test → IsSameWhole old new → IsSplit old new n e → ChoicesFit new n e test
 stands_splits old new n e test s keeps t = stands_cut old new n e test s keeps t.cut t.same (λ n' e' h. omega (arith, t.less n' e' h))
 
+-- the labels cut back, and the same words and turns
+stands_same : (old new : Choices) (n : ℕ) (e : End) (test : Test) → ChoicesFit old n e test → IsSameWhole old new → AreFirstOf (entered new) (entered old) → IsSameRemaining old new n e → ChoicesFit new n e test
+stands_same old new n e test s keeps cut same = stands_cut old new n e test s keeps cut same.words (λ n' e' h. omega (arith, same.turns n' e' h))
+
 pub stands_full : (old new : Choices) (n : ℕ) (e : End) (test : Test) → ChoicesFit old n e test → IsSameWhole old new → IsFullWord old new n e → ChoicesFit new n e test
-stands_full old new n e test s keeps t = stands_cut old new n e test s keeps t.cut (λ n' e' h. t.now n' e' h ∙ sym (t.was n' e' h)) (λ n' e' h. omega (arith, t.same_left n' e' h))
+stands_full old new n e test s keeps t = stands_same old new n e test s keeps t.cut t.same
 
 pub stands_open : (old new : Choices) (n : ℕ) (e : End) (test : Test) → ChoicesFit old n e test → IsSameWhole old new → IsOpenWord old new n e → ChoicesFit new n e test
-stands_open old new n e test s keeps t = stands_cut old new n e test s keeps t.cut t.same (λ n' e' h. omega (arith, t.same_left n' e' h))
+stands_open old new n e test s keeps t = stands_same old new n e test s keeps t.cut t.same
 
 pub stands_nothing : (old new : Choices) (n : ℕ) (e : End) (test : Test) → ChoicesFit old n e test → IsSameWhole old new → IsNothing old new n e → ChoicesFit new n e test
-stands_nothing old new n e test s keeps t = stands_cut old new n e test s keeps t.cut (λ n' e' h. t.now n' e' h ∙ sym (t.was n' e' h)) t.less
+stands_nothing old new n e test s keeps t = stands_same old new n e test s keeps t.cut t.same
 
 pub stands_row : (old new : Choices) (n : ℕ) (e : End) (test : Test) → ChoicesFit old n e test → IsSameWhole old new → TakesRow old new n e → ChoicesFit new n e test
 stands_row old new n e test s keeps t =
     stands_from old new n e test keeps s.from_one (omega (arith, t.known, keeps.start))
-    (λ n' e' h. subst (λ ws. RefusedUpTo (rows_from (start_of old) n) test (whole old n' e') ws) (t.was n' e' h ∙ sym (t.now n' e' h)) (s.words n' e' h))
-    (λ n' e' h. omega (arith, t.same_left n' e' h, s.turns n' e' h))
+    (λ n' e' h. subst (λ ws. RefusedUpTo (rows_from (start_of old) n) test (whole old n' e') ws) (sym (t.same.words n' e' h)) (s.words n' e' h))
+    (λ n' e' h. omega (arith, t.same.turns n' e' h, s.turns n' e' h))
 
 pub maps_row : (old new : Choices) (n : ℕ) (e : End) (test : Test) → tested test (entered old) ≡ True → TakesRow old new n e → StandsAtRow new n e test
 maps_row old new n e test h t =
     record {
       at_row = t.at_row;
       has_top = t.has_top;
-      before = take t.depth (entered old);
-      last = t.label;
-      labels = t.enters;
-      admitted = tested_take (entered old) t.depth test h;
-      words = t.now;
-      turns = t.parts_left;
+      before = take t.enters.depth (entered old);
+      last = t.enters.label;
+      labels = t.enters.is;
+      admitted = tested_take (entered old) t.enters.depth test h;
+      divides = t.divides;
     }
 
 -- the last label's test decides
@@ -95,10 +98,10 @@ goes_admitted old new n e test s r seen keeps labels words turns =
     record {
       stands = stands_from old new n e test keeps s.from_one
           (subst (λ ls. length ls ≤ rows_from (start_of old) n) (sym labels) s.known)
-          (λ n' e' h. subst (λ ws. RefusedUpTo (rows_from (start_of old) n) test (whole old n' e') ws) (r.words n' e' h ∙ sym (words n' e')) (s.words n' e' h))
-          (λ n' e' h. omega (arith, turns n' e', r.turns n' e' h, s.turns n' e' h));
+          (λ n' e' h. subst (λ ws. RefusedUpTo (rows_from (start_of old) n) test (whole old n' e') ws) (r.divides.words n' e' h ∙ sym (words n' e')) (s.words n' e' h))
+          (λ n' e' h. omega (arith, turns n' e', r.divides.turns n' e' h, s.turns n' e' h));
       admitted = subst (λ ls. tested test ls ≡ True) (sym labels) (row_decides old n e test r ∙ seen);
-      turns = omega (arith, turns n e, r.turns n e (now_later n e));
+      turns = omega (arith, turns n e, r.divides.turns n e (now_later n e));
     }
 
 -- the preferred choice is given up
@@ -117,14 +120,14 @@ goes_without old new n e test s r keeps g words =
       stands = stands_from old new n e test keeps s.from_one
           (subst (λ ls. length ls ≤ rows_from (start_of old) n) (sym g.cut.1) (cut_known (entered old) g.cut.0 (rows_from (start_of old) n) s.known))
           (λ n' e' h. subst (λ ws. RefusedUpTo (rows_from (start_of old) n) test (whole old n' e') ws) (sym (g.words n' e')) (words n' e' h))
-          (λ n' e' h. omega (arith, g.turns n' e', r.turns n' e' h, s.turns n' e' h));
+          (λ n' e' h. omega (arith, g.turns n' e', r.divides.turns n' e' h, s.turns n' e' h));
       admitted = subst (λ ls. tested test ls ≡ True) (sym off.2) (cut_admitted r.before r.last (entered old) off.0 test r.labels off.1 r.admitted);
-      turns = omega (arith, g.turns n e, r.turns n e (now_later n e));
+      turns = omega (arith, g.turns n e, r.divides.turns n e (now_later n e));
     }
 
 row_words : (old : Choices) (n : ℕ) (e : End) (test : Test) → ChoicesFit old n e test → StandsAtRow old n e test → (n' : ℕ) (e' : End) → IsLater n e n' e' →
     RefusedUpTo (rows_from (start_of old) n) test (whole old n' e') (map (preceded (entered old)) (after old n' e') ++ below old n' e')
-row_words old n e test s r n' e' h = subst (λ ws. RefusedUpTo (rows_from (start_of old) n) test (whole old n' e') ws) (r.words n' e' h) (s.words n' e' h)
+row_words old n e test s r n' e' h = subst (λ ws. RefusedUpTo (rows_from (start_of old) n) test (whole old n' e') ws) (r.divides.words n' e' h) (s.words n' e' h)
 
 pub goes_refused : (old new : Choices) (n : ℕ) (e : End) (test : Test) → ChoicesFit old n e test → StandsAtRow old n e test → test (entered old) ≡ NotTrue → IsSameWhole old new → GivesUp old new → Goes old new n e test
 goes_refused old new n e test s r seen keeps g =
@@ -144,15 +147,15 @@ found_remaining c n e test s = found_before (rows_from (start_of c) n) test (who
 
 pub finds_match : (old new : Choices) (n : ℕ) (e : End) (test : Test) → ChoicesFit old n e test → tested test (entered old) ≡ True → IsFullWord old new n e → found test (whole old n e) ≡ Match (entered new)
 finds_match old new n e test s h t =
-    found_remaining old n e test s ∙ ap (found test) (t.was n e (now_later n e)) ∙ full_matches (entered new) test (below new n e) (cut_true old new test t.cut h)
+    found_remaining old n e test s ∙ ap (found test) (sym (t.same.words n e (now_later n e)) ∙ t.first n e (now_later n e)) ∙ full_matches (entered new) test (below new n e) (cut_true old new test t.cut h)
 
 pub finds_wait : (old new : Choices) (n : ℕ) (e : End) (test : Test) → ChoicesFit old n e test → tested test (entered old) ≡ True → IsOpenWord old new n e → found test (whole old n e) ≡ Waits
 finds_wait old new n e test s h t =
-    found_remaining old n e test s ∙ ap (found test) t.was ∙ open_waits (entered new) test (below new n e) (cut_true old new test t.cut h)
+    found_remaining old n e test s ∙ ap (found test) (sym (t.same.words n e (now_later n e)) ∙ t.first) ∙ open_waits (entered new) test (below new n e) (cut_true old new test t.cut h)
 
 pub finds_none : (old new : Choices) (n : ℕ) (e : End) (test : Test) → ChoicesFit old n e test → IsNothing old new n e → found test (whole old n e) ≡ NoMatch
 finds_none old new n e test s t =
-    found_remaining old n e test s ∙ ap (found test) (t.was n e (now_later n e))
+    found_remaining old n e test s ∙ ap (found test) (sym (t.same.words n e (now_later n e)) ∙ t.none n e (now_later n e))
 
 -- where a row's test is open, and something would follow it
 pub finds_begun : (c : Choices) (n : ℕ) (e : End) (test : Test) → ChoicesFit c n e test → StandsAtRow c n e test → test (entered c) ≡ OpenTest → 0 < length (after c n e) → found test (whole c n e) ≡ Waits
@@ -162,7 +165,7 @@ finds_begun c n e test s r seen some = go (after c n e) refl some
     go [] follows h = absurd (omega (arith, h))
     go (w ∷ ws) follows h =
         found_remaining c n e test s
-        ∙ ap (found test) (r.words n e (now_later n e) ∙ ap (λ xs. map (preceded (entered c)) xs ++ below c n e) follows)
+        ∙ ap (found test) (r.divides.words n e (now_later n e) ∙ ap (λ xs. map (preceded (entered c)) xs ++ below c n e) follows)
         ∙ begun_waits (entered c) w test (map (preceded (entered c)) ws ++ below c n e) (row_decides c n e test r ∙ seen)
 
 pub no_words : (ws : List Mapping) → length ws ≡ 0 → ws ≡ []
@@ -201,8 +204,10 @@ module _ (n n' : ℕ) (e e' : End) (test test' : Test) (later : IsLater n e n' e
         last = r.last;
         labels = r.labels;
         admitted = true_later r.before (rows_from (start_of c) n) stay (omega (arith, known, ap length r.labels, length-append r.before (r.last ∷ []))) r.admitted;
-        words = λ m f h. r.words m f (later_still n n' m e e' f later h);
-        turns = λ m f h. r.turns m f (later_still n n' m e e' f later h);
+        divides = record {
+          words = λ m f h. r.divides.words m f (later_still n n' m e e' f later h);
+          turns = λ m f h. r.divides.turns m f (later_still n n' m e e' f later h);
+        };
       }
 
   pub explores_later : (c : Choices) (outlook : Outlook) → TestsStay (rows_from (start_of c) n) test test' → length (entered c) ≤ rows_from (start_of c) n → Explores c outlook n e test → Explores c outlook n' e' test'

@@ -120,7 +120,7 @@ untested_none c n e test k s r small not n' e' later =
     let b = s.words n' e' later in
     none_begins k (entered c) (after c n' e') not
     (words_before (IsBelow k) (map (preceded (entered c)) (after c n' e')) (below c n' e')
-    (subst (λ ws. AllByRecursion (IsBelow k) ws) (r.words n' e' later)
+    (subst (λ ws. AllByRecursion (IsBelow k) ws) (r.divides.words n' e' later)
     (words_behind (IsBelow k) b.front (remaining c n' e') (subst (λ ws. AllByRecursion (IsBelow k) ws) b.is (small n' e')))))
 
 take_of_take : (k d : ℕ) (ls : List Label) → k ≤ length (take d ls) → take k (take d ls) ≡ take k ls

@@ -12,12 +12,12 @@ pub record Asked : Type 0 where
   pub known : ℕ
   -- whether further rows may come
   pub end : End
-  -- labels of variables below this number are tested
+  -- the variables with a number below this one are tested
   pub variables : ℕ
   -- what the test of the last of these labels says, where they begin at this row
   pub outcome : ℕ → List Label → Seen
 
--- each label is of a variable below this number
+-- each label is of a variable with a number below this one
 abbrev pub AreBelow : ℕ → List Label → Type 0
 AreBelow variables labels = All (λ label. label.var < variables) labels
 
@@ -25,7 +25,8 @@ AreBelow variables labels = All (λ label. label.var < variables) labels
 abbrev pub rows_from : ℕ → ℕ → ℕ
 rows_from start n = suc n - start
 
--- What is asked from a start row on goes on: as many rows or more, what was decided stays, and a close stays with its rows.
+-- What is asked from a start row on goes on: as many rows are known or more, a closed partition stays as it is, and
+-- what was decided of known rows stays.
 pub record AskedExtend (start : ℕ) (old new : Asked) : Type 0 where
   pub later : IsLater old.known old.end new.known new.end
   pub stay : TestsStay (rows_from start old.known) (old.outcome start) (new.outcome start)

@@ -1,22 +1,22 @@
--- The inside of a search: how its choices and its outlook stand to what is asked, and how many turns they leave. A caller needs
--- no more of it than the names `SearchFits` and `left_by`.
-use Rattle.std.specs.Prelude.{◌≡◌, ℕ, ◌+◌, ◌≤◌, List, [], ◌∷◌, ◌++◌, map, length, take, Option, Some, None}
+-- The inside of a search: how its choices and its outlook stand to what is asked, and how many turns are left. A caller
+-- needs no more of it than the names `SearchFits` and `left_by`.
+use Rattle.std.specs.Prelude.{◌≡◌, ℕ, ◌+◌, ◌≤◌, List, [], ◌∷◌, ◌++◌, length, take, Option, Some, None}
 use Rattle.std.specs.List.{AllByRecursion}
 use Rattle.rp_pattern.specs.declared.word.Label.{Label}
 use Rattle.rp_pattern.specs.declared.word.End.{End}
 use Rattle.rp_pattern.specs.declared.word.Seen.{Seen}
 use Rattle.rp_pattern.specs.declared.word.Seen.TheVariants.{True, NotTrue, Open as OpenTest}
-use Rattle.rp_pattern.specs.Mapping.{Mapping, labels_of, preceded}
+use Rattle.rp_pattern.specs.Mapping.{Mapping, labels_of}
 use Rattle.rp_pattern.specs.declared.choices.Choices.{Choices}
-use Rattle.rp_pattern.specs.WordLaws.{IsLater}
-use Rattle.rp_pattern.specs.Choices.{start_of, entered, whole, whole_turns, remaining, turns_left, below, turns_left_below, after, turns_left_after, HasTop, AtRow}
+use Rattle.rp_pattern.specs.WordLaws.{AtEachLater}
+use Rattle.rp_pattern.specs.Choices.{start_of, entered, whole, whole_turns, remaining, turns_left, turns_left_below, after, turns_left_after, HasTop, AtRow, DividesAtRow}
 use Rattle.rp_pattern.specs.declared.outlook.Outlook.{Outlook}
 use Rattle.rp_pattern.specs.Outlooks.{words_ahead, turns_ahead}
 use Rattle.rp_search.specs.declared.search.Search.{Search}
 use Rattle.rp_search.specs.Found.{Test, tested}
 use Rattle.rp_search.specs.Asked.{Asked, AreBelow, rows_from}
 
--- the tests refuse a word on its first rows already, as many as these
+-- the tests refuse a word on its first rows already, so many of them
 abbrev pub IsRefusedWithin : ℕ → Test → Mapping → Type 0
 IsRefusedWithin rows test w = tested test (take rows (labels_of w)) ≡ NotTrue
 
@@ -26,13 +26,14 @@ pub record RefusedUpTo (rows : ℕ) (test : Test) (ws rest : List Mapping) : Typ
   pub is : ws ≡ front ++ rest
   pub refused : AllByRecursion (IsRefusedWithin rows test) front
 
--- The choices fit: over the known rows and whatever comes later, the words of the pattern are some that are refused on known rows, and then
--- those of the choices not given up, which leave no more turns than the pattern takes.
+-- The choices fit: over the known rows and whatever comes later, the words of the pattern are some that are refused on
+-- known rows, and then those of the choices not given up, for which no more turns are left than for all. Every label is
+-- of a known row.
 pub record ChoicesFit (c : Choices) (n : ℕ) (e : End) (test : Test) : Type 0 where
   pub from_one : 1 ≤ start_of c
   pub known : length (entered c) ≤ rows_from (start_of c) n
-  pub words : (n' : ℕ) (e' : End) → IsLater n e n' e' → RefusedUpTo (rows_from (start_of c) n) test (whole c n' e') (remaining c n' e')
-  pub turns : (n' : ℕ) (e' : End) → IsLater n e n' e' → turns_left c n' e' ≤ whole_turns c n' e'
+  pub words : AtEachLater n e (λ n' e'. RefusedUpTo (rows_from (start_of c) n) test (whole c n' e') (remaining c n' e'))
+  pub turns : AtEachLater n e (λ n' e'. turns_left c n' e' ≤ whole_turns c n' e')
 
 -- the tests of labels from the row on that the choices begin at
 abbrev pub test_from : Choices → Asked → Test
@@ -50,20 +51,20 @@ pub record StandsAtRow (c : Choices) (n : ℕ) (e : End) (test : Test) : Type 0 
   pub last : Label
   pub labels : entered c ≡ before ++ last ∷ []
   pub admitted : tested test before ≡ True
-  pub words : (n' : ℕ) (e' : End) → IsLater n e n' e' → remaining c n' e' ≡ map (preceded (entered c)) (after c n' e') ++ below c n' e'
-  pub turns : (n' : ℕ) (e' : End) → IsLater n e n' e' → turns_left c n' e' ≡ 1 + turns_left_after c n' e' + turns_left_below c n' e'
+  pub divides : DividesAtRow c n e
 
 -- they stand at a row of what is asked
 abbrev pub StandsAtRowBy : Choices → Asked → Type 0
 StandsAtRowBy c asked = StandsAtRow c asked.known asked.end (test_from c asked)
 
--- An outlook has as many words as would follow that row.
+-- The preferred choice maps a row, and an outlook has as many words as would follow it, with no more turns left for
+-- them.
 pub record Explores (c : Choices) (outlook : Outlook) (n : ℕ) (e : End) (test : Test) : Type 0 where
   pub row : StandsAtRow c n e test
-  pub words : (n' : ℕ) (e' : End) → IsLater n e n' e' → words_ahead outlook n' e' ≡ length (after c n' e')
-  pub turns : (n' : ℕ) (e' : End) → IsLater n e n' e' → turns_ahead outlook n' e' ≤ turns_left_after c n' e'
+  pub words : AtEachLater n e (λ n' e'. words_ahead outlook n' e' ≡ length (after c n' e'))
+  pub turns : AtEachLater n e (λ n' e'. turns_ahead outlook n' e' ≤ turns_left_after c n' e')
 
--- the labels are tested true, all but the last where its test was open
+-- without an outlook the labels are tested true; with one all but the last, whose row it looks beyond
 abbrev pub AreAdmitted : Option Outlook → Choices → ℕ → End → Test → Type 0
 AreAdmitted None c n e test = tested test (entered c) ≡ True
 AreAdmitted (Some outlook) c n e test = Explores c outlook n e test
@@ -80,22 +81,26 @@ LabelsStand s asked = AreAdmitted s.outlook s.choices asked.known asked.end (tes
 unfoldable pub LabelsBelow : Search → Asked → Type 0
 LabelsBelow s asked = AreBelow asked.variables (entered s.choices)
 
--- A search fits what is asked: the words that it has passed over are refused, its choices stand for all others, and its labels are tested.
+-- A search fits what is asked: the words that it has passed over are refused, its choices stand for all others, and its
+-- labels are tested.
 pub record SearchFits (s : Search) (asked : Asked) : Type 0 where
   pub stands : ChoicesStand s asked
   pub labels : LabelsStand s asked
   pub below : LabelsBelow s asked
 
--- while a test is open, what would follow is left in place of what the choice stands for
+-- by what the test of the last label says: while it is open the turns for exploring, and else those of the choices as
+-- they stand
 abbrev pub unless_open : Seen → ℕ → ℕ → ℕ
 unless_open True standing exploring = standing
 unless_open NotTrue standing exploring = standing
 unless_open OpenTest standing exploring = exploring
 
--- how many turns are left at most, by the outlook if there is one
+-- how many turns are left at most: those of the choices; with an outlook, while its row's test is open, those below and
+-- the outlook's
 abbrev pub left_given : Option Outlook → Choices → ℕ → End → Test → ℕ
 left_given None c n e test = turns_left c n e
-left_given (Some outlook) c n e test = unless_open (test (entered c)) (turns_left c n e) (turns_left_below c n e + turns_ahead outlook n e)
+left_given (Some outlook) c n e test =
+    unless_open (test (entered c)) (turns_left c n e) (turns_left_below c n e + turns_ahead outlook n e)
 
 -- how many turns are left at most, while this is asked
 unfoldable pub left_by : Search → Asked → ℕ

@@ -11,24 +11,25 @@ use Rattle.rp_pattern.specs.WordLaws.{BeginsWith, Extends, IsFull}
 abbrev pub Test : Type 0
 Test = List Label → Seen
 
--- the first test that is not true decides
+-- what the first test says, unless that is true: then what the later ones say
 abbrev pub first_not_true : Seen → Seen → Seen
 first_not_true True later = later
 first_not_true NotTrue later = NotTrue
 first_not_true OpenTest later = OpenTest
 
--- Each label is tested in turn, with the labels before it.
+-- Each label is tested in turn, with the labels before it. The first test that is not true decides.
 abbrev pub tested : Test → List Label → Seen
 tested test [] = True
 tested test (l ∷ ls) = first_not_true (test (l ∷ [])) (tested (λ ms. test (l ∷ ms)) ls)
 
--- whether a word is admitted, refused, or not yet decided
+-- what the tests say of a word: it is good, refused, or not yet decided
 pub data Status : Type 0 where
   Good : Status
   Refused : Status
   Undecided : Status
 
--- where every label is admitted, a full word is good, and an open one is undecided
+-- where every label is tested true, a full word is good and an open one undecided; else the first other test decides,
+-- whatever the word is
 abbrev pub status_from : Mapping → Seen → Status
 status_from (Full ls) True = Good
 status_from (Open ls) True = Undecided
@@ -39,19 +40,20 @@ status_from w OpenTest = Undecided
 abbrev pub status : Test → Mapping → Status
 status test w = status_from w (tested test (labels_of w))
 
--- what is found among words
+-- what is found among words: a match with its labels, none, or that rows must come first
 pub data Found : Type 0 where
   Match : List Label → Found
   NoMatch : Found
   Waits : Found
 
--- a word that is not refused is the match or is waited for
+-- by the status of a word: where it is good it is the match, where it is undecided it is waited for, and where it is
+-- refused, the later ones decide
 abbrev pub unless_refused : Mapping → Status → Found → Found
 unless_refused w Good later = Match (labels_of w)
 unless_refused w Undecided later = Waits
 unless_refused w Refused later = later
 
--- the first word that is not refused
+-- what is found is by the first word that is not refused
 abbrev pub found : Test → List Mapping → Found
 found test [] = NoMatch
 found test (w ∷ ws) = unless_refused w (status test w) (found test ws)
@@ -70,11 +72,13 @@ TestsStay rows old new = (ls : List Label) → length ls ≤ rows → SeenStays 
 abbrev pub AreShort : ℕ → List Mapping → Type 0
 AreShort rows ws = AllByRecursion (λ w. length (labels_of w) ≤ rows) ws
 
--- What a search has found stays over every continuation.
+-- What is found stays over every continuation, unless it waits: a match is the same match, and where there is none
+-- there is none later.
 abbrev pub FoundStays : Type 0
-FoundStays = (rows : ℕ) (old new : Test) (ws ws' : List Mapping) → TestsStay rows old new → AreShort rows ws → Extends ws ws' → found old ws ≢ Waits → found new ws' ≡ found old ws
+FoundStays = (rows : ℕ) (old new : Test) (ws ws' : List Mapping) →
+    TestsStay rows old new → AreShort rows ws → Extends ws ws' → found old ws ≢ Waits → found new ws' ≡ found old ws
 
--- by the status of a word: it with those after it, or what is made of those after it where it is refused
+-- by the status of a word: where it is refused what is made of the later ones, and else the words from here on
 abbrev pub from_status : Status → List Mapping → List Mapping → List Mapping
 from_status Refused here later = later
 from_status Good here later = here
@@ -85,19 +89,22 @@ abbrev pub unrefused : Test → List Mapping → List Mapping
 unrefused test [] = []
 unrefused test (w ∷ ws) = from_status (status test w) (w ∷ ws) (unrefused test ws)
 
--- A search goes on from the word where it waited: the words before that one are not needed again.
+-- What is found later is found among words that extend those from the first unrefused one on: the words before it are
+-- not needed again.
 pub record Resumes (old new : Test) (ws ws' : List Mapping) : Type 0 where
   pub rest : List Mapping
   pub extends : Extends (unrefused old ws) rest
   pub same : found new ws' ≡ found new rest
 
--- Every search goes on so, over every continuation.
+-- So it is over every continuation: a search goes on from the word where it waited.
 abbrev pub FoundResumes : Type 0
-FoundResumes = (rows : ℕ) (old new : Test) (ws ws' : List Mapping) → TestsStay rows old new → AreShort rows ws → Extends ws ws' → Resumes old new ws ws'
+FoundResumes = (rows : ℕ) (old new : Test) (ws ws' : List Mapping) →
+    TestsStay rows old new → AreShort rows ws → Extends ws ws' → Resumes old new ws ws'
 
 -- Over a closed end, with tests that are never open there, no search waits.
 abbrev pub ClosedDecides : Type 0
-ClosedDecides = (test : Test) (ws : List Mapping) → ((ls : List Label) → test ls ≢ OpenTest) → AllByRecursion IsFull ws → found test ws ≢ Waits
+ClosedDecides = (test : Test) (ws : List Mapping) →
+    ((ls : List Label) → test ls ≢ OpenTest) → AllByRecursion IsFull ws → found test ws ≢ Waits
 
 -- A match is one of the words: it is full, its rows are admitted, and each word before it is refused.
 pub record IsFirstMatch (test : Test) (ws : List Mapping) (ls : List Label) : Type 0 where
@@ -113,8 +120,11 @@ MatchIsWord = (test : Test) (ws : List Mapping) (ls : List Label) → found test
 
 -- What is refused stays refused, with every word that begins with its labels.
 abbrev pub RefusedStays : Type 0
-RefusedStays = (rows : ℕ) (old new : Test) (w w' : Mapping) → TestsStay rows old new → length (labels_of w) ≤ rows → BeginsWith (labels_of w) w' → status old w ≡ Refused → status new w' ≡ Refused
+RefusedStays = (rows : ℕ) (old new : Test) (w w' : Mapping) →
+    TestsStay rows old new → length (labels_of w) ≤ rows → BeginsWith (labels_of w) w' → status old w ≡ Refused →
+    status new w' ≡ Refused
 
 -- What is good stays good.
 abbrev pub GoodStays : Type 0
-GoodStays = (rows : ℕ) (old new : Test) (w : Mapping) → TestsStay rows old new → length (labels_of w) ≤ rows → status old w ≡ Good → status new w ≡ Good
+GoodStays = (rows : ℕ) (old new : Test) (w : Mapping) →
+    TestsStay rows old new → length (labels_of w) ≤ rows → status old w ≡ Good → status new w ≡ Good

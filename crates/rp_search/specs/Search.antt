@@ -29,7 +29,7 @@ start_of_search s = start_of s.choices
 unfoldable pub words_from : Search → ℕ → End → ℕ → List Mapping
 words_from s n e row = whole_from s.choices n e row
 
--- how many turns it takes from that row at most
+-- how many turns it takes from that row at most, and one more for each word
 unfoldable pub turns_from : Search → ℕ → End → ℕ → ℕ
 turns_from s n e row = whole_turns_from s.choices n e row
 
@@ -37,28 +37,29 @@ turns_from s n e row = whole_turns_from s.choices n e row
 abbrev pub words_of_search : Search → ℕ → End → List Mapping
 words_of_search s n e = words_from s n e (start_of_search s)
 
--- how many turns it takes from its start row at most
+-- how many turns it takes from its start row at most, and one more for each word
 abbrev pub most_turns : Search → ℕ → End → ℕ
 most_turns s n e = turns_from s n e (start_of_search s)
 
--- It is a search for this pattern: from each row it has the pattern's words, and takes at most the pattern's turns and one for each word.
+-- It is a search for this pattern: from each row it has the pattern's words, and takes at most the pattern's turns and
+-- one for each word.
 pub record IsSearchFor (form : Form) (s : Search) : Type 0 where
   pub same_words : (n : ℕ) (e : End) (row : ℕ) → words_from s n e row ≡ words n e form row
   pub same_turns : (n : ℕ) (e : End) (row : ℕ) → turns_from s n e row ≡ turns n e form row + length (words n e form row)
 
--- It is for the same pattern.
-pub record IsSamePattern (old new : Search) : Type 0 where
+-- It is for the same pattern: from every row it has the words that it had, and takes as many turns.
+pub record IsForSamePattern (old new : Search) : Type 0 where
   pub words : (n : ℕ) (e : End) (row : ℕ) → words_from new n e row ≡ words_from old n e row
   pub turns : (n : ℕ) (e : End) (row : ℕ) → turns_from new n e row ≡ turns_from old n e row
 
--- It is the same search: no run changes its start row, its pattern, the words from there and their turns.
+-- It is the same search: its start row and its pattern stay, and so do the words from there and their turns.
 pub record IsSameSearch (old new : Search) : Type 0 where
   pub start : start_of_search new ≡ start_of_search old
-  pub pattern : IsSamePattern old new
+  pub pattern : IsForSamePattern old new
   pub words : (n : ℕ) (e : End) → words_of_search new n e ≡ words_of_search old n e
   pub turns : (n : ℕ) (e : End) → most_turns new n e ≡ most_turns old n e
 
--- the labels of its words are of variables below this number
+-- from every row the labels of its words are of variables with a number below k
 abbrev pub HasVariablesBelow : ℕ → Search → Type 0
 HasVariablesBelow k s = (n : ℕ) (e : End) (row : ℕ) → AllByRecursion (IsBelow k) (words_from s n e row)
 
@@ -68,7 +69,7 @@ HasVariablesBelow k s = (n : ℕ) (e : End) (row : ℕ) → AllByRecursion (IsBe
 abbrev pub test_of : Search → Asked → Test
 test_of s asked = asked.outcome (start_of_search s)
 
--- the first word of its pattern that the tests don't refuse
+-- what is found among its words from its start row, over the known rows that are asked
 abbrev pub found_by : Search → Asked → Found
 found_by s asked = found (test_of s asked) (words_of_search s asked.known asked.end)
 
@@ -76,7 +77,8 @@ found_by s asked = found (test_of s asked) (words_of_search s asked.known asked.
 unfoldable pub labels_of_search : Search → List Label
 labels_of_search s = entered s.choices
 
--- What a run answers is so: a match, whose labels the search has, no match, or a wait over an open end. A paused run says nothing.
+-- What a run answers is so: a match, whose labels the search then has, no match, or that it waits, over an open end
+-- alone. Paused says nothing.
 abbrev pub RunAnswers : Search → Search → Asked → Outcome → Type 0
 RunAnswers old new asked MatchOutcome = found_by old asked ≡ Match (labels_of_search new)
 RunAnswers old new asked NoMatchOutcome = found_by old asked ≡ NoMatch
@@ -85,12 +87,12 @@ RunAnswers old new asked PausedOutcome = Unit {0}
 
 -- ---- what a run takes
 
--- how many turns its last run took that had a budget
+-- how many turns its last run took that had a budget and met no want of memory
 unfoldable pub turns_of_run : Search → ℕ
 turns_of_run s = s.taken
 
--- Each turn is counted and enters one row at most. A run takes at most its budget of turns, all of it where it is paused, and with a
--- budget at least one where memory isn't refused.
+-- A run counts at most its budget of turns: all of it where it is paused, and one at least where it has any and memory
+-- isn't refused. It enters no more rows than it counts turns.
 pub record TakesTurns (budget : ℕ) (outcome : Result Outcome AllocError) (steps steps' entries entries' : ℕ) : Type 0 where
   pub grows : steps ≤ steps'
   pub within : steps' ≤ steps + budget
@@ -98,7 +100,8 @@ pub record TakesTurns (budget : ℕ) (outcome : Result Outcome AllocError) (step
   pub some : 0 < budget → OnOk outcome (steps < steps')
   pub enters : entries' + steps ≤ entries + steps'
 
--- The number left never rises. It falls by one at least with each turn but the one that ends the search.
+-- The number of turns left never rises. It falls by one at least with each turn taken, but for the last one of a run
+-- that isn't paused.
 pub record Lowers (taken : ℕ) (old new : Search) (asked : Asked) (outcome : Outcome) : Type 0 where
   pub never_rises : left_by new asked ≤ left_by old asked
   pub falls : left_by new asked + taken ≤ left_by old asked + 1
@@ -106,14 +109,15 @@ pub record Lowers (taken : ℕ) (old new : Search) (asked : Asked) (outcome : Ou
 
 -- ---- where it stands
 
--- It stands at its start row, as a new one does: nothing is mapped or given up, and it fits whatever is asked.
+-- It stands at its start row, as a new one does: nothing is mapped, it fits whatever is asked, and all its turns are
+-- left.
 pub record IsAtStart (s : Search) : Type 0 where
   pub labels : labels_of_search s ≡ []
   pub fits : (asked : Asked) → SearchFits s asked
   pub left : (asked : Asked) → left_by s asked ≡ most_turns s asked.known asked.end
 
--- It may run on tests: its start row is known, the labels of its words are of variables that are tested, it fits what is asked,
--- and its labels are those that were entered.
+-- It may run on tests: its start row is known, the labels of its words are of variables that are tested, it fits what
+-- is asked, and its labels are those that were entered.
 pub record CanRun (s : Search) (asked : Asked) (Entered : ℕ → List Label → Type 0) : Type 0 where
   pub known : start_of_search s ≤ asked.known
   pub variables : HasVariablesBelow asked.variables s
@@ -122,16 +126,20 @@ pub record CanRun (s : Search) (asked : Asked) (Entered : ℕ → List Label →
 
 -- A search that fits what is asked fits all that extends it.
 abbrev pub SearchFitsStays : Type 0
-SearchFitsStays = (s : Search) (old new : Asked) → AskedExtend (start_of_search s) old new → SearchFits s old → SearchFits s new
+SearchFitsStays = (s : Search) (old new : Asked) →
+    AskedExtend (start_of_search s) old new → SearchFits s old → SearchFits s new
 
 -- No more turns are left than the pattern takes from its start row.
 abbrev pub LeftIsBounded : Type 0
 LeftIsBounded = (s : Search) (asked : Asked) → SearchFits s asked → left_by s asked ≤ most_turns s asked.known asked.end
 
--- As many turns are left over what answers the same, each extending the other.
+-- As many turns are left where something else is asked that answers the same: each extends the other.
 abbrev pub LeftIsSame : Type 0
-LeftIsSame = (s : Search) (old new : Asked) → AskedExtend (start_of_search s) old new → AskedExtend (start_of_search s) new old → SearchFits s old → left_by s new ≡ left_by s old
+LeftIsSame = (s : Search) (old new : Asked) →
+    AskedExtend (start_of_search s) old new → AskedExtend (start_of_search s) new old → SearchFits s old →
+    left_by s new ≡ left_by s old
 
--- Where each variable of its pattern is below a number, so is each in its words.
+-- Where each variable of its pattern has a number below k, so has each in its words.
 abbrev pub VariablesAreBelow : Type 0
-VariablesAreBelow = (form : Form) (s : Search) (k : ℕ) → IsSearchFor form s → are_below k form ≡ true → HasVariablesBelow k s
+VariablesAreBelow = (form : Form) (s : Search) (k : ℕ) →
+    IsSearchFor form s → are_below k form ≡ true → HasVariablesBelow k s

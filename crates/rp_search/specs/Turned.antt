@@ -47,7 +47,8 @@ pub record GoesOn (old new : Choices) (asked : Asked) : Type 0 where
   pub goes : Goes old new asked.known asked.end (test_from new asked)
   pub below : AreBelow asked.variables (entered new)
 
--- what became of a row that was asked for
+-- what became of the row that the preferred choice maps, by what its test said: the choices went on, or they stay where
+-- it is open
 abbrev pub Settled : Choices → Choices → Asked → Seen → Type 0
 Settled old new asked True = GoesOn old new asked
 Settled old new asked NotTrue = GoesOn old new asked
@@ -67,7 +68,8 @@ pub record IsWithinRun (s : Search) (asked : Asked) : Type 0 where
 abbrev pub exploring : Search → Outlook → Search
 exploring s outlook = record s { outlook = Some outlook }
 
--- What `taken` turns came to, from a search that had at most `before` left: an answer, with no more left, or as many fewer.
+-- What `taken` turns came to, from a search that had at most `before` left: an answer, with no more left, or as many
+-- fewer.
 abbrev pub Turned : ℕ → Search → Search → Asked → ℕ → Outcome → Type 0
 Turned taken old new asked before MatchOutcome = (found_by old asked ≡ Match (labels_of_search new)) × (left_by new asked ≤ before)
 Turned taken old new asked before NoMatchOutcome = (found_by old asked ≡ NoMatch) × (left_by new asked ≤ before)

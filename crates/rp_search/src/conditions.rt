@@ -1,8 +1,9 @@
 //! What a search asks of the rows of a partition.
-ghost use Rattle.std.specs.Prelude.{◌≡◌, ◌≢◌, ℕ, ◌+◌, ◌-◌, ◌^◌, ◌<◌, ◌≤◌, List, [], ◌∷◌, ◌++◌, length, take, min, OnOk, OnErr};
+ghost use Rattle.std.specs.Prelude.{◌≡◌, ◌≢◌, ℕ, ◌+◌, ◌<◌, ◌≤◌, List, [], ◌∷◌, ◌++◌, length, take, min, OnOk, OnErr};
 ghost use Rattle.rp_pattern.specs.declared.word.Label.{Label};
 ghost use Rattle.rp_pattern.specs.declared.word.End.TheVariants.{Closed};
 ghost use Rattle.rp_pattern.specs.declared.word.Seen.TheVariants.{Open};
+ghost use Rattle.rp_pattern.specs.Numbers.{most_u64};
 ghost use Rattle.rp_search.specs.Asked.{Asked, AreBelow};
 
 use rp_pattern::{End, Label, Seen};
@@ -21,8 +22,8 @@ pub trait Tests {
     /// What is asked of a subject: its known rows and its end, and what the last of some labels is answered.
     ghost asked: { Self.Subject → Asked };
 
-    /// Whether these labels, from this start row on, are those that were entered. It is a relation, since tests need
-    /// not keep the labels themselves.
+    /// Whether these labels, from this start row on, are those that were entered: the tests were told of them, and they
+    /// aren't cut back. It is a relation, since tests need not keep the labels themselves.
     ghost entered: { Self → ℕ → List Label → Type 0 };
 
     /// How many calls of `enter` were made. It stays at its last value.
@@ -59,7 +60,7 @@ pub trait Tests {
         ensures entered { OnOk result (entered self.new start labels.now) }
         ensures err { OnErr result ((before : List Label) →
             entered self.old start before → entered self.new start before) }
-        ensures entries { entries self.new ≡ min (entries self.old + 1) (2 ^ 64 - 1) }
+        ensures entries { entries self.new ≡ min (entries self.old + 1) (most_u64) }
         ensures subject { subject self.new ≡ subject self.old };
 
     /// The labels are cut back to the first `depth`. It takes no memory. After a cut to 0 none is entered, from
@@ -72,7 +73,7 @@ pub trait Tests {
         ensures subject { subject self.new ≡ subject self.old };
 
     /// Row numbers leave room for one more.
-    ghost few: { (tests : Self) → (asked (subject tests)).known < 2 ^ 64 - 1 };
+    ghost few: { (tests : Self) → (asked (subject tests)).known < most_u64 };
 
     /// Over a closed end each row is decided.
     ghost decided: { (tests : Self) (start : ℕ) (labels : List Label) →

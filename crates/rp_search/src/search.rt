@@ -39,7 +39,7 @@ pub struct Search {
     /// Where the test of the row that the preferred choice maps is open: what would follow that row. Only if there is
     /// such a word is the search undecided.
     outlook: Option<Outlook>,
-    /// The turns of the last run that had a budget and met no refusal.
+    /// The turns of the last run that had a budget and met no want of memory.
     taken: u32,
 }
 
@@ -47,7 +47,7 @@ pub struct Search {
 impl Search {
     ghost use Rattle.rp_search.specs.Asked.{AreBelow};
     ghost use Rattle.rp_search.specs.Fits.{SearchFits, left_by, StandsBy, StandsAtRowBy};
-    ghost use Rattle.rp_search.specs.Search.{RunAnswers, CanRun, IsAtStart, IsSearchFor, IsSamePattern, IsSameSearch, Lowers, TakesTurns, labels_of_search, start_of_search, turns_of_run};
+    ghost use Rattle.rp_search.specs.Search.{RunAnswers, CanRun, IsAtStart, IsSearchFor, IsForSamePattern, IsSameSearch, Lowers, TakesTurns, labels_of_search, start_of_search, turns_of_run};
     ghost use Rattle.rp_search.specs.Turned.{AddsLabel, CountsTurns, Covers, IsWithinRun, Turned};
 
     /// A search from the row `start`, which is at least 1.
@@ -68,7 +68,7 @@ impl Search {
     /// has. Tests that are used further are to be cut back to no label.
     pub fn restart(&mut self, start: u64)
         requires { 1 ≤ start }
-        ensures pattern { IsSamePattern self.old self.new }
+        ensures pattern { IsForSamePattern self.old self.new }
         ensures start { start_of_search self.new ≡ start }
         ensures at_start { IsAtStart self.new }
     {
@@ -132,7 +132,7 @@ impl Search {
         self.choices.start()
     }
 
-    /// How many turns the last run took that had a budget and met no refusal.
+    /// How many turns the last run took that had a budget and met no want of memory.
     pub fn turns_taken(&self) -> u32
         ensures { result ≡ turns_of_run self.now }
     {

@@ -17,6 +17,11 @@ fn nested_lazy(alloc: Global) -> Result<Form, AllocError> {
     Form::quantified(alloc, body, 0, None, false)
 }
 
+/// `() | A`
+fn nothing_or_row(alloc: Global) -> Result<Form, AllocError> {
+    Form::alternation(alloc, Form::Empty, Form::variable(0))
+}
+
 fn pattern(rt: &impl Abort, form: Form) -> Pattern {
     assert!(rt; form.is_allowed());
     Pattern::new(form)
@@ -86,6 +91,24 @@ fn iterations_of_iterations(rt: HostRuntime) -> Result<(), Fail> {
 fn reluctant_iterations(rt: HostRuntime) -> Result<(), Fail> {
     let text = shown(&rt, rt.alloc(), nested_lazy(rt.alloc())?, 3, End::Closed)?;
     assert_eq!(rt; text.as_str(), "AAA AA A  ");
+    Ok(())
+}
+
+/// An iteration beyond the least number takes a row, so that in `(() | A)*` the side of no row is never taken.
+#[test]
+fn iterations_of_nothing_or_a_row(rt: HostRuntime) -> Result<(), Fail> {
+    let form = Form::quantified(rt.alloc(), nothing_or_row(rt.alloc())?, 0, None, false)?;
+    let text = shown(&rt, rt.alloc(), form, 2, End::Closed)?;
+    assert_eq!(rt; text.as_str(), "AA A  ");
+    Ok(())
+}
+
+/// The required iterations may take none, so that in `(() | A){2}` that side is preferred.
+#[test]
+fn required_iterations_of_nothing_or_a_row(rt: HostRuntime) -> Result<(), Fail> {
+    let form = Form::quantified(rt.alloc(), nothing_or_row(rt.alloc())?, 2, Some(2), false)?;
+    let text = shown(&rt, rt.alloc(), form, 2, End::Closed)?;
+    assert_eq!(rt; text.as_str(), " A A AA ");
     Ok(())
 }
 

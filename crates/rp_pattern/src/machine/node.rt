@@ -2,7 +2,7 @@
 ghost use Rattle.std.specs.Prelude.{◌≡◌, IsTrue};
 ghost use Rattle.rp_pattern.specs.Bounds.{is_allowed};
 
-use crate::form::Form;
+use crate::form::{Form, MAX_PARTS};
 use crate::machine::continuation::{Continuation, before};
 use crate::machine::iterations::Iterations;
 use crate::machine::link::{Part, Tail, linked, reach_shared, share};
@@ -303,7 +303,7 @@ impl Node {
     /// The parts of a PERMUTE.
     pub(crate) fn parts(&self) -> &[Rc<Form>]
         ensures parts { map (λ f. f.value) result.now ≡ permuted_parts self.now.form.value }
-        ensures few { length result.now ≤ 8 }
+        ensures few { length result.now ≤ MAX_PARTS }
         ensures allowed { IsTrue (all_true (map (λ f. is_allowed f.value) result.now)) }
     {
         match &*self.form {

@@ -38,7 +38,7 @@ bounded : (outlook : Option Outlook) (c : Choices) (n : ℕ) (e : End) (test : T
 bounded None c n e test s a = s.turns n e (now_later n e)
 bounded (Some outlook) c n e test s a =
     either_bounded (test (entered c)) (turns_left c n e) (turns_left_below c n e + turns_ahead outlook n e) (whole_turns c n e) (s.turns n e (now_later n e))
-    (omega (arith, s.turns n e (now_later n e), a.row.turns n e (now_later n e), a.turns n e (now_later n e)))
+    (omega (arith, s.turns n e (now_later n e), a.row.divides.turns n e (now_later n e), a.turns n e (now_later n e)))
 
 pub returns-clause-bounded : goal.returns-clause-bounded
 unfolding left_by turns_from start_of_search ChoicesStand LabelsStand whole_turns whole_turns_from start_of

@@ -26,7 +26,7 @@ map_row-requires-clause-below g c =
     let old = c.args.self.now.choices in
     let new = c.take_up.new.self in
     let read : TakenAs old new c.known.result c.end.result RowTaken = rw c.in-Row.is at c.in_ok-take_up.ensures.taken in
-    record { before = entered old; entered_before = c.requires.searches.fits.below; depth = read.depth; label = read.label; added = read.enters }
+    record { before = entered old; entered_before = c.requires.searches.fits.below; depth = read.enters.depth; label = read.enters.label; added = read.enters.is }
 
 pub returns-in-Split-clause-searches : goal.returns-in-Split-clause-searches
 unfolding start_of_search labels_of_search words_from left_by ChoicesStand LabelsStand LabelsBelow whole whole_from start_of
@@ -66,7 +66,7 @@ returns-in-Full-clause-turned g c =
     let taken : IsFullWord old new asked.known asked.end = at_known (λ n e. IsFullWord old new n e) _ _ _ _ c.known.ensures c.end.ensures read in
     let admitted = admitted_plainly old c.args.self.now.outlook _ _ _ c.requires.none c.requires.searches.fits.labels in (
       finds_match old new _ _ _ c.requires.searches.fits.stands admitted taken,
-      fewer_plainly old new c.args.self.now.outlook _ _ _ _ c.requires.none (omega (arith, taken.same_left asked.known asked.end (now_later _ _))),
+      fewer_plainly old new c.args.self.now.outlook _ _ _ _ c.requires.none (omega (arith, taken.same.turns asked.known asked.end (now_later _ _))),
     )
 
 pub returns-in-Open-clause-searches : goal.returns-in-Open-clause-searches
@@ -94,7 +94,7 @@ returns-in-Open-clause-turned g c =
     let admitted = admitted_plainly old c.args.self.now.outlook _ _ _ c.requires.none c.requires.searches.fits.labels in (
       finds_wait old new _ _ _ c.requires.searches.fits.stands admitted taken,
       taken.end,
-      fewer_plainly old new c.args.self.now.outlook _ _ _ _ c.requires.none (omega (arith, taken.same_left asked.known asked.end (now_later _ _))),
+      fewer_plainly old new c.args.self.now.outlook _ _ _ _ c.requires.none (omega (arith, taken.same.turns asked.known asked.end (now_later _ _))),
     )
 
 pub returns-in-Nothing-clause-searches : goal.returns-in-Nothing-clause-searches
@@ -121,5 +121,5 @@ returns-in-Nothing-clause-turned g c =
     let taken : IsNothing old new asked.known asked.end = at_known (λ n e. IsNothing old new n e) _ _ _ _ c.known.ensures c.end.ensures read in
     let admitted = admitted_plainly old c.args.self.now.outlook _ _ _ c.requires.none c.requires.searches.fits.labels in (
       finds_none old new _ _ _ c.requires.searches.fits.stands taken,
-      fewer_plainly old new c.args.self.now.outlook _ _ _ _ c.requires.none (taken.less asked.known asked.end (now_later _ _)),
+      fewer_plainly old new c.args.self.now.outlook _ _ _ _ c.requires.none (omega (arith, taken.same.turns asked.known asked.end (now_later _ _))),
     )
