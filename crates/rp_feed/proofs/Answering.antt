@@ -9,14 +9,14 @@ use Rattle.rp_feed.specs.declared.answer.TheConstants.{MAX_NUMBER, MAX_BEYOND}
 use Rattle.rp_feed.specs.Fed.{Fed, IsFeed, IsFront, IsOrdered, row_at, with_row, front_of, rows_from}
 use Rattle.rp_feed.specs.Slots.{Slots, held_from, leading, put_at}
 use Rattle.rp_feed.specs.Consistent.{IsConsistent, EndsBy}
-use Rattle.rp_feed.specs.Answers.{Answer, IsDue, IsDueClose, is_past, held_answer, compared, due, row_answer, closed_answer, has_above, close_answer}
+use Rattle.rp_feed.specs.Answers.{Answer, IsDue, IsDueClose, is_past, held_answer, compared, memory_aside, row_answer, closed_answer, has_above, close_answer}
 use Rattle.rp_feed.proofs.Ordered.{front_runs}
 use Rattle.rp_feed.proofs.Held.{row_at-held, first_missing-held, ascend-held, few_beyond, leading-within, leading-put, leading-drop, length-put, with_row-held, EndsFilled-put, EndsFilled-drop, rows_from-held, any_above}
 
 abbrev pub fed_of : ℕ → Slots → Option ℕ → Fed
 fed_of first slots closed = record { first = first; rows = held_from first slots; closed = closed }
 
-pub due_held : (is : Bool) (later : Answer) → due (held_answer (Some is) later) ≡ held_answer (Some is) later
+pub due_held : (is : Bool) (later : Answer) → memory_aside (held_answer (Some is) later) ≡ held_answer (Some is) later
 due_held true later = refl
 due_held false later = refl
 

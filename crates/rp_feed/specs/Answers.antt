@@ -9,6 +9,7 @@ use Rattle.rp_feed.specs.declared.answer.FeedFault.TheVariants.{NumberRange, Pas
 use Rattle.rp_feed.specs.declared.answer.TheConstants.{MAX_NUMBER, MAX_BEYOND}
 use Rattle.rp_feed.specs.Fed.{Fed, IsFree, row_at, front_of}
 
+-- what is answered to a row or to a close: what it is, or why it is refused
 abbrev pub Answer : Type 0
 Answer = Result Taken FeedFault
 
@@ -17,17 +18,19 @@ abbrev pub is_past : Option ℕ → ℕ → Bool
 is_past None n = false
 is_past (Some count) n = nat_lt count n
 
--- whether the row that is held at a number is the same as another; nothing where none is held
+-- whether the row that is held at a number, if one is, is the same as another
 abbrev pub compared : (List Value → List Value → Bool) → Option (List Value) → List Value → Option Bool
 compared same None row = None
 compared same (Some held) row = Some (same held row)
 
--- a row whose number has one repeats it or conflicts with it
+-- the answer to a row by whether the row that is held at its number is the same: it repeats that or conflicts with it; where none
+-- is held, the later rules answer
 abbrev pub held_answer : Option Bool → Answer → Answer
 held_answer None later = later
 held_answer (Some same) later = if same then Ok Repeat else Err Conflict
 
--- the answer to a row: the first that fits
+-- the answer to a row, the first of these that fits: the number is 0 or too great, above the close's count, below all that are
+-- held, that of a row that is held, too far above the front; else the row is New
 abbrev pub row_answer : (List Value → List Value → Bool) → Fed → ℕ → List Value → Answer
 row_answer same fed n row =
     if n == 0 || nat_lt MAX_NUMBER n then Err NumberRange
@@ -36,7 +39,8 @@ row_answer same fed n row =
     else held_answer (compared same (row_at fed.rows n) row)
     (if nat_lt (front_of fed + MAX_BEYOND) n then Err TooFar else Ok New)))
 
--- a close after another repeats it or differs from it
+-- the answer to a close by the count of an earlier one: it repeats that or differs from it; where there was none, the later rules
+-- answer
 abbrev pub closed_answer : Option ℕ → ℕ → Answer → Answer
 closed_answer None count later = later
 closed_answer (Some earlier) count later = if earlier == count then Ok Repeat else Err CloseDiffers
@@ -45,23 +49,24 @@ closed_answer (Some earlier) count later = if earlier == count then Ok Repeat el
 abbrev pub has_above : Fed → ℕ → Bool
 has_above fed n = nat_lt (n + 1) fed.first || list_any (λ e. nat_lt n e.0) fed.rows
 
--- the answer to a close: the first that fits
+-- the answer to a close, the first of these that fits: the count is too great, there was a close, a number above the count was
+-- taken; else the close is New
 abbrev pub close_answer : Fed → ℕ → Answer
 close_answer fed count =
     if nat_lt MAX_NUMBER count then Err NumberRange
     else closed_answer fed.closed count (if has_above fed count then Err CloseBelow else Ok New)
 
--- What an answer says of the row: want of memory says that it would have been New.
-abbrev pub due : Answer → Answer
-due (Err OutOfMemory) = Ok New
-due answer = answer
+-- what an answer says of the row, want of memory aside: that says that the row would have been New
+abbrev pub memory_aside : Answer → Answer
+memory_aside (Err OutOfMemory) = Ok New
+memory_aside answer = answer
 
--- what an answer leaves behind: only New changes the feed
+-- what an answer leaves behind: the changed feed where it is New, and else the feed as it was
 abbrev pub after : Answer → Fed → Fed → Fed
 after (Ok New) changed fed = changed
 after answer changed fed = fed
 
--- a row of that number can be taken
+-- a row of that number is due: the feed can take it as New
 pub record IsDue (fed : Fed) (n : ℕ) : Type 0 where
   pub least : 1 ≤ n
   pub greatest : n ≤ MAX_NUMBER
@@ -69,16 +74,17 @@ pub record IsDue (fed : Fed) (n : ℕ) : Type 0 where
   pub free : IsFree fed n
   pub near : n ≤ front_of fed + MAX_BEYOND
 
--- a close with that count can be taken
+-- a close with that count is due: the feed can take it as New
 pub record IsDueClose (fed : Fed) (count : ℕ) : Type 0 where
   pub greatest : count ≤ MAX_NUMBER
   pub unclosed : fed.closed ≡ None
   pub within : has_above fed count ≡ false
 
--- only such rows and closes are New
+-- only a row that is due is New
 abbrev pub NewRowsAreDue : Type 0
 NewRowsAreDue = (same : List Value → List Value → Bool) (fed : Fed) (n : ℕ) (row : List Value)
     → row_answer same fed n row ≡ Ok New → IsDue fed n
 
+-- only a close that is due is New
 abbrev pub NewClosesAreDue : Type 0
 NewClosesAreDue = (fed : Fed) (count : ℕ) → close_answer fed count ≡ Ok New → IsDueClose fed count

@@ -3,11 +3,13 @@ use Rattle.std.specs.Prelude.{◌≡◌, ℕ, ◌+◌, ◌≤◌, length, Option
 use Rattle.rp_feed.specs.declared.answer.TheConstants.{MAX_NUMBER, MAX_BEYOND}
 use Rattle.rp_feed.specs.Slots.{Slots, leading, EndsFilled}
 
--- no number from `next` on was taken, and so many rows the close counts at least
+-- the close, if it was taken, counts all numbers below `next`, and its count is in range
 abbrev pub EndsBy : ℕ → Option ℕ → Type 0
 EndsBy next None = ⊤
 EndsBy next (Some count) = (next ≤ count + 1) × (count ≤ MAX_NUMBER)
 
+-- What is true of a feed's fields: `first` and all places are in range, `ready` counts the places from the first on that have a row,
+-- the last place has one, no place is too far above the front, and the close counts all places.
 pub record IsConsistent (first ready : ℕ) (slots : Slots) (closed : Option ℕ) : Type 0 where
   pub least : 1 ≤ first
   pub greatest : first + length slots ≤ MAX_NUMBER + 1

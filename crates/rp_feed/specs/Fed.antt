@@ -7,27 +7,27 @@ use Rattle.rp_feed.specs.declared.answer.TheConstants.{MAX_NUMBER, MAX_BEYOND}
 abbrev pub Numbered : Type 0
 Numbered = ℕ × List Value
 
--- All numbers below `first` were taken and their rows dropped. The rows that are held come with ascending numbers.
--- `closed` is the count of the close.
+-- What a feed is seen as. All numbers below `first` were taken and their rows dropped; `rows` are those that are held, with
+-- ascending numbers; `closed` is the count of the close, if that was taken.
 pub record Fed : Type 0 where
   pub first : ℕ
   pub rows : List Numbered
   pub closed : Option ℕ
 
--- nothing is held, and no close was taken
+-- a feed that holds no row and has taken no close, and has dropped the rows below `first`
 abbrev pub fed_from : ℕ → Fed
 fed_from first = record { first = first; rows = []; closed = None }
 
--- the row of a number
+-- the row of a number, if it is held
 abbrev pub row_at : List Numbered → ℕ → Option (List Value)
 row_at [] n = None
 row_at ((m, row) ∷ rows) n = if m == n then Some row else row_at rows n
 
--- whether a number, from 1, was taken
+-- whether the row of a number, from 1, was taken: it is dropped or held
 abbrev pub is_taken : Fed → ℕ → Bool
 is_taken fed n = nat_lt n fed.first || is_some (row_at fed.rows n)
 
--- the rows with one more, at its place
+-- the rows with one more, put where its number has it
 abbrev pub with_row : ℕ → List Value → List Numbered → List Numbered
 with_row n row [] = (n, row) ∷ []
 with_row n row ((m, other) ∷ rows) =
@@ -58,11 +58,12 @@ first_missing n ((m, row) ∷ rows) = if m == n then first_missing (n + 1) rows 
 abbrev pub front_of : Fed → ℕ
 front_of fed = first_missing fed.first fed.rows - 1
 
--- each number is above the one before it
+-- each number is above the one before it, and the first is `n` or above
 abbrev pub AscendFrom : ℕ → List Numbered → Type 0
 AscendFrom n [] = ⊤
 AscendFrom n ((m, row) ∷ rows) = (n ≤ m) × AscendFrom (m + 1) rows
 
+-- numbers ascend, from the first that isn't dropped on
 pub record IsOrdered (fed : Fed) : Type 0 where
   pub least : 1 ≤ fed.first
   pub ascend : AscendFrom fed.first fed.rows
@@ -86,7 +87,7 @@ pub record IsReached (fed : Fed) (before : ℕ) : Type 0 where
 abbrev pub beyond : Fed → ℕ
 beyond fed = count_by (λ e. nat_lt (front_of fed) e.0) fed.rows
 
--- what is true of every feed
+-- What is true of every feed: numbers ascend, the front is at most MAX_NUMBER, and at most MAX_BEYOND rows beyond it are held.
 pub record IsFeed (fed : Fed) : Type 0 where
   pub ordered : IsOrdered fed
   pub limit : front_of fed ≤ MAX_NUMBER

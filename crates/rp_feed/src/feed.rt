@@ -1,7 +1,7 @@
 //! The feed of a partition.
 ghost use Rattle.std.specs.Prelude.{◌≡◌, ◌+◌, ◌≤◌, IfOk, option_copied, if◌then◌else◌};
 ghost use Rattle.rp_feed.specs.Fed.{IsFeed, IsFront, fed_from, forgotten, front_of, row_at, with_close, with_taken};
-ghost use Rattle.rp_feed.specs.Answers.{after, close_answer, due, is_past, row_answer};
+ghost use Rattle.rp_feed.specs.Answers.{after, close_answer, memory_aside, is_past, row_answer};
 
 use crate::slots::{compare_at, drop_first, numbered, put_at, row_in, run_on};
 use crate::{FeedFault, MAX_BEYOND, MAX_NUMBER, Taken};
@@ -67,7 +67,7 @@ impl Feed {
     /// Takes a row, if its number is in range, not above the close's count, neither dropped nor held, and not too far
     /// above the front: the first of these that fails decides the answer. `OutOfMemory` comes last.
     pub fn take(&mut self, number: u64, row: Row) -> Result<Taken, FeedFault>
-        ensures answer { due result ≡ row_answer ⟦<Row as PartialEq>⟧.eq self.old number row }
+        ensures answer { memory_aside result ≡ row_answer ⟦<Row as PartialEq>⟧.eq self.old number row }
         ensures changes { self.new ≡ after result (with_taken number row self.old) self.old }
     {
         if number == 0 || number > MAX_NUMBER {

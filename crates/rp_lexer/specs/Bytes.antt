@@ -1,4 +1,4 @@
--- Bytes that definitions name, each by its character. A single quote encloses texts, a double quote (one character) names.
+-- Bytes that definitions name, each by its character. A single quote encloses text literals, a double quote (one character) names.
 use Rattle.std.specs.Prelude.{ℕ, codes, slice_index}
 
 abbrev pub space : ℕ

@@ -8,7 +8,7 @@ use Rattle.rp_lexer.specs.declared.kind.TokenKind.{TokenKind}
 use Rattle.rp_lexer.specs.declared.kind.TokenKind.TheVariants as kind
 use Rattle.rp_lexer.specs.declared.token.Token.{Token}
 
--- the byte separates no tokens, and no token begins with it
+-- the byte is no separator, and no token begins with it
 abbrev pub IsStray : ℕ → Type 0
 IsStray b = (is_separator b ≡ false) × ((kind : TokenKind) (more : List ℕ) → HasForm kind (b ∷ more) → ⊥)
 
@@ -19,11 +19,12 @@ IsEmptyQuoted text at =
     × (slice_index text (at + 1) ≡ double_quote)
     × (slice_index text (at + 2) ≢ double_quote)
 
--- a quote stands at the place and is never closed: those behind it stand two in a row, each two for one quote
+-- a quote stands at the place and is never closed: behind it quotes stand only two in a row, for one quote inside
 abbrev pub IsUnclosed : ℕ → List ℕ → ℕ → Type 0
 IsUnclosed quote text at = (inside : List ℕ) × (drop at text ≡ quote ∷ doubled quote inside)
 
--- the fault stands at its offset
+-- What a fault says is so at its offset: there stands a stray byte or an empty quoted name, the quote of a text literal or of a name
+-- that is never closed, or a number that is out of range. Want of memory is no fault of a text.
 abbrev pub IsFault : List ℕ → LexFault → Type 0
 IsFault text (BadChar at) = (at < length text) × (IsStray (slice_index text at) ⊎ IsEmptyQuoted text at)
 IsFault text (OpenText at) = IsUnclosed single_quote text at

@@ -1,4 +1,4 @@
--- The lexical table: which bytes have the form of a token of each kind.
+-- Which bytes have the form of a token of each kind.
 use Rattle.std.specs.Prelude.{◌≡◌, ◌≢◌, ℕ, ◌<◌, Bool, true, ◌||◌, ◌==◌, if◌then◌else◌, List, [], ◌∷◌, ◌++◌, length, map, slice_index, All}
 use Rattle.std.specs.Char.{is_ascii_alphabetic, is_ascii_alphanumeric, is_ascii_digit, to_ascii_lowercase}
 use Rattle.rp_lexer.specs.Bytes.{underscore}

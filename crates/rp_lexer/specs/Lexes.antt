@@ -36,7 +36,7 @@ pub record IsLongest (text : List ℕ) (kind : TokenKind) (start end : ℕ) : Ty
   pub form : HasForm kind (slice_range text start end)
   pub longest : (more : ℕ) → end < more → more ≤ length text → BeginsToken (slice_range text start more) → ⊥
 
--- the greatest number is 9223372036854775807
+-- the value of the digits is at most 9223372036854775807, which is 2^63 - 1
 abbrev pub IsInRange : List ℕ → Type 0
 IsInRange digits = digits_value 10 digits < 2 ^ 63
 
@@ -46,7 +46,7 @@ pub record IsToken (text : List ℕ) (token : Token) : Type 0 where
   pub no_comment : CommentBegins text token.start → ⊥
   pub in_range : token.kind ≡ kind.Number → IsInRange (slice_range text token.start token.end)
 
--- From one place up to another stand these tokens, in order and apart, with separators and comments alone round them.
+-- From one place up to another stand these tokens in order, none within another, with separators and comments alone round them.
 abbrev pub LexesUpTo : List ℕ → ℕ → List Token → ℕ → Type 0
 LexesUpTo text at [] end = IsGap text at end
 LexesUpTo text at (token ∷ tokens) end = IsGap text at token.start × IsToken text token × LexesUpTo text token.end tokens end

@@ -1,4 +1,4 @@
--- What names, texts and numbers mean.
+-- What names, text literals and numbers mean. They stand in the text of a clause, which comes first here.
 use Rattle.std.specs.Prelude.{◌≡◌, ℕ, List, map, slice_range}
 use Rattle.std.specs.Char.{to_ascii_uppercase}
 use Rattle.std.specs.Str.Parse.{digits_value}
@@ -18,19 +18,19 @@ MeansName kind.Name bytes name = name ≡ map to_ascii_uppercase bytes
 MeansName kind.Quoted bytes name = bytes ≡ enclosed double_quote name
 MeansName _ bytes name = ⊥
 
--- The bytes of a text mean what stands inside its quotes, where two in a row stand for one.
+-- The bytes of a text literal mean what stands inside its quotes, where two in a row stand for one.
 abbrev pub MeansText : List ℕ → List ℕ → Type 0
-MeansText bytes text = bytes ≡ enclosed single_quote text
+MeansText bytes inside = bytes ≡ enclosed single_quote inside
 
 -- the token means the name
 abbrev pub IsNameOf : List ℕ → Token → List ℕ → Type 0
 IsNameOf text token name = MeansName token.kind (bytes_of text token) name
 
--- the token means the text
+-- the token, a text literal, means what stands inside
 abbrev pub IsTextOf : List ℕ → Token → List ℕ → Type 0
-IsTextOf text token means = MeansText (bytes_of text token) means
+IsTextOf text token inside = MeansText (bytes_of text token) inside
 
--- the value of a number
+-- the value of a token that is a number
 abbrev pub number_of : List ℕ → Token → ℕ
 number_of text token = digits_value 10 (bytes_of text token)
 

@@ -5,7 +5,8 @@ use Rattle.rp_lexer.specs.declared.kind.Keyword.TheVariants as keyword
 use Rattle.rp_lexer.specs.declared.kind.Mark.{Mark}
 use Rattle.rp_lexer.specs.declared.kind.Mark.TheVariants as mark
 
--- a reserved word in upper case
+-- A reserved word in upper case. The list is this project's own: the words of the clause and of its expressions alone (that of
+-- ISO/IEC 9075-2:2016, 5.2, is another).
 abbrev pub keyword_spelling : Keyword → List ℕ
 keyword_spelling keyword.After = codes "AFTER"
 keyword_spelling keyword.All = codes "ALL"
@@ -53,7 +54,7 @@ keyword_spelling keyword.To = codes "TO"
 keyword_spelling keyword.Unmatched = codes "UNMATCHED"
 keyword_spelling keyword.With = codes "WITH"
 
--- a mark as it is written
+-- a mark, which is a sign of one or two characters, as it is written
 abbrev pub mark_spelling : Mark → List ℕ
 mark_spelling mark.LeftBraceMinus = codes "{-"
 mark_spelling mark.RightBraceMinus = codes "-}"

@@ -14,7 +14,7 @@ pub enum LexFault {
     /// a name without a character.
     #[error("BadChar at byte {0}")]
     BadChar(usize),
-    /// A text begins with the `'` here and never closes.
+    /// A text literal begins with the `'` here and never closes.
     #[error("OpenText at byte {0}")]
     OpenText(usize),
     /// A quoted name begins with the `"` here and never closes.

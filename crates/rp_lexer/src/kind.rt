@@ -9,7 +9,7 @@ pub enum TokenKind {
     Keyword(Keyword),
     /// `"` .. `"`, with `""` for a quote inside, and at least one character inside: a name that means what stands inside.
     Quoted,
-    /// `'` .. `'`, with `''` for a quote inside.
+    /// A text literal: `'` .. `'`, with `''` for a quote inside.
     Text,
     /// One or more decimal digits, of a value of at most 9223372036854775807.
     Number,
@@ -64,7 +64,8 @@ pub enum Mark {
     GreaterThan,
 }
 
-/// A reserved word, each with its spelling in upper case.
+/// A reserved word, each with its spelling in upper case. The list is this project's own: the words of the clause and of its
+/// expressions alone (that of ISO/IEC 9075-2:2016, 5.2, is another).
 #[derive(Clone, Copy, Debug, PartialEq, Eq)]
 pub enum Keyword {
     /// `AFTER`
@@ -159,7 +160,7 @@ pub enum Keyword {
     With,
 }
 
-/// Each mark with its spelling. A mark stands before those that it begins with.
+/// Each mark with its spelling. A longer mark stands before a shorter one that it begins with, as `<=` before `<`.
 pub(crate) const MARKS: [(&[u8], Mark); 21] = [
     (b"{-", Mark::LeftBraceMinus),
     (b"-}", Mark::RightBraceMinus),

@@ -1,4 +1,4 @@
-//! Tokens of a MATCH_RECOGNIZE clause: the names, reserved words, texts, numbers and signs that a parser reads.
+//! Tokens of a MATCH_RECOGNIZE clause: the names, reserved words, text literals, numbers and signs that a parser reads.
 //!
 //! `lex` cuts a text into its one list of tokens, or gives the first fault with its byte. Each token tells its kind and where
 //! it stands; `name_of`, `text_of` and `number_of` say what it means. So of `b AS p < 5 -- falling` the tokens are the name

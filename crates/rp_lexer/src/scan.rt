@@ -192,7 +192,7 @@ fn number(text: &[u8], start: usize) -> Result<Token, LexFault>
     }
 }
 
-/// The text that begins at the place.
+/// The text literal that begins at the place.
 fn literal(text: &[u8], start: usize) -> Result<Token, LexFault>
     requires quote { slice_index text.now start ≡ single_quote }
     requires within { start < length text.now }

@@ -2,3 +2,4 @@ pub mod Written
 pub mod Giving
 pub mod Cutting
 pub mod Told
+pub mod Calls

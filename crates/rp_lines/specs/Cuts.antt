@@ -16,8 +16,8 @@ CutsRest old new line line' = IsLfFree (pending_of old) × (pending_of new ≡ [
 
 -- what is cut off, by whether there was a LF
 abbrev pub CutsOff : Bool → Lines → Lines → List ℕ → List ℕ → Type 0
-CutsOff is_whole old new line line' = MatchBool is_whole (CutsLine old new line line') (CutsRest old new line line')
+CutsOff had_lf old new line line' = MatchBool had_lf (CutsLine old new line line') (CutsRest old new line line')
 
--- a LF is passed over, if there was one, and what stood before it
+-- the place in the chunk moves on, where there was a LF by a byte at least
 abbrev pub Advances : Bool → Lines → Lines → Type 0
-Advances is_whole old new = MatchBool is_whole (old.taken < new.taken) (old.taken ≤ new.taken)
+Advances had_lf old new = MatchBool had_lf (old.taken < new.taken) (old.taken ≤ new.taken)

@@ -2,14 +2,18 @@
 use Rattle.std.specs.Prelude.{◌≡◌, ℕ, zero, suc, ◌+◌, ◌≤◌, List, ◌++◌, length, Option, Some, None}
 use Rattle.rp_lines.specs.Counts.{raised}
 
--- what a device's count of calls stands at after some calls more
+-- what a device's count of calls stands at after so many calls more
 abbrev pub after_calls : ℕ → ℕ → ℕ
 after_calls zero count = count
 after_calls (suc more) count = after_calls more (raised count)
 
--- The count of calls has gone from old to new by `least` to `most` calls.
+-- At least `least` and at most `most` calls were made: by them the count of calls has gone from old to new.
 abbrev pub MakesCalls : ℕ → ℕ → ℕ → ℕ → Type 0
 MakesCalls least most old new = (made : ℕ) × (least ≤ made) × (made ≤ most) × (new ≡ after_calls made old)
+
+-- Of the calls that were allowed before, those that are allowed no more were made: by them the count of calls has gone from old to new.
+abbrev pub UsesCalls : ℕ → ℕ → ℕ → ℕ → Type 0
+UsesCalls before after old new = (made : ℕ) × (made + after ≡ before) × (new ≡ after_calls made old)
 
 -- As many bytes came at least, where they are known, as reads were made: those that were allowed before less those that are allowed after.
 abbrev pub AsManyBytesAsReads : ℕ → ℕ → Option (List ℕ) → Option (List ℕ) → Type 0

@@ -12,6 +12,7 @@ pending_of lines = drop lines.taken lines.chunk.items
 abbrev pub coming : Lines → Option (List ℕ) → Option (List ℕ)
 coming lines remaining = prepend_known (pending_of lines) remaining
 
--- No more lines than this can still come: each takes a byte at least of those pending or to be read, and a read gives at most CHUNK.
+-- No more lines than this can still come: each takes a byte at least, of those pending or of those that the reads still allowed
+-- can give, which is CHUNK each at most.
 abbrev pub most_lines_to_come : Lines → ℕ
-most_lines_to_come lines = lines.reads * (CHUNK + 1) + (vec_len lines.chunk - lines.taken)
+most_lines_to_come lines = lines.reads * CHUNK + (vec_len lines.chunk - lines.taken)

@@ -2,9 +2,9 @@
 use Rattle.std.specs.Prelude.{◌≡◌, ℕ, Bool, true, false, Result, Ok, Err}
 use Rattle.rp_lines.specs.Counts.{raised}
 use Rattle.rp_lines.specs.declared.lines.LineFault.{LineFault}
-use Rattle.rp_lines.specs.declared.lines.LineFault.TheVariants.{Read, Turns, OutOfMemory}
+use Rattle.rp_lines.specs.declared.lines.LineFault.TheVariants.{Read, TooManyReads, OutOfMemory}
 
--- Whether a read has told the end, before and after the next line was asked for: yes where no further line came, and else as before.
+-- Whether a read has told the end, before and after the next line was asked for: yes where none came that a LF ends, and else as before.
 abbrev pub EndIsTold : Result Bool LineFault → Bool → Bool → Type 0
 EndIsTold (Ok true) old new = new ≡ old
 EndIsTold (Ok false) old new = new ≡ true
@@ -12,7 +12,7 @@ EndIsTold (Err fault) old new = new ≡ old
 
 -- How many reads have failed, before and after the next line was asked for: one more where the fault is Read, and else as many.
 abbrev pub FailureIsCounted : Result Bool LineFault → ℕ → ℕ → Type 0
-FailureIsCounted (Ok is_whole) old new = new ≡ old
+FailureIsCounted (Ok had_lf) old new = new ≡ old
 FailureIsCounted (Err Read) old new = new ≡ raised old
-FailureIsCounted (Err Turns) old new = new ≡ old
+FailureIsCounted (Err TooManyReads) old new = new ≡ old
 FailureIsCounted (Err OutOfMemory) old new = new ≡ old

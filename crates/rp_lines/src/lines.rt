@@ -13,9 +13,9 @@ pub enum LineFault {
     /// The device failed.
     #[error("device: read")]
     Read,
-    /// No further read is allowed, and one is due.
-    #[error("too many turns")]
-    Turns,
+    /// All reads that are allowed were made, and another is due.
+    #[error("too many reads")]
+    TooManyReads,
     /// Memory was refused.
     #[error("out of memory")]
     OutOfMemory,
@@ -27,16 +27,16 @@ const CHUNK: usize = 65_536;
 /// The byte that ends a line.
 const LF: u8 = b'\n';
 
-/// Cuts what is read into lines. Of a long line only the front is kept.
+/// Cuts what is read into lines. Of a long line only the first bytes are kept.
 #[derive(Drop)]
 pub struct Lines {
     /// What was read last.
     pub chunk: Vec<u8>,
-    /// How many bytes of it were cut off.
+    /// How many bytes of it were cut off, from the first on.
     pub taken: usize,
     /// How many more calls of the reader may be made.
     pub reads: u64,
-    /// How many bytes of a line are kept.
+    /// How many bytes of a line are kept at most.
     pub kept: usize,
     ghost within: { taken ≤ vec_len chunk },
     ghost bounded: { vec_len chunk ≤ CHUNK },
@@ -46,12 +46,12 @@ impl Lines {
     ghost use Rattle.std.specs.Prelude.{◌≡◌, ◌<◌, ◌≤◌, ◌⊎◌, true, false, [], length, take, vec_len, IfOk, OnOk, OnErr};
     ghost use Rattle.std.specs.Io.KnownBytes.{Consumes, IsAtEnd};
     ghost use Rattle.rp_lines.specs.Cuts.{Advances, CutsOff};
-    ghost use Rattle.rp_lines.specs.Devices.{AsManyBytesAsReads, after_calls};
+    ghost use Rattle.rp_lines.specs.Devices.{AsManyBytesAsReads, UsesCalls};
     ghost use Rattle.rp_lines.specs.Lines.{TakesLast, TakesLine};
     ghost use Rattle.rp_lines.specs.Pending.{pending_of, coming, most_lines_to_come};
     ghost use Rattle.rp_lines.specs.Telling.{EndIsTold, FailureIsCounted};
 
-    /// Nothing is read yet, and at most `reads` calls of `read` will be made.
+    /// Nothing is read yet, at most `reads` calls of the reader will be made, and of each line at most `kept` bytes kept.
     pub fn new(alloc: Global, reads: u64, kept: usize) -> Self
         ensures pending { pending_of result ≡ [] }
         ensures reads { result.reads ≡ reads }
@@ -65,8 +65,8 @@ impl Lines {
         }
     }
 
-    /// Puts the front of the next line into `line`, without its LF, and says whether it had one. Without one it is what
-    /// stood behind the last LF, perhaps nothing, and the input has ended.
+    /// Puts the first bytes of the next line into `line`, without its LF, and says whether it had one. Without one it is
+    /// what stood behind the last LF of the input, perhaps nothing, and the input has ended.
     pub fn next<R: Intake>(&mut self, reader: &mut R, line: &mut Vec<u8>) -> Result<bool, LineFault>
         ensures line { result ≡ Ok true → TakesLine self.old.kept
             (coming self.old (R.remaining reader.old)) (coming self.new (R.remaining reader.new)) line.new.items }
@@ -75,10 +75,9 @@ impl Lines {
         ensures end { result ≡ Ok false → IsAtEnd (R.remaining reader.new) }
         ensures told { EndIsTold result (R.ended reader.old) (R.ended reader.new) }
         ensures failures { FailureIsCounted result (R.failures reader.old) (R.failures reader.new) }
-        ensures calls { after_calls self.new.reads (R.calls reader.new)
-            ≡ after_calls self.old.reads (R.calls reader.old) }
-        ensures reads { result ≡ Err LineFault.Turns → self.new.reads ≡ 0 }
-        ensures gives { (result ≡ Ok true) ⊎ (result ≡ Err LineFault.Turns) →
+        ensures calls { UsesCalls self.old.reads self.new.reads (R.calls reader.old) (R.calls reader.new) }
+        ensures reads { result ≡ Err LineFault.TooManyReads → self.new.reads ≡ 0 }
+        ensures gives { (result ≡ Ok true) ⊎ (result ≡ Err LineFault.TooManyReads) →
             AsManyBytesAsReads self.old.reads self.new.reads (R.remaining reader.old) (R.remaining reader.new) }
         ensures falls { result ≡ Ok true → most_lines_to_come self.new < most_lines_to_come self.old }
         ensures few { vec_len line.new ≤ self.old.kept }
@@ -98,19 +97,19 @@ impl Lines {
     /// Moves what is left of the chunk to the line, up to a LF, and says whether there was one.
     fn cut(&mut self, line: &mut Vec<u8>) -> Result<bool, AllocError>
         requires { vec_len line.old ≤ self.old.kept }
-        ensures cut { IfOk result (λ is_whole. CutsOff is_whole self.old self.new line.old.items line.new.items) }
+        ensures cut { IfOk result (λ had_lf. CutsOff had_lf self.old self.new line.old.items line.new.items) }
         ensures fits { vec_len line.new ≤ self.old.kept }
-        ensures falls { IfOk result (λ is_whole. Advances is_whole self.old self.new) }
+        ensures falls { IfOk result (λ had_lf. Advances had_lf self.old self.new) }
         ensures chunk { self.new.chunk ≡ self.old.chunk }
         ensures reads { self.new.reads ≡ self.old.reads }
         ensures kept { self.new.kept ≡ self.old.kept }
     {
         let rest = &self.chunk[self.taken..];
         let length = line_length(rest);
-        let is_whole = length < rest.len();
+        let had_lf = length < rest.len();
         push_up_to(line, &rest[..length], self.kept)?;
-        self.taken += length + usize::from(is_whole);
-        Ok(is_whole)
+        self.taken += length + usize::from(had_lf);
+        Ok(had_lf)
     }
 
     /// Reads the next chunk, if a further call may be made, and says whether there is any. If none may be made, nothing
@@ -122,9 +121,8 @@ impl Lines {
         ensures end { result ≡ Ok false → IsAtEnd (R.remaining reader.new) }
         ensures told { EndIsTold result (R.ended reader.old) (R.ended reader.new) }
         ensures failures { FailureIsCounted result (R.failures reader.old) (R.failures reader.new) }
-        ensures calls { after_calls self.new.reads (R.calls reader.new)
-            ≡ after_calls self.old.reads (R.calls reader.old) }
-        ensures unread { result ≡ Err LineFault.Turns →
+        ensures calls { UsesCalls self.old.reads self.new.reads (R.calls reader.old) (R.calls reader.new) }
+        ensures unread { result ≡ Err LineFault.TooManyReads →
             (self.old.reads ≡ 0) × (self.new ≡ self.old) × (reader.new ≡ reader.old) }
         ensures gives { result ≡ Ok true →
             AsManyBytesAsReads self.old.reads self.new.reads (R.remaining reader.old) (R.remaining reader.new) }
@@ -132,7 +130,7 @@ impl Lines {
         ensures kept { self.new.kept ≡ self.old.kept }
     {
         if self.reads == 0 {
-            return Err(LineFault::Turns);
+            return Err(LineFault::TooManyReads);
         }
         self.taken = 0;
         self.chunk.resize(CHUNK, 0)?;

@@ -25,10 +25,10 @@ pub trait Intake {
     /// The bytes that are still to come, where they are known.
     ghost remaining: { Self → Option (List ℕ) };
 
-    /// How many calls were made. It stays at its last value.
+    /// How many calls were made, up to 2^64 - 1, where the count stays.
     ghost calls: { Self → ℕ };
 
-    /// How many of them failed. It stays at its last value.
+    /// How many of them failed, counted in the same way.
     ghost failures: { Self → ℕ };
 
     /// Whether a call has told the end: it gave no byte where the buffer had room.
@@ -52,10 +52,10 @@ pub trait Outlet {
     /// The bytes that were written, where they are known.
     ghost contents: { Self → Option (List ℕ) };
 
-    /// How many calls were made. It stays at its last value.
+    /// How many calls were made, up to 2^64 - 1, where the count stays.
     ghost calls: { Self → ℕ };
 
-    /// How many of them failed. It stays at its last value.
+    /// How many of them failed, counted in the same way.
     ghost failures: { Self → ℕ };
 
     /// Takes a front of the bytes. A call that takes none has failed, unless there are none.
@@ -73,9 +73,9 @@ pub trait Outlet {
 pub struct Port<D> {
     /// The stream itself.
     pub device: D,
-    /// How many calls of it were made. It stays at its last value.
+    /// How many calls of it were made, up to 2^64 - 1, where the count stays.
     pub calls: u64,
-    /// How many of them failed. It stays at its last value.
+    /// How many of them failed, counted in the same way.
     pub failures: u64,
     /// Whether a read has told the end.
     pub ended: bool,

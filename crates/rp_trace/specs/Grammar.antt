@@ -9,7 +9,8 @@ use Rattle.rp_pattern.specs.Variables.{are_below}
 use Rattle.rp_trace.specs.Bytes.{space, upper_a}
 use Rattle.rp_trace.specs.declared.letters.TheConstants.{VARIABLES}
 
--- a pattern, wherever its parts are kept
+-- A pattern as plain data: its form without where its parts lie in memory. The grammar has variables, `()`, concatenation, `|` and
+-- `*`, and any form beyond these is Other, which no text derives.
 pub data Tree : Type 0 where
   Letter : ℕ → Tree
   Nothing : Tree
@@ -18,7 +19,7 @@ pub data Tree : Type 0 where
   Star : Tree → Tree
   Other : Tree
 
--- the greedy quantifier without bounds
+-- a quantified pattern: Star where the quantifier is greedy, from 0 on and without an upper bound, and else Other
 abbrev pub quantified_tree : ℕ → Option ℕ → Bool → Tree → Tree
 quantified_tree zero None false body = Star body
 quantified_tree lower upper reluctant body = Other
@@ -46,7 +47,8 @@ pub data Level : Type 0 where
   Factors : Level
   Primaries : Level
 
--- by this rule of the grammar the symbols derive the tree
+-- By this rule of the grammar the symbols derive the tree. `*` binds closer than writing side by side, and this closer than `|`;
+-- both group from the right.
 pub data Derives : Level → List ℕ → Tree → Type 0 where
   one_sequence : {s : List ℕ} {t : Tree} → Derives Sequences s t → Derives Alternatives s t
   either : {s s' : List ℕ} {t t' : Tree} → Derives Sequences s t → Derives Alternatives s' t' → Derives Alternatives (s ++ (codes "|" ++ s')) (Either t t')
@@ -62,6 +64,7 @@ pub data Derives : Level → List ℕ → Tree → Type 0 where
 abbrev pub symbols_of : List ℕ → List ℕ
 symbols_of text = filter (λ b. not (b == space)) text
 
--- the bounds of its quantifiers are in order, and each of its variables has a letter
+-- The form is one that a `Pattern` may have (bounds in order and within their limits), and each of its variables is one of the
+-- letters A to Z.
 abbrev pub IsLettered : Form → Type 0
 IsLettered form = IsTrue (is_allowed form) × (are_below VARIABLES form ≡ true)

@@ -4,15 +4,19 @@ use Rattle.rp_pattern.specs.declared.form.Form.{Form}
 use Rattle.rp_trace.specs.Bytes.{asterisk, left_parenthesis, space, upper_a, upper_z, vertical_bar}
 use Rattle.rp_trace.specs.Grammar.{Tree, Level, Alternatives, Sequences, Factors, Primaries, Derives, IsLettered, symbols_of, tree_of}
 
--- From an offset of the text on there are `left` symbols, and the byte at the offset is the first of them, if there is one.
-pub record LeavesSymbols (text : List ℕ) (left offset : ℕ) : Type 0 where
-  pub within : offset ≤ length text
-  pub symbols : length (symbols_of (drop offset text)) ≡ left
-  pub first : (rest : List ℕ) → drop offset text ≡ space ∷ rest → ⊥
-
--- this symbol isn't the first of them
+-- these bytes don't begin with the mark
 abbrev pub Lacks : ℕ → List ℕ → Type 0
-Lacks mark symbols = (rest : List ℕ) → symbols ≡ mark ∷ rest → ⊥
+Lacks mark bytes = (rest : List ℕ) → bytes ≡ mark ∷ rest → ⊥
+
+-- the offset is that of a symbol of the text, which is any byte but a space, or the length of the text
+pub record IsSymbolPlace (text : List ℕ) (offset : ℕ) : Type 0 where
+  pub within : offset ≤ length text
+  pub symbol : Lacks space (drop offset text)
+
+-- The offset is such a place, and from it on the text has `left` symbols.
+pub record LeavesSymbols (text : List ℕ) (left offset : ℕ) : Type 0 where
+  pub place : IsSymbolPlace text offset
+  pub symbols : length (symbols_of (drop offset text)) ≡ left
 
 -- a letter or an opening bracket is first
 abbrev pub begins_primary : List ℕ → Bool

@@ -13,11 +13,11 @@ use Rattle.rp_trace.specs.declared.letters.TheConstants.{MAX_LINE}
 use Rattle.rp_trace.specs.LetterTest.{letter_test}
 use Rattle.rp_search.specs.Found.{Found, Match, Waits, NoMatch, found}
 
--- a to z
+-- whether the byte is a letter of a row, a to z
 abbrev pub is_letter : ℕ → Bool
 is_letter byte = nat_le lower_a byte && nat_le byte lower_z
 
--- at most MAX_LINE bytes, each a letter
+-- whether a line's match is looked for: it has at most MAX_LINE bytes, each a letter
 abbrev pub is_looked_at : List ℕ → Bool
 is_looked_at line = nat_le (length line) MAX_LINE && list_all is_letter line
 
@@ -26,18 +26,18 @@ abbrev pub match_text : List Label → List ℕ
 match_text [] = codes "empty"
 match_text (label ∷ labels) = map (λ l. l.var + upper_a) (label ∷ labels)
 
--- what is written for what was found. Over a closed partition nothing is waited for
+-- what is written for what a search found. Over a closed partition none waits for more rows, so for that there is no text.
 abbrev pub found_text : Found → List ℕ
 found_text (Match labels) = match_text labels
 found_text Waits = []
 found_text NoMatch = codes "none"
 
--- the search at row 1 of a closed partition with these letters; an empty line has no such row
+-- what the search from row 1 on over a closed partition with these letters finds; an empty line has no row 1
 abbrev pub search_text : Form → List ℕ → List ℕ
 search_text form [] = codes "none"
 search_text form (letter ∷ letters) = found_text (found (letter_test (letter ∷ letters) 1) (words (length (letter ∷ letters)) Closed form 1))
 
--- what is written for a line, without its LF
+-- what is written for a line, without the LF behind it: a line that isn't looked at is refused
 abbrev pub reply_text : Form → List ℕ → List ℕ
 reply_text form line = if is_looked_at line then search_text form line else codes "refused"
 

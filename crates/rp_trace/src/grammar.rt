@@ -4,7 +4,7 @@ ghost use Rattle.rp_pattern.specs.PatternForm.{form_of};
 ghost use Rattle.rp_trace.specs.Bytes.{upper_a};
 ghost use Rattle.rp_trace.specs.declared.letters.TheConstants.{VARIABLES};
 ghost use Rattle.rp_trace.specs.Grammar.{Tree, Alternatives, Sequences, Factors, Primaries, Derives, IsLettered, symbols_of, tree_of};
-ghost use Rattle.rp_trace.specs.Reading.{LeavesSymbols, Lacks, ReadsForm, StopsAt, begins_primary};
+ghost use Rattle.rp_trace.specs.Reading.{IsSymbolPlace, LeavesSymbols, Lacks, ReadsForm, StopsAt, begins_primary};
 
 use rp_pattern::{Form, Pattern};
 use std::alloc::{AllocError, AllocFailed, Global};
@@ -27,8 +27,7 @@ pub fn trace_pattern(alloc: Global, text: &str) -> Result<Pattern, TracePatternF
     ensures derived { IfOk result (λ pattern. Derives Alternatives (symbols_of text.now) (tree_of (form_of pattern))) }
     ensures only { IfOk result (λ pattern. (tree : Tree) →
         Derives Alternatives (symbols_of text.now) tree → tree_of (form_of pattern) ≡ tree) }
-    ensures place { (offset : ℕ) → result ≡ Err (TracePatternFault.Expected offset) →
-        (left : ℕ) × LeavesSymbols text.now left offset }
+    ensures place { (offset : ℕ) → result ≡ Err (TracePatternFault.Expected offset) → IsSymbolPlace text.now offset }
     ensures refused { (offset : ℕ) → result ≡ Err (TracePatternFault.Expected offset) →
         (tree : Tree) → Derives Alternatives (symbols_of text.now) tree → ⊥ }
 {

@@ -11,12 +11,12 @@ use std::alloc::AllocError;
 #[derive(Drop)]
 pub struct Letters<'a> {
     line: &'a [u8],
-    /// How many calls of `enter` were made. It stays at its last value.
+    /// How many calls of `enter` were made, up to 2^64 - 1, where the count stays.
     entries: u64,
     ghost short: { length line.now ≤ MAX_LINE },
 }
 
-/// The longest line that is looked at.
+/// The longest line whose match is looked for, in bytes.
 pub const MAX_LINE: usize = 4096;
 
 /// The variables of a pattern are the letters A to Z.
@@ -68,7 +68,8 @@ impl Tests for Letters<'_> {
 
     fn test(&self, start: u64, labels: &[Label]) -> Seen {
         let label = labels[labels.len() - 1];
-        let letter = self.line[start as usize + labels.len() - 2];
+        let row = start as usize + labels.len() - 1;
+        let letter = self.line[row - 1];
         if admits_letter(label.var, letter) {
             Seen::True
         } else {

@@ -4,7 +4,7 @@ ghost use Rattle.std.specs.Io.KnownBytes.{IsAtEnd};
 ghost use Rattle.rp_pattern.specs.PatternForm.{form_of};
 ghost use Rattle.rp_pattern.specs.Variables.{are_below};
 ghost use Rattle.rp_lines.specs.Counts.{raised};
-ghost use Rattle.rp_lines.specs.Devices.{after_calls};
+ghost use Rattle.rp_lines.specs.Devices.{MakesCalls};
 ghost use Rattle.rp_trace.specs.declared.letters.TheConstants.{MAX_LINE, VARIABLES};
 ghost use Rattle.rp_trace.specs.Replies.{WritesFront, WritesReplies};
 ghost use Rattle.rp_trace.specs.Replies.{is_letter, is_looked_at, last_reply, match_text, reply_text, reply_to, search_text};
@@ -28,7 +28,8 @@ pub enum TraceFault {
     /// A call of the writer failed.
     #[error("device: write")]
     Write,
-    /// All calls of the reader that are allowed were made, none of them told the end, and another is due.
+    /// All calls of the reader that are allowed were made, none of them told the end, and another is due. (A turn of a search is
+    /// another thing: `trace` counts none.)
     #[error("too many turns")]
     Turns,
     /// Memory was refused.
@@ -62,10 +63,10 @@ pub fn run_trace<R: Intake, W: Outlet>(
         ((R.failures reader.new ≡ R.failures reader.old) × (W.failures writer.new ≡ W.failures writer.old)) }
     ensures read { result ≡ Err TraceFault.Read → R.failures reader.new ≡ raised (R.failures reader.old) }
     ensures write { result ≡ Err TraceFault.Write → W.failures writer.new ≡ raised (W.failures writer.old) }
-    ensures reads { result ≡ Err TraceFault.Turns → R.calls reader.new ≡ after_calls reads (R.calls reader.old) }
+    ensures reads { result ≡ Err TraceFault.Turns → MakesCalls reads reads (R.calls reader.old) (R.calls reader.new) }
     ensures due { result ≡ Err TraceFault.Turns → R.ended reader.new ≡ R.ended reader.old }
     ensures gave { result ≡ Err TraceFault.Turns → IfSome (R.remaining reader.old) (λ input. reads ≤ length input) }
-    ensures within { (left : ℕ) × (after_calls left (R.calls reader.new) ≡ after_calls reads (R.calls reader.old)) }
+    ensures within { MakesCalls 0 reads (R.calls reader.old) (R.calls reader.new) }
 {
     let mut lines = Lines::new(alloc, reads, MAX_LINE + 1);
     let mut line = Vec::new(alloc);
@@ -128,7 +129,7 @@ fn push_answer(
     push_match::<Brand>(alloc, text, pattern, line, Blank::new(1))
 }
 
-/// Adds the labels of the match at row 1. Nothing is counted.
+/// Adds the labels of the match at row 1. The search's turns aren't counted.
 fn push_match<L: Ledger>(
     alloc: Global,
     text: &mut Vec<u8>,
@@ -168,7 +169,7 @@ fn push_labels(text: &mut Vec<u8>, labels: &[Label]) -> Result<(), AllocError>
     Ok(())
 }
 
-/// Whether the line is short enough, and has letters alone.
+/// Whether the line is no longer than `MAX_LINE`, and has letters alone: any other is refused.
 fn is_looked_at(line: &[u8]) -> bool
     ensures { result ≡ is_looked_at line.now }
 {
@@ -223,7 +224,7 @@ impl From<LineFault> for TraceFault {
     fn from(fault: LineFault) -> TraceFault {
         match fault {
             LineFault::Read => TraceFault::Read,
-            LineFault::Turns => TraceFault::Turns,
+            LineFault::TooManyReads => TraceFault::Turns,
             LineFault::OutOfMemory => TraceFault::OutOfMemory,
         }
     }

@@ -3,10 +3,10 @@ use Rattle.std.proofs.Common.{refl}
 use Rattle.std.specs.Cmp.{int_cmp_total}
 use Rattle.std.specs.Cmp.Lexicographic.{nat_list_cmp_total}
 use Rattle.rp_value.specs.declared.value.Value.TheVariants.{Null, Int, Text}
-use Rattle.rp_value.specs.Order.{DescendingIsReverse}
+use Rattle.rp_value.specs.Order.{ExchangedIsReversed}
 
--- with the sides exchanged the order is reversed
-pub value_order-reversed : DescendingIsReverse
+-- with the two values exchanged the order is reversed
+pub value_order-reversed : ExchangedIsReversed
 value_order-reversed (Int a) (Int b) = int_cmp_total.antisymm b a
 value_order-reversed (Int a) (Text b) = refl
 value_order-reversed (Int a) Null = refl

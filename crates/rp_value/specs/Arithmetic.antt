@@ -1,11 +1,15 @@
 -- Arithmetic on values: exact on whole numbers, and null where the result is outside 64 bits with sign.
-use Rattle.std.specs.Prelude.{Bool, ◌&&◌, ℤ, pos, neg_ℤ, int_le, int_lt, ◌^◌, if◌then◌else◌}
+use Rattle.std.specs.Prelude.{ℕ, Bool, ◌&&◌, ℤ, pos, neg_ℤ, int_le, int_lt, ◌^◌, if◌then◌else◌}
 use Rattle.rp_value.specs.declared.value.Value.{Value}
 use Rattle.rp_value.specs.declared.value.Value.TheVariants.{Null, Int}
 
+-- whole numbers of 64 bits with sign go from -signed_bound to signed_bound - 1
+abbrev pub signed_bound : ℕ
+signed_bound = 2 ^ 63
+
 -- whether a whole number is one of 64 bits with sign
 abbrev pub fits_64_bits : ℤ → Bool
-fits_64_bits z = int_le (neg_ℤ (pos (2 ^ 63))) z && int_lt z (pos (2 ^ 63))
+fits_64_bits z = int_le (neg_ℤ (pos signed_bound)) z && int_lt z (pos signed_bound)
 
 -- the value of a whole number, which is null outside 64 bits with sign
 abbrev pub fitted : ℤ → Value

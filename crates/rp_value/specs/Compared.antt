@@ -11,11 +11,12 @@ use Rattle.rp_value.specs.declared.truth.Tri.TheVariants.{True, False, Unknown}
 use Rattle.rp_value.specs.declared.value.Value.{Value}
 use Rattle.rp_value.specs.declared.value.Value.TheVariants.{Int, Text}
 
--- whole numbers by their size, texts by their bytes from the first on; none for null, and none for values of different kinds
-abbrev pub comparison : Value → Value → Option Ordering
-comparison (Int a) (Int b) = Some (int_cmp a b)
-comparison (Text a) (Text b) = Some (slice_cmp nat_cmp a b)
-comparison _ _ = None
+-- The order of two values that can be compared: whole numbers by their size, texts by their bytes from the first on. Null can't be
+-- compared, nor values of different kinds.
+abbrev pub comparable_order : Value → Value → Option Ordering
+comparable_order (Int a) (Int b) = Some (int_cmp a b)
+comparable_order (Text a) (Text b) = Some (slice_cmp nat_cmp a b)
+comparable_order _ _ = None
 
 -- whether a comparison holds of two values in this order
 abbrev pub holds : Comparison → Ordering → Bool
@@ -30,11 +31,11 @@ holds GreaterOrEqual order.Greater = true
 holds GreaterOrEqual order.Equal = true
 holds _ _ = false
 
--- the truth value of a comparison of two values in this order: unknown where they have none
+-- the truth value of a comparison of two values in this order: unknown where they can't be compared
 abbrev pub order_truth : Comparison → Option Ordering → Tri
 order_truth compares None = Unknown
 order_truth compares (Some order) = if holds compares order then True else False
 
 -- the truth value of a comparison: unknown where one of the values is null, and where their kinds differ
 abbrev pub comparison_truth : Comparison → Value → Value → Tri
-comparison_truth compares a b = order_truth compares (comparison a b)
+comparison_truth compares a b = order_truth compares (comparable_order a b)

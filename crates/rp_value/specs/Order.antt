@@ -6,9 +6,9 @@ use Rattle.std.specs.Ordering.{int_cmp, nat_cmp, ordering_reverse}
 use Rattle.std.specs.Cmp.Lexicographic.{slice_cmp}
 use Rattle.rp_value.specs.declared.value.Value.{Value}
 use Rattle.rp_value.specs.declared.value.Value.TheVariants.{Null, Int, Text}
-use Rattle.rp_value.specs.Compared.{comparison}
+use Rattle.rp_value.specs.Compared.{comparable_order}
 
--- whole numbers first, by their size, then texts by their bytes from the first on, and null last
+-- the order of ORDER BY, ascending: whole numbers first, by their size, then texts by their bytes from the first on, and null last
 abbrev pub value_order : Value → Value → Ordering
 value_order (Int a) (Int b) = int_cmp a b
 value_order (Int a) _ = Less
@@ -18,14 +18,14 @@ value_order (Text a) Null = Less
 value_order Null Null = Equal
 value_order Null _ = Greater
 
--- the order of two values that can be compared is their comparison
+-- two values that can be compared are in the order of their comparison
 abbrev pub OrderIsComparison : Type 0
-OrderIsComparison = (a b : Value) (order : Ordering) → comparison a b ≡ Some order → value_order a b ≡ order
+OrderIsComparison = (a b : Value) (order : Ordering) → comparable_order a b ≡ Some order → value_order a b ≡ order
 
--- any other value is before null
+-- any value but null is before null
 abbrev pub NullIsLast : Type 0
 NullIsLast = (a : Value) → a ≢ Null → value_order a Null ≡ Less
 
--- with the sides exchanged the order is reversed
-abbrev pub DescendingIsReverse : Type 0
-DescendingIsReverse = (a b : Value) → value_order b a ≡ ordering_reverse (value_order a b)
+-- with the two values exchanged the order is reversed: so DESC, which exchanges them, sorts by the reverse
+abbrev pub ExchangedIsReversed : Type 0
+ExchangedIsReversed = (a b : Value) → value_order b a ≡ ordering_reverse (value_order a b)

@@ -22,7 +22,7 @@ row_fault kinds values =
     then option_map (λ k. KindAt (k + 1)) (position (λ p. not (admits p.0 p.1)) (zip kinds values))
     else Some Width
 
--- what a refusal says of the values: that they have this fault, or none where only memory was refused
+-- what a fault says of the values: that it is theirs, or that they have none where memory alone was refused
 abbrev pub said_of_cells : RowFault → Option RowFault
 said_of_cells OutOfMemory = None
 said_of_cells fault = Some fault

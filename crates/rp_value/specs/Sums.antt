@@ -1,5 +1,5 @@
 -- Exact sums.
-use Rattle.std.specs.Prelude.{◌≡◌, ℕ, ℤ, pos, ◌+ℤ◌, ◌==◌, List, [], ◌∷◌, length, fold, if◌then◌else◌}
+use Rattle.std.specs.Prelude.{◌≡◌, ℕ, ◌-◌, ◌^◌, ℤ, pos, ◌+ℤ◌, ◌==◌, List, [], ◌∷◌, length, fold, if◌then◌else◌}
 use Rattle.rp_value.specs.declared.value.Value.{Value}
 use Rattle.rp_value.specs.declared.value.Value.TheVariants.{Null}
 use Rattle.rp_value.specs.Arithmetic.{fitted}
@@ -17,19 +17,27 @@ abbrev pub sum_of : List ℤ → Value
 sum_of [] = Null
 sum_of (n ∷ numbers) = total (n ∷ numbers)
 
--- how many numbers were added up, and their exact sum
+-- what a running sum is seen as: how many numbers were added up, and their exact sum
 pub record Summed : Type 0 where
   pub count : ℕ
   pub sum : ℤ
 
--- what is kept of numbers
+-- as many numbers can be added up as a count of 64 bits tells
+abbrev pub most_numbers : ℕ
+most_numbers = 2 ^ 64 - 1
+
+-- what a running sum keeps of numbers: how many they are, and their exact sum
 abbrev pub summed : List ℤ → Summed
 summed numbers = record { count = length numbers; sum = exact_sum numbers }
 
--- SUM of the numbers that were added up
-abbrev pub sum_or_null : Summed → Value
-sum_or_null s = if s.count == 0 then Null else fitted s.sum
+-- the sum as a value: null where it is outside 64 bits with sign, and 0 where no number was added up
+abbrev pub sum_value : Summed → Value
+sum_value s = fitted s.sum
 
--- what is kept of numbers tells SUM of them
+-- SUM of the numbers that were added up: null of none, and else the sum as a value
+abbrev pub sum_or_null : Summed → Value
+sum_or_null s = if s.count == 0 then Null else sum_value s
+
+-- SUM by what a running sum keeps of numbers is SUM of the numbers
 abbrev pub SumsAgree : Type 0
 SumsAgree = (numbers : List ℤ) → sum_or_null (summed numbers) ≡ sum_of numbers

@@ -33,7 +33,7 @@ table_fault (c ∷ cs) =
     if has_bad_name (c ∷ cs) then Some BadName
     else (if has_double_name (c ∷ cs) then Some DoubleName else None)
 
--- what a refusal says of the columns: that they have this fault, or none where only memory was refused
+-- what a fault says of the columns: that it is theirs, or that they have none where memory alone was refused
 abbrev pub said_of_columns : TableFault → Option TableFault
 said_of_columns OutOfMemory = None
 said_of_columns fault = Some fault

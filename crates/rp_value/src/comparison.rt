@@ -4,7 +4,7 @@ ghost use Rattle.rp_value.specs.Compared.{holds};
 
 use std::cmp::Ordering;
 
-/// A comparison of two values (ISO/IEC 9075-2:2016, comparison predicate). `Value::judged` gives its truth value.
+/// A comparison of two values (ISO/IEC 9075-2:2016, comparison predicate). `Value::comparison_truth` gives its truth value.
 #[derive(Clone, Copy, Debug, PartialEq, Eq, Hash)]
 pub enum Comparison {
     /// `=`

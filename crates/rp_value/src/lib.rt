@@ -10,8 +10,8 @@
 //! A comparison has one of three truth values, since with null nothing can be told; a condition over rows of which some
 //! haven't come yet is `Judged`, told or open:
 //!
-//!     Value::Int(17).judged(Comparison::Less, &Value::Int(18))    // Tri::True
-//!     Value::Null.judged(Comparison::Equal, &Value::Null)         // Tri::Unknown
+//!     Value::Int(17).comparison_truth(Comparison::Less, &Value::Int(18))    // Tri::True
+//!     Value::Null.comparison_truth(Comparison::Equal, &Value::Null)         // Tri::Unknown
 //!
 //! What these mean is said in `specs/`: Compared and Order, Arithmetic and Sums, Truth, Tables and Rows.
 #![tactic(auto)]

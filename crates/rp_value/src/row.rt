@@ -96,14 +96,14 @@ pub fn check_cells(kinds: &[Kind], cells: &[Value]) -> Result<(), RowFault>
     if cells.len() != kinds.len() {
         return Err(RowFault::Width);
     }
-    match first_refused(kinds, cells) {
+    match first_misfit(kinds, cells) {
         Some(index) => Err(RowFault::Kind(index + 1)),
         None => Ok(()),
     }
 }
 
 /// The index of the first value that is neither null nor of its kind.
-fn first_refused(kinds: &[Kind], cells: &[Value]) -> Option<usize>
+fn first_misfit(kinds: &[Kind], cells: &[Value]) -> Option<usize>
     ensures place { result ≡ position (λ p. not (admits p.0 p.1)) (zip kinds.now cells.now) }
     ensures bound { IfSome result (λ index. index < length kinds.now) }
 {

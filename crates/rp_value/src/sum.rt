@@ -1,7 +1,6 @@
 //! A running sum that no partial sum can overflow.
-ghost use Rattle.std.specs.Prelude.{◌≡◌, ◌+◌, ◌-◌, ◌^◌, ◌<◌, pos, ◌+ℤ◌};
-ghost use Rattle.rp_value.specs.Arithmetic.{fitted};
-ghost use Rattle.rp_value.specs.Sums.{total, sum_or_null, SumsAgree};
+ghost use Rattle.std.specs.Prelude.{◌≡◌, ◌+◌, ◌<◌, pos, ◌+ℤ◌};
+ghost use Rattle.rp_value.specs.Sums.{total, most_numbers, sum_value, sum_or_null, SumsAgree};
 
 use crate::Value;
 use crate::value::null_if_none;
@@ -18,7 +17,8 @@ pub struct RunningSum {
 }
 
 impl Model for RunningSum {
-    ghost use Rattle.std.specs.Prelude.{◌*◌, ◌^◌, pos, neg_ℤ, ◌≤ℤ◌};
+    ghost use Rattle.std.specs.Prelude.{◌*◌, pos, neg_ℤ, ◌≤ℤ◌};
+    ghost use Rattle.rp_value.specs.Arithmetic.{signed_bound};
     ghost use Rattle.rp_value.specs.Sums.{Summed};
 
     ghost Value = { Summed };
@@ -26,7 +26,7 @@ impl Model for RunningSum {
     ghost view = { λ r. record { count = r.count; sum = r.sum } };
 
     ghost invariant = { λ r.
-        (neg_ℤ (pos (r.count * 2 ^ 63)) ≤ℤ r.sum) × (r.sum ≤ℤ pos (r.count * 2 ^ 63)) };
+        (neg_ℤ (pos (r.count * signed_bound)) ≤ℤ r.sum) × (r.sum ≤ℤ pos (r.count * signed_bound)) };
 
     ghost inverse = { λ s. record { count = s.count; sum = s.sum } };
 }
@@ -49,7 +49,7 @@ impl RunningSum {
 
     /// Adds one more number.
     pub fn add(&mut self, number: i64)
-        requires room { self.old.count < 2 ^ 64 - 1 }
+        requires room { self.old.count < most_numbers }
         ensures added { self.new
             ≡ record { count = self.old.count + 1; sum = self.old.sum +ℤ number } }
     {
@@ -64,9 +64,10 @@ impl RunningSum {
         self.count
     }
 
-    /// The sum as a value: null where it is outside 64 bits with sign, and 0 for no number. SUM is `sum_or_null`.
+    /// The sum as a value: null where it is outside 64 bits with sign, and 0 for no number. SUM is `sum_or_null`, which differs
+    /// from it for no number alone.
     pub fn value(&self) -> Value
-        ensures { result ≡ fitted self.now.sum }
+        ensures { result ≡ sum_value self.now }
     {
         null_if_none(i64::try_from(self.sum).ok())
     }
@@ -83,7 +84,7 @@ impl RunningSum {
     }
 }
 
-/// The law that what is kept of numbers tells SUM of them.
+/// The law that SUM by what a running sum keeps of numbers is SUM of the numbers.
 pub fn law_sum()
     ensures { SumsAgree }
 {}

@@ -84,13 +84,19 @@ fn judged_comparisons(rt: HostRuntime) -> Result<(), Fail> {
     let five = Value::Int(5);
     let word = text(alloc, "5")?;
     for (comparison, less, equal, greater) in comparisons {
-        assert_eq!(rt; Value::Int(-5).judged(comparison, &five), less);
-        assert_eq!(rt; five.judged(comparison, &five), equal);
-        assert_eq!(rt; word.judged(comparison, &word), equal);
-        assert_eq!(rt; five.judged(comparison, &Value::Int(4)), greater);
-        assert_eq!(rt; five.judged(comparison, &Value::Null), Tri::Unknown);
-        assert_eq!(rt; Value::Null.judged(comparison, &Value::Null), Tri::Unknown);
-        assert_eq!(rt; word.judged(comparison, &five), Tri::Unknown);
+        assert_eq!(rt; Value::Int(-5).comparison_truth(comparison, &five), less);
+        assert_eq!(rt; five.comparison_truth(comparison, &five), equal);
+        assert_eq!(rt; word.comparison_truth(comparison, &word), equal);
+        assert_eq!(rt; five.comparison_truth(comparison, &Value::Int(4)), greater);
+        assert_eq!(rt;
+            five.comparison_truth(comparison, &Value::Null),
+            Tri::Unknown
+        );
+        assert_eq!(rt;
+            Value::Null.comparison_truth(comparison, &Value::Null),
+            Tri::Unknown
+        );
+        assert_eq!(rt; word.comparison_truth(comparison, &five), Tri::Unknown);
     }
     Ok(())
 }

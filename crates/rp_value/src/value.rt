@@ -2,8 +2,8 @@
 ghost use Rattle.std.specs.Prelude.{◌≡◌, ◌+ℤ◌, ◌-ℤ◌, ◌*ℤ◌, IfOk};
 ghost use Rattle.std.specs.Option.{option_map_or};
 ghost use Rattle.rp_value.specs.Arithmetic.{on_numbers};
-ghost use Rattle.rp_value.specs.Compared.{comparison, comparison_truth};
-ghost use Rattle.rp_value.specs.Order.{value_order, OrderIsComparison, NullIsLast, DescendingIsReverse};
+ghost use Rattle.rp_value.specs.Compared.{comparable_order, comparison_truth};
+ghost use Rattle.rp_value.specs.Order.{value_order, OrderIsComparison, NullIsLast, ExchangedIsReversed};
 ghost use Rattle.rp_value.specs.Rows.{admits};
 
 use crate::{Comparison, Text, Tri};
@@ -34,7 +34,7 @@ impl Kind {
 /// A cell of a row, or the result of an expression.
 ///
 /// `==` and the hash are those of a key of a map, in which null equals null. The order is that of ORDER BY, ascending:
-/// whole numbers are below texts, and null is last. None of these is SQL's comparison: what a condition asks is `judged`.
+/// whole numbers are below texts, and null is last. None of these is SQL's comparison: what a condition asks is `comparison_truth`.
 // The derived order goes by the variants from the first on.
 #[derive(Debug, PartialEq, Eq, PartialOrd, Ord, Hash, Drop)]
 pub enum Value {
@@ -50,7 +50,7 @@ impl Value {
     /// The order of two values: of whole numbers by size, of texts by their UTF-8 bytes,
     /// so that `'B'` is before `'a'`. None for null and for values of different kinds.
     pub fn compare(&self, other: &Value) -> Option<Ordering>
-        ensures { result ≡ comparison self.now other.now }
+        ensures { result ≡ comparable_order self.now other.now }
     {
         match (self, other) {
             (Value::Int(left), Value::Int(right)) => Some(left.cmp(right)),
@@ -61,7 +61,7 @@ impl Value {
 
     /// The truth value of a comparison with another value, as `p < 5` has it. A comparison with null is unknown, `=` with
     /// null on both sides too; and so is one of a whole number with a text.
-    pub fn judged(&self, comparison: Comparison, other: &Value) -> Tri
+    pub fn comparison_truth(&self, comparison: Comparison, other: &Value) -> Tri
         ensures { result ≡ comparison_truth comparison self.now other.now }
     {
         match self.compare(other) {
@@ -123,7 +123,7 @@ pub fn law_value_order()
     ensures order { (a b : Value) → ⟦<Value as Ord>⟧.cmp a b ≡ value_order a b }
     ensures compared { OrderIsComparison }
     ensures null_last { NullIsLast }
-    ensures descending { DescendingIsReverse }
+    ensures exchanged { ExchangedIsReversed }
 {}
 
 /// A whole number, or null where there is none.

@@ -1,8 +1,8 @@
 use Rattle.std.proofs.Common.{rules, ◌≡◌, ◌++◌, refl, ap, ◌∙◌}
 use Rattle.rp_pattern.specs.PatternForm.{form_of}
-use Rattle.rp_lines.specs.Devices.{after_calls}
 use Rattle.rp_lines.specs.Pending.{coming}
 use Rattle.rp_trace.specs.Replies.{last_reply, reply_to}
+use Rattle.rp_lines.proofs.Calls.{UsesCalls-all, UsesCalls-at_most, UsesCalls-none, UsesCalls-trans}
 use Rattle.rp_lines.proofs.Cutting.{on_err_from}
 use Rattle.rp_trace.proofs.RepliesSoFar.{AppendsFront-none, Replied-start, Replied-more, Replied-moved, Replied-last, Replied-end, Replied-fault}
 use Rattle.rp_lines.proofs.Giving.{AsManyBytesAsReads-start, AsManyBytesAsReads-trans}
@@ -17,7 +17,7 @@ loop-text-init g c = record {
   write = refl;
   ended = refl;
   gives = rw c.new-lines.ensures.reads (AsManyBytesAsReads-start c.args.reads (g.R.Intake.remaining c.args.reader.now));
-  calls = ap (λ reads. after_calls reads (g.R.Intake.calls c.args.reader.now)) c.new-lines.ensures.reads;
+  calls = UsesCalls-none _ _ _ _ c.new-lines.ensures.reads refl;
 }
 
 pub returns-in_err-next-clause-front : goal.returns-in_err-next-clause-front
@@ -47,7 +47,7 @@ loop-text-preserved g c =
       write = c.in_ok-write_block.ensures.goes ∙ c.loop-text.invariant.write;
       ended = told_more _ _ _ (search rules) c.in_ok-next.ensures.told ∙ c.loop-text.invariant.ended;
       gives = AsManyBytesAsReads-trans _ _ _ _ _ _ c.loop-text.invariant.gives (c.in_ok-next.ensures.gives (search rules));
-      calls = c.in_ok-next.ensures.calls ∙ c.loop-text.invariant.calls;
+      calls = UsesCalls-trans _ _ _ _ _ _ c.loop-text.invariant.calls c.in_ok-next.ensures.calls;
     }
 
 pub returns-in_err-write_block-clause-front : goal.returns-in_err-write_block-clause-front
@@ -87,3 +87,24 @@ returns-clause-written g c =
     Replied-end form (g.R.Intake.remaining c.args.reader.now) (coming c.loop-text.lines (g.R.Intake.remaining c.loop-text.reader)) (coming c.next.new.self (g.R.Intake.remaining c.next.new.reader))
     (g.W.Outlet.contents c.args.writer.now) (g.W.Outlet.contents c.loop-text.writer) (g.W.Outlet.contents c.write_all.new.writer) c.loop-text.text.items c.push_last.new.text.items c.next.new.line.items
     c.loop-text.invariant.replied takes text (rw c.as_slice-3.ensures.value at c.in_ok-write_all.ensures.ok)
+
+pub returns-in_err-next-clause-reads : goal.returns-in_err-next-clause-reads
+returns-in_err-next-clause-reads g c = λ is. UsesCalls-all _ _ _ _ (c.in_err-next.ensures.reads (search rules)) (UsesCalls-trans _ _ _ _ _ _ c.loop-text.invariant.calls c.in_err-next.ensures.calls)
+
+pub returns-in_err-next-clause-within : goal.returns-in_err-next-clause-within
+returns-in_err-next-clause-within g c = UsesCalls-at_most _ _ _ _ (UsesCalls-trans _ _ _ _ _ _ c.loop-text.invariant.calls c.in_err-next.ensures.calls)
+
+pub returns-in_err-push_reply-clause-within : goal.returns-in_err-push_reply-clause-within
+returns-in_err-push_reply-clause-within g c = UsesCalls-at_most _ _ _ _ (UsesCalls-trans _ _ _ _ _ _ c.loop-text.invariant.calls c.in_ok-next.ensures.calls)
+
+pub returns-in_err-write_block-clause-within : goal.returns-in_err-write_block-clause-within
+returns-in_err-write_block-clause-within g c = UsesCalls-at_most _ _ _ _ (UsesCalls-trans _ _ _ _ _ _ c.loop-text.invariant.calls c.in_ok-next.ensures.calls)
+
+pub returns-in_err-push_last-clause-within : goal.returns-in_err-push_last-clause-within
+returns-in_err-push_last-clause-within g c = UsesCalls-at_most _ _ _ _ (UsesCalls-trans _ _ _ _ _ _ c.loop-text.invariant.calls c.in_ok-next.ensures.calls)
+
+pub returns-in_err-write_all-clause-within : goal.returns-in_err-write_all-clause-within
+returns-in_err-write_all-clause-within g c = UsesCalls-at_most _ _ _ _ (UsesCalls-trans _ _ _ _ _ _ c.loop-text.invariant.calls c.in_ok-next.ensures.calls)
+
+pub returns-clause-within : goal.returns-clause-within
+returns-clause-within g c = UsesCalls-at_most _ _ _ _ (UsesCalls-trans _ _ _ _ _ _ c.loop-text.invariant.calls c.in_ok-next.ensures.calls)

@@ -1,6 +1,6 @@
 use Rattle.std.proofs.Common.{◌≡◌}
 use Rattle.rp_pattern.specs.PatternForm.{form_of}
-use Rattle.rp_lines.specs.Devices.{AsManyBytesAsReads, after_calls}
+use Rattle.rp_lines.specs.Devices.{AsManyBytesAsReads, UsesCalls}
 use Rattle.rp_lines.specs.Pending.{coming, most_lines_to_come}
 use Rattle.rp_trace.proofs.RepliesSoFar.{Replied}
 use Rattle.rp_trace.proofs.trace.run_trace.Given as goal
@@ -13,7 +13,7 @@ invariant-loop-text g l = record {
   write : g.W.Outlet.failures l.writer ≡ g.W.Outlet.failures l.fn.writer;
   ended : g.R.Intake.ended l.reader ≡ g.R.Intake.ended l.fn.reader;
   gives : AsManyBytesAsReads l.reads l.lines.reads (g.R.Intake.remaining l.fn.reader) (g.R.Intake.remaining l.reader);
-  calls : after_calls l.lines.reads (g.R.Intake.calls l.reader) ≡ after_calls l.reads (g.R.Intake.calls l.fn.reader);
+  calls : UsesCalls l.reads l.lines.reads (g.R.Intake.calls l.fn.reader) (g.R.Intake.calls l.reader);
 }
 
 abbrev pub decreases-loop-text : goal.decreases-loop-text

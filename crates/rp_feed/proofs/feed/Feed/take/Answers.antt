@@ -2,14 +2,14 @@ use Rattle.std.proofs.Common.{◌≡◌, Ok, Err, false, sym, ap, ◌∙◌, ari
 use Rattle.rp_feed.specs.declared.answer.FeedFault.TheVariants.{OutOfMemory}
 use Rattle.rp_feed.specs.declared.answer.Taken.TheVariants.{New}
 use Rattle.rp_feed.specs.Slots.{held_from}
-use Rattle.rp_feed.specs.Answers.{is_past, due}
+use Rattle.rp_feed.specs.Answers.{is_past, memory_aside}
 use Rattle.rp_feed.proofs.Answering.{due_held, held_row, too_far, new_row, row_put, run_at_least, room_put, run_fits}
 use Rattle.rp_feed.proofs.feed.Feed.take.Goals as goal
 
 pub returns-in-Some-clause-answer : goal.returns-in-Some-clause-answer
 returns-in-Some-clause-answer c =
     let unpast : is_past c.self.inside.closed c.args.number ≡ false = cc in
-    rw (← c.self.view_is) (ap due c.repeat_if.ensures ∙ due_held c.in-Some.same (Ok New)
+    rw (← c.self.view_is) (ap memory_aside c.repeat_if.ensures ∙ due_held c.in-Some.same (Ok New)
     ∙ held_row c.self.inside.first c.self.inside.ready c.self.inside.slots.items c.self.inside.closed c.self.invariant _ c.args.number c.args.row
     c.if-number-eq0.false c.if-number-gt-MAX_NUMBER.false unpast c.if-number-self.false c.in-Some.same (Ok New) (sym c.in-Some.is ∙ c.compare_at.ensures))
 

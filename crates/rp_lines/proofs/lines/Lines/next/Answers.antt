@@ -1,6 +1,7 @@
 use Rattle.std.proofs.Common.{rules, ◌++◌, ◌∙◌, ap, take}
 use Rattle.rp_lines.specs.Pending.{pending_of, coming}
 use Rattle.rp_lines.proofs.Cutting.{cut-whole, cut-part, fill-more, end-part, when_true, when_false}
+use Rattle.rp_lines.proofs.Calls.{UsesCalls-trans}
 use Rattle.rp_lines.proofs.Giving.{AsManyBytesAsReads-trans}
 use Rattle.rp_lines.proofs.lines.Lines.next.Goals as goal
 
@@ -35,8 +36,14 @@ loop-self-preserved g c =
       fits = search rules;
       kept = search rules;
       goes = search rules;
-      calls = search rules;
+      calls = UsesCalls-trans _ _ _ _ _ _ c.loop-self.invariant.calls (rw c.in_ok-cut.ensures.reads at c.in_ok-fill.ensures.calls);
       ended = search rules;
       gives = AsManyBytesAsReads-trans _ _ _ _ _ _ c.loop-self.invariant.gives (rw c.in_ok-cut.ensures.reads at c.in_ok-fill.ensures.gives (search rules));
       left = search rules;
     }
+
+pub returns-in_err-fill-clause-calls : goal.returns-in_err-fill-clause-calls
+returns-in_err-fill-clause-calls g c = UsesCalls-trans _ _ _ _ _ _ c.loop-self.invariant.calls (rw c.in_ok-cut.ensures.reads at c.in_err-fill.ensures.calls)
+
+pub returns-then-not-branch-clause-calls : goal.returns-then-not-branch-clause-calls
+returns-then-not-branch-clause-calls g c = UsesCalls-trans _ _ _ _ _ _ c.loop-self.invariant.calls (rw c.in_ok-cut.ensures.reads at c.in_ok-fill.ensures.calls)

@@ -1,5 +1,5 @@
 use Rattle.std.proofs.Common.{◌≡◌, ◌≤◌, vec_len}
-use Rattle.rp_lines.specs.Devices.{AsManyBytesAsReads, after_calls}
+use Rattle.rp_lines.specs.Devices.{AsManyBytesAsReads, UsesCalls}
 use Rattle.rp_lines.specs.Pending.{coming, most_lines_to_come}
 use Rattle.rp_lines.proofs.Cutting.{ReadFront}
 use Rattle.rp_lines.proofs.lines.Lines.next.Given as goal
@@ -10,7 +10,7 @@ invariant-loop-self g l = record {
   fits : vec_len l.line ≤ l.self.kept;
   kept : l.self.kept ≡ l.fn.self.kept;
   goes : g.R.Intake.failures l.reader ≡ g.R.Intake.failures l.fn.reader;
-  calls : after_calls l.self.reads (g.R.Intake.calls l.reader) ≡ after_calls l.fn.self.reads (g.R.Intake.calls l.fn.reader);
+  calls : UsesCalls l.fn.self.reads l.self.reads (g.R.Intake.calls l.fn.reader) (g.R.Intake.calls l.reader);
   ended : g.R.Intake.ended l.reader ≡ g.R.Intake.ended l.fn.reader;
   gives : AsManyBytesAsReads l.fn.self.reads l.self.reads (g.R.Intake.remaining l.fn.reader) (g.R.Intake.remaining l.reader);
   left : most_lines_to_come l.self ≤ most_lines_to_come l.fn.self;
