@@ -27,10 +27,10 @@ compared same (Some held) row = Some (same held row)
 -- is held, the later rules answer
 abbrev pub held_answer : Option Bool → Answer → Answer
 held_answer None later = later
-held_answer (Some same) later = if same then Ok Repeat else Err Conflict
+held_answer (Some is_same) later = if is_same then Ok Repeat else Err Conflict
 
--- the answer to a row, the first of these that fits: the number is 0 or too great, above the close's count, below all that are
--- held, that of a row that is held, too far above the front; else the row is New
+-- the answer to a row, the first of these that fits: the number is 0 or too great, above the close's count, that of a dropped row
+-- (below `first`), that of a row that is held, too far above the front; else the row is New
 abbrev pub row_answer : (List Value → List Value → Bool) → Fed → ℕ → List Value → Answer
 row_answer same fed n row =
     if n == 0 || nat_lt MAX_NUMBER n then Err NumberRange

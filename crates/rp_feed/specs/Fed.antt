@@ -49,7 +49,7 @@ rows_from n rows = filter (λ e. nat_le n e.0) rows
 abbrev pub forgotten : ℕ → Fed → Fed
 forgotten before fed = record fed { first = before; rows = rows_from before fed.rows }
 
--- the first number from `n` on that no row has
+-- where rows ascend from `n` on: the first number that none of them has
 abbrev pub first_missing : ℕ → List Numbered → ℕ
 first_missing n [] = n
 first_missing n ((m, row) ∷ rows) = if m == n then first_missing (n + 1) rows else n

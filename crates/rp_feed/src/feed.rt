@@ -22,7 +22,7 @@ use std::marker::Model;
 pub struct Feed {
     /// The number of the first place.
     first: u64,
-    /// How many places from the first on have a row.
+    /// How many places have a row before the first that has none.
     ready: usize,
     /// A place for each number from `first` to the greatest that was taken.
     slots: VecDeque<Option<Row>>,

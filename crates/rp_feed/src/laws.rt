@@ -14,8 +14,8 @@ pub fn law_rows()
     ensures dropped { RowsAreDropped }
     ensures taken { TakenIsAdded }
     ensures stays_taken { TakenStays }
-    ensures ordered { OrderStays }
-    ensures stays_ordered { OrderIsKept }
+    ensures ordered_after_row { OrderStays }
+    ensures ordered_after_drop { OrderIsKept }
 {}
 
 /// The law of the front: it is the one number up to which all were taken and the next wasn't; a row more never lowers
@@ -27,7 +27,7 @@ pub fn law_front()
 {}
 
 /// The law of what is taken as New: a row whose number is in range, not above the close, not dropped, not held and not
-/// too far above the front; and a close where there was none, below which all numbers are that were taken.
+/// too far above the front; and a close where there was none, whose count no number that was taken is above.
 pub fn law_new()
     ensures row { NewRowsAreDue }
     ensures close { NewClosesAreDue }

@@ -50,7 +50,7 @@ pub(crate) fn put_at(
     Ok(())
 }
 
-/// How many places from the first on have a row, where so many are known to.
+/// How many places have a row before the first that has none, where so many are known to.
 pub(crate) fn run_on(slots: &VecDeque<Option<Row>>, known: usize) -> usize
     requires { known ≤ leading slots.now.items }
     ensures { result ≡ leading slots.now.items }

@@ -33,7 +33,7 @@ IsFault text (NumberRange at) =
     (end : ℕ) × IsLongest text kind.Number at end × (IsInRange (slice_range text at end) → ⊥)
 IsFault text OutOfMemory = ⊥
 
--- the offset of a fault
+-- the offset of a fault; 0 for want of memory, which has none
 abbrev pub offset : LexFault → ℕ
 offset (BadChar at) = at
 offset (OpenText at) = at

@@ -1,4 +1,4 @@
--- Which bytes have the form of a token of each kind.
+-- Which bytes have the form of a token of each kind. Letters and digits are those of ASCII.
 use Rattle.std.specs.Prelude.{◌≡◌, ◌≢◌, ℕ, ◌<◌, Bool, true, ◌||◌, ◌==◌, if◌then◌else◌, List, [], ◌∷◌, ◌++◌, length, map, slice_index, All}
 use Rattle.std.specs.Char.{is_ascii_alphabetic, is_ascii_alphanumeric, is_ascii_digit, to_ascii_lowercase}
 use Rattle.rp_lexer.specs.Bytes.{underscore}

@@ -1,4 +1,4 @@
--- A text has one reading: one token list, or one first fault, and not both.
+-- A text has at most one reading: at most one token list, at most one first fault, and not both.
 use Rattle.std.specs.Prelude.{◌≡◌, ℕ, List, All}
 use Rattle.rp_lexer.specs.Lexes.{IsToken, Lexes}
 use Rattle.rp_lexer.specs.Faults.{IsFirstFault}

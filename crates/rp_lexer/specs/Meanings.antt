@@ -1,4 +1,4 @@
--- What names, text literals and numbers mean. They stand in the text of a clause, which comes first here.
+-- What names, text literals and numbers mean. Where a token is meant, the text that it stands in comes first.
 use Rattle.std.specs.Prelude.{◌≡◌, ℕ, List, map, slice_range}
 use Rattle.std.specs.Char.{to_ascii_uppercase}
 use Rattle.std.specs.Str.Parse.{digits_value}

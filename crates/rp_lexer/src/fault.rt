@@ -10,8 +10,8 @@ use thiserror::Error;
 /// separators and comments alone.
 #[derive(Clone, Copy, Debug, PartialEq, Eq, Error)]
 pub enum LexFault {
-    /// No token begins with the character whose first byte stands here; or `""` stands here,
-    /// a name without a character.
+    /// No token begins with the character whose first byte stands here; or `""` stands here, with no
+    /// third `"` behind it: a name without a character.
     #[error("BadChar at byte {0}")]
     BadChar(usize),
     /// A text literal begins with the `'` here and never closes.

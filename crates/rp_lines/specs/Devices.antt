@@ -1,4 +1,4 @@
--- What calls of a device do to its counts and its bytes.
+-- What calls of a device do to its counts and its bytes. Bytes that are known stay known.
 use Rattle.std.specs.Prelude.{◌≡◌, ℕ, zero, suc, ◌+◌, ◌≤◌, List, ◌++◌, length, Option, Some, None}
 use Rattle.rp_lines.specs.Counts.{raised}
 

@@ -40,7 +40,7 @@ pub trait Intake {
         ensures bytes { ReadConsumes (remaining self.old) (remaining self.new) result buffer.new }
         ensures calls { calls self.new ≡ raised (calls self.old) }
         ensures fails { OnErr result (failures self.new ≡ raised (failures self.old)) }
-        ensures goes { OnOk result (failures self.new ≡ failures self.old) }
+        ensures no_failure { OnOk result (failures self.new ≡ failures self.old) }
         ensures end { IfOk result (λ count. count ≡ 0 → 0 < length buffer.new → ended self.new ≡ true) }
         ensures more { IfOk result (λ count. 0 < count → ended self.new ≡ ended self.old) }
         ensures no_room { length buffer.new ≡ 0 → ended self.new ≡ ended self.old }
@@ -65,7 +65,7 @@ pub trait Outlet {
         ensures bytes { WriteAppends (contents self.old) (contents self.new) result bytes.now }
         ensures calls { calls self.new ≡ raised (calls self.old) }
         ensures fails { OnErr result (failures self.new ≡ raised (failures self.old)) }
-        ensures goes { OnOk result (failures self.new ≡ failures self.old) };
+        ensures no_failure { OnOk result (failures self.new ≡ failures self.old) };
 }
 
 /// A stream, with counts of its calls.
@@ -148,9 +148,9 @@ pub fn write_all<W: Outlet>(writer: &mut W, bytes: &[u8]) -> Result<(), WriteFai
     ensures ok { OnOk result (Appends (W.contents writer.old) (W.contents writer.new) bytes.now) }
     ensures err { OnErr result (AppendsFront (W.contents writer.old) (W.contents writer.new) bytes.now) }
     ensures fails { OnErr result (W.failures writer.new ≡ raised (W.failures writer.old)) }
-    ensures goes { OnOk result (W.failures writer.new ≡ W.failures writer.old) }
+    ensures no_failure { OnOk result (W.failures writer.new ≡ W.failures writer.old) }
     ensures calls { OnOk result (MakesCalls 0 (length bytes.now) (W.calls writer.old) (W.calls writer.new)) }
-    ensures tries { OnErr result (MakesCalls 1 (length bytes.now) (W.calls writer.old) (W.calls writer.new)) }
+    ensures calls_failed { OnErr result (MakesCalls 1 (length bytes.now) (W.calls writer.old) (W.calls writer.new)) }
 {
     let mut rest = bytes;
     while !rest.is_empty() {
@@ -165,10 +165,10 @@ pub fn write_block<W: Outlet>(writer: &mut W, text: &mut Vec<u8>) -> Result<(), 
     ensures ok { OnOk result (Moves (W.contents writer.old) text.old.items (W.contents writer.new) text.new.items) }
     ensures err { OnErr result (AppendsFront (W.contents writer.old) (W.contents writer.new) text.old.items) }
     ensures fails { OnErr result (W.failures writer.new ≡ raised (W.failures writer.old)) }
-    ensures goes { OnOk result (W.failures writer.new ≡ W.failures writer.old) }
+    ensures no_failure { OnOk result (W.failures writer.new ≡ W.failures writer.old) }
     ensures few { OnOk result (vec_len text.new < BLOCK) }
     ensures calls { OnOk result (MakesCalls 0 (length text.old.items) (W.calls writer.old) (W.calls writer.new)) }
-    ensures tries { OnErr result (MakesCalls 1 (length text.old.items) (W.calls writer.old) (W.calls writer.new)) }
+    ensures calls_failed { OnErr result (MakesCalls 1 (length text.old.items) (W.calls writer.old) (W.calls writer.new)) }
 {
     if text.len() < BLOCK {
         return Ok(());

@@ -77,8 +77,8 @@ OfFirst P (c ∷ cs) = P c
 unfoldable pub HasTop : Choices → Type 0
 HasTop c = (c.begun ≡ true) × OfFirst (λ t. Unit {0}) c.stack
 
--- There is a preferred choice, and one label more than come before it. So it is where that choice maps a row: the last
--- label is that row's.
+-- There is a preferred choice, and one label more than come before it, as where that choice maps a row: the last label is that
+-- row's.
 unfoldable pub AtRow : Choices → Type 0
 AtRow c = (c.begun ≡ true) × OfFirst (λ t. t.depth + 1 ≡ length c.labels.items) c.stack
 
@@ -107,7 +107,7 @@ pub record IsSamePattern (old new : Choices) : Type 0 where
   pub words : (n : ℕ) (e : End) (row : ℕ) → whole_from new n e row ≡ whole_from old n e row
   pub left : (n : ℕ) (e : End) (row : ℕ) → whole_turns_from new n e row ≡ whole_turns_from old n e row
 
--- The start row and the pattern stay, and so does the whole, the words from the start row.
+-- The start row and the pattern stay, and so do the whole, the words from the start row, and its turns.
 pub record IsSameWhole (old new : Choices) : Type 0 where
   pub start : start_of new ≡ start_of old
   pub words : (n : ℕ) (e : End) → whole new n e ≡ whole old n e
@@ -125,7 +125,7 @@ pub record DividesAtRow (c : Choices) (n : ℕ) (e : End) : Type 0 where
   pub words : AtEachLater n e (λ n' e'. remaining c n' e' ≡ map (preceded (entered c)) (after c n' e') ++ below c n' e')
   pub turns : AtEachLater n e (λ n' e'. turns_left c n' e' ≡ 1 + turns_left_after c n' e' + turns_left_below c n' e')
 
--- The preferred choice gave way to others, none to two: the remaining words stay, and fewer turns are left for them.
+-- The preferred choice gave way to others: the labels are cut back, the remaining words stay, and fewer turns are left for them.
 pub record IsSplit (old new : Choices) (n : ℕ) (e : End) : Type 0 where
   pub cut : AreFirstOf (entered new) (entered old)
   pub same : AtEachLater n e (λ n' e'. remaining new n' e' ≡ remaining old n' e')
@@ -142,7 +142,7 @@ pub record IsMappedRow (old new : Choices) (n : ℕ) (e : End) : Type 0 where
   pub divides : DividesAtRow new n e
 
 -- The preferred choice is a full word, of the labels entered. The remaining words stay: it is the first, and the others
--- are those below.
+-- are those below, for which fewer turns are left.
 pub record IsFullWord (old new : Choices) (n : ℕ) (e : End) : Type 0 where
   pub cut : AreFirstOf (entered new) (entered old)
   pub has_top : HasTop new
@@ -151,7 +151,7 @@ pub record IsFullWord (old new : Choices) (n : ℕ) (e : End) : Type 0 where
   pub less_below : AtEachLater n e (λ n' e'. turns_left_below new n' e' < turns_left new n' e')
 
 -- The preferred choice runs into the row after the last known one. The remaining words stay: over the known rows an
--- open word, of the labels entered, is the first, and the others are those below.
+-- open word, of the labels entered, is the first, and the others are those below, for which fewer turns are left.
 pub record IsOpenWord (old new : Choices) (n : ℕ) (e : End) : Type 0 where
   pub end : e ≡ OpenEnd
   pub cut : AreFirstOf (entered new) (entered old)

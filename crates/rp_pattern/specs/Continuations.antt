@@ -31,12 +31,12 @@ form_part n e f excluded = within excluded (words n e f, turns n e f)
 abbrev pub node_part : ℕ → End → Node → WordsAndTurns
 node_part n e node = form_part n e node.form.value node.excluded
 
--- how many iterations may still follow. With no upper bound the rows are a bound
+-- how many iterations may still follow. With no upper bound the rows are a bound, as in `further` of Words
 abbrev pub still : ℕ → Option ℕ → ℕ
 still n (Some k) = k
 still n None = suc (suc n)
 
--- iterations, `lower` of them required, as a part
+-- iterations, `lower` of them required, as a part, inside an exclusion or outside of one
 abbrev pub iterations_part : ℕ → End → ℕ → Iterations → WordsAndTurns
 iterations_part n e lower it = iterations lower (still n it.further) it.reluctant (node_part n e it.body)
 

@@ -24,7 +24,7 @@ abbrev pub preceded : List Label → Mapping → Mapping
 preceded ls (Full ms) = Full (ls ++ ms)
 preceded ls (Open ms) = Open (ls ++ ms)
 
--- each label excluded
+-- the label, excluded
 abbrev pub excluded_label : Label → Label
 excluded_label l = record l { excluded = true }
 

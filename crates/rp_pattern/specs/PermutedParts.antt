@@ -4,7 +4,7 @@ use Rattle.rp_pattern.specs.declared.form.Form.{Form}
 use Rattle.rp_pattern.specs.declared.form.Form.TheOpen.{Form-F, Permute}
 use Rattle.rp_pattern.specs.declared.form.Form.TheViews.{out-Form}
 
--- of another form none
+-- the parts of a layer that is a PERMUTE, and none of any other
 abbrev pub layer_parts : Form-F Form → List Form
 layer_parts (Permute ps) = map (λ p. p.value) ps.items
 layer_parts _ = []

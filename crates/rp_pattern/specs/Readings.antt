@@ -17,7 +17,7 @@ use Rattle.rp_pattern.specs.Words.{words}
 use Rattle.rp_pattern.specs.Permutations.{upto}
 use Rattle.rp_pattern.specs.Maps.{MayFollow}
 
--- the rank of another iteration: a greedy quantifier prefers it to stopping, a reluctant one prefers stopping
+-- the rank of another iteration, by whether the quantifier is reluctant: a greedy quantifier prefers it to stopping, a reluctant one prefers stopping
 abbrev pub to_go_on : Bool → ℕ
 to_go_on false = 0
 to_go_on true = 1

@@ -1,4 +1,5 @@
--- How many turns a search takes at most, over rows that no condition refuses. A turn takes up one choice.
+-- How many turns a search takes at most, over rows that no condition refuses. A turn takes up one choice: to take a form apart is
+-- a turn of its own, and so is to stop iterating.
 -- The count is this project's own: the standard has none.
 use Rattle.std.specs.Prelude.{ℕ, zero, suc, ◌+◌, ◌-◌, Bool, List, [], ◌∷◌, map, length, drop, sum_by, nat_lt, if◌then◌else◌}
 use Rattle.std.specs.List.{flat_map}
@@ -26,12 +27,12 @@ turns_after later i (Open ls) = 0
 abbrev pub one_turn : TurnCounts
 one_turn i = 1
 
--- one to take the concatenation apart, those of the part, and those of what comes after each of its words
+-- one to take the concatenation apart, those of the part, and those of what comes after each of its full words
 abbrev pub concatenation_turns : WordsAndTurns → TurnCounts → TurnCounts
 concatenation_turns p later i = 1 + p.1 i + sum_by (turns_after later i) (p.0 i)
 
--- the turns of at most h iterations, each of which takes a row: to stop, or for another one and what comes after each
--- of its words
+-- the turns of at most h iterations, each of which takes a row: one to choose, one to stop, those of the part, and those of what
+-- comes after each of its full words that takes a row
 abbrev pub optional_turns : WordsAndTurns → ℕ → TurnCounts
 optional_turns p zero i = 1
 optional_turns p (suc h) i = 2 + p.1 i + sum_by (turns_after (optional_turns p h) i) (moving p.0 i)
@@ -47,7 +48,7 @@ sequence_turns [] = one_turn
 sequence_turns (p ∷ []) = p.1
 sequence_turns (p ∷ q ∷ ps) = concatenation_turns p (sequence_turns (q ∷ ps))
 
--- the turns of the parts in each order
+-- the turns of the parts in each order, and one to take the PERMUTE apart
 abbrev pub permuted_turns : List WordsAndTurns → TurnCounts
 permuted_turns ps i = 1 + sum_by (λ order. sequence_turns order i) (orders ps)
 

@@ -39,7 +39,7 @@ one_row n e v i = if nat_le i n then Full (record { var = v; excluded = false } 
 abbrev pub at_start : Mappings
 at_start i = if nat_eq i 1 then Full [] ∷ [] else []
 
--- the words of `$`: none before a known row, and past the last known one whether the partition may have ended there
+-- the words of `$`: none before a known row, and past the last known one those of `may_end`
 abbrev pub at_end : ℕ → End → Mappings
 at_end n e i = if nat_le i n then [] else may_end e
 
@@ -79,7 +79,7 @@ moving p i = filter moves (p i)
 abbrev pub only_past : ℕ → Mappings
 only_past since i = if nat_lt since i then Full [] ∷ [] else []
 
--- a greedy quantifier prefers another iteration to stopping, a reluctant one prefers stopping
+-- whether the quantifier is reluctant: a greedy one prefers another iteration to stopping, a reluctant one prefers stopping
 abbrev pub preferred : Bool → List Mapping → List Mapping → List Mapping
 preferred false another stop = another ++ stop
 preferred true another stop = stop ++ another
@@ -95,7 +95,7 @@ required zero p rest = rest
 required (suc l) p rest = concatenation p (required l p rest)
 
 -- How many iterations may follow the required ones. With no upper bound the rows are a bound: each such iteration takes
--- one of the n rows, and the last may run into row n + 1.
+-- one of the n rows, and the last may run into row n + 1. One more is to spare: `words` are defined from row 0 too.
 abbrev pub further : ℕ → ℕ → Option ℕ → ℕ
 further n lower (Some upper) = upper - lower
 further n lower None = suc (suc n)

@@ -13,7 +13,7 @@ pub fn law_words()
     ensures mappings { WordsAreMappings }
     ensures readings { WordsAreReadings }
     ensures one_list { ReadingsAreOne }
-    ensures decisions { OneMappingEach }
+    ensures one_mapping { OneMappingEach }
     ensures extend { WordsExtend }
     ensures no_bound { StarEquation }
     ensures great_bounds { GreatBoundsAgree }

@@ -26,7 +26,7 @@ abbrev pub rows_from : ℕ → ℕ → ℕ
 rows_from start n = suc n - start
 
 -- What is asked from a start row on goes on: as many rows are known or more, a closed partition stays as it is, and
--- what was decided of known rows stays.
+-- what was decided of known rows stays, and the same variables are tested.
 pub record AskedExtend (start : ℕ) (old new : Asked) : Type 0 where
   pub later : IsLater old.known old.end new.known new.end
   pub stay : TestsStay (rows_from start old.known) (old.outcome start) (new.outcome start)

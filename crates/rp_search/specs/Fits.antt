@@ -27,8 +27,8 @@ pub record RefusedUpTo (rows : ℕ) (test : Test) (ws rest : List Mapping) : Typ
   pub refused : AllByRecursion (IsRefusedWithin rows test) front
 
 -- The choices fit: over the known rows and whatever comes later, the words of the pattern are some that are refused on
--- known rows, and then those of the choices not given up, for which no more turns are left than for all. Every label is
--- of a known row.
+-- known rows, and then those of the choices not given up, for which no more turns are left than for all. The start row is
+-- 1 or above, and every label is of a known row.
 pub record ChoicesFit (c : Choices) (n : ℕ) (e : End) (test : Test) : Type 0 where
   pub from_one : 1 ≤ start_of c
   pub known : length (entered c) ≤ rows_from (start_of c) n
@@ -73,7 +73,7 @@ AreAdmitted (Some outlook) c n e test = Explores c outlook n e test
 unfoldable pub ChoicesStand : Search → Asked → Type 0
 ChoicesStand s asked = StandsBy s.choices asked
 
--- the labels of a search are tested true, all but a last one whose test was open
+-- the labels of a search are tested true: all, or where it has an outlook all but the last
 unfoldable pub LabelsStand : Search → Asked → Type 0
 LabelsStand s asked = AreAdmitted s.outlook s.choices asked.known asked.end (test_from s.choices asked)
 
@@ -82,7 +82,7 @@ unfoldable pub LabelsBelow : Search → Asked → Type 0
 LabelsBelow s asked = AreBelow asked.variables (entered s.choices)
 
 -- A search fits what is asked: the words that it has passed over are refused, its choices stand for all others, and its
--- labels are tested.
+-- labels are tested true (where it has an outlook all but the last) and of variables that are tested.
 pub record SearchFits (s : Search) (asked : Asked) : Type 0 where
   pub stands : ChoicesStand s asked
   pub labels : LabelsStand s asked

@@ -72,7 +72,7 @@ TestsStay rows old new = (ls : List Label) → length ls ≤ rows → SeenStays 
 abbrev pub AreShort : ℕ → List Mapping → Type 0
 AreShort rows ws = AllByRecursion (λ w. length (labels_of w) ≤ rows) ws
 
--- What is found stays over every continuation, unless it waits: a match is the same match, and where there is none
+-- What is found stays over whatever comes later, unless it waits: a match is the same match, and where there is none
 -- there is none later.
 abbrev pub FoundStays : Type 0
 FoundStays = (rows : ℕ) (old new : Test) (ws ws' : List Mapping) →
@@ -96,12 +96,12 @@ pub record Resumes (old new : Test) (ws ws' : List Mapping) : Type 0 where
   pub extends : Extends (unrefused old ws) rest
   pub same : found new ws' ≡ found new rest
 
--- So it is over every continuation: a search goes on from the word where it waited.
+-- So it is over whatever comes later: a search goes on from the word where it waited.
 abbrev pub FoundResumes : Type 0
 FoundResumes = (rows : ℕ) (old new : Test) (ws ws' : List Mapping) →
     TestsStay rows old new → AreShort rows ws → Extends ws ws' → Resumes old new ws ws'
 
--- Over a closed end, with tests that are never open there, no search waits.
+-- Where each word is full, as over a closed end, and no test is open, no search waits.
 abbrev pub ClosedDecides : Type 0
 ClosedDecides = (test : Test) (ws : List Mapping) →
     ((ls : List Label) → test ls ≢ OpenTest) → AllByRecursion IsFull ws → found test ws ≢ Waits

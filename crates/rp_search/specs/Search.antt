@@ -129,7 +129,7 @@ abbrev pub SearchFitsStays : Type 0
 SearchFitsStays = (s : Search) (old new : Asked) →
     AskedExtend (start_of_search s) old new → SearchFits s old → SearchFits s new
 
--- No more turns are left than the pattern takes from its start row.
+-- No more turns are left than the pattern takes from its start row, and one for each word.
 abbrev pub LeftIsBounded : Type 0
 LeftIsBounded = (s : Search) (asked : Asked) → SearchFits s asked → left_by s asked ≤ most_turns s asked.known asked.end
 

@@ -36,13 +36,13 @@ pub record AddsLabel (Entered : List Label → Type 0) (labels : List Label) : T
   pub label : Label
   pub added : labels ≡ take depth before ++ label ∷ []
 
--- the choices went on by a turn, and their labels are tested true
+-- the choices went on by a turn: they fit, fewer turns are left, and their labels are tested true
 pub record Goes (old new : Choices) (n : ℕ) (e : End) (test : Test) : Type 0 where
   pub stands : ChoicesFit new n e test
   pub admitted : tested test (entered new) ≡ True
   pub turns : turns_left new n e < turns_left old n e
 
--- the choices went on by a turn, and so did what is said of their labels
+-- the choices went on by a turn, and their labels are of variables that are tested
 pub record GoesOn (old new : Choices) (asked : Asked) : Type 0 where
   pub goes : Goes old new asked.known asked.end (test_from new asked)
   pub below : AreBelow asked.variables (entered new)

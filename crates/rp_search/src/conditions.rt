@@ -26,7 +26,7 @@ pub trait Tests {
     /// aren't cut back. It is a relation, since tests need not keep the labels themselves.
     ghost entered: { Self → ℕ → List Label → Type 0 };
 
-    /// How many calls of `enter` were made. It stays at its last value.
+    /// How many calls of `enter` were made. It stays at 2^64 - 1.
     ghost entries: { Self → ℕ };
 
     /// How many rows are known, from row 1 on.

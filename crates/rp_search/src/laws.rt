@@ -17,8 +17,8 @@ pub fn law_found()
 {}
 
 /// The laws of a search that fits what is asked. It fits all that extends it, and has no more turns left than its
-/// pattern takes from its start row, and as many over what answers the same. The labels of its words are of the pattern's
-/// variables.
+/// pattern takes from its start row and one for each word, and as many over what answers the same. The labels of its words
+/// are of the pattern's variables.
 pub fn law_search()
     ensures stays { SearchFitsStays }
     ensures bounded { LeftIsBounded }

@@ -19,7 +19,7 @@ use std::sync::ledger::Ledger;
 /// What a run of a search came to.
 #[derive(Clone, Copy, Debug, PartialEq, Eq)]
 pub enum Outcome {
-    /// The first word that the tests don't refuse is whole, and all its rows are admitted.
+    /// The first word that the tests don't refuse is full, and all its rows are admitted.
     Match,
     /// The tests refuse each word.
     NoMatch,
@@ -101,7 +101,7 @@ impl Search {
 
         ensures nothing { budget ≡ 0 →
             (result ≡ Ok Outcome.Paused) × (self.new ≡ self.old) × (tests.new ≡ tests.old) × (steps.new ≡ steps.old) }
-        ensures refused { OnErr result (IsAtStart self.new) }
+        ensures after_refusal { OnErr result (IsAtStart self.new) }
     {
         if budget == 0 {
             return Ok(Outcome::Paused);

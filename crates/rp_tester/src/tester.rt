@@ -43,7 +43,7 @@ impl<'a, R: Rows> Tester<'a, R> {
         }
     }
 
-    /// How many calls of `enter` were made. It stays at its last value.
+    /// How many calls of `enter` were made. It stays at 2^64 - 1.
     pub fn entries(&self) -> u64
         ensures { result ≡ entries_of self.now }
     {

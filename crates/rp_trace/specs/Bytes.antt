@@ -25,5 +25,6 @@ asterisk = slice_index (codes "*") 0
 abbrev pub left_parenthesis : ℕ
 left_parenthesis = slice_index (codes "(") 0
 
+-- what may stand between them
 abbrev pub space : ℕ
 space = slice_index (codes " ") 0

@@ -59,12 +59,12 @@ pub fn run_trace<R: Intake, W: Outlet>(
     ensures front { OnErr result (WritesFront
         (form_of pattern.now) (R.remaining reader.old) (W.contents writer.old) (W.contents writer.new)) }
     ensures end { OnOk result (IsAtEnd (R.remaining reader.new) × (R.ended reader.new ≡ true)) }
-    ensures goes { OnOk result
+    ensures no_failure { OnOk result
         ((R.failures reader.new ≡ R.failures reader.old) × (W.failures writer.new ≡ W.failures writer.old)) }
     ensures read { result ≡ Err TraceFault.Read → R.failures reader.new ≡ raised (R.failures reader.old) }
     ensures write { result ≡ Err TraceFault.Write → W.failures writer.new ≡ raised (W.failures writer.old) }
     ensures reads { result ≡ Err TraceFault.Turns → MakesCalls reads reads (R.calls reader.old) (R.calls reader.new) }
-    ensures due { result ≡ Err TraceFault.Turns → R.ended reader.new ≡ R.ended reader.old }
+    ensures untold { result ≡ Err TraceFault.Turns → R.ended reader.new ≡ R.ended reader.old }
     ensures gave { result ≡ Err TraceFault.Turns → IfSome (R.remaining reader.old) (λ input. reads ≤ length input) }
     ensures within { MakesCalls 0 reads (R.calls reader.old) (R.calls reader.new) }
 {

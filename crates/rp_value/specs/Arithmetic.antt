@@ -15,7 +15,7 @@ fits_64_bits z = int_le (neg_ℤ (pos signed_bound)) z && int_lt z (pos signed_b
 abbrev pub fitted : ℤ → Value
 fitted z = if fits_64_bits z then Int z else Null
 
--- an operation of whole numbers on values, which is null unless both are whole numbers
+-- an operation of whole numbers on values, which is null unless both are whole numbers and the result is one of 64 bits with sign
 abbrev pub on_numbers : (ℤ → ℤ → ℤ) → Value → Value → Value
 on_numbers operation (Int a) (Int b) = fitted (operation a b)
 on_numbers operation _ _ = Null

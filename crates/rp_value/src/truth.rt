@@ -11,7 +11,7 @@ pub enum Tri {
     True,
     /// The condition doesn't hold.
     False,
-    /// Neither: something that the condition compares is null.
+    /// Neither: something that the condition compares is null, or of another kind.
     Unknown,
 }
 
@@ -95,8 +95,7 @@ impl Judged {
     }
 }
 
-/// The law that AND, OR and NOT keep what is told: where the sides become told and
-/// change no more, so does the result.
+/// The law that AND, OR and NOT keep what is told: where each side that is told is the same later, so is the result.
 pub fn law_told_stays()
     ensures { ToldStays }
 {}

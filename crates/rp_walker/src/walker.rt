@@ -35,7 +35,7 @@ pub struct Walker {
     alloc: Global,
     state: MatcherState,
     stage: Stage,
-    /// How many rows its searches have entered. It stays at its last value, and nothing is decided by it.
+    /// How many rows its searches have entered. It stays at 2^64 - 1, and nothing is decided by it.
     entered: u64,
 }
 

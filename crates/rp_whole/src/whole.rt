@@ -42,7 +42,7 @@ pub fn run_whole<R: Intake, W: Outlet>(
     ensures read { TellsRead result (R.failures reader.old) (R.failures reader.new) }
     ensures write { TellsWrite result (W.failures writer.old) (W.failures writer.new) }
     ensures turns { result ≡ Err (WholeFault.Csv Turns) → R.calls reader.new ≡ after_calls reads (R.calls reader.old) }
-    ensures due { result ≡ Err (WholeFault.Csv Turns) → R.ended reader.new ≡ R.ended reader.old }
+    ensures untold { result ≡ Err (WholeFault.Csv Turns) → R.ended reader.new ≡ R.ended reader.old }
     ensures within { (left : ℕ) × (after_calls left (R.calls reader.new) ≡ after_calls reads (R.calls reader.old)) }
 {
     let rows = read_rows(alloc, reader, query.table(), reads)?;

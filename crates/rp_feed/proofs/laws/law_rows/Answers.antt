@@ -7,6 +7,6 @@ returns c = record {
   dropped = rows_are_dropped;
   taken = taken_is_added;
   stays_taken = taken_stays;
-  ordered = order_stays;
-  stays_ordered = order_is_kept;
+  ordered_after_row = order_stays;
+  ordered_after_drop = order_is_kept;
 }

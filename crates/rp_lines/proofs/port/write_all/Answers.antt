@@ -3,8 +3,8 @@ use Rattle.rp_lines.proofs.Cutting.{on_err_from}
 use Rattle.rp_lines.proofs.Written.{Called-end, Called-fault, Called-more, WroteFront-rest}
 use Rattle.rp_lines.proofs.port.write_all.Goals as goal
 
-pub returns-in_err-count-clause-tries : goal.returns-in_err-count-clause-tries
-returns-in_err-count-clause-tries g c =
+pub returns-in_err-count-clause-calls_failed : goal.returns-in_err-count-clause-calls_failed
+returns-in_err-count-clause-calls_failed g c =
     on_err_from _ (Called-fault c.args.bytes.now c.loop-rest.rest.now (g.W.Outlet.calls c.args.writer.now) (g.W.Outlet.calls c.loop-rest.writer) (g.W.Outlet.calls c.write.new.self)
     c.loop-rest.invariant.called (search rules) c.in_err-count.ensures.calls)
 

@@ -19,8 +19,8 @@ returns-clause-readings c = words_are_readings
 pub returns-clause-one_list : goal.returns-clause-one_list
 returns-clause-one_list c = readings_are_one
 
-pub returns-clause-decisions : goal.returns-clause-decisions
-returns-clause-decisions c = one_mapping_each
+pub returns-clause-one_mapping : goal.returns-clause-one_mapping
+returns-clause-one_mapping c = one_mapping_each
 
 pub returns-clause-extend : goal.returns-clause-extend
 returns-clause-extend c = λ f n n' e e' i later. words_extend_later f n n' e e' i later

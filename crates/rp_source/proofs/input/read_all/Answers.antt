@@ -11,7 +11,7 @@ loop-read-preserved g c =
       consumes = rw (c.in_ok-extend_from_slice.ensures.items, c.deref.ensures.value, same) (
           Consumes-trans (g.R.Intake.remaining c.args.reader.now) (g.R.Intake.remaining c.loop-read.reader) (g.R.Intake.remaining c.read.new.self) c.loop-read.bytes.items (take c.in-Ok.count c.read.new.buffer) c.loop-read.invariant.consumes c.in-Ok.ensures.bytes.0
           );
-      goes = c.in-Ok.ensures.goes ∙ c.loop-read.invariant.goes;
+      goes = c.in-Ok.ensures.no_failure ∙ c.loop-read.invariant.goes;
       calls = c.in-Ok.ensures.calls ∙ ap raised c.loop-read.invariant.calls ∙ after_more c.loop-read._read (g.R.Intake.calls c.args.reader.now);
       ended = c.in-Ok.ensures.more (omega arith) ∙ c.loop-read.invariant.ended;
       room = search rules;
