@@ -34,7 +34,8 @@ pub enum CsvFault {
     /// The device failed.
     #[error("device: read")]
     Read,
-    /// No further read is allowed, and one is due.
+    /// All reads that are allowed were made, none of them told the end, and another is due. (A turn of a search is another
+    /// thing.)
     #[error("too many turns")]
     Turns,
     /// Memory was refused.

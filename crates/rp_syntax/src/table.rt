@@ -11,7 +11,7 @@ use crate::name::{name, named};
 use rp_grammar::{ParseFault, begins, place, word};
 use rp_lexer::{LexFault, Mark, Token, TokenKind, law_lexes, lex};
 use rp_value::{Kind, Table, TableFault};
-use std::alloc::Global;
+use std::alloc::{AllocError, AllocFailed, Global};
 use thiserror::Error;
 
 /// Why a text is no table, with a byte offset from 0.
@@ -56,6 +56,28 @@ impl From<TableFault> for TableTextFault {
             TableFault::OutOfMemory => TableTextFault::OutOfMemory,
             why => TableTextFault::Table(why),
         }
+    }
+}
+
+impl From<AllocError> for TableTextFault {
+    ghost use Rattle.std.specs.Prelude.{◌≡◌};
+    ghost use Rattle.rp_syntax.specs.declared.table.TableTextFault.TheVariants.{OutOfMemory};
+
+    ghost from_gives = { λ _ fault. fault ≡ OutOfMemory };
+
+    fn from(_error: AllocError) -> TableTextFault {
+        TableTextFault::OutOfMemory
+    }
+}
+
+impl<T: Drop> From<AllocFailed<T>> for TableTextFault {
+    ghost use Rattle.std.specs.Prelude.{◌≡◌};
+    ghost use Rattle.rp_syntax.specs.declared.table.TableTextFault.TheVariants.{OutOfMemory};
+
+    ghost from_gives = { λ _ fault. fault ≡ OutOfMemory };
+
+    fn from(_error: AllocFailed<T>) -> TableTextFault {
+        TableTextFault::OutOfMemory
     }
 }
 
