@@ -14,7 +14,7 @@ use crate::query::Query;
 use rp_lexer::{LexFault, Token, lex};
 use rp_syntax::{Clause, ParseFault, parse};
 use rp_value::Table;
-use std::alloc::Global;
+use std::alloc::{AllocError, AllocFailed, Global};
 use thiserror::Error;
 
 /// Why a text is no clause over a table, the first reason in the order of the variants.
@@ -73,6 +73,28 @@ impl From<CheckFault> for CompileFault {
             CheckFault::Fault(fault) => CompileFault::Check(fault),
             CheckFault::OutOfMemory => CompileFault::OutOfMemory,
         }
+    }
+}
+
+impl From<AllocError> for CompileFault {
+    ghost use Rattle.std.specs.Prelude.{◌≡◌};
+    ghost use Rattle.rp_check.specs.declared.compiling.CompileFault.TheVariants.{OutOfMemory};
+
+    ghost from_gives = { λ _ fault. fault ≡ OutOfMemory };
+
+    fn from(_error: AllocError) -> CompileFault {
+        CompileFault::OutOfMemory
+    }
+}
+
+impl<T: Drop> From<AllocFailed<T>> for CompileFault {
+    ghost use Rattle.std.specs.Prelude.{◌≡◌};
+    ghost use Rattle.rp_check.specs.declared.compiling.CompileFault.TheVariants.{OutOfMemory};
+
+    ghost from_gives = { λ _ fault. fault ≡ OutOfMemory };
+
+    fn from(_error: AllocFailed<T>) -> CompileFault {
+        CompileFault::OutOfMemory
     }
 }
 
