@@ -13,7 +13,7 @@ use crate::records::{reader_of, take_record};
 use crate::texts::Texts;
 use csv::ByteRecord;
 use rp_value::{Row, RowFault, Table, Value};
-use std::alloc::{AllocError, Global};
+use std::alloc::{AllocError, AllocFailed, Global};
 use thiserror::Error;
 
 /// The most records that an input may have beside its header.
@@ -47,6 +47,14 @@ impl From<AllocError> for CsvFault {
     ghost from_gives = { λ _ fault. fault ≡ OutOfMemory };
 
     fn from(_error: AllocError) -> CsvFault {
+        CsvFault::OutOfMemory
+    }
+}
+
+impl<T: Drop> From<AllocFailed<T>> for CsvFault {
+    ghost from_gives = { λ _ fault. fault ≡ OutOfMemory };
+
+    fn from(_error: AllocFailed<T>) -> CsvFault {
         CsvFault::OutOfMemory
     }
 }
