@@ -1,9 +1,9 @@
 //! From a CSV input to the lines of its answers.
-ghost use Rattle.std.specs.Prelude.{◌≡◌, ℕ, ◌<◌, true, IfErr, OnErr, OnOk};
+ghost use Rattle.std.specs.Prelude.{◌≡◌, ◌<◌, true, IfErr, OnErr, OnOk};
 ghost use Rattle.std.specs.Io.KnownBytes.{Appends};
 ghost use Rattle.std.specs.List.{flat_map};
 ghost use Rattle.rp_check.specs.QueryView.{data_of};
-ghost use Rattle.rp_lines.specs.Devices.{AppendsFront, after_calls};
+ghost use Rattle.rp_lines.specs.Devices.{AppendsFront, MakesCalls, after_calls};
 ghost use Rattle.rp_source.specs.Gathering.{parts_of};
 ghost use Rattle.rp_source.specs.declared.rows.CsvFault.TheVariants.{Turns};
 ghost use Rattle.rp_whole.specs.AnswerLines.{WritesLines, part_lines};
@@ -43,7 +43,7 @@ pub fn run_whole<R: Intake, W: Outlet>(
     ensures write { TellsWrite result (W.failures writer.old) (W.failures writer.new) }
     ensures turns { result ≡ Err (WholeFault.Csv Turns) → R.calls reader.new ≡ after_calls reads (R.calls reader.old) }
     ensures untold { result ≡ Err (WholeFault.Csv Turns) → R.ended reader.new ≡ R.ended reader.old }
-    ensures within { (left : ℕ) × (after_calls left (R.calls reader.new) ≡ after_calls reads (R.calls reader.old)) }
+    ensures within { MakesCalls 0 reads (R.calls reader.old) (R.calls reader.new) }
 {
     let rows = read_rows(alloc, reader, query.table(), reads)?;
     let parts = ordered_parts(alloc, &query, rows)?;

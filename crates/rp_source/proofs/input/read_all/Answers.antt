@@ -1,7 +1,7 @@
 use Rattle.std.proofs.Common.{◌≡◌, ◌∙◌, ◌+◌, refl, ◌++◌, take, drop, length, arith, ap, rules}
 use Rattle.std.proofs.KnownBytes.{Consumes-trans}
 use Rattle.rp_lines.specs.Counts.{raised}
-use Rattle.rp_source.proofs.Calls.{after_more, calls_left, whole_of}
+use Rattle.rp_source.proofs.Calls.{after_more, whole_of}
 use Rattle.rp_source.proofs.input.read_all.Goals as goal
 
 pub loop-read-preserved : goal.loop-read-preserved
@@ -29,19 +29,22 @@ pub returns-clause-end : goal.returns-clause-end
 returns-clause-end g c = c.loop-read.invariant.ended
 
 pub returns-in_err-resize-clause-within : goal.returns-in_err-resize-clause-within
-returns-in_err-resize-clause-within g c = (c.args.reads, refl)
+returns-in_err-resize-clause-within g c = (0, omega arith, omega arith, refl)
 
 pub returns-in_default-clause-within : goal.returns-in_default-clause-within
 returns-in_default-clause-within g c =
-    calls_left (c.loop-read._read + 1) c.args.reads (g.R.Intake.calls c.args.reader.now) (g.R.Intake.calls c.read.new.self) (omega arith)
-    (c.in_default.ensures.calls ∙ ap raised c.loop-read.invariant.calls ∙ after_more c.loop-read._read (g.R.Intake.calls c.args.reader.now))
+    (c.loop-read._read + 1, omega arith, omega arith,
+    c.in_default.ensures.calls ∙ ap raised c.loop-read.invariant.calls ∙ after_more c.loop-read._read (g.R.Intake.calls c.args.reader.now))
 
 pub returns-then-count-eq0-clause-within : goal.returns-then-count-eq0-clause-within
 returns-then-count-eq0-clause-within g c =
-    calls_left (c.loop-read._read + 1) c.args.reads (g.R.Intake.calls c.args.reader.now) (g.R.Intake.calls c.read.new.self) (omega arith)
-    (c.in-Ok.ensures.calls ∙ ap raised c.loop-read.invariant.calls ∙ after_more c.loop-read._read (g.R.Intake.calls c.args.reader.now))
+    (c.loop-read._read + 1, omega arith, omega arith,
+    c.in-Ok.ensures.calls ∙ ap raised c.loop-read.invariant.calls ∙ after_more c.loop-read._read (g.R.Intake.calls c.args.reader.now))
 
 pub returns-in_err-extend_from_slice-clause-within : goal.returns-in_err-extend_from_slice-clause-within
 returns-in_err-extend_from_slice-clause-within g c =
-    calls_left (c.loop-read._read + 1) c.args.reads (g.R.Intake.calls c.args.reader.now) (g.R.Intake.calls c.read.new.self) (omega arith)
-    (c.in-Ok.ensures.calls ∙ ap raised c.loop-read.invariant.calls ∙ after_more c.loop-read._read (g.R.Intake.calls c.args.reader.now))
+    (c.loop-read._read + 1, omega arith, omega arith,
+    c.in-Ok.ensures.calls ∙ ap raised c.loop-read.invariant.calls ∙ after_more c.loop-read._read (g.R.Intake.calls c.args.reader.now))
+
+pub returns-clause-within : goal.returns-clause-within
+returns-clause-within g c = (c.loop-read._read, omega arith, omega arith, c.loop-read.invariant.calls)
