@@ -25,7 +25,8 @@ fn add_leading<R: Rows>(
     rows: &R,
     row: u64,
 ) -> Result<(), AllocError>
-    ensures { OnOk result (cells.new.items ≡ cells.old.items ++ row_cells (R.known rows.now) row (leading (data_of query.now))) }
+    ensures { OnOk result (cells.new.items
+        ≡ cells.old.items ++ row_cells (R.known rows.now) row (leading (data_of query.now))) }
 {
     add_columns(alloc, cells, rows, row, query.partition())?;
     if shows_all(query.plan().rows) {
@@ -42,7 +43,8 @@ fn add_trailing<R: Rows>(
     rows: &R,
     row: u64,
 ) -> Result<(), AllocError>
-    ensures { OnOk result (cells.new.items ≡ cells.old.items ++ row_cells (R.known rows.now) row (trailing (data_of query.now))) }
+    ensures { OnOk result (cells.new.items
+        ≡ cells.old.items ++ row_cells (R.known rows.now) row (trailing (data_of query.now))) }
 {
     if shows_all(query.plan().rows) {
         return add_others(alloc, cells, rows, row, query);
@@ -58,7 +60,8 @@ fn add_measures<'a, R: Rows>(
     view: &View<'a, R>,
 ) -> Result<bool, AllocError>
     requires { Looks R.known view.now }
-    ensures { IfOk result (λ ready. option_map (λ vs. cells.old.items ++ vs) (values_of (setting_of R.known R.ending view.now) measures.now)
+    ensures { IfOk result (λ ready.
+        option_map (λ vs. cells.old.items ++ vs) (values_of (setting_of R.known R.ending view.now) measures.now)
         ≡ (if ready then Some cells.new.items else None)) }
 {
     for expr in measures {
@@ -78,7 +81,8 @@ pub fn unmatched_item<R: Rows>(
     place: Place,
     row: u64,
 ) -> Result<Item, AllocError>
-    ensures { IfOk result (λ item. item_at (data_of query.now) (known_in R.known R.ending rows.now) place NoMatch row ≡ Some item) }
+    ensures { IfOk result (λ item.
+        item_at (data_of query.now) (known_in R.known R.ending rows.now) place NoMatch row ≡ Some item) }
 {
     let mut cells = Vec::new(alloc);
     add_leading(alloc, &mut cells, query, rows, row)?;
@@ -106,7 +110,8 @@ pub fn match_item<R: Rows>(
     requires few { place.matches < 2 ^ 64 - 1 }
     requires plan { plan_of totals.now ≡ totals_in (data_of query.now) }
     requires totals { AreTotals totals.now (R.known rows.now) place.start labels.now }
-    ensures { IfOk result (λ item. item ≡ item_at (data_of query.now) (known_in R.known R.ending rows.now) place (Match labels.now) row) }
+    ensures { IfOk result (λ item.
+        item ≡ item_at (data_of query.now) (known_in R.known R.ending rows.now) place (Match labels.now) row) }
 {
     let number = place.matches + 1;
     let view = View {
