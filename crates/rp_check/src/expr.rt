@@ -32,7 +32,6 @@ fn number_literal(value: u64) -> Expr
 
 /// A text.
 fn text_literal(
-    alloc: Global,
     names: &Names,
     totals: &Vec<Total>,
     at: usize,
@@ -41,7 +40,7 @@ fn text_literal(
     ensures { Checks (context_of names.now) (map plain_total totals.now.items) (Literal at text.now)
         result (map plain_total totals.now.items) }
 {
-    let text = text.share(alloc)?;
+    let text = text.share()?;
     Ok(Resolved::Value(Expr::Literal(Value::Text(text)), Kind::Text))
 }
 
@@ -133,7 +132,7 @@ pub(crate) fn resolve(
 {
     match expr {
         Written::Number { value, .. } => Ok(Resolved::Value(number_literal(*value), Kind::Int)),
-        Written::Text { at, text } => text_literal(alloc, names, totals, *at, text),
+        Written::Text { at, text } => text_literal(names, totals, *at, text),
         Written::Navigation(path) => placed(alloc, names, totals, path),
         Written::Aggregate(written) => aggregate(alloc, names, totals, written),
         Written::MatchNumber(at) => match_number(names, totals, *at),

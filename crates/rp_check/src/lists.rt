@@ -49,7 +49,7 @@ pub(crate) fn variable_sets(alloc: Global, variables: &[Text]) -> Result<Vec<Nam
 fn single(alloc: Global, name: &Text, number: usize) -> Result<NamedSet, AllocError>
     ensures { IfOk result (λ s. naming_of s ≡ record { name = name.now; members = number ∷ [] }) }
 {
-    let name = name.share(alloc)?;
+    let name = name.share()?;
     let mut members = Vec::new(alloc);
     members.push(number)?;
     Ok(NamedSet { name, members })
@@ -135,7 +135,7 @@ fn union_set(
     let is_double = is_known(&union.name.text, variables, earlier);
     require(!is_double, CheckKind::DoubleName, union.name.at)?;
     let members = members(alloc, variables, union.members.as_slice())?;
-    let name = union.name.text.share(alloc)?;
+    let name = union.name.text.share()?;
     Ok(NamedSet { name, members })
 }
 

@@ -20,7 +20,7 @@ pub(crate) fn classes(alloc: Global, variables: &[Text]) -> Result<Vec<Value>, A
 {
     let mut classes = Vec::new(alloc);
     for name in variables {
-        let name = name.share(alloc)?;
+        let name = name.share()?;
         classes.push(Value::Text(name))?;
     }
     Ok(classes)
@@ -58,41 +58,36 @@ pub(crate) fn definition_places(
     Ok(places)
 }
 
-fn add_names(alloc: Global, output: &mut Vec<Text>, names: &[Name]) -> Result<(), AllocError>
+fn add_names(output: &mut Vec<Text>, names: &[Name]) -> Result<(), AllocError>
     ensures { OnOk result (output.new.items ≡ output.old.items ++ map (λ n. n.text) names.now) }
 {
     for name in names {
-        output.push(name.text.share(alloc)?)?;
+        output.push(name.text.share()?)?;
     }
     Ok(())
 }
 
-fn add_order(alloc: Global, output: &mut Vec<Text>, order: &[Order]) -> Result<(), AllocError>
+fn add_order(output: &mut Vec<Text>, order: &[Order]) -> Result<(), AllocError>
     ensures { OnOk result (output.new.items ≡ output.old.items ++ map (λ n. n.text) (map (λ o. o.name) order.now)) }
 {
     for column in order {
-        output.push(column.name.text.share(alloc)?)?;
+        output.push(column.name.text.share()?)?;
     }
     Ok(())
 }
 
-fn add_measures(
-    alloc: Global,
-    output: &mut Vec<Text>,
-    measures: &[Measure],
-) -> Result<(), AllocError>
+fn add_measures(output: &mut Vec<Text>, measures: &[Measure]) -> Result<(), AllocError>
     ensures { OnOk result
         (output.new.items ≡ output.old.items ++ map (λ m. m.name.text) (map measure_tree measures.now)) }
 {
     for measure in measures {
-        output.push(measure.name.text.share(alloc)?)?;
+        output.push(measure.name.text.share()?)?;
     }
     Ok(())
 }
 
 /// A column that neither the partition nor the order has.
 fn add_other(
-    alloc: Global,
     output: &mut Vec<Text>,
     partition: &[Name],
     order: &[Order],
@@ -104,13 +99,12 @@ fn add_other(
     if is_taken(&column.name, partition, order) {
         return Ok(());
     }
-    output.push(column.name.share(alloc)?)?;
+    output.push(column.name.share()?)?;
     Ok(())
 }
 
 /// The columns that neither the partition nor the order has.
 fn add_others(
-    alloc: Global,
     output: &mut Vec<Text>,
     partition: &[Name],
     order: &[Order],
@@ -120,7 +114,7 @@ fn add_others(
         ≡ output.old.items ++ others (texts partition.now) (texts (map (λ o. o.name) order.now)) columns.now) }
 {
     for column in columns {
-        add_other(alloc, output, partition, order, column)?;
+        add_other(output, partition, order, column)?;
     }
     Ok(())
 }
@@ -138,14 +132,14 @@ pub(crate) fn output_names(
         ≡ output_names rows (texts partition.now) (texts (map (λ o. o.name) order.now)) named columns.now) }
 {
     let mut output = Vec::new(alloc);
-    add_names(alloc, &mut output, partition)?;
+    add_names(&mut output, partition)?;
     if rows == RowsPerMatch::One {
-        add_measures(alloc, &mut output, measures)?;
+        add_measures(&mut output, measures)?;
         return Ok(output);
     }
-    add_order(alloc, &mut output, order)?;
-    add_measures(alloc, &mut output, measures)?;
-    add_others(alloc, &mut output, partition, order, columns)?;
+    add_order(&mut output, order)?;
+    add_measures(&mut output, measures)?;
+    add_others(&mut output, partition, order, columns)?;
     Ok(output)
 }
 

@@ -86,7 +86,7 @@ fn text_of(alloc: Global, json: &Json) -> Result<Option<Text>, AllocError>
     match json {
         Json::String(text) => {
             let copy = String::from_str(alloc, text.as_str())?;
-            Ok(Some(Text::new(copy)))
+            Ok(Some(Text::new(alloc, copy)?))
         }
         _ => Ok(None),
     }

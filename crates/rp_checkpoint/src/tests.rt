@@ -24,7 +24,7 @@ const PARTITION: &str =
     "{\"at\":1,\"close\":null,\"covered\":0,\"first\":1,\"given\":\"0\",\"here\":0,\"key\":[],\"matches\":0,\"over\":false,\"rows\":[[1,[1]]]}";
 
 fn text(alloc: Global, text: &str) -> Result<Text, AllocError> {
-    Ok(Text::new(String::from_str(alloc, text)?))
+    Text::new(alloc, String::from_str(alloc, text)?)
 }
 
 fn fresh(alloc: Global) -> Result<NodeData, AllocError> {

@@ -5,7 +5,7 @@ use std::alloc::{AllocError, Global};
 use std::test::Fail;
 
 fn text(alloc: Global, text: &str) -> Result<Value, AllocError> {
-    Ok(Value::Text(Text::new(String::from_str(alloc, text)?)))
+    Ok(Value::Text(Text::new(alloc, String::from_str(alloc, text)?)?))
 }
 
 fn reply(alloc: Global, key: Vec<Value>, place: u128, item: Item) -> Reply {

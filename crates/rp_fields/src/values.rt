@@ -38,7 +38,7 @@ fn cell_of(alloc: Global, json: &Json) -> Result<Option<Value>, AllocError>
         Json::Number(number) => Ok(number.as_i64().map(Value::Int)),
         Json::String(text) => {
             let copy = String::from_str(alloc, text.as_str())?;
-            Ok(Some(Value::Text(Text::new(copy))))
+            Ok(Some(Value::Text(Text::new(alloc, copy)?)))
         }
         _ => Ok(None),
     }

@@ -10,7 +10,7 @@ use rp_check::{Expr, OrderColumn, Query};
 use rp_eval::Rows;
 use rp_syntax::RowsPerMatch;
 use rp_value::{Column, Value};
-use std::alloc::{AllocError, Global};
+use std::alloc::AllocError;
 
 /// Whether an item has all columns of its row.
 pub(crate) fn shows_all(rows: RowsPerMatch) -> bool
@@ -20,21 +20,20 @@ pub(crate) fn shows_all(rows: RowsPerMatch) -> bool
 }
 
 /// The value in a column of a row.
-fn cell<R: Rows>(alloc: Global, rows: &R, row: u64, column: usize) -> Result<Value, AllocError>
+fn cell<R: Rows>(rows: &R, row: u64, column: usize) -> Result<Value, AllocError>
     ensures { IfOk result (λ value. value ≡ cell (R.known rows.now) column row) }
 {
     match rows.row(row) {
         None => Ok(Value::Null),
         Some(cells) => match cells.cell(column) {
             None => Ok(Value::Null),
-            Some(value) => value.share(alloc),
+            Some(value) => value.share(),
         },
     }
 }
 
 /// Adds the cells of a row in these columns.
 pub(crate) fn add_columns<R: Rows>(
-    alloc: Global,
     cells: &mut Vec<Value>,
     rows: &R,
     row: u64,
@@ -43,14 +42,13 @@ pub(crate) fn add_columns<R: Rows>(
     ensures { OnOk result (cells.new.items ≡ cells.old.items ++ row_cells (R.known rows.now) row columns.now) }
 {
     for column in columns {
-        cells.push(cell(alloc, rows, row, *column)?)?;
+        cells.push(cell(rows, row, *column)?)?;
     }
     Ok(())
 }
 
 /// Adds the cells of a row in the columns of ORDER BY.
 pub(crate) fn add_order<R: Rows>(
-    alloc: Global,
     cells: &mut Vec<Value>,
     rows: &R,
     row: u64,
@@ -60,7 +58,7 @@ pub(crate) fn add_order<R: Rows>(
         ≡ cells.old.items ++ row_cells (R.known rows.now) row (map (λ o. o.column) order.now)) }
 {
     for ordered in order {
-        cells.push(cell(alloc, rows, row, ordered.column)?)?;
+        cells.push(cell(rows, row, ordered.column)?)?;
     }
     Ok(())
 }
@@ -80,7 +78,6 @@ fn is_ordered(order: &[OrderColumn], column: usize) -> bool
 
 /// Adds the cells of a row in the columns that neither PARTITION BY nor ORDER BY has.
 pub(crate) fn add_others<R: Rows>(
-    alloc: Global,
     cells: &mut Vec<Value>,
     rows: &R,
     row: u64,
@@ -91,7 +88,7 @@ pub(crate) fn add_others<R: Rows>(
 {
     for place in 0..query.table().columns().len() {
         if !is_key(query, place + 1) {
-            cells.push(cell(alloc, rows, row, place + 1)?)?;
+            cells.push(cell(rows, row, place + 1)?)?;
         }
     }
     Ok(())

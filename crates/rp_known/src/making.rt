@@ -19,7 +19,6 @@ use std::alloc::{AllocError, Global};
 
 /// Adds the cells of a row that come before the measures.
 fn add_leading<R: Rows>(
-    alloc: Global,
     cells: &mut Vec<Value>,
     query: &Query,
     rows: &R,
@@ -28,16 +27,15 @@ fn add_leading<R: Rows>(
     ensures { OnOk result (cells.new.items
         ≡ cells.old.items ++ row_cells (R.known rows.now) row (leading (data_of query.now))) }
 {
-    add_columns(alloc, cells, rows, row, query.partition())?;
+    add_columns(cells, rows, row, query.partition())?;
     if shows_all(query.plan().rows) {
-        return add_order(alloc, cells, rows, row, query.order());
+        return add_order(cells, rows, row, query.order());
     }
     Ok(())
 }
 
 /// Adds those that come after them.
 fn add_trailing<R: Rows>(
-    alloc: Global,
     cells: &mut Vec<Value>,
     query: &Query,
     rows: &R,
@@ -47,14 +45,13 @@ fn add_trailing<R: Rows>(
         ≡ cells.old.items ++ row_cells (R.known rows.now) row (trailing (data_of query.now))) }
 {
     if shows_all(query.plan().rows) {
-        return add_others(alloc, cells, rows, row, query);
+        return add_others(cells, rows, row, query);
     }
     Ok(())
 }
 
 /// Adds the values of measures, and tells whether they are all ready.
 fn add_measures<'a, R: Rows>(
-    alloc: Global,
     cells: &mut Vec<Value>,
     measures: &'a [Expr],
     view: &View<'a, R>,
@@ -65,7 +62,7 @@ fn add_measures<'a, R: Rows>(
         ≡ (if ready then Some cells.new.items else None)) }
 {
     for expr in measures {
-        match measure(alloc, expr, view)? {
+        match measure(expr, view)? {
             Cell::Open => return Ok(false),
             Cell::Ready(value) => cells.push(value)?,
         }
@@ -84,10 +81,10 @@ pub fn unmatched_item<R: Rows>(
     ensures { IfOk result (λ item.
         item_at (data_of query.now) (known_in R.known R.ending rows.now) place NoMatch row ≡ Some item) }
 {
-    let mut cells = Vec::new(alloc);
-    add_leading(alloc, &mut cells, query, rows, row)?;
+    let mut cells = Vec::with_capacity(alloc, query.output().len())?;
+    add_leading(&mut cells, query, rows, row)?;
     add_nulls(&mut cells, query.plan().measures.as_slice())?;
-    add_trailing(alloc, &mut cells, query, rows, row)?;
+    add_trailing(&mut cells, query, rows, row)?;
     Ok(Item::Row {
         number: None,
         cells: Cells::new(cells),
@@ -122,12 +119,12 @@ pub fn match_item<R: Rows>(
         number,
         totals,
     };
-    let mut cells = Vec::new(alloc);
-    add_leading(alloc, &mut cells, query, rows, row)?;
-    if !add_measures(alloc, &mut cells, query.plan().measures.as_slice(), &view)? {
+    let mut cells = Vec::with_capacity(alloc, query.output().len())?;
+    add_leading(&mut cells, query, rows, row)?;
+    if !add_measures(&mut cells, query.plan().measures.as_slice(), &view)? {
         return Ok(None);
     }
-    add_trailing(alloc, &mut cells, query, rows, row)?;
+    add_trailing(&mut cells, query, rows, row)?;
     Ok(Some(Item::Row {
         number: Some(number),
         cells: Cells::new(cells),

@@ -98,7 +98,7 @@ fn skips(rt: HostRuntime) -> Result<(), Fail> {
 /// A text that takes memory.
 fn symbol(alloc: Global) -> Result<Value, Fail> {
     let text = String::from_str(alloc, "a symbol of some length")?;
-    Ok(Value::Text(Text::new(text)))
+    Ok(Value::Text(Text::new(alloc, text)?))
 }
 
 /// The item of row 2 as one in no match. A call that is refused is made again.

@@ -4,12 +4,18 @@ ghost use Rattle.csv.specs.Records.{fields_of};
 ghost use Rattle.rp_value.specs.Tables.{kinds_of};
 ghost use Rattle.rp_source.specs.Fields.{HasNoField, IsField, IsNoField, IsRow};
 
+use crate::texts::Texts;
 use csv::ByteRecord;
-use rp_value::{Column, Kind, Text, Value};
+use rp_value::{Column, Kind, Value};
 use std::alloc::{AllocError, Global};
 
 /// The value of a field of a column of this kind. None where it has none.
-fn field_of(alloc: Global, kind: Kind, field: &[u8]) -> Result<Option<Value>, AllocError>
+fn field_of(
+    alloc: Global,
+    texts: &mut Texts,
+    kind: Kind,
+    field: &[u8],
+) -> Result<Option<Value>, AllocError>
     ensures { IfOk result (λ found. MatchOption found (IsNoField kind field.now) (IsField kind field.now)) }
 {
     if field.is_empty() {
@@ -19,10 +25,7 @@ fn field_of(alloc: Global, kind: Kind, field: &[u8]) -> Result<Option<Value>, Al
         return Ok(None);
     };
     match kind {
-        Kind::Text => {
-            let string = String::from_str(alloc, text)?;
-            Ok(Some(Value::Text(Text::new(string))))
-        }
+        Kind::Text => Ok(Some(Value::Text(texts.text_of(alloc, text)?))),
         Kind::Int => match text.parse::<i64>() {
             Ok(number) => Ok(Some(Value::Int(number))),
             Err(_) => Ok(None),
@@ -33,6 +36,7 @@ fn field_of(alloc: Global, kind: Kind, field: &[u8]) -> Result<Option<Value>, Al
 /// The values of a record that has a field for each column. None where one of the fields is no value of its column.
 pub(crate) fn values_of(
     alloc: Global,
+    texts: &mut Texts,
     columns: &[Column],
     fields: &ByteRecord,
 ) -> Result<Option<Vec<Value>>, AllocError>
@@ -43,7 +47,7 @@ pub(crate) fn values_of(
     let mut values = Vec::with_capacity(alloc, columns.len())?;
     for (index, column) in columns.iter().enumerate() {
         let field = field_at(fields, index);
-        let Some(value) = field_of(alloc, column.kind, field)? else {
+        let Some(value) = field_of(alloc, texts, column.kind, field)? else {
             return Ok(None);
         };
         values.push(value)?;

@@ -20,6 +20,7 @@ mod records;
 mod rows;
 #[cfg(test)]
 mod tests;
+mod texts;
 
 pub use input::read_rows;
 pub use number::{number_rows, ordered_parts};

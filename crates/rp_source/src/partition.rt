@@ -76,7 +76,7 @@ fn value_at(alloc: Global, column: usize, row: &Row) -> Result<Value, AllocError
     ensures { IfOk result (λ value. value ≡ value_is column row.now) }
 {
     match row.cell(column) {
-        Some(value) => value.share(alloc),
+        Some(value) => value.share(),
         None => Ok(Value::Null),
     }
 }

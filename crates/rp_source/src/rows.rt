@@ -10,6 +10,7 @@ ghost use Rattle.rp_source.specs.declared.rows.CsvFault.TheVariants.{OutOfMemory
 use crate::fields::values_of;
 use crate::header::names_columns;
 use crate::records::{reader_of, take_record};
+use crate::texts::Texts;
 use csv::ByteRecord;
 use rp_value::{Row, RowFault, Table, Value};
 use std::alloc::{AllocError, Global};
@@ -67,12 +68,13 @@ pub fn rows_of(alloc: Global, text: &[u8], table: &Table) -> Result<Vec<Row>, Cs
     if !names_columns(alloc, table.columns(), &fields)? {
         return Err(CsvFault::Header);
     }
+    let mut texts = Texts::new(alloc)?;
     let mut rows = Vec::new(alloc);
     for number in 1..MAX_RECORDS + 1 {
         if !take_record(&mut reader, &mut fields)? {
             return Ok(rows);
         }
-        let row = row_of(alloc, table, &fields, number)?;
+        let row = row_of(alloc, &mut texts, table, &fields, number)?;
         if rows.push(row).is_err() {
             return Err(CsvFault::OutOfMemory);
         }
@@ -84,7 +86,13 @@ pub fn rows_of(alloc: Global, text: &[u8], table: &Table) -> Result<Vec<Row>, Cs
 }
 
 /// The row of a record, by its number.
-fn row_of(alloc: Global, table: &Table, fields: &ByteRecord, number: u64) -> Result<Row, CsvFault>
+fn row_of(
+    alloc: Global,
+    texts: &mut Texts,
+    table: &Table,
+    fields: &ByteRecord,
+    number: u64,
+) -> Result<Row, CsvFault>
     ensures ok { IfOk result (λ row. IsRow (kinds_of table.now) (fields_of fields.now) row) }
     ensures err { IfErr result (λ fault. IsRowFault (kinds_of table.now) (fields_of fields.now) number fault) }
 {
@@ -92,7 +100,7 @@ fn row_of(alloc: Global, table: &Table, fields: &ByteRecord, number: u64) -> Res
     if fields.len() != columns.len() {
         return Err(CsvFault::Record(number));
     }
-    let Some(values) = values_of(alloc, columns, fields)? else {
+    let Some(values) = values_of(alloc, texts, columns, fields)? else {
         return Err(CsvFault::Field(number));
     };
     let row = fitting_row(alloc, table, values)?;

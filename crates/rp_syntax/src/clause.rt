@@ -529,7 +529,7 @@ fn body<'a>(
     let (subsets, rest) = subset_part(alloc, text, rest, room)?;
     let (definitions, rest) = define_part(alloc, text, rest, room)?;
     let clause = Clause {
-        text: Text::new(String::from_str(alloc, text)?),
+        text: Text::new(alloc, String::from_str(alloc, text)?)?,
         partition,
         order,
         measures,

@@ -47,7 +47,7 @@ fn text_at(alloc: Global, text: &str, token: Token) -> Result<Text, AllocError>
     ensures { IfOk result (λ literal. literal ≡ unquoted false 39 (behind_first (bytes_of text.now token))) }
 {
     let string = text_of(alloc, text, token)?;
-    Ok(Text::new(string))
+    Text::new(alloc, string)
 }
 
 /// A text, and what follows it.

@@ -30,7 +30,7 @@ pub(crate) fn named(alloc: Global, text: &str, token: Token) -> Result<Name, All
 {
     let string = name_of(alloc, text, token)?;
     Ok(Name {
-        text: Text::new(string),
+        text: Text::new(alloc, string)?,
         at: token.start,
     })
 }

@@ -108,7 +108,8 @@ fn column<'a>(
 {
     let (name, rest) = name(alloc, text, tokens)?;
     let (kind, rest) = column_kind(alloc, text, rest)?;
-    Ok(((name.text.into_string(), kind), rest))
+    let name = String::from_str(alloc, name.text.as_str())?;
+    Ok(((name, kind), rest))
 }
 
 /// Columns with commas between, and what follows.

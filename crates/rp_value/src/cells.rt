@@ -104,13 +104,13 @@ impl Cells {
         self.values
     }
 
-    /// Equal cells, with a copy of each text.
+    /// Equal cells. No text is copied: each gets a further owner.
     pub fn share(&self, alloc: Global) -> Result<Cells, AllocError>
         ensures { IfOk result (λ cells. cells ≡ self.now) }
     {
         let mut values = Vec::with_capacity(alloc, self.values.len())?;
         for value in &self.values {
-            values.push(value.share(alloc)?)?;
+            values.push(value.share()?)?;
         }
         Ok(Cells { values })
     }

@@ -203,7 +203,7 @@ fn headed(alloc: Global, pairs: Vec<(String, Kind)>) -> Result<Rc<Vec<Column>>, 
 {
     let mut columns = Vec::with_capacity(alloc, pairs.len())?;
     for (name, kind) in pairs {
-        let name = Text::new(name);
+        let name = Text::new(alloc, name)?;
         columns.push(Column { name, kind })?;
     }
     Ok(Rc::new(alloc, columns)?)

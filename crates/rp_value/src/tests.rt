@@ -12,7 +12,7 @@ const LEAST: i64 = -9_223_372_036_854_775_808;
 const GREATEST: i64 = 9_223_372_036_854_775_807;
 
 fn text(alloc: Global, letters: &str) -> Result<Value, AllocError> {
-    Ok(Value::Text(Text::new(String::from_str(alloc, letters)?)))
+    Ok(Value::Text(Text::new(alloc, String::from_str(alloc, letters)?)?))
 }
 
 fn column(alloc: Global, name: &str, kind: Kind) -> Result<(String, Kind), AllocError> {
@@ -276,7 +276,7 @@ fn priced(alloc: Global, table: &Table, stock: String, price: i64) -> Result<Row
     ensures row { IfOk result (λ row. row ≡ Value.Text (string_bytes stock) ∷ Value.Int price ∷ []) }
     ensures accepted { IfErr result (λ fault. fault ≡ RowFault.OutOfMemory) }
 {
-    let stock = Value::Text(Text::new(stock));
+    let stock = Value::Text(Text::new(alloc, stock)?);
     table.row(alloc, vec![in alloc; stock, Value::Int(price)]?)
 }
 
@@ -340,10 +340,10 @@ fn row_of(alloc: Global, table: &Table) -> Result<Row, RowFault> {
 // A call that is refused memory, made again, gives what it gives with ample memory.
 
 #[test]
-fn refused_copies(rt: HostRuntime) -> Result<(), Fail> {
+fn refused_texts(rt: HostRuntime) -> Result<(), Fail> {
     let alloc = rt.alloc();
-    let value = text(alloc, "x")?;
-    let copy = value.share(alloc).or_else(|_| value.share(alloc))?;
+    let value = text(alloc, "x").or_else(|_| text(alloc, "x"))?;
+    let copy = value.share()?;
     assert_eq!(rt; copy, value);
     Ok(())
 }

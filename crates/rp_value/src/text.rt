@@ -11,11 +11,12 @@ use std::alloc::{AllocError, Global};
 use std::cmp::Ordering;
 use std::hash::{Hash, Hasher};
 use std::marker::Model;
+use std::rc::Rc;
 
-/// A text, which contracts see as the list of its UTF-8 bytes.
+/// A text, whose bytes further owners share. Contracts see it as the list of its UTF-8 bytes.
 #[derive(Debug, Drop)]
 pub struct Text {
-    string: String,
+    string: Rc<String>,
 }
 
 impl Model for Text {
@@ -23,7 +24,7 @@ impl Model for Text {
 
     ghost Value = { List ℕ };
 
-    ghost view = { λ t. string_bytes t.string };
+    ghost view = { λ t. string_bytes t.string.value };
 }
 
 impl PartialEq for Text {
@@ -32,7 +33,7 @@ impl PartialEq for Text {
     ghost laws = { partial_equiv_from_equiv nat_list_eq_equiv };
 
     fn eq(&self, other: &Text) -> bool {
-        self.string == other.string
+        self.as_str() == other.as_str()
     }
 }
 
@@ -71,16 +72,17 @@ impl Hash for Text {
     ghost respects_eq = { Prim.search (hashing, rules) };
 
     fn hash<H: Hasher>(&self, state: &mut H) {
-        self.string.hash(state);
+        self.as_str().hash(state);
     }
 }
 
 impl Text {
     /// The text of a string, which is kept as it is.
-    pub fn new(string: String) -> Text
-        ensures { result ≡ string_bytes string }
+    pub fn new(alloc: Global, string: String) -> Result<Text, AllocError>
+        ensures { IfOk result (λ text. text ≡ string_bytes string) }
     {
-        Text { string }
+        let string = Rc::new(alloc, string)?;
+        Ok(Text { string })
     }
 
     /// The text as a slice.
@@ -90,18 +92,11 @@ impl Text {
         self.string.as_str()
     }
 
-    /// The string that the text was made of.
-    pub fn into_string(self) -> String
-        ensures { string_bytes result ≡ self }
-    {
-        self.string
-    }
-
-    /// An equal text, with a copy of the bytes.
-    pub fn share(&self, alloc: Global) -> Result<Text, AllocError>
+    /// A further owner of the same bytes. Nothing is copied; the error says that the count of owners is full.
+    pub fn share(&self) -> Result<Text, AllocError>
         ensures { IfOk result (λ text. text ≡ self.now) }
     {
-        let string = String::from_str(alloc, self.string.as_str())?;
+        let string = self.string.clone()?;
         Ok(Text { string })
     }
 }

@@ -7,7 +7,7 @@ ghost use Rattle.rp_value.specs.Order.{value_order, OrderIsComparison, NullIsLas
 ghost use Rattle.rp_value.specs.Rows.{admits};
 
 use crate::{Comparison, Text, Tri};
-use std::alloc::{AllocError, Global};
+use std::alloc::AllocError;
 use std::cmp::Ordering;
 
 /// The kind of a column.
@@ -104,14 +104,15 @@ impl Value {
         }
     }
 
-    /// An equal value. Only a text takes memory.
-    pub fn share(&self, alloc: Global) -> Result<Value, AllocError>
+    /// An equal value. Nothing is copied: a text gets a further owner, and the error says that the count of its owners is
+    /// full.
+    pub fn share(&self) -> Result<Value, AllocError>
         ensures { IfOk result (λ value. value ≡ self.now) }
     {
         match self {
             Value::Null => Ok(Value::Null),
             Value::Int(number) => Ok(Value::Int(*number)),
-            Value::Text(text) => Ok(Value::Text(text.share(alloc)?)),
+            Value::Text(text) => Ok(Value::Text(text.share()?)),
         }
     }
 }

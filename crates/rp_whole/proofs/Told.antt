@@ -19,11 +19,11 @@ use Rattle.rp_whole.specs.declared.fault.WholeFault.TheVariants.{Csv, Write, Out
 module _ (q : QueryData) (input old : Option (List ℕ)) where
   -- a fault of the input, of which nothing was written
   pub told_front : (why : CsvFault) → IfSome input (λ text. IsInputFault q.table text why) → LeavesFront q input old old (told_csv why)
-  told_front Header is = (refl, is)
-  told_front (Record n) is = (refl, is)
-  told_front (Field n) is = (refl, is)
-  told_front Read is = (refl, is)
-  told_front Turns is = (refl, is)
+  told_front Header is = ((λ same. cc), refl, is)
+  told_front (Record n) is = ((λ same. cc), refl, is)
+  told_front (Field n) is = ((λ same. cc), refl, is)
+  told_front Read is = ((λ same. cc), refl, is)
+  told_front Turns is = ((λ same. cc), refl, is)
   told_front OutOfMemory is = inl refl
 
   -- a fault of the output, after a front of the lines

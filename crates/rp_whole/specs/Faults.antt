@@ -1,5 +1,5 @@
 -- What a fault of a run says of the input and of the devices.
-use Rattle.std.specs.Prelude.{◌≡◌, ◌⊎◌, ⊤, ℕ, List, Option, IfSome, Result, Ok, Err}
+use Rattle.std.specs.Prelude.{◌≡◌, ◌≢◌, ◌⊎◌, ⊤, ℕ, List, Option, IfSome, Result, Ok, Err}
 use Rattle.rp_check.specs.declared.query.QueryData.{QueryData}
 use Rattle.rp_lines.specs.Counts.{raised}
 use Rattle.rp_source.specs.Devices.{IsInputFault}
@@ -18,10 +18,10 @@ told_csv Read = Csv Read
 told_csv Turns = Csv Turns
 told_csv OutOfMemory = WholeOutOfMemory
 
--- Of a refused input nothing is written. A write that fails leaves a front of the lines, and want of memory nothing or a
--- front of them.
+-- Of a refused input nothing is written. A write that fails leaves a front of the lines, and want of memory, which is told as
+-- such wherever it comes, nothing or a front of them.
 abbrev pub LeavesFront : QueryData → Option (List ℕ) → Option (List ℕ) → Option (List ℕ) → WholeFault → Type 0
-LeavesFront q input old new (Csv why) = (new ≡ old) × IfSome input (λ text. IsInputFault q.table text why)
+LeavesFront q input old new (Csv why) = (why ≢ OutOfMemory) × (new ≡ old) × IfSome input (λ text. IsInputFault q.table text why)
 LeavesFront q input old new Write = WritesFront q input old new
 LeavesFront q input old new WholeOutOfMemory = (new ≡ old) ⊎ WritesFront q input old new
 

@@ -38,7 +38,7 @@ fn replied_again(alloc: Global, line: &str) -> Result<String, LineFault> {
 }
 
 fn text(alloc: Global, text: &str) -> Result<Value, AllocError> {
-    Ok(Value::Text(Text::new(String::from_str(alloc, text)?)))
+    Ok(Value::Text(Text::new(alloc, String::from_str(alloc, text)?)?))
 }
 
 fn filled(alloc: Global, byte: u8, count: usize) -> Result<Vec<u8>, AllocError> {

@@ -231,7 +231,7 @@ impl<'a> Plain<'a> {
         };
         let mut values = Vec::new(self.alloc);
         for expr in self.query.plan().measures.as_slice() {
-            match measure(self.alloc, expr, &view)? {
+            match measure(expr, &view)? {
                 Cell::Open => return Ok(None),
                 Cell::Ready(value) => values.push(value)?,
             }
@@ -301,7 +301,7 @@ impl<'a> Plain<'a> {
         };
         match cells.cell(column) {
             None => Err(Fail::from("a column of the table")),
-            Some(value) => Ok(value.share(self.alloc)?),
+            Some(value) => Ok(value.share()?),
         }
     }
 

@@ -229,7 +229,7 @@ fn row_of(alloc: Global, query: &Query, row: u64, p: i64) -> Result<Row, Fail> {
     let Ok(t) = i64::try_from(row) else {
         return Err(Fail::from("a row number"));
     };
-    let symbol = Text::new(String::from_str(alloc, "x")?);
+    let symbol = Text::new(alloc, String::from_str(alloc, "x")?)?;
     let p = if p == NULL {
         Value::Null
     } else {

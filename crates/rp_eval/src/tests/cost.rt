@@ -64,7 +64,7 @@ fn sum_reads_no_row(rt: HostRuntime) -> Result<(), Fail> {
         };
         let seen = condition(&few, &view);
         assert_eq!(rt; seen == Seen::True, current <= 10);
-        let _sum = measure(alloc, &all, &view)?;
+        let _sum = measure(&all, &view)?;
     }
     assert_eq!(rt; rows.asked.get(), 0);
     Ok(())

@@ -73,7 +73,7 @@ fn match_of(rt: &impl Abort, alloc: Global, count: usize) -> Result<(), Fail> {
         };
         assert_eq!(rt; condition(&is_same, &view) == Seen::True, current >= 4);
         want = want.saturating_add(7);
-        match measure(alloc, &sum, &view)? {
+        match measure(&sum, &view)? {
             Cell::Ready(Value::Int(number)) => assert_eq!(rt; number, want),
             _ => assert!(rt; false),
         }

@@ -54,7 +54,7 @@ impl Rows for Listed {
 }
 
 pub fn text(alloc: Global, letters: &str) -> Result<Value, AllocError> {
-    Ok(Value::Text(Text::new(String::from_str(alloc, letters)?)))
+    Ok(Value::Text(Text::new(alloc, String::from_str(alloc, letters)?)?))
 }
 
 /// Rows of a whole number and a text.
@@ -188,7 +188,7 @@ pub fn shown<R: Rows>(
             number: view.number,
             totals: view.totals,
         };
-        write(alloc, &mut shown, &measure(alloc, expr, &there)?)?;
+        write(alloc, &mut shown, &measure(expr, &there)?)?;
     }
     Ok(shown)
 }

@@ -19,8 +19,8 @@ decreases-conjunction l = 9 * l.room + 7
 abbrev pub decreases-negation : goal.decreases-negation
 decreases-negation l = 9 * l.room + 6
 
-abbrev pub decreases-test : goal.decreases-test
-decreases-test l = 9 * l.room + 5
+abbrev pub decreases-predicate : goal.decreases-predicate
+decreases-predicate l = 9 * l.room + 5
 
 abbrev pub decreases-sum : goal.decreases-sum
 decreases-sum l = 9 * l.room + 4
