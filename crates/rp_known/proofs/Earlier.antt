@@ -91,7 +91,8 @@ module _ (earlier : EarlierStays) (extend : WordsExtend) (within : WordsEnd) (fo
   pub came_stays : {d : ℕ} {from to : Place} → EarlyComesTo q p from d to → ComesTo q p from d to
   came_stays was_here = here
   came_stays (went_on {place = place} {next = next} {xs = xs} is r) =
-      on (subst (λ t. Stays t (leg q p place)) is (leg_stays place)) (came_stays r)
+      let now : leg q p place ≡ Goes xs next = subst (λ t. Stays t (leg q p place)) is (leg_stays place) in
+      on now (came_stays r)
 
   pub earlier_begins : IsPrefixOf (early_known q p) (known q p)
   earlier_begins = walk_grows (suc (suc (count p) - 1)) first_place

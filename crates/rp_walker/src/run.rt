@@ -70,7 +70,7 @@ pub(crate) fn run_one<R: Rows, L: Ledger>(
     requires searches { Searches (data_of query.now) (known_in R.known R.ending rows.now) start run }
     ensures ran { IfOk result (λ r. Ran (data_of query.now) (known_in R.known R.ending rows.now) start run r.1 r.0) }
     ensures ticked { OnOk result (steps.new ≡ steps.old + 1) }
-    ensures search { IfOk result (λ r. steps.new ≡ steps.old + turns_of_run r.1.search) }
+    ensures counted { IfOk result (λ r. steps.new ≡ steps.old + turns_of_run r.1.search) }
     ensures turns { TurnsAreCounted 1 steps.old steps.new entered.old entered.new }
 {
     rp_search::law_search();
