@@ -1,5 +1,5 @@
 -- The known answer as it was begins the present one.
-use Rattle.std.proofs.Common.{◌≡◌, ℕ, zero, suc, ◌-◌, ◌≤◌, List, [], ◌++◌, length, Bool, true, false, cond, Option, Some, None, refl, sym, ap, subst, arith}
+use Rattle.std.proofs.Common.{◌≡◌, ℕ, zero, suc, ◌-◌, List, [], length, Bool, true, false, cond, Option, Some, None, refl, sym, ap, subst, arith}
 use Rattle.std.specs.Prelude.{◌≢◌, slice_get, nat_le}
 use Rattle.rp_value.specs.declared.truth.Tri.TheVariants.{True as T, False as F, Unknown as U}
 use Rattle.rp_value.specs.declared.truth.Judged.{Judged}
