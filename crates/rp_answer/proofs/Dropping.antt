@@ -1,6 +1,6 @@
 -- A matcher whose first rows are dropped.
-use Rattle.std.proofs.Common.{◌≡◌, ℕ, zero, suc, ◌+◌, ◌-◌, ◌<◌, ◌≤◌, max, List, [], ◌∷◌, length, drop, Bool, true, false, cond, refl, sym, ap, ◌∙◌, subst, inl, inr, ◌⊎◌, arith}
-use Rattle.std.specs.Prelude.{slice_get}
+use Rattle.std.proofs.Common.{◌≡◌, ℕ, zero, suc, ◌+◌, ◌-◌, ◌<◌, ◌≤◌, max, List, [], ◌∷◌, length, drop, Bool, true, false, cond, refl, sym, ap, ◌∙◌, subst, inl, inr, ◌⊎◌, Result, Ok, Err, arith}
+use Rattle.std.specs.Prelude.{slice_get, OnErr}
 use Rattle.rp_value.specs.declared.value.Value.{Value}
 use Rattle.rp_pattern.specs.declared.word.End.{End}
 use Rattle.rp_pattern.specs.declared.word.End.TheVariants.{Closed as ClosedEnd}
@@ -99,6 +99,10 @@ stands_dropped stays q k n w sound a bound h = go w.state.over refl
     go : (b : Bool) → w.state.over ≡ b → Stands q (known_by n) w
     go true e = subst (λ b. stands_by b q (known_by n) w) (sym e) (subst (λ b. stands_by b q (known_by k) w) e h)
     go false e = stays q (known_by k) (known_by n) w sound (goes_from n.first (first_read q w.state.at) (known_by k) (known_by n) (bound e) a.on) h
+
+pub on_err_of : {A E : Type 0} (P : Type 0) (r : Result A E) → P → OnErr r P
+on_err_of P (Ok x) h = tt
+on_err_of P (Err e) h = h
 
 -- ---- what is still kept
 

@@ -6,11 +6,12 @@ use Rattle.rp_pattern.specs.Turns.{all_turns}
 use Rattle.rp_check.specs.QueryView.{data_of}
 use Rattle.rp_known.specs.Known.{Known, count}
 use Rattle.rp_known.specs.Plans.{first_read}
+use Rattle.rp_walker.specs.declared.poll.Poll.{Poll}
 use Rattle.rp_walker.specs.declared.record.MatcherState.{MatcherState}
 use Rattle.rp_walker.specs.declared.walker.Walker.{Walker}
 use Rattle.rp_walker.specs.Records.{horizon_of}
 use Rattle.rp_walker.specs.Walking.{record_of, Stands}
-use Rattle.rp_walker.specs.Polls.{left_in, entered_by}
+use Rattle.rp_walker.specs.Polls.{left_in, entered_by, Answers, GivenBy, StopsAtLast, StillFits}
 use Rattle.rp_answer.specs.declared.kept.Kept.{Kept}
 use Rattle.rp_answer.specs.declared.matcher.Matcher.{Matcher}
 use Rattle.rp_answer.specs.Kept.{kept_rows}
@@ -49,6 +50,19 @@ IsReady m = Ready (data_of m.query) m.rows m.walker
 abbrev pub HoldsNoMore : QueryData → Known → MatcherState → Type 0
 HoldsNoMore q p r = horizon_of q p r ≤ r.first ⊎ count p < r.first
 
+-- What a poll comes to by what is known: the next item with its place, or nothing. Only an item raises the number of given items,
+-- and where nothing comes before the end, no start row that the walk comes to is greater than the record's.
+pub record PollComesTo (q : QueryData) (k : Known) (old new : MatcherState) (answer : Poll) : Type 0 where
+  pub answers : Answers q k old new answer
+  pub given : GivenBy old.given new.given answer
+  pub stops : StopsAtLast q k old new answer
+
+-- What stands after a poll that was refused memory: the record fits what it fitted, and the same item is still to come.
+pub record StaysToCome (q : QueryData) (k : Known) (old new : MatcherState) : Type 0 where
+  pub fits : StillFits q k old new
+  pub given : new.given ≡ old.given
+
 -- A matcher never has more turns left than all starts of the known rows take.
 abbrev pub LeftIsBounded : Type 0
-LeftIsBounded = (m : Matcher) → IsReady m → left_to m ≤ all_turns (count (known_to m)) (known_to m).end (form_of (query_in m).pattern)
+LeftIsBounded = (m : Matcher) → IsReady m →
+    left_to m ≤ all_turns (count (known_to m)) (known_to m).end (form_of (query_in m).pattern)

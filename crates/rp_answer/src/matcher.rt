@@ -28,9 +28,9 @@ pub struct Matcher {
 impl Matcher {
     ghost use Rattle.rp_known.specs.Known.{Known};
     ghost use Rattle.rp_walker.specs.FitLaws.{AgreesFrom};
-    ghost use Rattle.rp_walker.specs.Polls.{left_in, entered_by, EntersAtMost, Answers, GivenBy, PollLowers, StopsAtLast, StillFits};
+    ghost use Rattle.rp_walker.specs.Polls.{left_in, entered_by, TurnsAreCounted, PollTakes, PollLowers};
     ghost use Rattle.rp_walker.specs.Walking.{record_of, Stands, CanGoOn};
-    ghost use Rattle.rp_answer.specs.Matching.{query_in, known_to, record_in, left_to, entered_in, known_by, Ready, IsReady, HoldsNoMore};
+    ghost use Rattle.rp_answer.specs.Matching.{query_in, known_to, record_in, left_to, entered_in, known_by, Ready, IsReady, HoldsNoMore, PollComesTo, StaysToCome};
 
     /// A matcher of no row yet.
     pub fn new(alloc: Global, query: Query) -> Matcher
@@ -95,6 +95,7 @@ impl Matcher {
         ensures ready { IsReady self.new }
         ensures query { query_in self.new ≡ query_in self.old }
         ensures record { record_in self.new ≡ record_in self.old }
+        ensures entered { entered_in self.new ≡ entered_in self.old }
         ensures end { (known_to self.new).end ≡ Open }
         ensures pushed { OnOk result ((known_to self.new).rows ≡ (known_to self.old).rows ++ row ∷ []) }
         ensures refused { OnErr result ((known_to self.new).rows ≡ (known_to self.old).rows) }
@@ -113,6 +114,7 @@ impl Matcher {
         ensures ready { IsReady self.new }
         ensures query { query_in self.new ≡ query_in self.old }
         ensures record { record_in self.new ≡ record_in self.old }
+        ensures entered { entered_in self.new ≡ entered_in self.old }
         ensures end { (known_to self.new).end ≡ Closed }
         ensures rows { (known_to self.new).rows ≡ (known_to self.old).rows }
     {
@@ -123,25 +125,26 @@ impl Matcher {
     }
 
     /// Takes at most `budget` turns, until an item comes or nothing is left to give. A turn is one choice taken up, one
-    /// start row ended or one item looked at. A budget of 0 answers `Paused`, changes nothing and takes no memory. After
-    /// `AllocError` the same item is still to come; after any other answer to a budget the rows below the horizon are
-    /// dropped.
+    /// start row ended or one item looked at: `Paused` comes after just `budget` turns, and an item after one at least.
+    /// A budget of 0 answers `Paused`, changes nothing and takes no memory. After `AllocError` the same item is still to
+    /// come; after any other answer to a budget the rows below the horizon are dropped.
     pub fn poll<L: Ledger>(&mut self, budget: u32, steps: &mut Steps<L>) -> Result<Poll, AllocError>
         requires ready { IsReady self.old }
         ensures ready { IsReady self.new }
         ensures query { query_in self.new ≡ query_in self.old }
         ensures count { count (known_to self.new) ≡ count (known_to self.old) }
         ensures end { (known_to self.new).end ≡ (known_to self.old).end }
-        ensures answers { IfOk result (Answers (query_in self.old) (known_to self.old) (record_in self.old) (record_in self.new)) }
-        ensures refused { OnErr result (StillFits (query_in self.old) (known_to self.old) (record_in self.old) (record_in self.new)) }
-        ensures stops { IfOk result (StopsAtLast (query_in self.old) (known_to self.old) (record_in self.old) (record_in self.new)) }
-        ensures given { IfOk result (GivenBy (record_in self.old).given (record_in self.new).given) }
-        ensures kept { OnErr result ((record_in self.new).given ≡ (record_in self.old).given) }
+        ensures answers { IfOk result (PollComesTo (query_in self.old) (known_to self.old)
+            (record_in self.old) (record_in self.new)) }
+        ensures refused { OnErr result (StaysToCome (query_in self.old) (known_to self.old)
+            (record_in self.old) (record_in self.new)) }
         ensures lowers { IfOk result (PollLowers budget (left_to self.old) (left_to self.new)) }
-        ensures rows { (p : Known) → AgreesFrom (record_in self.old).first (known_to self.old) p → AgreesFrom (record_in self.new).first (known_to self.new) p }
-        ensures held { OnOk result (1 ≤ budget → HoldsNoMore (query_in self.new) (known_to self.new) (record_in self.new)) }
-        ensures turns { steps.new ≤ steps.old + budget }
-        ensures entered { EntersAtMost budget (entered_in self.old) (entered_in self.new) }
+        ensures rows { (p : Known) → AgreesFrom (record_in self.old).first (known_to self.old) p →
+            AgreesFrom (record_in self.new).first (known_to self.new) p }
+        ensures held { OnOk result (1 ≤ budget →
+            HoldsNoMore (query_in self.new) (known_to self.new) (record_in self.new)) }
+        ensures turns { TurnsAreCounted budget steps.old steps.new (entered_in self.old) (entered_in self.new) }
+        ensures takes { IfOk result (PollTakes budget steps.old steps.new) }
         ensures nothing { budget ≡ 0 → (result ≡ Ok Poll.Paused) × (self.new ≡ self.old) × (steps.new ≡ steps.old) }
     {
         if budget == 0 {
@@ -156,17 +159,20 @@ impl Matcher {
     fn drop_rows(&mut self)
         requires stands { Stands (data_of self.old.query) (known_by self.old.rows) self.old.walker }
         requires first { (record_of self.old.walker).first ≡ self.old.rows.first }
-        requires needed { (record_of self.old.walker).over ≡ false → self.old.rows.first ≤ first_read (data_of self.old.query) (record_of self.old.walker).at }
+        requires needed { (record_of self.old.walker).over ≡ false →
+            self.old.rows.first ≤ first_read (data_of self.old.query) (record_of self.old.walker).at }
         ensures ready { Ready (data_of self.new.query) self.new.rows self.new.walker }
         ensures query { self.new.query ≡ self.old.query }
-        ensures record { record_of self.new.walker ≡ record (record_of self.old.walker) { first = self.new.rows.first } }
+        ensures record { record_of self.new.walker
+            ≡ record (record_of self.old.walker) { first = self.new.rows.first } }
         ensures count { count (known_by self.new.rows) ≡ count (known_by self.old.rows) }
         ensures end { self.new.rows.end ≡ self.old.rows.end }
         ensures agrees { AgreesFrom self.new.rows.first (known_by self.old.rows) (known_by self.new.rows) }
         ensures held { HoldsNoMore (data_of self.new.query) (known_by self.new.rows) (record_of self.new.walker) }
         ensures low { self.old.rows.first ≤ self.new.rows.first }
         ensures entered { entered_by self.new.walker ≡ entered_by self.old.walker }
-        ensures left { left_in (data_of self.new.query) (known_by self.new.rows) self.new.walker ≡ left_in (data_of self.old.query) (known_by self.old.rows) self.old.walker }
+        ensures left { left_in (data_of self.new.query) (known_by self.new.rows) self.new.walker
+            ≡ left_in (data_of self.old.query) (known_by self.old.rows) self.old.walker }
     {
         law_walkers();
         rp_walker::law_left();

@@ -1,5 +1,5 @@
 -- The known answer as it was begins the present one.
-use Rattle.std.proofs.Common.{◌≡◌, ℕ, zero, suc, ◌-◌, ◌≤◌, List, [], ◌++◌, length, Bool, true, false, cond, Option, Some, None, refl, sym, ap, subst, arith}
+use Rattle.std.proofs.Common.{◌≡◌, ℕ, zero, suc, ◌-◌, List, [], length, Bool, true, false, cond, Option, Some, None, refl, sym, ap, subst, arith}
 use Rattle.std.specs.Prelude.{◌≢◌, slice_get, nat_le}
 use Rattle.rp_value.specs.declared.truth.Tri.TheVariants.{True as T, False as F, Unknown as U}
 use Rattle.rp_value.specs.declared.truth.Judged.{Judged}
@@ -20,9 +20,9 @@ use Rattle.rp_known.specs.declared.item.Item.{Item}
 use Rattle.rp_known.specs.declared.place.Place.{Place}
 use Rattle.rp_known.specs.Known.{Known, count}
 use Rattle.rp_known.specs.Plans.{tested_by}
-use Rattle.rp_known.specs.Walk.{Leg, Goes, Pauses, Ends, found_at, at_last, searched, leg, leg_items, and_then, walk, first_place, known}
+use Rattle.rp_known.specs.Walk.{Leg, Goes, Pauses, Ends, found_at, at_last, searched, leg, leg_items, and_then, walk, first_place, known, ComesTo, here, on}
 use Rattle.rp_known.specs.WalkLaws.{IsPrefixOf, Stays}
-use Rattle.rp_known.specs.Earlier.{early_seen_by, early_seen_at, early_outcome, early_found, early_leg, early_walk, early_known}
+use Rattle.rp_known.specs.Earlier.{early_seen_by, early_seen_at, early_outcome, early_found, early_leg, early_walk, early_known, EarlyComesTo, was_here, went_on}
 use Rattle.rp_known.proofs.Prefixes.{prefix_nil, prefix_same, prefix_more, prefix_after}
 
 -- ---- a test
@@ -77,7 +77,7 @@ module _ (earlier : EarlierStays) (extend : WordsExtend) (within : WordsEnd) (fo
       (tests_stay earlier (tested_by q p) start (suc (count p) - start)) (within (form_of q.pattern) (count p) p.end start)
       (extend (form_of q.pattern) (count p) (count p) p.end p.end start (omega arith, λ closed. (refl, closed))) h
 
-  leg_stays : (place : Place) → Stays (early_leg q p place) (leg q p place)
+  pub leg_stays : (place : Place) → Stays (early_leg q p place) (leg q p place)
   leg_stays place = go (nat_le place.start (count p))
     where
       go : (b : Bool) → Stays (cond b (searched q p place (early_found q p place.start)) (at_last p.end)) (cond b (searched q p place (found_at q p place.start)) (at_last p.end))
@@ -87,6 +87,12 @@ module _ (earlier : EarlierStays) (extend : WordsExtend) (within : WordsEnd) (fo
   walk_grows : (k : ℕ) (place : Place) → IsPrefixOf (early_walk k q p place) (walk k q p place)
   walk_grows zero place = prefix_nil []
   walk_grows (suc k) place = legs_grow (early_leg q p place) (leg q p place) (early_walk k q p) (walk k q p) (leg_stays place) (walk_grows k)
+
+  pub came_stays : {d : ℕ} {from to : Place} → EarlyComesTo q p from d to → ComesTo q p from d to
+  came_stays was_here = here
+  came_stays (went_on {place = place} {next = next} {xs = xs} is r) =
+      let now : leg q p place ≡ Goes xs next = subst (λ t. Stays t (leg q p place)) is (leg_stays place) in
+      on now (came_stays r)
 
   pub earlier_begins : IsPrefixOf (early_known q p) (known q p)
   earlier_begins = walk_grows (suc (suc (count p) - 1)) first_place

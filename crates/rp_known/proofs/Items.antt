@@ -1,6 +1,6 @@
 -- The items of a search that has ended stay where they are ready.
 use Rattle.std.proofs.Common.{◌≡◌, ℕ, suc, ◌+◌, ◌≤◌, List, [], ◌∷◌, length, Bool, true, false, cond, Option, Some, None, refl, ap, ◌∙◌, arith}
-use Rattle.std.specs.Prelude.{⊤, option_map}
+use Rattle.std.specs.Prelude.{option_map}
 use Rattle.std.specs.List.{AllByRecursion}
 use Rattle.rp_value.specs.declared.value.Value.{Value}
 use Rattle.rp_syntax.specs.declared.tree.RowsPerMatch.{RowsPerMatch}

@@ -1,6 +1,6 @@
 -- What a leg of the walk gives stays, and leads to a later row.
 use Rattle.std.proofs.Common.{◌≡◌, ℕ, zero, suc, ◌-◌, ◌<◌, ◌≤◌, List, [], ◌∷◌, length, map, Bool, true, false, cond, Option, Some, None, refl, sym, ap, subst, arith}
-use Rattle.std.specs.Prelude.{◌≢◌, ⊤, nat_le}
+use Rattle.std.specs.Prelude.{◌≢◌, nat_le}
 use Rattle.std.specs.List.{AllByRecursion}
 use Rattle.std.proofs.lemmas.Bool.Decides.{nat_tests}
 use Rattle.rp_pattern.specs.declared.word.Label.{Label}
@@ -24,7 +24,7 @@ use Rattle.rp_known.specs.Known.{Known, count, GoesOnFrom}
 use Rattle.rp_known.specs.Plans.{first_read, tested_by}
 use Rattle.rp_known.specs.Skips.{start_after, skipped}
 use Rattle.rp_known.specs.Items.{item_at, item_rows, items_of}
-use Rattle.rp_known.specs.Walk.{Leg, Goes, Pauses, Ends, after_item, after_items, after_match, after_found, found_at, at_last, searched, leg, leg_items}
+use Rattle.rp_known.specs.Walk.{Leg, Goes, Pauses, Ends, after_item, after_items, after_match, after_found, found_at, at_last, searched, leg_items}
 use Rattle.rp_known.specs.WalkLaws.{Stays, LegStays, LeadsOn, LegsLeadOn, SearchesLeadOn, AreKnown, FindingsStay}
 use Rattle.rp_known.proofs.Prefixes.{prefix_nil, prefix_same, prefix_item}
 use Rattle.rp_known.proofs.Items.{Settled, rows_within, all_settle}

@@ -62,14 +62,19 @@ is_key q number = list_any (nat_eq number) q.partition.items || list_any (λ o. 
 -- the numbers of columns, from this one on, that don't pass
 abbrev pub columns_beside : (ℕ → Bool) → ℕ → List Column → List ℕ
 columns_beside test number [] = []
-columns_beside test number (c ∷ cs) = if test number then columns_beside test (number + 1) cs else number ∷ columns_beside test (number + 1) cs
+columns_beside test number (c ∷ cs) =
+    if test number then columns_beside test (number + 1) cs else number ∷ columns_beside test (number + 1) cs
+
+-- the columns of neither PARTITION BY nor ORDER BY
+abbrev pub other_columns : QueryData → List ℕ
+other_columns q = columns_beside (is_key q) 1 q.table
 
 -- the columns before the measures, and those after them
 abbrev pub leading : QueryData → List ℕ
 leading q = if shows_all q.plan.rows then key_columns q else q.partition.items
 
 abbrev pub trailing : QueryData → List ℕ
-trailing q = if shows_all q.plan.rows then columns_beside (is_key q) 1 q.table else []
+trailing q = if shows_all q.plan.rows then other_columns q else []
 
 abbrev pub row_cells : Rows → ℕ → List ℕ → List Value
 row_cells p row columns = map (λ column. cell p column row) columns

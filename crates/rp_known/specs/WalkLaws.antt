@@ -25,11 +25,13 @@ Stays (Ends xs) new = new ≡ Ends xs
 
 -- What a start row gives stays over rows that go on, whatever becomes of the rows that are out of its reach.
 abbrev pub LegStays : Type 0
-LegStays = (q : QueryData) (p p' : Known) (place : Place) → IsSound q → 1 ≤ place.start → GoesOnFrom (first_read q place.start) p p' → Stays (leg q p place) (leg q p' place)
+LegStays = (q : QueryData) (p p' : Known) (place : Place) →
+    IsSound q → 1 ≤ place.start → GoesOnFrom (first_read q place.start) p p' → Stays (leg q p place) (leg q p' place)
 
 -- Where a walk comes to, it comes to over rows that go on.
 abbrev pub WalkStays : Type 0
-WalkStays = (q : QueryData) (p p' : Known) (d : ℕ) (from to : Place) → IsSound q → 1 ≤ from.start → GoesOnFrom (first_read q from.start) p p' →
+WalkStays = (q : QueryData) (p p' : Known) (d : ℕ) (from to : Place) →
+    IsSound q → 1 ≤ from.start → GoesOnFrom (first_read q from.start) p p' →
     ComesTo q p from d to → ComesTo q p' from d to
 
 -- An answer has fewer items than places can tell.
@@ -56,11 +58,14 @@ AreKnown start n NoMatch = ⊤
 AreKnown start n Waits = ⊤
 
 abbrev pub MatchesAreKnown : Type 0
-MatchesAreKnown = (q : QueryData) (p : Known) (start : ℕ) → start ≤ count p → AreKnown start (count p) (found_at q p start)
+MatchesAreKnown = (q : QueryData) (p : Known) (start : ℕ) →
+    start ≤ count p → AreKnown start (count p) (found_at q p start)
 
 -- What a search has found stays over rows that go on, unless it waits.
 abbrev pub FindingsStay : Type 0
-FindingsStay = (q : QueryData) (p p' : Known) (start : ℕ) → IsSound q → 1 ≤ start → GoesOnFrom (first_read q start) p p' → found_at q p start ≢ Waits → found_at q p' start ≡ found_at q p start
+FindingsStay = (q : QueryData) (p p' : Known) (start : ℕ) →
+    IsSound q → 1 ≤ start → GoesOnFrom (first_read q start) p p' →
+    found_at q p start ≢ Waits → found_at q p' start ≡ found_at q p start
 
 -- Over a continuation all rows go on.
 abbrev pub ContinuationsGoOn : Type 0

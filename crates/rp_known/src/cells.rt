@@ -4,7 +4,7 @@ ghost use Rattle.std.specs.List.{list_any};
 ghost use Rattle.rp_value.specs.declared.value.Value.TheVariants.{Null};
 ghost use Rattle.rp_check.specs.QueryView.{data_of};
 ghost use Rattle.rp_eval.specs.Partition.{cell};
-ghost use Rattle.rp_known.specs.Plans.{columns_beside, is_key, shows_all, row_cells};
+ghost use Rattle.rp_known.specs.Plans.{other_columns, is_key, shows_all, row_cells};
 
 use rp_check::{Expr, OrderColumn, Query};
 use rp_eval::Rows;
@@ -54,7 +54,8 @@ pub(crate) fn add_order<R: Rows>(
     row: u64,
     order: &[OrderColumn],
 ) -> Result<(), AllocError>
-    ensures { OnOk result (cells.new.items ≡ cells.old.items ++ row_cells (R.known rows.now) row (map (λ o. o.column) order.now)) }
+    ensures { OnOk result (cells.new.items
+        ≡ cells.old.items ++ row_cells (R.known rows.now) row (map (λ o. o.column) order.now)) }
 {
     for ordered in order {
         cells.push(cell(rows, row, ordered.column)?)?;
@@ -82,7 +83,8 @@ pub(crate) fn add_others<R: Rows>(
     row: u64,
     query: &Query,
 ) -> Result<(), AllocError>
-    ensures { OnOk result (cells.new.items ≡ cells.old.items ++ row_cells (R.known rows.now) row (columns_beside (is_key (data_of query.now)) 1 (data_of query.now).table)) }
+    ensures { OnOk result (cells.new.items ≡ cells.old.items
+        ++ row_cells (R.known rows.now) row (other_columns (data_of query.now))) }
 {
     for place in 0..query.table().columns().len() {
         if !is_key(query, place + 1) {

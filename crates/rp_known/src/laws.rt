@@ -1,10 +1,9 @@
 //! Laws over the definitions alone. A call does nothing, and its caller may then use them.
-ghost use Rattle.rp_known.specs.Earlier.{EarlierBegins};
+ghost use Rattle.rp_known.specs.Earlier.{EarlierBegins, EarlierWalkStays, EarlierLegStays};
 ghost use Rattle.rp_known.specs.WalkLaws.{KnownGrows, WalkStays, LegStays, KnownIsShort, LegsLeadOn, SearchesLeadOn, MatchesAreKnown, FindingsStay, ContinuationsGoOn};
 
-/// The laws of the known answer. What is known of an open partition begins what is known of every continuation, its answer
-/// too; where a walk comes to, it comes to over every continuation; and what a start row finds
-/// and gives stays.
+/// The laws of the known answer. What is known of an open partition begins what is known of every continuation, its
+/// answer too; where a walk comes to, it comes to over every continuation; and what a start row finds and gives stays.
 pub fn law_known()
     ensures grows { KnownGrows }
     ensures walk { WalkStays }
@@ -29,9 +28,12 @@ pub fn law_legs()
 }
 
 /// What was known while an open side made every AND and OR open begins what is known now of the same rows. So the items
-/// that were given then come first now.
+/// that were given then come first now. The search where the walk stood then it comes to now, after as many items; those
+/// of this search that were given come first now, and an answer that had ended there ends there now.
 pub fn law_earlier()
-    ensures { EarlierBegins }
+    ensures begins { EarlierBegins }
+    ensures walk { EarlierWalkStays }
+    ensures leg { EarlierLegStays }
 {
     rp_pattern::law_words();
     rp_search::law_found();

@@ -1,7 +1,7 @@
 //! The known answer of a partition: the items that are certain from the rows known so far.
 //!
-//! `specs/Walk` says what it is: the start rows are gone through in order, what the search at each finds gives its items,
-//! and the skip rule says where the next search starts. `law_known` says that it only grows.
+//! `specs/Walk` says what it is: the start rows are gone through in order, what the search at each finds gives its
+//! items, and the skip rule says where the next search starts. `law_known` says that it only grows.
 #![tactic(auto)]
 
 mod cells;

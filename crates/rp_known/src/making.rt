@@ -24,7 +24,8 @@ fn add_leading<R: Rows>(
     rows: &R,
     row: u64,
 ) -> Result<(), AllocError>
-    ensures { OnOk result (cells.new.items ≡ cells.old.items ++ row_cells (R.known rows.now) row (leading (data_of query.now))) }
+    ensures { OnOk result (cells.new.items
+        ≡ cells.old.items ++ row_cells (R.known rows.now) row (leading (data_of query.now))) }
 {
     add_columns(cells, rows, row, query.partition())?;
     if shows_all(query.plan().rows) {
@@ -40,7 +41,8 @@ fn add_trailing<R: Rows>(
     rows: &R,
     row: u64,
 ) -> Result<(), AllocError>
-    ensures { OnOk result (cells.new.items ≡ cells.old.items ++ row_cells (R.known rows.now) row (trailing (data_of query.now))) }
+    ensures { OnOk result (cells.new.items
+        ≡ cells.old.items ++ row_cells (R.known rows.now) row (trailing (data_of query.now))) }
 {
     if shows_all(query.plan().rows) {
         return add_others(cells, rows, row, query);
@@ -55,7 +57,8 @@ fn add_measures<'a, R: Rows>(
     view: &View<'a, R>,
 ) -> Result<bool, AllocError>
     requires { Looks R.known view.now }
-    ensures { IfOk result (λ ready. option_map (λ vs. cells.old.items ++ vs) (values_of (setting_of R.known R.ending view.now) measures.now)
+    ensures { IfOk result (λ ready.
+        option_map (λ vs. cells.old.items ++ vs) (values_of (setting_of R.known R.ending view.now) measures.now)
         ≡ (if ready then Some cells.new.items else None)) }
 {
     for expr in measures {
@@ -75,7 +78,8 @@ pub fn unmatched_item<R: Rows>(
     place: Place,
     row: u64,
 ) -> Result<Item, AllocError>
-    ensures { IfOk result (λ item. item_at (data_of query.now) (known_in R.known R.ending rows.now) place NoMatch row ≡ Some item) }
+    ensures { IfOk result (λ item.
+        item_at (data_of query.now) (known_in R.known R.ending rows.now) place NoMatch row ≡ Some item) }
 {
     let mut cells = Vec::with_capacity(alloc, query.output().len())?;
     add_leading(&mut cells, query, rows, row)?;
@@ -103,7 +107,8 @@ pub fn match_item<R: Rows>(
     requires few { place.matches < 2 ^ 64 - 1 }
     requires plan { plan_of totals.now ≡ totals_in (data_of query.now) }
     requires totals { AreTotals totals.now (R.known rows.now) place.start labels.now }
-    ensures { IfOk result (λ item. item ≡ item_at (data_of query.now) (known_in R.known R.ending rows.now) place (Match labels.now) row) }
+    ensures { IfOk result (λ item.
+        item ≡ item_at (data_of query.now) (known_in R.known R.ending rows.now) place (Match labels.now) row) }
 {
     let number = place.matches + 1;
     let view = View {

@@ -81,7 +81,7 @@ stop_walk q p place = go (leg q p place)
     go (Pauses xs) s = refl
     go (Ends xs) s = refl
 
-end_walk : (q : QueryData) (p : Known) (place : Place) → IsEnd (leg q p place) → (walk_from q p place ≡ leg_items (leg q p place)) × LastOf (leg_items (leg q p place))
+pub end_walk : (q : QueryData) (p : Known) (place : Place) → IsEnd (leg q p place) → (walk_from q p place ≡ leg_items (leg q p place)) × LastOf (leg_items (leg q p place))
 end_walk q p place = go (leg q p place) (leg_well q p place)
   where
     go : (t : Leg) → EndsWell t → IsEnd t → (and_then t (walk (suc (count p) - place.start) q p) ≡ leg_items t) × LastOf (leg_items t)

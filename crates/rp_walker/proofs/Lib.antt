@@ -8,6 +8,7 @@ mod Passing
 mod Polling
 mod Agreeing
 mod Fitting
+mod EarlierFits
 mod Later
 mod Public
 mod Continuing

@@ -5,6 +5,7 @@ use Rattle.rp_syntax.specs.declared.tree.RowsPerMatch.TheVariants.{One, AllShowE
 use Rattle.rp_pattern.specs.declared.word.Label.{Label}
 use Rattle.rp_search.specs.Found.{Found, Match, NoMatch, Waits}
 use Rattle.rp_search.specs.Search.{labels_of_search}
+use Rattle.rp_walker.specs.declared.ahead.Ahead.{Ahead}
 use Rattle.rp_walker.specs.declared.run.Run.{Run}
 use Rattle.rp_walker.specs.declared.stage.Ended.{Ended}
 use Rattle.rp_walker.specs.declared.stage.Ended.TheVariants.{Match as EndedMatch, NoMatch as EndedNoMatch}
@@ -24,6 +25,10 @@ is_hidden _ start Waits row = false
 abbrev pub shown_from : (ℕ → Bool) → ℕ → ℕ → List ℕ
 shown_from hidden zero row = []
 shown_from hidden (suc k) row = if hidden row then shown_from hidden k (suc row) else row ∷ shown_from hidden k (suc row)
+
+-- the rows ahead after the next one, where so many items come before them
+abbrev pub past_row : Ahead → ℕ → Ahead
+past_row a seen = record { next = a.next + 1; end = a.end; seen = seen }
 
 -- what an ended search has found
 abbrev pub result_of : Ended → Found

@@ -13,8 +13,11 @@ use Rattle.rp_walker.specs.Polls.{left_in}
 
 -- No more than all starts take.
 abbrev pub LeftIsBounded : Type 0
-LeftIsBounded = (q : QueryData) (p : Known) (w : Walker) → Stands q p w → left_in q p w ≤ all_turns (count p) p.end (form_of q.pattern)
+LeftIsBounded = (q : QueryData) (p : Known) (w : Walker) →
+    Stands q p w → left_in q p w ≤ all_turns (count p) p.end (form_of q.pattern)
 
 -- As much is left over rows that agree from the first one on that is still read.
 abbrev pub LeftIsSame : Type 0
-LeftIsSame = (q : QueryData) (p p' : Known) (w : Walker) → IsSound q → ((record_of w).over ≡ false → AgreesFrom (first_read q (record_of w).at) p p') → Stands q p w → left_in q p' w ≡ left_in q p w
+LeftIsSame = (q : QueryData) (p p' : Known) (w : Walker) → IsSound q →
+    ((record_of w).over ≡ false → AgreesFrom (first_read q (record_of w).at) p p') →
+    Stands q p w → left_in q p' w ≡ left_in q p w

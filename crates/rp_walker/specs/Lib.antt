@@ -1,6 +1,7 @@
 pub mod Records
 pub mod Steps
 pub mod FitLaws
+pub mod EarlierFits
 pub mod Given
 pub mod Stages
 pub mod Runs

@@ -31,9 +31,17 @@ left_in q p w = left_with q p w.state w.stage
 unfoldable pub entered_by : Walker → ℕ
 entered_by w = w.entered
 
--- no more rows are entered than the budget, and their count never falls
-abbrev pub EntersAtMost : ℕ → ℕ → ℕ → Type 0
-EntersAtMost budget before after = (before ≤ after) × (after ≤ before + budget)
+-- No more turns are taken than the budget. Each is counted and enters one row at most, so no more rows are entered than
+-- turns are counted; the count of the entered rows never falls.
+abbrev pub TurnsAreCounted : ℕ → ℕ → ℕ → ℕ → ℕ → Type 0
+TurnsAreCounted budget steps steps' entered entered' =
+    (steps' ≤ steps + budget) × (entered' + steps ≤ entered + steps') × (entered ≤ entered')
+
+-- an item comes after one turn at least, and a paused poll has used up its budget
+abbrev pub PollTakes : ℕ → ℕ → ℕ → Poll → Type 0
+PollTakes budget steps steps' (ItemPoll k x) = steps < steps'
+PollTakes budget steps steps' IdlePoll = steps ≤ steps'
+PollTakes budget steps steps' PausedPoll = steps' ≡ steps + budget
 
 -- so many turns at least are taken off what is left
 abbrev pub PollLowers : ℕ → ℕ → ℕ → Poll → Type 0
@@ -54,18 +62,24 @@ pub record Polled (q : QueryData) (p : Known) (old new : MatcherState) (answer :
 
 -- what is answered, by what is known of a partition that the record fitted
 abbrev pub AnswerIs : QueryData → Known → MatcherState → MatcherState → Poll → Type 0
-AnswerIs q p old new (ItemPoll k x) = (k ≡ old.given + 1) × (new.given ≡ old.given + 1) × (slice_get (known q p) old.given ≡ Some x)
+AnswerIs q p old new (ItemPoll k x) =
+    (k ≡ old.given + 1) × (new.given ≡ old.given + 1) × (slice_get (known q p) old.given ≡ Some x)
 AnswerIs q p old new IdlePoll = (new.given ≡ old.given) × (length (known q p) ≡ old.given)
 AnswerIs q p old new PausedPoll = new.given ≡ old.given
 
--- What a poll over lent rows answers, for each partition that the rows are of and the record fits.
-abbrev pub Answers : QueryData → Known → MatcherState → MatcherState → Poll → Type 0
-Answers q k old new answer = (p : Known) → AgreesFrom old.first k p → Fits q old p → Fits q new p × AnswerIs q p old new answer
+-- so it is for each partition that the lent rows are of and that the record fits
+abbrev pub ForEachThatFits : QueryData → Known → MatcherState → (Known → Type 0) → Type 0
+ForEachThatFits q k old says = (p : Known) → AgreesFrom old.first k p → Fits q old p → says p
 
--- Where a poll comes to nothing and the answer isn't over, the walk comes to no later start row than that of the record.
+-- What a poll over lent rows answers: the record fits afterwards, and the answer is by what is known.
+abbrev pub Answers : QueryData → Known → MatcherState → MatcherState → Poll → Type 0
+Answers q k old new answer = ForEachThatFits q k old (λ p. Fits q new p × AnswerIs q p old new answer)
+
+-- Where a poll comes to nothing and the answer isn't over, the walk comes to no later start row than the record's.
 abbrev pub StopsAtLast : QueryData → Known → MatcherState → MatcherState → Poll → Type 0
-StopsAtLast q k old new answer = (p : Known) → AgreesFrom old.first k p → Fits q old p → answer ≡ IdlePoll → new.over ≡ false → IsLastStart q p new.at
+StopsAtLast q k old new answer =
+    ForEachThatFits q k old (λ p. answer ≡ IdlePoll → new.over ≡ false → IsLastStart q p new.at)
 
 -- A refused poll leaves a record that fits what it fitted.
 abbrev pub StillFits : QueryData → Known → MatcherState → MatcherState → Type 0
-StillFits q k old new = (p : Known) → AgreesFrom old.first k p → Fits q old p → Fits q new p
+StillFits q k old new = ForEachThatFits q k old (Fits q new)

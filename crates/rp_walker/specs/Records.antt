@@ -49,6 +49,18 @@ fits_by false q r p = IsOnWalk q r p
 abbrev pub Fits : QueryData → MatcherState → Known → Type 0
 Fits q r p = fits_by r.over q r p
 
+-- the search from another place is next
+abbrev pub at_place : Place → MatcherState → MatcherState
+at_place place r = record r { at = place.start; matches = place.matches; covered = place.covered; here = 0 }
+
+-- the last item was given before
+abbrev pub was_last : MatcherState → MatcherState
+was_last r = record r { over = true }
+
+-- the last item, which comes after so many of its search, is given
+abbrev pub gave_last : ℕ → MatcherState → MatcherState
+gave_last before r = record r { here = before + 1; given = r.given + 1; over = true }
+
 -- the record of a matcher that has known nothing
 abbrev pub first_state : MatcherState
 first_state = record { first = 1; at = 1; matches = 0; covered = 0; here = 0; given = 0; over = false }

@@ -37,7 +37,8 @@ pub record CanGoOn (q : QueryData) (r : MatcherState) : Type 0 where
 
 -- A walker stands over rows that go on, and over the same rows when those out of reach are dropped.
 abbrev pub StandsStays : Type 0
-StandsStays = (q : QueryData) (p p' : Known) (w : Walker) → IsSound q → GoesOnFrom (first_read q (record_of w).at) p p' → Stands q p w → Stands q p' w
+StandsStays = (q : QueryData) (p p' : Known) (w : Walker) →
+    IsSound q → GoesOnFrom (first_read q (record_of w).at) p p' → Stands q p w → Stands q p' w
 
 -- the walk's part of a step, for a record whose items are within its search's
 pub record Follows (q : QueryData) (p : Known) (old new : MatcherState) (step : Step) : Type 0 where

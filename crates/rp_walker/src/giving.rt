@@ -72,7 +72,8 @@ pub(crate) fn make_item<R: Rows>(
     requires low { place.start ≤ row }
     requires in_rows { AreKnown place.start (length (R.known rows.now)) (result_of found.now) }
     requires totals { MatchTotalled (data_of query.now) (known_in R.known R.ending rows.now) place.start found.now }
-    ensures { IfOk result (λ item. item ≡ item_at (data_of query.now) (known_in R.known R.ending rows.now) place (result_of found.now) row) }
+    ensures { IfOk result (λ item.
+        item ≡ item_at (data_of query.now) (known_in R.known R.ending rows.now) place (result_of found.now) row) }
 {
     match found {
         Ended::NoMatch(_) => {
@@ -100,7 +101,8 @@ pub(crate) fn ahead_of(query: &Query, place: Place, last: u64, found: &Ended) ->
     ensures low { place.start ≤ result.next }
     ensures ordered { result.next ≤ result.end }
     ensures high { result.end ≤ last + 1 }
-    ensures rows { item_rows (data_of query.now).plan.rows place (result_of found.now) ≡ rows_ahead (data_of query.now) place.start (result_of found.now) result }
+    ensures rows { item_rows (data_of query.now).plan.rows place (result_of found.now)
+        ≡ rows_ahead (data_of query.now) place.start (result_of found.now) result }
 {
     match found {
         Ended::NoMatch(_) => {
@@ -121,7 +123,8 @@ fn ahead_in(query: &Query, place: Place, labels: &[Label]) -> Ahead
     ensures low { place.start ≤ result.next }
     ensures ordered { result.next ≤ result.end }
     ensures high { result.end ≤ max (place.start + 1) (place.start + length labels.now) }
-    ensures rows { item_rows (data_of query.now).plan.rows place (Match labels.now) ≡ rows_ahead (data_of query.now) place.start (Match labels.now) result }
+    ensures rows { item_rows (data_of query.now).plan.rows place (Match labels.now)
+        ≡ rows_ahead (data_of query.now) place.start (Match labels.now) result }
 {
     let rows = labels.len() as u64;
     if rows == 0 {

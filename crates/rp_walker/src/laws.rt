@@ -1,4 +1,5 @@
 //! Laws over the definitions alone. A call does nothing, and its caller may then use them.
+ghost use Rattle.rp_walker.specs.EarlierFits.{EarlierFits};
 ghost use Rattle.rp_walker.specs.FitLaws.{StepsMean, FitsStay, FirstFits};
 ghost use Rattle.rp_walker.specs.LeftLaw.{LeftIsBounded, LeftIsSame};
 ghost use Rattle.rp_walker.specs.Walking.{StandsStays};
@@ -11,14 +12,16 @@ pub fn law_steps()
     rp_known::law_legs();
 }
 
-/// A record that fits what is known of an open partition fits what is known of it later, and the first record fits every
-/// partition.
+/// A record that fits what is known of an open partition fits what is known of it later, and the first record fits
+/// every partition. One that fitted while an open side made every AND and OR open fits now.
 pub fn law_records()
     ensures stay { FitsStay }
     ensures first { FirstFits }
+    ensures earlier { EarlierFits }
 {
     rp_known::law_known();
     rp_known::law_legs();
+    rp_known::law_earlier();
 }
 
 /// A walker stands over rows that go on as it stood before.

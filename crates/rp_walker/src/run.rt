@@ -4,6 +4,8 @@ ghost use Rattle.rp_check.specs.QueryView.{data_of};
 ghost use Rattle.rp_check.specs.declared.query.QueryData.{QueryData};
 ghost use Rattle.rp_known.specs.Known.{Known, known_in, count};
 ghost use Rattle.rp_walker.specs.Stages.{Searches, Serves, IsSpare};
+ghost use Rattle.rp_search.specs.Search.{turns_of_run};
+ghost use Rattle.rp_walker.specs.Polls.{TurnsAreCounted};
 ghost use Rattle.rp_walker.specs.Runs.{Ran};
 
 use rp_check::Query;
@@ -68,9 +70,8 @@ pub(crate) fn run_one<R: Rows, L: Ledger>(
     requires searches { Searches (data_of query.now) (known_in R.known R.ending rows.now) start run }
     ensures ran { IfOk result (λ r. Ran (data_of query.now) (known_in R.known R.ending rows.now) start run r.1 r.0) }
     ensures ticked { OnOk result (steps.new ≡ steps.old + 1) }
-    ensures counted { steps.new ≤ steps.old + 1 }
-    ensures entered { entered.new + steps.old ≤ entered.old + steps.new }
-    ensures grows { entered.old ≤ entered.new }
+    ensures counted { IfOk result (λ r. steps.new ≡ steps.old + turns_of_run r.1.search) }
+    ensures turns { TurnsAreCounted 1 steps.old steps.new entered.old entered.new }
 {
     rp_search::law_search();
     let _plan = query.plan();

@@ -6,12 +6,12 @@ ghost use Rattle.rp_known.specs.Known.{Known, known_in};
 ghost use Rattle.rp_known.specs.Plans.{first_read};
 ghost use Rattle.rp_known.specs.Walk.{found_at};
 ghost use Rattle.rp_walker.specs.declared.stage.Stage.TheVariants.{Begin as BeginStage, Searching as SearchingStage, Giving as GivingStage};
-ghost use Rattle.rp_walker.specs.Given.{is_hidden, result_of, run_of};
-ghost use Rattle.rp_walker.specs.Records.{place_of, first_state, horizon_of, IsWithin};
+ghost use Rattle.rp_walker.specs.Given.{past_row, is_hidden, result_of, run_of};
+ghost use Rattle.rp_walker.specs.Records.{at_place, gave_last, was_last, place_of, first_state, horizon_of, IsWithin};
 ghost use Rattle.rp_walker.specs.Steps.{Moves};
 ghost use Rattle.rp_walker.specs.Stages.{left_with, IsGoing, Searches, Gives, MatchTotalled, Serves, IsSpare, StageStands};
 ghost use Rattle.rp_walker.specs.Walking.{KeepsGoing, GoesOnWell, stands_by, Stands, CanGoOn, record_of};
-ghost use Rattle.rp_walker.specs.Polls.{left_in, entered_by, EntersAtMost, GivenBy, PollLowers, Polled, Answers, StopsAtLast, StillFits};
+ghost use Rattle.rp_walker.specs.Polls.{left_in, entered_by, TurnsAreCounted, PollTakes, GivenBy, PollLowers, Polled, Answers, StopsAtLast, StillFits};
 
 use crate::ahead::Ahead;
 use crate::giving::{ahead_of, is_hidden, make_item, next_of, place_of};
@@ -44,7 +44,7 @@ impl Walker {
     fn pass(&mut self, found: Ended, ahead: Ahead, seen: u64) -> Step
         requires { ahead.next < 2 ^ 64 - 1 }
         ensures went { result ≡ Step.Went }
-        ensures now { self.new ≡ record self.old { stage = GivingStage found (record { next = ahead.next + 1; end = ahead.end; seen = seen }) } }
+        ensures now { self.new ≡ record self.old { stage = GivingStage found (past_row ahead seen) } }
     {
         let next = ahead.next + 1;
         self.stage = Stage::Giving(
@@ -67,15 +67,18 @@ impl Walker {
         ahead: Ahead,
     ) -> Result<Step, AllocError>
         requires going { IsGoing (data_of query.now) self.old.state }
-        requires gives { Gives (data_of query.now) (known_in R.known R.ending rows.now) (place_of self.old.state) (result_of found) ahead }
-        requires totals { MatchTotalled (data_of query.now) (known_in R.known R.ending rows.now) self.old.state.at found }
+        requires gives { Gives (data_of query.now) (known_in R.known R.ending rows.now)
+            (place_of self.old.state) (result_of found) ahead }
+        requires totals { MatchTotalled (data_of query.now) (known_in R.known R.ending rows.now)
+            self.old.state.at found }
         requires serves { Serves (data_of query.now) (run_of found) }
         requires due { ahead.seen ≡ self.old.state.here }
         requires more { ahead.next < ahead.end }
         requires shown { is_hidden (data_of query.now).plan.rows self.old.state.at (result_of found) ahead.next ≡ false }
         requires few { self.old.state.given < 2 ^ 128 - 1 }
         ensures kept { OnErr result (self.new ≡ self.old) }
-        ensures keeps { IfOk result (KeepsGoing (data_of query.now) (known_in R.known R.ending rows.now) self.old.state (GivingStage found ahead) self.new) }
+        ensures keeps { IfOk result (KeepsGoing (data_of query.now) (known_in R.known R.ending rows.now)
+            self.old.state (GivingStage found ahead) self.new) }
     {
         let _last = rows.last();
         let place = place_of(&self.state);
@@ -105,12 +108,14 @@ impl Walker {
     /// The present start row has ended.
     fn end_row<R: Rows>(&mut self, query: &Query, rows: &R, found: Ended, ahead: Ahead) -> Step
         requires going { IsGoing (data_of query.now) self.old.state }
-        requires gives { Gives (data_of query.now) (known_in R.known R.ending rows.now) (place_of self.old.state) (result_of found) ahead }
+        requires gives { Gives (data_of query.now) (known_in R.known R.ending rows.now)
+            (place_of self.old.state) (result_of found) ahead }
         requires serves { Serves (data_of query.now) (run_of found) }
         requires not_past { ahead.seen ≤ self.old.state.here }
         requires all { ahead.next ≡ ahead.end }
         requires few { self.old.state.given < 2 ^ 128 - 1 }
-        ensures { KeepsGoing (data_of query.now) (known_in R.known R.ending rows.now) self.old.state (GivingStage found ahead) self.new result }
+        ensures { KeepsGoing (data_of query.now) (known_in R.known R.ending rows.now)
+            self.old.state (GivingStage found ahead) self.new result }
     {
         rp_known::law_legs();
         let place = place_of(&self.state);
@@ -123,7 +128,8 @@ impl Walker {
     /// The search from another row is next. It takes up this run.
     fn go_to(&mut self, next: Place, run: Run) -> Step
         ensures went { result ≡ Step.Went }
-        ensures now { self.new ≡ record self.old { state = record self.old.state { at = next.start; matches = next.matches; covered = next.covered; here = 0 }; stage = BeginStage (Some run) } }
+        ensures now { self.new ≡
+            record self.old { state = at_place next self.old.state; stage = BeginStage (Some run) } }
     {
         self.state.at = next.start;
         self.state.matches = next.matches;
@@ -137,8 +143,10 @@ impl Walker {
     fn end_with(&mut self, item: Item, before: u64) -> Step
         requires few { self.old.state.given < 2 ^ 128 - 1 }
         requires room { before < 2 ^ 64 - 1 }
-        ensures given { self.old.state.here ≢ before → (result ≡ Step.Idle) × (self.new ≡ record self.old { state = record self.old.state { over = true }; stage = BeginStage None }) }
-        ensures gives { self.old.state.here ≡ before → (result ≡ Step.Gave item) × (self.new ≡ record self.old { state = record self.old.state { here = before + 1; given = self.old.state.given + 1; over = true }; stage = BeginStage None }) }
+        ensures given { self.old.state.here ≢ before → (result ≡ Step.Idle)
+            × (self.new ≡ record self.old { state = was_last self.old.state; stage = BeginStage None }) }
+        ensures gives { self.old.state.here ≡ before → (result ≡ Step.Gave item)
+            × (self.new ≡ record self.old { state = gave_last before self.old.state; stage = BeginStage None }) }
     {
         self.stage = Stage::Begin(None);
         self.state.over = true;
@@ -160,13 +168,16 @@ impl Walker {
         steps: &mut Steps<L>,
     ) -> Result<Step, AllocError>
         requires going { IsGoing (data_of query.now) self.old.state }
-        requires gives { Gives (data_of query.now) (known_in R.known R.ending rows.now) (place_of self.old.state) (result_of found) ahead }
-        requires totals { MatchTotalled (data_of query.now) (known_in R.known R.ending rows.now) self.old.state.at found }
+        requires gives { Gives (data_of query.now) (known_in R.known R.ending rows.now)
+            (place_of self.old.state) (result_of found) ahead }
+        requires totals { MatchTotalled (data_of query.now) (known_in R.known R.ending rows.now)
+            self.old.state.at found }
         requires serves { Serves (data_of query.now) (run_of found) }
         requires not_past { ahead.seen ≤ self.old.state.here }
         requires few { self.old.state.given < 2 ^ 128 - 1 }
         ensures kept { OnErr result (self.new ≡ self.old) }
-        ensures keeps { IfOk result (KeepsGoing (data_of query.now) (known_in R.known R.ending rows.now) self.old.state (GivingStage found ahead) self.new) }
+        ensures keeps { IfOk result (KeepsGoing (data_of query.now) (known_in R.known R.ending rows.now)
+            self.old.state (GivingStage found ahead) self.new) }
         ensures steps { steps.new ≡ steps.old + 1 }
     {
         let _last = rows.last();
@@ -187,10 +198,13 @@ impl Walker {
     fn begin_giving<R: Rows>(&mut self, query: &Query, rows: &R, found: Ended) -> Step
         requires going { IsGoing (data_of query.now) self.old.state }
         requires known { self.old.state.at ≤ length (R.known rows.now) }
-        requires found { found_at (data_of query.now) (known_in R.known R.ending rows.now) self.old.state.at ≡ result_of found }
-        requires totals { MatchTotalled (data_of query.now) (known_in R.known R.ending rows.now) self.old.state.at found }
+        requires found { found_at (data_of query.now) (known_in R.known R.ending rows.now) self.old.state.at
+            ≡ result_of found }
+        requires totals { MatchTotalled (data_of query.now) (known_in R.known R.ending rows.now)
+            self.old.state.at found }
         requires serves { Serves (data_of query.now) (run_of found) }
-        ensures { (run : Run) → KeepsGoing (data_of query.now) (known_in R.known R.ending rows.now) self.old.state (SearchingStage run) self.new result }
+        ensures { (run : Run) → KeepsGoing (data_of query.now) (known_in R.known R.ending rows.now)
+            self.old.state (SearchingStage run) self.new result }
     {
         rp_known::law_legs();
         let place = place_of(&self.state);
@@ -211,11 +225,10 @@ impl Walker {
         requires going { IsGoing (data_of query.now) self.old.state }
         requires searches { Searches (data_of query.now) (known_in R.known R.ending rows.now) self.old.state.at run }
         ensures kept { OnErr result (self.new ≡ self.old) }
-        ensures keeps { IfOk result (KeepsGoing (data_of query.now) (known_in R.known R.ending rows.now) self.old.state (SearchingStage run) self.new) }
-        ensures steps { steps.new ≤ steps.old + 1 }
+        ensures keeps { IfOk result (KeepsGoing (data_of query.now) (known_in R.known R.ending rows.now)
+            self.old.state (SearchingStage run) self.new) }
         ensures ticked { OnOk result (steps.new ≡ steps.old + 1) }
-        ensures entered { entered.new + steps.old ≤ entered.old + steps.new }
-        ensures grows { entered.old ≤ entered.new }
+        ensures turns { TurnsAreCounted 1 steps.old steps.new entered.old entered.new }
     {
         let (outcome, run) = run_one(query, rows, self.state.at, run, entered, steps)?;
         match outcome {
@@ -235,10 +248,12 @@ impl Walker {
     /// Past the last start row.
     fn at_last<R: Rows>(&mut self, query: &Query, rows: &R) -> Step
         requires going { IsGoing (data_of query.now) self.old.state }
-        requires stands { StageStands (data_of query.now) (known_in R.known R.ending rows.now) self.old.state self.old.stage }
+        requires stands { StageStands (data_of query.now) (known_in R.known R.ending rows.now)
+            self.old.state self.old.stage }
         requires past { length (R.known rows.now) < self.old.state.at }
         requires few { self.old.state.given < 2 ^ 128 - 1 }
-        ensures { KeepsGoing (data_of query.now) (known_in R.known R.ending rows.now) self.old.state self.old.stage self.new result }
+        ensures { KeepsGoing (data_of query.now) (known_in R.known R.ending rows.now)
+            self.old.state self.old.stage self.new result }
     {
         let _query = query;
         match rows.end() {
@@ -261,11 +276,10 @@ impl Walker {
         requires spare { IsSpare (data_of query.now) spare }
         requires few { self.old.state.given < 2 ^ 128 - 1 }
         ensures kept { OnErr result (self.new ≡ self.old) }
-        ensures keeps { IfOk result (KeepsGoing (data_of query.now) (known_in R.known R.ending rows.now) self.old.state (BeginStage spare) self.new) }
-        ensures steps { steps.new ≤ steps.old + 1 }
+        ensures keeps { IfOk result (KeepsGoing (data_of query.now) (known_in R.known R.ending rows.now)
+            self.old.state (BeginStage spare) self.new) }
         ensures ticked { OnOk result (steps.new ≡ steps.old + 1) }
-        ensures entered { entered.new + steps.old ≤ entered.old + steps.new }
-        ensures grows { entered.old ≤ entered.new }
+        ensures turns { TurnsAreCounted 1 steps.old steps.new entered.old entered.new }
     {
         rp_search::law_search();
         if rows.last() < self.state.at {
@@ -288,11 +302,10 @@ impl Walker {
         requires stands { GoesOnWell (data_of query.now) (known_in R.known R.ending rows.now) self.old }
         requires few { self.old.state.given < 2 ^ 128 - 1 }
         ensures kept { OnErr result (self.new ≡ record self.old { stage = BeginStage None }) }
-        ensures keeps { IfOk result (KeepsGoing (data_of query.now) (known_in R.known R.ending rows.now) self.old.state self.old.stage self.new) }
-        ensures steps { steps.new ≤ steps.old + 1 }
+        ensures keeps { IfOk result (KeepsGoing (data_of query.now) (known_in R.known R.ending rows.now)
+            self.old.state self.old.stage self.new) }
         ensures ticked { OnOk result (steps.new ≡ steps.old + 1) }
-        ensures entered { entered.new + steps.old ≤ entered.old + steps.new }
-        ensures grows { entered.old ≤ entered.new }
+        ensures turns { TurnsAreCounted 1 steps.old steps.new entered.old entered.new }
     {
         match mem::replace(&mut self.stage, Stage::Begin(None)) {
             Stage::Begin(spare) => self.begin_row(query, rows, spare, entered, steps),
@@ -311,18 +324,22 @@ impl Walker {
         steps: &mut Steps<L>,
     ) -> Result<Poll, AllocError>
         requires stands { GoesOnWell (data_of query.now) (known_in R.known R.ending rows.now) self.old }
-        ensures stands { stands_by self.new.state.over (data_of query.now) (known_in R.known R.ending rows.now) self.new }
+        ensures stands { stands_by self.new.state.over
+            (data_of query.now) (known_in R.known R.ending rows.now) self.new }
         ensures first { self.new.state.first ≡ self.old.state.first }
         ensures given { IfOk result (GivenBy self.old.state.given self.new.state.given) }
         ensures kept { OnErr result (self.new.state.given ≡ self.old.state.given) }
-        ensures lowers { IfOk result (PollLowers budget (left_with (data_of query.now) (known_in R.known R.ending rows.now) self.old.state self.old.stage) (left_with (data_of query.now) (known_in R.known R.ending rows.now) self.new.state self.new.stage)) }
-        ensures polled { IfOk result (λ answer. IsWithin (data_of query.now) (known_in R.known R.ending rows.now) self.old.state →
+        ensures lowers { IfOk result (PollLowers budget
+            (left_with (data_of query.now) (known_in R.known R.ending rows.now) self.old.state self.old.stage)
+            (left_with (data_of query.now) (known_in R.known R.ending rows.now) self.new.state self.new.stage)) }
+        ensures polled { IfOk result (λ answer.
+            IsWithin (data_of query.now) (known_in R.known R.ending rows.now) self.old.state →
             Polled (data_of query.now) (known_in R.known R.ending rows.now) self.old.state self.new.state answer) }
-        ensures refused { OnErr result (IsWithin (data_of query.now) (known_in R.known R.ending rows.now) self.old.state →
+        ensures refused { OnErr result (
+            IsWithin (data_of query.now) (known_in R.known R.ending rows.now) self.old.state →
             Moves (data_of query.now) (known_in R.known R.ending rows.now) self.old.state self.new.state) }
-        ensures turns { steps.new ≤ steps.old + budget }
-        ensures entered { EntersAtMost budget entered.old entered.new }
-        ensures spent { result ≡ Ok Poll.Paused → steps.new ≡ steps.old + budget }
+        ensures turns { TurnsAreCounted budget steps.old steps.new entered.old entered.new }
+        ensures takes { IfOk result (PollTakes budget steps.old steps.new) }
     {
         rp_known::law_legs();
         for _turn in 0..budget {
@@ -388,7 +405,8 @@ impl Walker {
     pub fn dropped(&mut self, first: u64)
         ensures record { record_of self.new ≡ record (record_of self.old) { first = first } }
         ensures stands { (q : QueryData) (p : Known) →
-            ((record_of self.old).over ≡ false → first ≤ first_read q (record_of self.old).at) → Stands q p self.old → Stands q p self.new }
+            ((record_of self.old).over ≡ false → first ≤ first_read q (record_of self.old).at) →
+            Stands q p self.old → Stands q p self.new }
         ensures left { (q : QueryData) (p : Known) → left_in q p self.new ≡ left_in q p self.old }
         ensures entered { entered_by self.new ≡ entered_by self.old }
     {
@@ -397,7 +415,8 @@ impl Walker {
 
     /// The first row that is still read.
     pub fn horizon<R: Rows>(&self, query: &Query, rows: &R) -> u64
-        ensures { result ≡ horizon_of (data_of query.now) (known_in R.known R.ending rows.now) (record_of self.now) }
+        ensures { result
+            ≡ horizon_of (data_of query.now) (known_in R.known R.ending rows.now) (record_of self.now) }
     {
         if self.state.over {
             return rows.last() + 1;
@@ -405,9 +424,10 @@ impl Walker {
         self.state.at.saturating_sub(query.reach()).max(1)
     }
 
-    /// Takes at most `budget` turns, until an item comes or nothing is left to give. A turn is one choice taken up, one start
-    /// row ended or one item looked at. A budget of 0 answers `Paused`, changes nothing and takes no memory. After
-    /// `AllocError` the same item is still to come.
+    /// Takes at most `budget` turns, until an item comes or nothing is left to give. A turn is one choice taken up, one
+    /// start row ended or one item looked at: `Paused` comes after just `budget` turns, and an item after one at least.
+    /// A budget of 0 answers `Paused`, changes nothing and takes no memory. After `AllocError` the same item is still to
+    /// come.
     pub fn poll<R: Rows, L: Ledger>(
         &mut self,
         query: &Query,
@@ -417,17 +437,20 @@ impl Walker {
     ) -> Result<Poll, AllocError>
         requires stands { Stands (data_of query.now) (known_in R.known R.ending rows.now) self.old }
         ensures stands { Stands (data_of query.now) (known_in R.known R.ending rows.now) self.new }
-        ensures answers { IfOk result (Answers (data_of query.now) (known_in R.known R.ending rows.now) (record_of self.old) (record_of self.new)) }
-        ensures refused { OnErr result (StillFits (data_of query.now) (known_in R.known R.ending rows.now) (record_of self.old) (record_of self.new)) }
-        ensures stops { IfOk result (StopsAtLast (data_of query.now) (known_in R.known R.ending rows.now) (record_of self.old) (record_of self.new)) }
+        ensures answers { IfOk result (Answers (data_of query.now) (known_in R.known R.ending rows.now)
+            (record_of self.old) (record_of self.new)) }
+        ensures refused { OnErr result (StillFits (data_of query.now) (known_in R.known R.ending rows.now)
+            (record_of self.old) (record_of self.new)) }
+        ensures stops { IfOk result (StopsAtLast (data_of query.now) (known_in R.known R.ending rows.now)
+            (record_of self.old) (record_of self.new)) }
         ensures first { (record_of self.new).first ≡ (record_of self.old).first }
         ensures given { IfOk result (GivenBy (record_of self.old).given (record_of self.new).given) }
         ensures kept { OnErr result ((record_of self.new).given ≡ (record_of self.old).given) }
         ensures lowers { IfOk result (PollLowers budget
             (left_in (data_of query.now) (known_in R.known R.ending rows.now) self.old)
             (left_in (data_of query.now) (known_in R.known R.ending rows.now) self.new)) }
-        ensures turns { steps.new ≤ steps.old + budget }
-        ensures entered { EntersAtMost budget (entered_by self.old) (entered_by self.new) }
+        ensures turns { TurnsAreCounted budget steps.old steps.new (entered_by self.old) (entered_by self.new) }
+        ensures takes { IfOk result (PollTakes budget steps.old steps.new) }
         ensures nothing { budget ≡ 0 → (result ≡ Ok Poll.Paused) × (self.new ≡ self.old) × (steps.new ≡ steps.old) }
     {
         if budget == 0 {

@@ -27,6 +27,9 @@ run-ran-requires g c =
           (subst (λ i. AreTotals c.args.run.totals p.rows i (labels_of_search s)) (sym h.begins) h.totalled.totals);
     }
 
+pub returns-clause-counted : goal.returns-clause-counted
+returns-clause-counted g c = c.in_ok-outcome.ensures.taken (omega arith)
+
 pub returns-clause-ran : goal.returns-clause-ran
 returns-clause-ran g c =
     let q = data_of c.args.query.now in

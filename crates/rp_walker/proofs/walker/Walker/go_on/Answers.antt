@@ -73,6 +73,6 @@ loop-turn-preserved g c =
       lowered = omega (arith, i.lowered, k.lowers);
       moved = λ within. (further leads q p c.args.self.now.state now next (i.moved within) now.stage Went k).moves;
       counted = omega (arith, i.counted, c.in_ok-turn.ensures.ticked);
-      entered = omega (arith, i.entered, c.turn.ensures.entered, c.turn.ensures.steps);
-      grows = omega (arith, i.grows, c.turn.ensures.grows);
+      entered = omega (arith, i.entered, c.turn.ensures.turns.0, c.turn.ensures.turns.1);
+      grows = omega (arith, i.grows, c.turn.ensures.turns.2);
     }
