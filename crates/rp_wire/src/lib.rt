@@ -10,6 +10,7 @@
 //! What stands on a line is said in `specs/Requests` and `specs/Replies`.
 #![tactic(auto)]
 
+mod compact;
 mod fault;
 mod read_refusal;
 mod read_reply;
