@@ -14,7 +14,6 @@ use Rattle.rp_known.specs.declared.item.SkipFault.TheVariants.{SkipNoRow, SkipSa
 use Rattle.rp_codec.specs.ReplyLines.{reply_text}
 use Rattle.rp_codec.specs.Refusals.{refusal_text}
 use Rattle.rp_codec.specs.Within.{AreCells, IsCell, IsWithin, IsRefusal}
-use Rattle.rp_codec.specs.declared.refusal.Field.{Field}
 use Rattle.rp_codec.specs.declared.refusal.Field.TheVariants as f
 use Rattle.rp_codec.specs.declared.refusal.Refusal.{Refusal}
 use Rattle.rp_codec.specs.declared.refusal.Refusal.TheVariants as r

@@ -1,8 +1,8 @@
 //! Compact lines of requests, read without a tree of JSON.
 //!
-//! Each reader takes what it reads from the front of a text and gives it with what follows. None says that another reader
-//! has to look: a text with an escape, say, or a space. What is read is compared with what would be written for it, so no
-//! reader has a rule of its own about signs or zeros in front.
+//! Each reader takes what it reads from the front of a text and gives it with what follows. None says that another
+//! reader has to look: at a text with an escape, say, or a space. A number is compared with what would be written for
+//! it, so no reader has a rule of its own about signs or zeros in front.
 ghost use Rattle.std.specs.Prelude.{◌≡◌, ◌≤◌, ◌++◌, ◌∷◌, [], IfOk, IfSome, IsTrue, Ok, codes, decimal, length, take};
 ghost use Rattle.std.specs.Fmt.{signed_decimal};
 ghost use Rattle.json.specs.Print.{escape, escape_byte};
