@@ -1,2 +1,3 @@
 mod NodeObjects
+mod NodeTexts
 mod Sealing

@@ -2,14 +2,15 @@
 use Rattle.std.specs.Prelude.{ℕ, ◌==◌, ◌||◌, List, [], ◌∷◌, Option, Some, None, Result, Ok, Err, if◌then◌else◌, codes}
 use Rattle.serde_json.specs.Data.{Data, boolean, string, array, object, Items, no_items, item, no_members, member}
 use Rattle.serde_json.specs.Find.{as_array, as_bool, as_str}
-use Rattle.serde_json.specs.Written.{compact_text}
 use Rattle.rp_value.specs.declared.table.Column.{Column}
 use Rattle.rp_value.specs.declared.value.Kind.{Kind}
 use Rattle.rp_value.specs.declared.value.Kind.TheVariants as kind
+use Rattle.rp_value.specs.declared.value.Value.{Value}
 use Rattle.rp_fields.specs.Digits.{digits_of}
 use Rattle.rp_fields.specs.Forms.{cells_data, cells_of, list_items, list_of, named, optional_data, optional_of, place_data, whole_data, whole_of}
 use Rattle.rp_fields.specs.Objects.{field, object_of, only}
 use Rattle.rp_checkpoint.specs.HeldRows.{ascend}
+use Rattle.rp_checkpoint.specs.ObjectTexts.{kind_text, node_text}
 use Rattle.rp_checkpoint.specs.Sealed.{opened, sealed}
 use Rattle.rp_checkpoint.specs.declared.node_data.HeldRow.{HeldRow}
 use Rattle.rp_checkpoint.specs.declared.node_data.PartitionData.{PartitionData}
@@ -23,10 +24,6 @@ need None next = None
 need (Some a) next = next a
 
 -- ---- a column: ["NAME","int"]
-
-abbrev pub kind_text : Kind → List ℕ
-kind_text kind.Int = codes "int"
-kind_text kind.Text = codes "text"
 
 abbrev pub column_data : Column → Data
 column_data c = array (item (string c.name) (item (string (kind_text c.kind)) no_items))
@@ -78,8 +75,9 @@ partition_data p = object (
     member (codes "over") (boolean p.over) (
     member (codes "rows") (array (list_items row_data p.rows)) no_members))))))))))
 
-abbrev pub partition_of : ℕ → Data → Option PartitionData
-partition_of version d =
+-- with its key and its rows
+abbrev pub partition_with : ℕ → List Value → List HeldRow → Data → Option PartitionData
+partition_with version key rows d =
     need (field (codes "at") whole_of d) λ at.
     need (field (codes "close") optional_of d) λ close.
     need (field (codes "covered") whole_of d) λ covered.
@@ -88,9 +86,13 @@ partition_of version d =
     need (field (codes "here") whole_of d) λ here.
     need (field (codes "matches") whole_of d) λ matches.
     need (field (codes "over") as_bool d) λ over.
+    only 10 d (Some (record { at = at; close = close; covered = covered; first = first; given = given; here = here; key = key; matches = matches; over = over; rows = rows }))
+
+abbrev pub partition_of : ℕ → Data → Option PartitionData
+partition_of version d =
     need (field (codes "key") cells_of d) λ key.
     need (field (codes "rows") rows_of d) λ rows.
-    only 10 d (Some (record { at = at; close = close; covered = covered; first = first; given = given; here = here; key = key; matches = matches; over = over; rows = rows }))
+    partition_with version key rows d
 
 -- ---- the whole object
 
@@ -131,5 +133,6 @@ restored bytes =
     or_fault (opened bytes) Digest λ text.
     or_fault (object_of text) NotJson restored_object
 
+-- a node's object behind its digest
 abbrev pub checkpoint : NodeData → List ℕ
-checkpoint n = sealed (compact_text (node_data n))
+checkpoint n = sealed (node_text n)

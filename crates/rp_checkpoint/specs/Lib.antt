@@ -1,3 +1,4 @@
 pub mod Checkpoints
 pub mod HeldRows
+pub mod ObjectTexts
 pub mod Sealed

@@ -2,7 +2,8 @@
 //!
 //! The bytes are a digest and an object of JSON. The digest is the SHA-256 of the object's bytes as 64 lower-case
 //! hexadecimal digits, a line feed stands between them, and nothing follows. A checkpoint is written in version 2, and
-//! versions 1 and 2 are read. The fields and their forms are said in `specs/Checkpoints`.
+//! versions 1 and 2 are read. The fields and their forms are said in `specs/Checkpoints`, the object's text in
+//! `specs/ObjectTexts`.
 //!
 //! What is read is whatever has the form: whether a node can go on from it is for the node to say.
 #![tactic(auto)]

@@ -4,14 +4,14 @@ ghost use Rattle.serde_json.specs.Find.{as_bool, as_str};
 ghost use Rattle.serde_json.specs.View.{view, items_view};
 ghost use Rattle.rp_fields.specs.Forms.{list_in, list_of};
 ghost use Rattle.rp_fields.specs.Objects.{field};
-ghost use Rattle.rp_checkpoint.specs.Checkpoints.{column_of, given_of, if_ascending, kind_of, need, node_of, pair_of, partition_of, restored, restored_object, row_of, rows_of, version_of};
+ghost use Rattle.rp_checkpoint.specs.Checkpoints.{column_of, given_of, if_ascending, kind_of, need, node_of, pair_of, partition_of, partition_with, restored, restored_object, row_of, rows_of, version_of};
 
 use crate::node_data::{
     CheckpointFault, Columns, HeldRow, HeldRows, NodeData, PartitionData, Partitions, ascend,
 };
 use crate::seal::open;
 use rp_fields::{cells, cells_of, digits_of, has_fields, object_of, optional, whole};
-use rp_value::{Column, Kind, Row, Text};
+use rp_value::{Cells, Column, Kind, Row, Text};
 use serde_json::Value as Json;
 use std::alloc::{AllocError, Global};
 
@@ -187,52 +187,41 @@ fn partition_of(
 ) -> Result<Option<PartitionData>, AllocError>
     ensures { IfOk result (λ o. o ≡ partition_of version (view json.now)) }
 {
-    let Some(at) = whole(json, "at") else {
-        return Ok(None);
-    };
-    let Some(close) = optional(json, "close") else {
-        return Ok(None);
-    };
-    let Some(covered) = whole(json, "covered") else {
-        return Ok(None);
-    };
-    let Some(first) = whole(json, "first") else {
-        return Ok(None);
-    };
-    let Some(given) = given(version, json) else {
-        return Ok(None);
-    };
-    let Some(here) = whole(json, "here") else {
-        return Ok(None);
-    };
-    let Some(matches) = whole(json, "matches") else {
-        return Ok(None);
-    };
-    let Some(over) = flag(json, "over") else {
-        return Ok(None);
-    };
     let Some(key) = cells(alloc, json, "key")? else {
         return Ok(None);
     };
     let Some(rows) = rows(alloc, json)? else {
         return Ok(None);
     };
-    if has_fields(json, 10) {
-        Ok(Some(PartitionData {
-            at,
-            close,
-            covered,
-            first,
-            given,
-            here,
-            key,
-            matches,
-            over,
-            rows,
-        }))
-    } else {
-        Ok(None)
+    Ok(partition_with(version, json, key, rows))
+}
+
+fn partition_with(version: u64, json: &Json, key: Cells, rows: HeldRows) -> Option<PartitionData>
+    ensures { result ≡ partition_with version key rows (view json.now) }
+{
+    let at = whole(json, "at")?;
+    let close = optional(json, "close")?;
+    let covered = whole(json, "covered")?;
+    let first = whole(json, "first")?;
+    let given = given(version, json)?;
+    let here = whole(json, "here")?;
+    let matches = whole(json, "matches")?;
+    let over = flag(json, "over")?;
+    if !has_fields(json, 10) {
+        return None;
     }
+    Some(PartitionData {
+        at,
+        close,
+        covered,
+        first,
+        given,
+        here,
+        key,
+        matches,
+        over,
+        rows,
+    })
 }
 
 fn flag(json: &Json, name: &str) -> Option<bool>

@@ -1,7 +1,7 @@
 -- The object of a reply reads as the reply.
 use Rattle.std.proofs.Common.{◌≡◌, ◌≤◌, ◌<◌, ℕ, List, [], ◌∷◌, refl, ap, ◌∙◌, arith, length, true}
 use Rattle.std.specs.Prelude.{Some, None, Ok, pos, negsuc, ◌^◌, decimal, is_some, IsUtf8}
-use Rattle.std.proofs.lemmas.Bool.{lt-ltb, le-ltb}
+use Rattle.std.proofs.lemmas.Bool.{lt-ltb, le-ltb, ne_eqb}
 use Rattle.std.proofs.lemmas.List.Elements.{All-head, All-tail}
 use Rattle.serde_json.specs.Read.{read}
 use Rattle.serde_json.specs.Find.{as_object}
@@ -14,7 +14,6 @@ use Rattle.rp_known.specs.declared.item.SkipFault.TheVariants.{SkipNoRow, SkipSa
 use Rattle.rp_codec.specs.ReplyLines.{reply_text}
 use Rattle.rp_codec.specs.Refusals.{refusal_text}
 use Rattle.rp_codec.specs.Within.{AreCells, IsCell, IsWithin, IsRefusal}
-use Rattle.rp_codec.specs.declared.refusal.Field.{Field}
 use Rattle.rp_codec.specs.declared.refusal.Field.TheVariants as f
 use Rattle.rp_codec.specs.declared.refusal.Refusal.{Refusal}
 use Rattle.rp_codec.specs.declared.refusal.Refusal.TheVariants as r
@@ -25,11 +24,11 @@ use Rattle.rp_fields.specs.Forms.{cell_data, cell_of, list_in, list_items}
 use Rattle.rp_fields.proofs.Parsed.{digits_of-decimal}
 use Rattle.rp_fields.proofs.Reading.{object_read}
 use Rattle.rp_wire.specs.RefusalTexts.{refusal_of}
-use Rattle.rp_wire.specs.Replies.{answered, reply_data, reply_in}
+use Rattle.rp_wire.specs.Replies.{NamesColumn, answered, reply_data, reply_in}
 use Rattle.rp_wire.proofs.Law.{reply_read}
 use Rattle.rp_wire.proofs.LineTexts.{reply_written}
 
-cells_in : (cs : List Value) → AreCells cs → list_in cell_of (list_items cell_data cs) ≡ Some cs
+pub cells_in : (cs : List Value) → AreCells cs → list_in cell_of (list_items cell_data cs) ≡ Some cs
 cells_in [] h = refl
 cells_in (Null ∷ cs) h = rw (cells_in cs (All-tail IsCell _ cs h)) refl
 cells_in (Int (pos n) ∷ cs) h =
@@ -41,40 +40,40 @@ cells_in (Text s ∷ cs) h = rw (cells_in cs (All-tail IsCell _ cs h)) refl
 short_digits-decimal : (n : ℕ) → n < 2 ^ 64 → short_digits_of (decimal n) ≡ Some n
 short_digits-decimal n small = rw (digits_of-decimal n (omega (arith, small)), lt-ltb n (2 ^ 64) small) refl
 
-refusal-back : (refusal : Refusal) → IsRefusal refusal → refusal_of (refusal_text refusal) ≡ Some refusal
+refusal-back : (refusal : Refusal) → IsRefusal refusal → NamesColumn (reply.Refused refusal) → refusal_of (refusal_text refusal) ≡ Some refusal
 unfolding serde_json_on_literals
-refusal-back r.TooLong h = refl
-refusal-back r.NotJson h = refl
-refusal-back (r.BadField f.Row) h = refl
-refusal-back (r.BadField f.Cells) h = refl
-refusal-back (r.BadField f.Close) h = refl
-refusal-back (r.BadField f.Key) h = refl
-refusal-back (r.BadField f.Poll) h = refl
-refusal-back (r.BadField f.Budget) h = refl
-refusal-back (r.BadField f.Other) h = refl
-refusal-back r.BadRowWidth h = refl
-refusal-back (r.BadRowKind n) h = rw (short_digits-decimal n h) refl
-refusal-back r.NumberRange h = refl
-refusal-back r.PastClose h = refl
-refusal-back r.Conflict h = refl
-refusal-back r.TooFar h = refl
-refusal-back r.CloseDiffers h = refl
-refusal-back r.CloseBelow h = refl
-refusal-back r.UnknownPartition h = refl
+refusal-back r.TooLong h named = refl
+refusal-back r.NotJson h named = refl
+refusal-back (r.BadField f.Row) h named = refl
+refusal-back (r.BadField f.Cells) h named = refl
+refusal-back (r.BadField f.Close) h named = refl
+refusal-back (r.BadField f.Key) h named = refl
+refusal-back (r.BadField f.Poll) h named = refl
+refusal-back (r.BadField f.Budget) h named = refl
+refusal-back (r.BadField f.Other) h named = refl
+refusal-back r.BadRowWidth h named = refl
+refusal-back (r.BadRowKind n) h named = rw (short_digits-decimal n h, ne_eqb n 0 (λ e. omega (arith, e, named))) refl
+refusal-back r.NumberRange h named = refl
+refusal-back r.PastClose h named = refl
+refusal-back r.Conflict h named = refl
+refusal-back r.TooFar h named = refl
+refusal-back r.CloseDiffers h named = refl
+refusal-back r.CloseBelow h named = refl
+refusal-back r.UnknownPartition h named = refl
 
-reply_back : (given : Reply) → IsWithin given → reply_in (reply_data given) ≡ Some given
+reply_back : (given : Reply) → IsWithin given → NamesColumn given → reply_in (reply_data given) ≡ Some given
 unfolding serde_json_on_literals
-reply_back (reply.Taken New) h = refl
-reply_back (reply.Taken Repeat) h = refl
-reply_back (reply.Taken Old) h = refl
-reply_back (reply.Item key place (item.Row None cells)) h = rw (cells_in key h.0, digits_of-decimal place h.1, cells_in cells h.2.1) refl
-reply_back (reply.Item key place (item.Row (Some n) cells)) h = rw (cells_in key h.0, digits_of-decimal place h.1, cells_in cells h.2.1) refl
-reply_back (reply.Item key place (item.Fault SkipNoRow)) h = rw (cells_in key h.0, digits_of-decimal place h.1) refl
-reply_back (reply.Item key place (item.Fault SkipSame)) h = rw (cells_in key h.0, digits_of-decimal place h.1) refl
-reply_back (reply.Item key place item.End) h = rw (cells_in key h.0, digits_of-decimal place h.1) refl
-reply_back (reply.Idle key) h = rw (cells_in key h) refl
-reply_back (reply.Paused key) h = rw (cells_in key h) refl
-reply_back (reply.Refused refusal) h = rw (refusal-back refusal h) refl
+reply_back (reply.Taken New) h named = refl
+reply_back (reply.Taken Repeat) h named = refl
+reply_back (reply.Taken Old) h named = refl
+reply_back (reply.Item key place (item.Row None cells)) h named = rw (cells_in key h.0, digits_of-decimal place h.1, cells_in cells h.2.1) refl
+reply_back (reply.Item key place (item.Row (Some n) cells)) h named = rw (cells_in key h.0, digits_of-decimal place h.1, cells_in cells h.2.1) refl
+reply_back (reply.Item key place (item.Fault SkipNoRow)) h named = rw (cells_in key h.0, digits_of-decimal place h.1) refl
+reply_back (reply.Item key place (item.Fault SkipSame)) h named = rw (cells_in key h.0, digits_of-decimal place h.1) refl
+reply_back (reply.Item key place item.End) h named = rw (cells_in key h.0, digits_of-decimal place h.1) refl
+reply_back (reply.Idle key) h named = rw (cells_in key h) refl
+reply_back (reply.Paused key) h named = rw (cells_in key h) refl
+reply_back (reply.Refused refusal) h named = rw (refusal-back refusal h named) refl
 
 reply_is_object : (given : Reply) → is_some (as_object (reply_data given)) ≡ true
 reply_is_object (reply.Taken taken) = refl
@@ -85,7 +84,7 @@ reply_is_object (reply.Idle key) = refl
 reply_is_object (reply.Paused key) = refl
 reply_is_object (reply.Refused refusal) = refl
 
-pub answered_text : (line : List ℕ) (given : Reply) → IsUtf8 line → line ≡ reply_text given → IsWithin given → length line ≤ 65536 → answered line ≡ Ok given
-answered_text line given utf8 is h short =
+pub answered_text : (line : List ℕ) (given : Reply) → IsUtf8 line → line ≡ reply_text given → IsWithin given → length line ≤ 65536 → NamesColumn given → answered line ≡ Ok given
+answered_text line given utf8 is h short named =
     let whole : read line ≡ Some (reply_data given) = ap (λ t. read t) (is ∙ reply_written given h) ∙ reply_read given h in
-    rw (le-ltb 65536 (length line) short, object_read line (reply_data given) utf8 whole (reply_is_object given), reply_back given h) refl
+    rw (le-ltb 65536 (length line) short, object_read line (reply_data given) utf8 whole (reply_is_object given), reply_back given h named) refl

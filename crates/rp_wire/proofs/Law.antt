@@ -1,5 +1,5 @@
 -- What is written of a reply is read as its object.
-use Rattle.std.proofs.Common.{◌≡◌, ◌≤◌, ◌<◌, ℕ, List, [], ◌∷◌, refl, ap, sym, ◌∙◌, arith, append-nil}
+use Rattle.std.proofs.Common.{◌≡◌, ◌≤◌, ◌<◌, List, [], ◌∷◌, refl, ap, sym, ◌∙◌, arith, append-nil}
 use Rattle.std.specs.Prelude.{Option, Some, None, option_and_then, pos, negsuc, ◌^◌}
 use Rattle.std.proofs.lemmas.List.Elements.{All-head, All-tail}
 use Rattle.json.specs.Tree.{HasNumbers, ItemsHaveNumbers}
@@ -26,7 +26,7 @@ use Rattle.rp_codec.specs.declared.reply.Reply.TheVariants as reply
 use Rattle.rp_fields.specs.Forms.{cell_data, cells_data, list_items}
 use Rattle.rp_wire.specs.Replies.{reply_data}
 
-items_back : (cs : List Value) → AreCells cs → of_items (items_outline (list_items cell_data cs)) ≡ Some (list_items cell_data cs)
+pub items_back : (cs : List Value) → AreCells cs → of_items (items_outline (list_items cell_data cs)) ≡ Some (list_items cell_data cs)
 items_back [] h = refl
 items_back (Null ∷ cs) h = rw (items_back cs (All-tail IsCell _ cs h)) refl
 items_back (Int (pos n) ∷ cs) h =
@@ -40,7 +40,7 @@ items_back (Text s ∷ cs) h = rw (items_back cs (All-tail IsCell _ cs h)) refl
 cells_back : (cs : List Value) → AreCells cs → of_json (outline (cells_data cs)) ≡ Some (cells_data cs)
 cells_back cs h = rw (items_back cs h) refl
 
-items_numbers : (cs : List Value) → AreCells cs → ItemsHaveNumbers (items_outline (list_items cell_data cs))
+pub items_numbers : (cs : List Value) → AreCells cs → ItemsHaveNumbers (items_outline (list_items cell_data cs))
 items_numbers [] h = tt
 items_numbers (Null ∷ cs) h = (tt, items_numbers cs (All-tail IsCell _ cs h))
 items_numbers (Int (pos n) ∷ cs) h =
@@ -51,7 +51,7 @@ items_numbers (Int (negsuc n) ∷ cs) h =
     (IsNumber-signed_decimal (negsuc n) small, items_numbers cs (All-tail IsCell _ cs h))
 items_numbers (Text s ∷ cs) h = (tt, items_numbers cs (All-tail IsCell _ cs h))
 
-items_flat : (cs : List Value) → tree.items_depth (items_outline (list_items cell_data cs)) ≡ 0
+pub items_flat : (cs : List Value) → tree.items_depth (items_outline (list_items cell_data cs)) ≡ 0
 items_flat [] = refl
 items_flat (Null ∷ cs) = rw (items_flat cs) refl
 items_flat (Int z ∷ cs) = rw (items_flat cs) refl
@@ -62,7 +62,7 @@ abbrev whole : Option (json.Json × List Token) → Option Data
 whole o = option_and_then of_json (option_and_then (λ p. json.if_last p.0 p.1) o)
 
 -- an object that is its own JSON is read from its text
-from_text : (d : Data) → HasNumbers (outline d) → tree.depth (outline d) ≤ max_depth → of_json (outline d) ≡ Some d → read (compact_text d) ≡ Some d
+pub from_text : (d : Data) → HasNumbers (outline d) → tree.depth (outline d) ≤ max_depth → of_json (outline d) ≡ Some d → read (compact_text d) ≡ Some d
 from_text d numbers shallow back =
     let ts = json_tokens (outline d) in
     let same : tokens (compact_text d) ≡ ts = ap tokens (sym (print-outline d)) ∙ tokens-print ts (ArePrintable-json_tokens (outline d) numbers) in

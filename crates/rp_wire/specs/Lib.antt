@@ -1,3 +1,4 @@
+pub mod Compact
 pub mod RefusalTexts
 pub mod Replies
 pub mod Requests

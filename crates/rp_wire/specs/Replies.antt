@@ -1,5 +1,5 @@
 -- The line of a reply, and the reply of a line.
-use Rattle.std.specs.Prelude.{ℕ, Bool, true, List, [], ◌∷◌, length, Option, Some, None, is_some, option_map, option_and_then, Result, Ok, Err, if◌then◌else◌, nat_lt, codes}
+use Rattle.std.specs.Prelude.{ℕ, ◌<◌, ⊤, Bool, true, List, [], ◌∷◌, length, Option, Some, None, is_some, option_map, option_and_then, Result, Ok, Err, if◌then◌else◌, nat_lt, codes}
 use Rattle.serde_json.specs.Data.{Data, boolean, string, object, no_members, member}
 use Rattle.serde_json.specs.Find.{get, as_bool, as_str}
 use Rattle.rp_feed.specs.declared.answer.Taken.{Taken}
@@ -11,6 +11,7 @@ use Rattle.rp_known.specs.declared.item.SkipFault.TheVariants.{SkipNoRow, SkipSa
 use Rattle.rp_codec.specs.ReplyLines.{name_of_fault, name_of_taken}
 use Rattle.rp_codec.specs.Refusals.{refusal_text}
 use Rattle.rp_codec.specs.declared.refusal.Field.TheVariants as f
+use Rattle.rp_codec.specs.declared.refusal.Refusal.TheVariants.{BadRowKind}
 use Rattle.rp_codec.specs.declared.reply.Reply.{Reply}
 use Rattle.rp_codec.specs.declared.reply.Reply.TheVariants as reply
 use Rattle.rp_fields.specs.Forms.{cells_data, cells_of, named, optional_data, optional_of, place_data, place_of}
@@ -85,6 +86,15 @@ option_ok_or (Some r) fault = Ok r
 abbrev pub answer_of : Option Data → Result Reply LineFault
 answer_of None = Err NotJson
 answer_of (Some d) = option_ok_or (reply_in d) (BadField f.Other)
+
+-- a refusal names a column by its number from 1, since what names column 0 is no refusal
+abbrev pub NamesColumn : Reply → Type 0
+NamesColumn (reply.Taken taken) = ⊤
+NamesColumn (reply.Item key place given) = ⊤
+NamesColumn (reply.Idle key) = ⊤
+NamesColumn (reply.Paused key) = ⊤
+NamesColumn (reply.Refused (BadRowKind n)) = 0 < n
+NamesColumn (reply.Refused _) = ⊤
 
 -- the reply that a line is, or its first fault
 abbrev pub answered : List ℕ → Result Reply LineFault

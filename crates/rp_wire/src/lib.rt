@@ -7,9 +7,11 @@
 //!     {"close":1,"key":["x"]}             {"taken":"new"}
 //!     {"budget":50,"poll":["x"]}          {"end":true,"key":["x"],"place":"1"}
 //!
-//! What stands on a line is said in `specs/Requests` and `specs/Replies`.
+//! What stands on a line is said in `specs/Requests` and `specs/Replies`. A compact request is read without a tree of
+//! JSON.
 #![tactic(auto)]
 
+mod compact;
 mod fault;
 mod read_refusal;
 mod read_reply;

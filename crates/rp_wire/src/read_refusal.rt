@@ -2,7 +2,7 @@
 ghost use Rattle.std.specs.Prelude.{◌≡◌};
 ghost use Rattle.rp_codec.specs.Refusals.{refusal_word};
 ghost use Rattle.rp_fields.specs.Forms.{named};
-ghost use Rattle.rp_wire.specs.RefusalTexts.{plain_refusals, refusal_of};
+ghost use Rattle.rp_wire.specs.RefusalTexts.{column_of, plain_refusals, refusal_of};
 
 use rp_codec::{Field, Refusal};
 use rp_fields::short_digits_of;
@@ -12,9 +12,17 @@ pub(crate) fn refusal_of(text: &str) -> Option<Refusal>
     ensures { result ≡ refusal_of text.now }
 {
     if let Some(digits) = text.as_bytes().strip_prefix(b"BadRow kind ") {
-        return short_digits_of(digits).map(Refusal::BadRowKind);
+        return column_of(digits).map(Refusal::BadRowKind);
     }
     plain_refusal(text)
+}
+
+/// The column of a text of digits. Columns count from 1.
+fn column_of(digits: &[u8]) -> Option<u64>
+    ensures { result ≡ column_of digits.now }
+{
+    let column = short_digits_of(digits)?;
+    if column == 0 { None } else { Some(column) }
 }
 
 fn plain_refusal(text: &str) -> Option<Refusal>

@@ -1,8 +1,9 @@
 //! From a line to a request.
-ghost use Rattle.std.specs.Prelude.{◌≡◌, ◌⊎◌, Ok, Err, IfOk, IfErr};
+ghost use Rattle.std.specs.Prelude.{◌≡◌, ◌≤◌, ◌⊎◌, Ok, Err, IfOk, IfErr, length};
 ghost use Rattle.serde_json.specs.View.{view};
 ghost use Rattle.rp_wire.specs.Requests.{asked, close_in, only_two, poll_in, request_in, row_in};
 
+use crate::compact::compact_request;
 use crate::{LineFault, MAX_LINE_LEN, Request};
 use rp_codec::{Field, Packet};
 use rp_fields::{cells, has, has_fields, object_of, short_whole, whole};
@@ -20,6 +21,18 @@ pub fn request_of(alloc: Global, line: &[u8]) -> Result<Request, LineFault>
     if line.len() > MAX_LINE_LEN {
         return Err(LineFault::TooLong);
     }
+    if let Some(request) = compact_request(alloc, line)? {
+        return Ok(request);
+    }
+    request_of_tree(alloc, line)
+}
+
+/// The same by a tree of JSON, of a line that isn't too long.
+pub(crate) fn request_of_tree(alloc: Global, line: &[u8]) -> Result<Request, LineFault>
+    ensures ok { IfOk result (λ r. length line.now ≤ 65536 → asked line.now ≡ Ok r) }
+    ensures err { IfErr result (λ e. (e ≡ LineFault.OutOfMemory)
+        ⊎ (length line.now ≤ 65536 → asked line.now ≡ Err e)) }
+{
     let object = object_of(alloc, line)?;
     let json = object.ok_or(LineFault::NotJson)?;
     request_in(alloc, &json)

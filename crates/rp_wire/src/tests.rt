@@ -1,4 +1,7 @@
 //! Lines, against texts written by hand.
+mod chance;
+mod compact;
+
 use crate::{
     Field, Item, LineFault, MAX_LINE_LEN, Packet, Refusal, Reply, Request, SkipFault, Taken,
     reply_line, reply_of, request_line, request_of,
@@ -37,10 +40,6 @@ fn replied_again(alloc: Global, line: &str) -> Result<String, LineFault> {
     Ok(reply_line(alloc, &reply)?)
 }
 
-fn text(alloc: Global, text: &str) -> Result<Value, AllocError> {
-    Ok(Value::Text(Text::new(alloc, String::from_str(alloc, text)?)?))
-}
-
 fn filled(alloc: Global, byte: u8, count: usize) -> Result<Vec<u8>, AllocError> {
     let mut bytes = Vec::with_capacity(alloc, count)?;
     for _ in 0..count {
@@ -49,80 +48,83 @@ fn filled(alloc: Global, byte: u8, count: usize) -> Result<Vec<u8>, AllocError> 
     Ok(bytes)
 }
 
+/// Lines, and their first faults.
+const BROKEN: [(&str, LineFault); 27] = [
+    ("nope", LineFault::NotJson),
+    ("", LineFault::NotJson),
+    ("[1]", LineFault::NotJson),
+    ("{} {}", LineFault::NotJson),
+    ("{\"row\":1e400,\"cells\":[]}", LineFault::NotJson),
+    ("{\"row\":1,\"cells\":[\"\\ud800\"]}", LineFault::NotJson),
+    ("{}", LineFault::BadField(Field::Row)),
+    ("{\"key\":[]}", LineFault::BadField(Field::Row)),
+    ("{\"budget\":1}", LineFault::BadField(Field::Row)),
+    (
+        "{\"row\":1.5,\"cells\":[]}",
+        LineFault::BadField(Field::Row),
+    ),
+    (
+        "{\"row\":1.0,\"cells\":[]}",
+        LineFault::BadField(Field::Row),
+    ),
+    ("{\"row\":-0,\"cells\":[]}", LineFault::BadField(Field::Row)),
+    (
+        "{\"row\":\"1\",\"close\":1}",
+        LineFault::BadField(Field::Row),
+    ),
+    (
+        "{\"row\":18446744073709551616,\"cells\":[]}",
+        LineFault::BadField(Field::Row),
+    ),
+    ("{\"row\":1}", LineFault::BadField(Field::Cells)),
+    (
+        "{\"row\":1,\"cells\":[[1]]}",
+        LineFault::BadField(Field::Cells),
+    ),
+    (
+        "{\"row\":1,\"cells\":[0.5]}",
+        LineFault::BadField(Field::Cells),
+    ),
+    (
+        "{\"row\":1,\"cells\":[9223372036854775808]}",
+        LineFault::BadField(Field::Cells),
+    ),
+    (
+        "{\"row\":1,\"cells\":[true]}",
+        LineFault::BadField(Field::Cells),
+    ),
+    (
+        "{\"row\":1,\"cells\":[1],\"close\":1}",
+        LineFault::BadField(Field::Other),
+    ),
+    (
+        "{\"close\":-1,\"key\":[]}",
+        LineFault::BadField(Field::Close),
+    ),
+    ("{\"close\":1,\"key\":1}", LineFault::BadField(Field::Key)),
+    (
+        "{\"close\":1,\"key\":[],\"cells\":[]}",
+        LineFault::BadField(Field::Other),
+    ),
+    (
+        "{\"poll\":{},\"budget\":1}",
+        LineFault::BadField(Field::Poll),
+    ),
+    ("{\"poll\":[]}", LineFault::BadField(Field::Budget)),
+    (
+        "{\"poll\":[],\"budget\":4294967296}",
+        LineFault::BadField(Field::Budget),
+    ),
+    (
+        "{\"poll\":[],\"budget\":1,\"x\":1}",
+        LineFault::BadField(Field::Other),
+    ),
+];
+
 #[test]
 fn first_fault_of_a_request(rt: HostRuntime) -> Result<(), Fail> {
     let alloc = rt.alloc();
-    for (line, want) in [
-        ("nope", LineFault::NotJson),
-        ("", LineFault::NotJson),
-        ("[1]", LineFault::NotJson),
-        ("{} {}", LineFault::NotJson),
-        ("{\"row\":1e400,\"cells\":[]}", LineFault::NotJson),
-        ("{\"row\":1,\"cells\":[\"\\ud800\"]}", LineFault::NotJson),
-        ("{}", LineFault::BadField(Field::Row)),
-        ("{\"key\":[]}", LineFault::BadField(Field::Row)),
-        ("{\"budget\":1}", LineFault::BadField(Field::Row)),
-        (
-            "{\"row\":1.5,\"cells\":[]}",
-            LineFault::BadField(Field::Row),
-        ),
-        (
-            "{\"row\":1.0,\"cells\":[]}",
-            LineFault::BadField(Field::Row),
-        ),
-        ("{\"row\":-0,\"cells\":[]}", LineFault::BadField(Field::Row)),
-        (
-            "{\"row\":\"1\",\"close\":1}",
-            LineFault::BadField(Field::Row),
-        ),
-        (
-            "{\"row\":18446744073709551616,\"cells\":[]}",
-            LineFault::BadField(Field::Row),
-        ),
-        ("{\"row\":1}", LineFault::BadField(Field::Cells)),
-        (
-            "{\"row\":1,\"cells\":[[1]]}",
-            LineFault::BadField(Field::Cells),
-        ),
-        (
-            "{\"row\":1,\"cells\":[0.5]}",
-            LineFault::BadField(Field::Cells),
-        ),
-        (
-            "{\"row\":1,\"cells\":[9223372036854775808]}",
-            LineFault::BadField(Field::Cells),
-        ),
-        (
-            "{\"row\":1,\"cells\":[true]}",
-            LineFault::BadField(Field::Cells),
-        ),
-        (
-            "{\"row\":1,\"cells\":[1],\"close\":1}",
-            LineFault::BadField(Field::Other),
-        ),
-        (
-            "{\"close\":-1,\"key\":[]}",
-            LineFault::BadField(Field::Close),
-        ),
-        ("{\"close\":1,\"key\":1}", LineFault::BadField(Field::Key)),
-        (
-            "{\"close\":1,\"key\":[],\"cells\":[]}",
-            LineFault::BadField(Field::Other),
-        ),
-        (
-            "{\"poll\":{},\"budget\":1}",
-            LineFault::BadField(Field::Poll),
-        ),
-        ("{\"poll\":[]}", LineFault::BadField(Field::Budget)),
-        (
-            "{\"poll\":[],\"budget\":4294967296}",
-            LineFault::BadField(Field::Budget),
-        ),
-        (
-            "{\"poll\":[],\"budget\":1,\"x\":1}",
-            LineFault::BadField(Field::Other),
-        ),
-    ] {
+    for (line, want) in BROKEN {
         assert_eq!(rt; fault_of(alloc, line.as_bytes())?, Some(want), "{line}");
     }
     assert_eq!(rt; fault_of(alloc, b"\xff")?, Some(LineFault::NotJson));
@@ -296,6 +298,7 @@ fn line_that_is_no_reply(rt: HostRuntime) -> Result<(), Fail> {
         "{\"taken\":\"new\",\"x\":1}",
         "{\"idle\":null}",
         "{\"idle\":[],\"paused\":[]}",
+        "{\"refused\":\"BadRow kind 0\"}",
         "{\"refused\":\"BadRow kind 012\"}",
         "{\"refused\":\"BadRow kind +1\"}",
         "{\"refused\":\"BadRow kind \"}",
@@ -322,123 +325,6 @@ fn line_that_is_no_reply(rt: HostRuntime) -> Result<(), Fail> {
     }
     assert_eq!(rt; reply_fault_of(alloc, b"[]")?, Some(LineFault::NotJson));
     assert_eq!(rt; reply_fault_of(alloc, b"nope")?, Some(LineFault::NotJson));
-    Ok(())
-}
-
-/// A stream of numbers that look random, by Knuth's multiplier.
-#[derive(Drop)]
-struct Chance {
-    state: u64,
-}
-
-impl Chance {
-    fn next(&mut self) -> u64 {
-        self.state = self.state.wrapping_mul(6_364_136_223_846_793_005);
-        self.state = self.state.wrapping_add(1_442_695_040_888_963_407);
-        self.state.wrapping_shr(33)
-    }
-
-    /// A number of any length.
-    fn number(&mut self) -> u64 {
-        let places = u32::try_from(self.next()).unwrap_or(0);
-        self.next();
-        self.state.wrapping_shr(places)
-    }
-
-    fn value(&mut self, alloc: Global) -> Result<Value, AllocError> {
-        match self.next() % 6 {
-            0 => Ok(Value::Null),
-            1 => Ok(Value::Int(i64::MIN)),
-            2 => Ok(Value::Int(i64::try_from(self.number()).unwrap_or(-1))),
-            3 => text(alloc, "\"\\\n\u{1}\u{7f}"),
-            4 => text(alloc, "é\u{10ffff}"),
-            _ => text(alloc, ""),
-        }
-    }
-
-    fn cells(&mut self, alloc: Global) -> Result<Vec<Value>, AllocError> {
-        let mut cells = Vec::new(alloc);
-        for _ in 0..self.next() % 5 {
-            cells.push(self.value(alloc)?)?;
-        }
-        Ok(cells)
-    }
-
-    fn key(&mut self, alloc: Global) -> Result<Cells, AllocError> {
-        Ok(Cells::new(self.cells(alloc)?))
-    }
-
-    fn request(&mut self, alloc: Global) -> Result<Request, AllocError> {
-        let number = self.number();
-        match self.next() % 3 {
-            0 => {
-                let cells = Row::new(alloc, self.cells(alloc)?)?;
-                Ok(Request::Packet(Packet::Row { number, cells }))
-            }
-            1 => {
-                let key = self.key(alloc)?;
-                Ok(Request::Packet(Packet::Close { key, count: number }))
-            }
-            _ => {
-                let key = self.key(alloc)?;
-                let budget = u32::try_from(number).unwrap_or(u32::MAX);
-                Ok(Request::Poll { key, budget })
-            }
-        }
-    }
-
-    fn item(&mut self, alloc: Global) -> Result<Item, AllocError> {
-        match self.next() % 4 {
-            0 => Ok(Item::End),
-            1 => Ok(Item::Fault(SkipFault::SkipNoRow)),
-            2 => Ok(Item::Row {
-                number: None,
-                cells: self.key(alloc)?,
-            }),
-            _ => Ok(Item::Row {
-                number: Some(self.number()),
-                cells: self.key(alloc)?,
-            }),
-        }
-    }
-
-    fn reply(&mut self, alloc: Global) -> Result<Reply, AllocError> {
-        match self.next() % 8 {
-            0 => Ok(Reply::Taken(Taken::Repeat)),
-            1 => Ok(Reply::Idle(self.key(alloc)?)),
-            2 => Ok(Reply::Paused(self.key(alloc)?)),
-            3 => Ok(Reply::Refused(Refusal::BadRowKind(self.number()))),
-            _ => {
-                let key = self.key(alloc)?;
-                let place = u128::from(self.number()).wrapping_mul(u128::from(self.number()));
-                let item = self.item(alloc)?;
-                Ok(Reply::Item { key, place, item })
-            }
-        }
-    }
-}
-
-#[test]
-fn random_requests_there_and_back(rt: HostRuntime) -> Result<(), Fail> {
-    let alloc = rt.alloc();
-    let mut chance = Chance { state: 1 };
-    for _ in 0..1000 {
-        let line = request_line(alloc, &chance.request(alloc)?)?;
-        let again = request_of(alloc, line.as_slice())?;
-        assert!(rt; request_line(alloc, &again)? == line);
-    }
-    Ok(())
-}
-
-#[test]
-fn random_replies_there_and_back(rt: HostRuntime) -> Result<(), Fail> {
-    let alloc = rt.alloc();
-    let mut chance = Chance { state: 2 };
-    for _ in 0..1000 {
-        let line = reply_line(alloc, &chance.reply(alloc)?)?;
-        let again = reply_of(alloc, line.as_bytes())?;
-        assert!(rt; reply_line(alloc, &again)? == line);
-    }
     Ok(())
 }
 

@@ -7,13 +7,14 @@ use Rattle.serde_json.specs.View.{view}
 use Rattle.serde_json.specs.Written.{compact_text, has_float}
 use Rattle.rp_checkpoint.specs.Sealed.{opened, sealed}
 use Rattle.rp_checkpoint.proofs.NodeObjects.{node_depth, node_has_no_float, node_is_object}
+use Rattle.rp_checkpoint.proofs.NodeTexts.{node_written}
 use Rattle.rp_checkpoint.proofs.Sealing.{opened-sealed, restored_from}
 use Rattle.rp_checkpoint.proofs.write_checkpoint.checkpoint_of.Goals as goal
 
 pub returns-clause-bytes : goal.returns-clause-bytes
 returns-clause-bytes c =
     let whole : has_float (view c.in_ok-json.json) ≡ false = rw c.in_ok-json.ensures.data (node_has_no_float c.args.node.now) in
-    IfOk-weaker c.seal.result _ _ (λ b h. h ∙ ap sealed (c.as_slice.ensures.value ∙ c.in_ok-object.ensures.text whole ∙ ap compact_text c.in_ok-json.ensures.data)) c.seal.ensures
+    IfOk-weaker c.seal.result _ _ (λ b h. h ∙ ap sealed (c.as_slice.ensures.value ∙ c.in_ok-object.ensures.text whole ∙ ap compact_text c.in_ok-json.ensures.data ∙ node_written c.args.node.now)) c.seal.ensures
 
 pub returns-clause-back : goal.returns-clause-back
 returns-clause-back c =
