@@ -32,19 +32,28 @@ pub returns-in_err-resize-clause-within : goal.returns-in_err-resize-clause-with
 returns-in_err-resize-clause-within g c = (0, omega arith, omega arith, refl)
 
 pub returns-in_default-clause-within : goal.returns-in_default-clause-within
-returns-in_default-clause-within g c =
-    (c.loop-read._read + 1, omega arith, omega arith,
-    c.in_default.ensures.calls ∙ ap raised c.loop-read.invariant.calls ∙ after_more c.loop-read._read (g.R.Intake.calls c.args.reader.now))
+returns-in_default-clause-within g c = (
+  c.loop-read._read + 1,
+  omega arith,
+  omega arith,
+  c.in_default.ensures.calls ∙ ap raised c.loop-read.invariant.calls ∙ after_more c.loop-read._read (g.R.Intake.calls c.args.reader.now),
+)
 
 pub returns-then-count-eq0-clause-within : goal.returns-then-count-eq0-clause-within
-returns-then-count-eq0-clause-within g c =
-    (c.loop-read._read + 1, omega arith, omega arith,
-    c.in-Ok.ensures.calls ∙ ap raised c.loop-read.invariant.calls ∙ after_more c.loop-read._read (g.R.Intake.calls c.args.reader.now))
+returns-then-count-eq0-clause-within g c = (
+  c.loop-read._read + 1,
+  omega arith,
+  omega arith,
+  c.in-Ok.ensures.calls ∙ ap raised c.loop-read.invariant.calls ∙ after_more c.loop-read._read (g.R.Intake.calls c.args.reader.now),
+)
 
 pub returns-in_err-extend_from_slice-clause-within : goal.returns-in_err-extend_from_slice-clause-within
-returns-in_err-extend_from_slice-clause-within g c =
-    (c.loop-read._read + 1, omega arith, omega arith,
-    c.in-Ok.ensures.calls ∙ ap raised c.loop-read.invariant.calls ∙ after_more c.loop-read._read (g.R.Intake.calls c.args.reader.now))
+returns-in_err-extend_from_slice-clause-within g c = (
+  c.loop-read._read + 1,
+  omega arith,
+  omega arith,
+  c.in-Ok.ensures.calls ∙ ap raised c.loop-read.invariant.calls ∙ after_more c.loop-read._read (g.R.Intake.calls c.args.reader.now),
+)
 
 pub returns-clause-within : goal.returns-clause-within
 returns-clause-within g c = (c.loop-read._read, omega arith, omega arith, c.loop-read.invariant.calls)
