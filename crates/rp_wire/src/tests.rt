@@ -333,10 +333,12 @@ fn line_that_is_no_reply(rt: HostRuntime) -> Result<(), Fail> {
 #[test]
 fn refused_request(rt: HostRuntime) -> Result<(), Fail> {
     let alloc = rt.alloc();
-    let line = b"{\"row\":1,\"cells\":[\"x\",null,10]}";
-    let request = request_of(alloc, line).or_else(|_| request_of(alloc, line))?;
-    let text = request_line(alloc, &request).or_else(|_| request_line(alloc, &request))?;
-    assert!(rt; text.as_slice() == b"{\"cells\":[\"x\",null,10],\"row\":1}".as_slice());
+    let want = b"{\"cells\":[\"x\",null,10],\"row\":1}".as_slice();
+    for line in [b"{\"row\":1,\"cells\":[\"x\",null,10]}".as_slice(), want] {
+        let request = request_of(alloc, line).or_else(|_| request_of(alloc, line))?;
+        let text = request_line(alloc, &request).or_else(|_| request_line(alloc, &request))?;
+        assert!(rt; text.as_slice() == want);
+    }
     Ok(())
 }
 
