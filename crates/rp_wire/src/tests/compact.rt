@@ -1,8 +1,8 @@
 //! Compact lines beside what the tree of JSON gives of them.
 use crate::compact::compact_request;
 use crate::read_request::request_of_tree;
-use crate::request_line;
 use crate::tests::chance::Chance;
+use crate::{LineFault, request_line};
 use std::alloc::Global;
 use std::test::Fail;
 
@@ -26,15 +26,15 @@ const MARKS: [&[u8]; 16] = [
     b"\xc3\xa9",
 ];
 
-/// Whether both ways agree on a line: what the first gives the tree gives too.
-fn agree(alloc: Global, line: &[u8]) -> Result<bool, Fail> {
+/// Whether both ways agree on a line, want of memory aside: what the first gives the tree gives too.
+fn agree(alloc: Global, line: &[u8]) -> Result<bool, LineFault> {
     let compact = compact_request(alloc, line)?;
-    let tree = request_of_tree(alloc, line);
-    Ok(match (compact, tree) {
-        (Some(one), Ok(other)) => one == other,
-        (Some(_), Err(_)) => false,
-        (None, _) => true,
-    })
+    match (compact, request_of_tree(alloc, line)) {
+        (_, Err(LineFault::OutOfMemory)) => Err(LineFault::OutOfMemory),
+        (Some(one), Ok(other)) => Ok(one == other),
+        (Some(_), Err(_)) => Ok(false),
+        (None, _) => Ok(true),
+    }
 }
 
 /// A line with a mark put in at a place, or put in place of the byte there.
