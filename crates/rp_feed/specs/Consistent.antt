@@ -8,8 +8,8 @@ abbrev pub EndsBy : ℕ → Option ℕ → Type 0
 EndsBy next None = ⊤
 EndsBy next (Some count) = (next ≤ count + 1) × (count ≤ MAX_NUMBER)
 
--- What is true of a feed's fields: `first` and all places are in range, `ready` counts the places before the first that has no row,
--- the last place has one, no place is too far above the front, and the close counts all places.
+-- What is true of a feed's fields: `first` is 1 or above, all places are in range (where there is none, `first` is at most one
+-- above MAX_NUMBER), `ready` counts the places before the first that has no row, the last place, if there is one, has a row, no place is too far above the front, and the close counts all places.
 pub record IsConsistent (first ready : ℕ) (slots : Slots) (closed : Option ℕ) : Type 0 where
   pub least : 1 ≤ first
   pub greatest : first + length slots ≤ MAX_NUMBER + 1

@@ -27,7 +27,7 @@ row_at ((m, row) ∷ rows) n = if m == n then Some row else row_at rows n
 abbrev pub is_taken : Fed → ℕ → Bool
 is_taken fed n = nat_lt n fed.first || is_some (row_at fed.rows n)
 
--- the rows with one more, put where its number has it
+-- the rows with one more, put before the first that has a greater number
 abbrev pub with_row : ℕ → List Value → List Numbered → List Numbered
 with_row n row [] = (n, row) ∷ []
 with_row n row ((m, other) ∷ rows) =
@@ -49,7 +49,7 @@ rows_from n rows = filter (λ e. nat_le n e.0) rows
 abbrev pub forgotten : ℕ → Fed → Fed
 forgotten before fed = record fed { first = before; rows = rows_from before fed.rows }
 
--- where rows ascend from `n` on: the first number that none of them has
+-- where rows ascend from `n` on: the first number from `n` on that none of them has
 abbrev pub first_missing : ℕ → List Numbered → ℕ
 first_missing n [] = n
 first_missing n ((m, row) ∷ rows) = if m == n then first_missing (n + 1) rows else n
@@ -63,7 +63,7 @@ abbrev pub AscendFrom : ℕ → List Numbered → Type 0
 AscendFrom n [] = ⊤
 AscendFrom n ((m, row) ∷ rows) = (n ≤ m) × AscendFrom (m + 1) rows
 
--- numbers ascend, from the first that isn't dropped on
+-- numbers ascend, from the first that isn't dropped on, which is 1 or above
 pub record IsOrdered (fed : Fed) : Type 0 where
   pub least : 1 ≤ fed.first
   pub ascend : AscendFrom fed.first fed.rows
@@ -78,7 +78,7 @@ pub record IsFree (fed : Fed) (n : ℕ) : Type 0 where
   pub kept : fed.first ≤ n
   pub none : row_at fed.rows n ≡ None
 
--- the rows below the number can be dropped: all of them were taken
+-- the rows below the number can be dropped: all of them were taken, and it isn't below `first`
 pub record IsReached (fed : Fed) (before : ℕ) : Type 0 where
   pub kept : fed.first ≤ before
   pub reached : before ≤ front_of fed + 1

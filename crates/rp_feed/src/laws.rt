@@ -27,7 +27,7 @@ pub fn law_front()
 {}
 
 /// The law of what is taken as New: a row whose number is in range, not above the close, not dropped, not held and not
-/// too far above the front; and a close where there was none, whose count no number that was taken is above.
+/// too far above the front; and a close where there was none, whose count is in range and not below a number that was taken.
 pub fn law_new()
     ensures row { NewRowsAreDue }
     ensures close { NewClosesAreDue }

@@ -26,11 +26,11 @@ NoTokensWithFault =
 abbrev pub EachStands : Type 0
 EachStands = (text : List ℕ) (tokens : List Token) → Lexes text tokens → All (IsToken text) tokens
 
--- the bytes of a name or a quoted name mean one name
+-- bytes mean at most one name, as a token of one kind
 abbrev pub OneNameMeaning : Type 0
 OneNameMeaning =
     (kind : TokenKind) (bytes name other : List ℕ) → MeansName kind bytes name → MeansName kind bytes other → name ≡ other
 
--- the bytes of a text literal mean one text
+-- bytes mean at most one text
 abbrev pub OneTextMeaning : Type 0
 OneTextMeaning = (bytes inside other : List ℕ) → MeansText bytes inside → MeansText bytes other → inside ≡ other

@@ -3,7 +3,7 @@
 /// What a token is.
 #[derive(Clone, Copy, Debug, PartialEq, Eq)]
 pub enum TokenKind {
-    /// A letter or `_`, and then letters, digits and `_`, that is no reserved word. It means its upper-case form.
+    /// An ASCII letter or `_`, and then ASCII letters, digits and `_`, that is no reserved word. It means its upper-case form.
     Name,
     /// A reserved word, in any case.
     Keyword(Keyword),

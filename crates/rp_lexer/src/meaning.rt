@@ -44,7 +44,7 @@ pub fn number_of(text: &str, token: Token) -> u64
     scan::value_of(digits).unwrap()
 }
 
-/// The upper-case form of a text that has the form of a name: a letter or `_`, and then letters, digits and `_`. None for
+/// The upper-case form of a text that has the form of a name: an ASCII letter or `_`, and then such letters, digits and `_`. None for
 /// any other text. Reserved words have that form, so `order` gives ORDER: it is for names that stand alone, as in the header
 /// of a file, where nothing could be taken for a word of a clause.
 pub fn upper_case_name(alloc: Global, text: &str) -> Result<Option<String>, AllocError>

@@ -15,7 +15,8 @@ MakesCalls least most old new = (made : ℕ) × (least ≤ made) × (made ≤ mo
 abbrev pub UsesCalls : ℕ → ℕ → ℕ → ℕ → Type 0
 UsesCalls before after old new = (made : ℕ) × (made + after ≡ before) × (new ≡ after_calls made old)
 
--- As many bytes came at least, where they are known, as reads were made: those that were allowed before less those that are allowed after.
+-- As many bytes came at least, where they are known, as reads were made: those that were allowed before less those that are allowed
+-- after. The lists are what was still to come before and after.
 abbrev pub AsManyBytesAsReads : ℕ → ℕ → Option (List ℕ) → Option (List ℕ) → Type 0
 AsManyBytesAsReads before after None new = Unit {0}
 AsManyBytesAsReads before after (Some xs) None = ⊥

@@ -4,7 +4,8 @@ use Rattle.rp_lines.specs.Counts.{raised}
 use Rattle.rp_lines.specs.declared.lines.LineFault.{LineFault}
 use Rattle.rp_lines.specs.declared.lines.LineFault.TheVariants.{Read, TooManyReads, OutOfMemory}
 
--- Whether a read has told the end, before and after the next line was asked for: yes where none came that a LF ends, and else as before.
+-- Whether a read has told the end, before and after the next line was asked for: yes where the answer is that no LF ended what
+-- came (`Ok false`), and else, after a fault too, as before.
 abbrev pub EndIsTold : Result Bool LineFault → Bool → Bool → Type 0
 EndIsTold (Ok true) old new = new ≡ old
 EndIsTold (Ok false) old new = new ≡ true

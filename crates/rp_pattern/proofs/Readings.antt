@@ -163,14 +163,14 @@ module _ (n : ℕ) (e : End) where
     in_sequence (next_open {f = f} {fs = fs} {i = i} {c = c} {ls = ls} a) = in_then-open (readings n e f) (one_by_one (map (readings n e) fs)) i c ls (in_readings a)
 
     in_iterations : {f : Form} {x : Bool} {l k i : ℕ} {c : List ℕ} {w : Mapping} → IteratesBy n e f x l k i c w → Repeated f x l k i c w
-    in_iterations (stop {f = f} {r = x} {i = i}) = λ h few. no_iteration x (readings n e f) h i
-    in_iterations (required {f = f} {r = x} {l = l} {k = k} {i = i} {c = c} {d = d} {ls = ls} {w = w} a b) = λ h few.
+    in_iterations (stop {f = f} {reluctant = x} {i = i}) = λ h few. no_iteration x (readings n e f) h i
+    in_iterations (required {f = f} {reluctant = x} {l = l} {k = k} {i = i} {c = c} {d = d} {ls = ls} {w = w} a b) = λ h few.
         in_then (readings n e f) (at_least l (readings n e f) (at_most x (readings n e f) h)) i c d ls w (in_readings a) (in_iterations b h (enough-later n i (length ls) k h few))
-    in_iterations (required_open {f = f} {r = x} {l = l} {k = k} {i = i} {c = c} {ls = ls} a) = λ h few.
+    in_iterations (required_open {f = f} {reluctant = x} {l = l} {k = k} {i = i} {c = c} {ls = ls} a) = λ h few.
         in_then-open (readings n e f) (at_least l (readings n e f) (at_most x (readings n e f) h)) i c ls (in_readings a)
-    in_iterations (another {f = f} {r = x} {k = k} {i = i} {c = c} {d = d} {l = l} {ls = ls} {w = w} a b) = λ h few.
+    in_iterations (another {f = f} {reluctant = x} {k = k} {i = i} {c = c} {d = d} {label = l} {ls = ls} {w = w} a b) = λ h few.
         in_iteration n x (readings n e f) k i c d l ls w (within f i c (Full (l ∷ ls)) (in_readings a)) (in_readings a) (λ h few. in_iterations b h few) h few
-    in_iterations (another_open {f = f} {r = x} {k = k} {i = i} {c = c} {ls = ls} a) = λ h few. in_iteration-open n x (readings n e f) k i c ls (in_readings a) h few
+    in_iterations (another_open {f = f} {reluctant = x} {k = k} {i = i} {c = c} {ls = ls} a) = λ h few. in_iteration-open n x (readings n e f) k i c ls (in_readings a) h few
 
 -- ---- each in the list is a reading
 

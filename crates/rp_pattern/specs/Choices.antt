@@ -58,7 +58,7 @@ turns_left_below c n e = stack_left n e c.start (drop 1 c.stack)
 -- the parts of the pattern after the first one of the preferred choice
 abbrev pub first_later : ℕ → End → List Choice → List WordsAndTurns
 first_later n e [] = []
-first_later n e (c ∷ cs) = later_parts n e c.continuation
+first_later n e (t ∷ ts) = later_parts n e t.continuation
 
 -- the words that may follow the row that the preferred choice maps
 unfoldable pub after : Choices → ℕ → End → List Mapping
@@ -71,7 +71,7 @@ turns_left_after c n e = chain_left (first_later n e c.stack) (c.start + length 
 -- there is a first choice, and this holds of it
 abbrev pub OfFirst : (Choice → Type 0) → List Choice → Type 0
 OfFirst P [] = ⊥
-OfFirst P (c ∷ cs) = P c
+OfFirst P (t ∷ ts) = P t
 
 -- there is a preferred choice, so that it can be given up
 unfoldable pub HasTop : Choices → Type 0
@@ -132,7 +132,7 @@ pub record IsSplit (old new : Choices) (n : ℕ) (e : End) : Type 0 where
   pub less : AtEachLater n e (λ n' e'. turns_left new n' e' < turns_left old n' e')
 
 -- The preferred choice maps a known row, the next one: its label is entered behind those before the choice. The
--- remaining words stay.
+-- remaining words and the turns left for them stay, and divide at that row.
 pub record IsMappedRow (old new : Choices) (n : ℕ) (e : End) : Type 0 where
   pub enters : AreFirstAndOne (entered new) (entered old)
   pub known : start_of new + length (entered new) ≤ n + 1
@@ -141,7 +141,7 @@ pub record IsMappedRow (old new : Choices) (n : ℕ) (e : End) : Type 0 where
   pub same : IsSameRemaining old new n e
   pub divides : DividesAtRow new n e
 
--- The preferred choice is a full word, of the labels entered. The remaining words stay: it is the first, and the others
+-- The preferred choice is a full word, of the labels entered. The remaining words and the turns left for them stay: it is the first, and the others
 -- are those below, for which fewer turns are left.
 pub record IsFullWord (old new : Choices) (n : ℕ) (e : End) : Type 0 where
   pub cut : AreFirstOf (entered new) (entered old)
@@ -150,7 +150,7 @@ pub record IsFullWord (old new : Choices) (n : ℕ) (e : End) : Type 0 where
   pub first : AtEachLater n e (λ n' e'. remaining new n' e' ≡ Full (entered new) ∷ below new n' e')
   pub less_below : AtEachLater n e (λ n' e'. turns_left_below new n' e' < turns_left new n' e')
 
--- The preferred choice runs into the row after the last known one. The remaining words stay: over the known rows an
+-- Over an open end the preferred choice runs into the row after the last known one. The remaining words and their turns stay: over the known rows an
 -- open word, of the labels entered, is the first, and the others are those below, for which fewer turns are left.
 pub record IsOpenWord (old new : Choices) (n : ℕ) (e : End) : Type 0 where
   pub end : e ≡ OpenEnd
@@ -160,7 +160,7 @@ pub record IsOpenWord (old new : Choices) (n : ℕ) (e : End) : Type 0 where
   pub first : remaining new n e ≡ Open (entered new) ∷ below new n e
   pub less_below : AtEachLater n e (λ n' e'. turns_left_below new n' e' < turns_left new n' e')
 
--- No choice remains, and no word did before.
+-- No word remains, now and whatever comes later, and none did before. The labels are cut back.
 pub record IsNothing (old new : Choices) (n : ℕ) (e : End) : Type 0 where
   pub cut : AreFirstOf (entered new) (entered old)
   pub same : IsSameRemaining old new n e

@@ -23,7 +23,7 @@ use Rattle.rp_pattern.specs.PermutedParts.{permuted_parts}
 use Rattle.rp_pattern.specs.Words.{Mappings, words, nothing_mapped, sequence}
 use Rattle.rp_pattern.specs.Turns.{WordsAndTurns, turns, one_turn, chain_turns, past, within, iterations, orders_from, words_of}
 
--- a part of a pattern
+-- a part of a pattern, inside an exclusion or outside of one, as its words and its turns
 abbrev pub form_part : ℕ → End → Form → Bool → WordsAndTurns
 form_part n e f excluded = within excluded (words n e f, turns n e f)
 
@@ -81,7 +81,7 @@ guarded (Some since) p = past since p
 abbrev pub links_parts : ℕ → End → List (Option ℕ × Part) → List WordsAndTurns
 links_parts n e ls = map (λ l. guarded l.0 (part_as n e l.1)) ls
 
--- those of a tail
+-- the later parts of a tail, as words and turns
 abbrev pub tail_parts : ℕ → End → Option (Rc Link Global) → List WordsAndTurns
 tail_parts n e tail = links_parts n e (tail_links tail)
 

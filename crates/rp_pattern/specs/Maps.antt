@@ -69,9 +69,9 @@ mutual
         Maps n e f i (Full ls) → Iterates n e f l k (i + length ls) w → Iterates n e f (suc l) k i (preceded ls w)
     required_open : {f : Form} {l k i : ℕ} {ls : List Label} →
         Maps n e f i (Open ls) → Iterates n e f (suc l) k i (Open ls)
-    another : {f : Form} {k i : ℕ} {l : Label} {ls : List Label} {w : Mapping} →
-        Maps n e f i (Full (l ∷ ls)) → Iterates n e f zero k (i + length (l ∷ ls)) w →
-        Iterates n e f zero (suc k) i (preceded (l ∷ ls) w)
+    another : {f : Form} {k i : ℕ} {label : Label} {ls : List Label} {w : Mapping} →
+        Maps n e f i (Full (label ∷ ls)) → Iterates n e f zero k (i + length (label ∷ ls)) w →
+        Iterates n e f zero (suc k) i (preceded (label ∷ ls) w)
     another_open : {f : Form} {k i : ℕ} {ls : List Label} →
         Maps n e f i (Open ls) → Iterates n e f zero (suc k) i (Open ls)
 

@@ -71,19 +71,19 @@ mutual
         MapsBy n e f i c (Open ls) → MapsInOrderBy n e (f ∷ fs) i c (Open ls)
 
   -- l required iterations, and then k others, by these decisions: before each of the others, and before stopping, one
-  -- of whether to go on
+  -- of whether to go on, ranked by whether the quantifier is reluctant
   pub data IteratesBy (n : ℕ) (e : End) : Form → Bool → ℕ → ℕ → ℕ → List ℕ → Mapping → Type 0 where
-    stop : {f : Form} {r : Bool} {i : ℕ} → IteratesBy n e f r zero zero i (to_stop r ∷ []) (Full [])
-    required : {f : Form} {r : Bool} {l k i : ℕ} {c d : List ℕ} {ls : List Label} {w : Mapping} →
-        MapsBy n e f i c (Full ls) → IteratesBy n e f r l k (i + length ls) d w →
-        IteratesBy n e f r (suc l) k i (c ++ d) (preceded ls w)
-    required_open : {f : Form} {r : Bool} {l k i : ℕ} {c : List ℕ} {ls : List Label} →
-        MapsBy n e f i c (Open ls) → IteratesBy n e f r (suc l) k i c (Open ls)
-    another : {f : Form} {r : Bool} {k i : ℕ} {c d : List ℕ} {l : Label} {ls : List Label} {w : Mapping} →
-        MapsBy n e f i c (Full (l ∷ ls)) → IteratesBy n e f r zero k (i + length (l ∷ ls)) d w →
-        IteratesBy n e f r zero (suc k) i (to_go_on r ∷ (c ++ d)) (preceded (l ∷ ls) w)
-    another_open : {f : Form} {r : Bool} {k i : ℕ} {c : List ℕ} {ls : List Label} →
-        MapsBy n e f i c (Open ls) → IteratesBy n e f r zero (suc k) i (to_go_on r ∷ c) (Open ls)
+    stop : {f : Form} {reluctant : Bool} {i : ℕ} → IteratesBy n e f reluctant zero zero i (to_stop reluctant ∷ []) (Full [])
+    required : {f : Form} {reluctant : Bool} {l k i : ℕ} {c d : List ℕ} {ls : List Label} {w : Mapping} →
+        MapsBy n e f i c (Full ls) → IteratesBy n e f reluctant l k (i + length ls) d w →
+        IteratesBy n e f reluctant (suc l) k i (c ++ d) (preceded ls w)
+    required_open : {f : Form} {reluctant : Bool} {l k i : ℕ} {c : List ℕ} {ls : List Label} →
+        MapsBy n e f i c (Open ls) → IteratesBy n e f reluctant (suc l) k i c (Open ls)
+    another : {f : Form} {reluctant : Bool} {k i : ℕ} {c d : List ℕ} {label : Label} {ls : List Label} {w : Mapping} →
+        MapsBy n e f i c (Full (label ∷ ls)) → IteratesBy n e f reluctant zero k (i + length (label ∷ ls)) d w →
+        IteratesBy n e f reluctant zero (suc k) i (to_go_on reluctant ∷ (c ++ d)) (preceded (label ∷ ls) w)
+    another_open : {f : Form} {reluctant : Bool} {k i : ℕ} {c : List ℕ} {ls : List Label} →
+        MapsBy n e f i c (Open ls) → IteratesBy n e f reluctant zero (suc k) i (to_go_on reluctant ∷ c) (Open ls)
 
 -- Decisions are preferred to others where at the first difference they have the lesser rank.
 pub data IsPreferred : List ℕ → List ℕ → Type 0 where

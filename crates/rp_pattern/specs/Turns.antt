@@ -52,7 +52,7 @@ sequence_turns (p ∷ q ∷ ps) = concatenation_turns p (sequence_turns (q ∷ p
 abbrev pub permuted_turns : List WordsAndTurns → TurnCounts
 permuted_turns ps i = 1 + sum_by (λ order. sequence_turns order i) (orders ps)
 
--- a part of a pattern with its words
+-- a part of a pattern, as its words and its turns
 abbrev pub part : ℕ → End → Form × TurnCounts → WordsAndTurns
 part n e p = (words n e p.0, p.1)
 
@@ -73,7 +73,8 @@ turns_step n e (Quantified p lower upper reluctant) =
 abbrev pub turns : ℕ → End → Form → TurnCounts
 turns n e = para-Form TurnCounts (turns_step n e)
 
--- the turns of a choice whose continuation has these parts: those of each, without the ones for joining them
+-- the turns of a choice whose continuation has these parts: those of the first, and those of the later ones after each of its full
+-- words. Joining them takes none.
 abbrev pub chain_turns : List WordsAndTurns → TurnCounts
 chain_turns [] i = 0
 chain_turns (p ∷ ps) i = p.1 i + sum_by (turns_after (chain_turns ps) i) (p.0 i)
@@ -98,14 +99,14 @@ past since p = (concatenation (only_past since) p.0, λ i. if nat_lt since i the
 abbrev pub words_of : WordsAndTurns → Mappings
 words_of p = p.0
 
--- the orders of parts from this place on. Each order takes a turn, and none for joining its parts
+-- of all orders of the parts those from this place on, counted from 0. Each order takes a turn, and none for joining its parts
 abbrev pub orders_from : ℕ → List WordsAndTurns → WordsAndTurns
 orders_from from ps = (
   λ i. flat_map (λ order. sequence (map words_of order) i) (drop from (orders ps)),
   λ i. sum_by (λ order. 1 + chain_turns order i) (drop from (orders ps)),
 )
 
--- The most turns over the start rows 1 to s: of each those of its search, one for each word, and n - s + 4 more. These
+-- The most turns over the start rows 1 to s: of each start row r those of its search, one for each word, and n - r + 4 more. These
 -- are one for each row from the start row to row n, whose item may be given, one in which the search ends, one that
 -- goes on to the next start row, and one to spare.
 abbrev pub starts_turns : ℕ → End → Form → ℕ → ℕ

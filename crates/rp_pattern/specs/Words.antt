@@ -31,7 +31,7 @@ abbrev pub may_end : End → List Mapping
 may_end OpenEnd = Open [] ∷ []
 may_end ClosedEnd = Full [] ∷ []
 
--- the words of a variable: a known row, mapped to it, or what the row after the last known one may be
+-- the words of a variable: a known row, mapped to it; past the last known one those of `may_go_on`
 abbrev pub one_row : ℕ → End → ℕ → Mappings
 one_row n e v i = if nat_le i n then Full (record { var = v; excluded = false } ∷ []) ∷ [] else may_go_on e
 
@@ -68,7 +68,7 @@ within_exclusion true p = exclusion p
 -- it takes a row, or it is open and may take one
 abbrev pub moves : Mapping → Bool
 moves (Full []) = false
-moves (Full (l ∷ ls)) = true
+moves (Full (label ∷ labels)) = true
 moves (Open ls) = true
 
 -- the words that take a row, and the open ones, which may take one

@@ -43,7 +43,8 @@ test_from c asked = asked.outcome (start_of c)
 abbrev pub StandsBy : Choices → Asked → Type 0
 StandsBy c asked = ChoicesFit c asked.known asked.end (test_from c asked)
 
--- The preferred choice maps a row, whose label is the last. The labels before it are tested true.
+-- The preferred choice maps a row, whose label is the last. The labels before it are tested true. The remaining words are those
+-- that may follow that row, and then those below.
 pub record StandsAtRow (c : Choices) (n : ℕ) (e : End) (test : Test) : Type 0 where
   pub at_row : AtRow c
   pub has_top : HasTop c
@@ -64,7 +65,8 @@ pub record Explores (c : Choices) (outlook : Outlook) (n : ℕ) (e : End) (test 
   pub words : AtEachLater n e (λ n' e'. words_ahead outlook n' e' ≡ length (after c n' e'))
   pub turns : AtEachLater n e (λ n' e'. turns_ahead outlook n' e' ≤ turns_left_after c n' e')
 
--- without an outlook the labels are tested true; with one all but the last, whose row it looks beyond
+-- without an outlook the labels are tested true; with one it explores what would follow the last label's row (`Explores`), and all
+-- before that are tested true
 abbrev pub AreAdmitted : Option Outlook → Choices → ℕ → End → Test → Type 0
 AreAdmitted None c n e test = tested test (entered c) ≡ True
 AreAdmitted (Some outlook) c n e test = Explores c outlook n e test
@@ -73,7 +75,7 @@ AreAdmitted (Some outlook) c n e test = Explores c outlook n e test
 unfoldable pub ChoicesStand : Search → Asked → Type 0
 ChoicesStand s asked = StandsBy s.choices asked
 
--- the labels of a search are tested true: all, or where it has an outlook all but the last
+-- the labels of a search are tested true: all, or where it has an outlook all but the last, whose row the outlook explores
 unfoldable pub LabelsStand : Search → Asked → Type 0
 LabelsStand s asked = AreAdmitted s.outlook s.choices asked.known asked.end (test_from s.choices asked)
 
@@ -82,7 +84,8 @@ unfoldable pub LabelsBelow : Search → Asked → Type 0
 LabelsBelow s asked = AreBelow asked.variables (entered s.choices)
 
 -- A search fits what is asked: the words that it has passed over are refused, its choices stand for all others, and its
--- labels are tested true (where it has an outlook all but the last) and of variables that are tested.
+-- labels are tested true and of variables that are tested. Where it has an outlook, all labels but the last are tested true, and
+-- the outlook has as many words as would follow the last one's row, with no more turns left for them.
 pub record SearchFits (s : Search) (asked : Asked) : Type 0 where
   pub stands : ChoicesStand s asked
   pub labels : LabelsStand s asked

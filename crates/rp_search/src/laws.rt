@@ -5,8 +5,8 @@ ghost use Rattle.rp_search.specs.Search.{SearchFitsStays, LeftIsBounded, LeftIsS
 use rp_pattern::law_labels;
 
 /// The laws of what is found. A match is one of the words, and the first that isn't refused. What is found stays over
-/// every continuation unless it waits, and where it waits it goes on from the word where it waited. Over a closed end
-/// nothing is waited for. What is refused or good stays so.
+/// whatever comes later unless it waits, and where it waits it goes on from the word where it waited. Where each word is
+/// full, as over a closed end, and no test is open, nothing is waited for. What is refused or good stays so.
 pub fn law_found()
     ensures word { MatchIsWord }
     ensures stays { FoundStays }

@@ -64,7 +64,7 @@ pub data Derives : Level → List ℕ → Tree → Type 0 where
 abbrev pub symbols_of : List ℕ → List ℕ
 symbols_of text = filter (λ b. not (b == space)) text
 
--- The form is one that a `Pattern` may have (bounds in order and within their limits), and each of its variables is one of the
+-- The form is one that a `Pattern` may have (bounds in order and within their limits, and 1 to MAX_PARTS parts in a PERMUTE), and each of its variables is one of the
 -- letters A to Z.
 abbrev pub IsLettered : Form → Type 0
 IsLettered form = IsTrue (is_allowed form) × (are_below VARIABLES form ≡ true)

@@ -10,6 +10,6 @@ use Rattle.rp_trace.specs.LetterTest.{letter_test}
 abbrev pub line_of : Letters → List ℕ
 line_of letters = letters.line.now
 
--- a closed partition with a row for each letter, and the variables A to Z of a pattern
+-- what is asked of a line: a closed partition with a row for each letter, the variables A to Z, and the tests of the letters
 abbrev pub asked_of_line : List ℕ → Asked
 asked_of_line line = record { known = length line; end = Closed; variables = VARIABLES; outcome = letter_test line }

@@ -32,7 +32,7 @@ found_text (Match labels) = match_text labels
 found_text Waits = []
 found_text NoMatch = codes "none"
 
--- what is written for what the search from row 1 on over a closed partition with these letters finds; an empty line has no row 1
+-- what is written for what the search from row 1 on over a closed partition with these letters finds; `none` for an empty line, which has no row 1
 abbrev pub search_text : Form → List ℕ → List ℕ
 search_text form [] = codes "none"
 search_text form (letter ∷ letters) = found_text (found (letter_test (letter ∷ letters) 1) (words (length (letter ∷ letters)) Closed form 1))

@@ -34,7 +34,7 @@ holds _ _ = false
 -- the truth value of a comparison of two values in this order: unknown where they can't be compared
 abbrev pub order_truth : Comparison → Option Ordering → Tri
 order_truth compares None = Unknown
-order_truth compares (Some order) = if holds compares order then True else False
+order_truth compares (Some found) = if holds compares found then True else False
 
 -- the truth value of a comparison: unknown where one of the values is null, and where their kinds differ
 abbrev pub comparison_truth : Comparison → Value → Value → Tri
