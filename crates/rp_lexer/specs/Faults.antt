@@ -5,7 +5,7 @@ use Rattle.rp_lexer.specs.Lexes.{is_separator, IsLongest, IsInRange, LexesUpTo}
 use Rattle.rp_lexer.specs.declared.fault.LexFault.{LexFault}
 use Rattle.rp_lexer.specs.declared.fault.LexFault.TheVariants.{BadChar, OpenText, OpenName, NumberRange, OutOfMemory}
 use Rattle.rp_lexer.specs.declared.kind.TokenKind.{TokenKind}
-use Rattle.rp_lexer.specs.declared.kind.TokenKind.TheVariants as kind
+use Rattle.rp_lexer.specs.declared.kind.TokenKind.TheVariants as kinds
 use Rattle.rp_lexer.specs.declared.token.Token.{Token}
 
 -- the byte is no separator, and no token begins with it
@@ -30,7 +30,7 @@ IsFault text (BadChar at) = (at < length text) × (IsStray (slice_index text at)
 IsFault text (OpenText at) = IsUnclosed single_quote text at
 IsFault text (OpenName at) = IsUnclosed double_quote text at
 IsFault text (NumberRange at) =
-    (end : ℕ) × IsLongest text kind.Number at end × (IsInRange (slice_range text at end) → ⊥)
+    (end : ℕ) × IsLongest text kinds.Number at end × (IsInRange (slice_range text at end) → ⊥)
 IsFault text OutOfMemory = ⊥
 
 -- the offset of a fault; 0 for want of memory, which has none

@@ -6,7 +6,7 @@ pub use Rattle.rp_lexer.specs.Bytes.{single_quote, double_quote}
 use Rattle.rp_lexer.specs.Spelling.{keyword_spelling, mark_spelling}
 use Rattle.rp_lexer.specs.declared.kind.Keyword.{Keyword}
 use Rattle.rp_lexer.specs.declared.kind.TokenKind.{TokenKind}
-use Rattle.rp_lexer.specs.declared.kind.TokenKind.TheVariants as kind
+use Rattle.rp_lexer.specs.declared.kind.TokenKind.TheVariants as kinds
 
 -- a letter or `_`
 abbrev pub is_name_start : ℕ → Bool
@@ -42,12 +42,12 @@ pub record IsDigits (bytes : List ℕ) : Type 0 where
 
 -- the bytes have the form of a token of the kind
 abbrev pub HasForm : TokenKind → List ℕ → Type 0
-HasForm kind.Name bytes = IsIdentifier bytes × ((word : Keyword) → SpellsAlike bytes (keyword_spelling word) → ⊥)
-HasForm (kind.Keyword word) bytes = IsIdentifier bytes × SpellsAlike bytes (keyword_spelling word)
-HasForm kind.Quoted bytes = (inside : List ℕ) × (inside ≢ []) × (bytes ≡ enclosed double_quote inside)
-HasForm kind.Text bytes = (inside : List ℕ) × (bytes ≡ enclosed single_quote inside)
-HasForm kind.Number bytes = IsDigits bytes
-HasForm (kind.Mark mark) bytes = bytes ≡ mark_spelling mark
+HasForm kinds.Name bytes = IsIdentifier bytes × ((word : Keyword) → SpellsAlike bytes (keyword_spelling word) → ⊥)
+HasForm (kinds.Keyword word) bytes = IsIdentifier bytes × SpellsAlike bytes (keyword_spelling word)
+HasForm kinds.Quoted bytes = (inside : List ℕ) × (inside ≢ []) × (bytes ≡ enclosed double_quote inside)
+HasForm kinds.Text bytes = (inside : List ℕ) × (bytes ≡ enclosed single_quote inside)
+HasForm kinds.Number bytes = IsDigits bytes
+HasForm (kinds.Mark mark) bytes = bytes ≡ mark_spelling mark
 
 -- a token of some kind begins with these bytes, or is these bytes
 pub record BeginsToken (bytes : List ℕ) : Type 0 where

@@ -4,7 +4,7 @@ use Rattle.std.specs.Str.Parse.{digits_value}
 use Rattle.rp_lexer.specs.Bytes.{space, tab, carriage_return, line_feed, minus_sign}
 use Rattle.rp_lexer.specs.Forms.{HasForm, BeginsToken}
 use Rattle.rp_lexer.specs.declared.kind.TokenKind.{TokenKind}
-use Rattle.rp_lexer.specs.declared.kind.TokenKind.TheVariants as kind
+use Rattle.rp_lexer.specs.declared.kind.TokenKind.TheVariants as kinds
 use Rattle.rp_lexer.specs.declared.token.Token.{Token}
 
 -- space, tab, CR and LF
@@ -44,7 +44,7 @@ IsInRange digits = digits_value 10 digits < 2 ^ 63
 pub record IsToken (text : List ℕ) (token : Token) : Type 0 where
   pub longest : IsLongest text token.kind token.start token.end
   pub no_comment : CommentBegins text token.start → ⊥
-  pub in_range : token.kind ≡ kind.Number → IsInRange (slice_range text token.start token.end)
+  pub in_range : token.kind ≡ kinds.Number → IsInRange (slice_range text token.start token.end)
 
 -- From one place up to another stand these tokens in order, none within another, with separators and comments alone round them.
 abbrev pub LexesUpTo : List ℕ → ℕ → List Token → ℕ → Type 0

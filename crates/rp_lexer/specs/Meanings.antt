@@ -4,7 +4,7 @@ use Rattle.std.specs.Char.{to_ascii_uppercase}
 use Rattle.std.specs.Str.Parse.{digits_value}
 use Rattle.rp_lexer.specs.Forms.{IsIdentifier, enclosed, single_quote, double_quote}
 use Rattle.rp_lexer.specs.declared.kind.TokenKind.{TokenKind}
-use Rattle.rp_lexer.specs.declared.kind.TokenKind.TheVariants as kind
+use Rattle.rp_lexer.specs.declared.kind.TokenKind.TheVariants as kinds
 use Rattle.rp_lexer.specs.declared.token.Token.{Token}
 
 -- the bytes of a token
@@ -14,8 +14,8 @@ bytes_of text token = slice_range text token.start token.end
 -- The bytes of a token of this kind mean the name: those of a name its upper-case form, those of a quoted name what stands inside its
 -- quotes, where two in a row stand for one. Those of another kind mean none.
 abbrev pub MeansName : TokenKind → List ℕ → List ℕ → Type 0
-MeansName kind.Name bytes name = name ≡ map to_ascii_uppercase bytes
-MeansName kind.Quoted bytes name = bytes ≡ enclosed double_quote name
+MeansName kinds.Name bytes name = name ≡ map to_ascii_uppercase bytes
+MeansName kinds.Quoted bytes name = bytes ≡ enclosed double_quote name
 MeansName _ bytes name = ⊥
 
 -- The bytes of a text literal mean what stands inside its quotes, where two in a row stand for one.
