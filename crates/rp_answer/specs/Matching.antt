@@ -51,7 +51,7 @@ abbrev pub HoldsNoMore : QueryData → Known → MatcherState → Type 0
 HoldsNoMore q p r = horizon_of q p r ≤ r.first ⊎ count p < r.first
 
 -- What a poll comes to by what is known: the next item with its place, or nothing. Only an item raises the number of given items,
--- and where nothing comes before the end, no start row that the walk comes to is greater than the record's.
+-- and where a poll is idle and the answer isn't over, no start row that the walk comes to is greater than the record's.
 pub record PollComesTo (q : QueryData) (k : Known) (old new : MatcherState) (answer : Poll) : Type 0 where
   pub answers : Answers q k old new answer
   pub given : GivenBy old.given new.given answer

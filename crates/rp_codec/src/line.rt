@@ -23,7 +23,7 @@ pub fn reply_line(alloc: Global, reply: &Reply) -> Result<String, AllocError>
     string_of(text)
 }
 
-/// Adds the line of a reply to a text, without its line feed. Where memory is refused, a front of it may be added.
+/// Adds the line of a reply to a text, without its line feed. Where memory is refused, some bytes may be added.
 pub fn push_reply_line(alloc: Global, text: &mut Vec<u8>, reply: &Reply) -> Result<(), AllocError>
     ensures text { OnOk result (text.new.items ≡ text.old.items ++ reply_text reply.now) }
     ensures within { OnOk result (IsWithin reply.now) }
@@ -37,7 +37,7 @@ pub fn push_reply_line(alloc: Global, text: &mut Vec<u8>, reply: &Reply) -> Resu
 }
 
 /// Adds the line of an item of a partition's answer to a text, without its line feed. The key is lent, since all items
-/// of a partition have it. Where memory is refused, a front of the line may be added.
+/// of a partition have it. Where memory is refused, some bytes may be added.
 pub fn push_item_line(
     alloc: Global,
     text: &mut Vec<u8>,

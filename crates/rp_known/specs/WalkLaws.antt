@@ -17,7 +17,7 @@ pub record IsPrefixOf (xs ys : List Item) : Type 0 where
 abbrev pub KnownGrows : Type 0
 KnownGrows = (q : QueryData) (p p' : Known) → IsSound q → Continues p p' → IsPrefixOf (known q p) (known q p')
 
--- a leg that goes on or ends stays, and one that pauses has given what it will give first
+-- a leg that goes on or ends stays, and what a leg that pauses has given comes first of what it gives later
 abbrev pub Stays : Leg → Leg → Type 0
 Stays (Goes xs next) new = new ≡ Goes xs next
 Stays (Pauses xs) new = IsPrefixOf xs (leg_items new)

@@ -22,7 +22,8 @@ abbrev pub TellsFailure : {X : Type 0} → Result X CsvFault → ℕ → ℕ →
 TellsFailure (Err Read) old new = new ≡ raised old
 TellsFailure _ old new = new ≡ old
 
--- The end was told where there is an answer, or a fault of the text; where reading was cut short it was not told anew.
+-- The end was told where there is an answer, or a fault of the text; where reading was cut short it was not told anew; want of memory
+-- may come before or after it.
 abbrev pub TellsEnd : {X : Type 0} → Result X CsvFault → Bool → Bool → Type 0
 TellsEnd (Ok _) old new = new ≡ true
 TellsEnd (Err Header) old new = new ≡ true

@@ -29,6 +29,6 @@ rows_order (o ∷ os) a b = ordering_then (column_order o a b) (rows_order os a 
 abbrev pub is_before : List OrderColumn → List Value → List Value → Bool
 is_before order a b = is_lt (rows_order order a b)
 
--- the same rows in order; those that tie stand as they came
+-- Sorted; and of each row, those that tie with it are the same ones as before, in the order in which they came.
 abbrev pub IsOrdered : List OrderColumn → List (List Value) → List (List Value) → Type 0
 IsOrdered order rows ordered = IsSortedBy (is_before order) ordered × IsStableBy (is_before order) rows ordered

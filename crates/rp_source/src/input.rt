@@ -1,5 +1,5 @@
 //! All bytes of an input, and their rows.
-ghost use Rattle.std.specs.Prelude.{◌≡◌, ◌≤◌, IfOk, IfErr, IfSome, OnOk, Err, true};
+ghost use Rattle.std.specs.Prelude.{◌≡◌, ◌≤◌, length, IfOk, IfErr, IfSome, OnOk, Err, true};
 ghost use Rattle.std.specs.Io.KnownBytes.{Consumes, IsAtEnd};
 ghost use Rattle.rp_lines.specs.Devices.{MakesCalls, after_calls};
 ghost use Rattle.rp_source.specs.CsvRows.{AreRowsOf};
@@ -25,6 +25,7 @@ pub fn read_rows<R: Intake>(
     ensures end { TellsEnd result (R.ended reader.old) (R.ended reader.new) }
     ensures failures { TellsFailure result (R.failures reader.old) (R.failures reader.new) }
     ensures turns { result ≡ Err CsvFault.Turns → R.calls reader.new ≡ after_calls reads (R.calls reader.old) }
+    ensures gave { result ≡ Err CsvFault.Turns → IfSome (R.remaining reader.old) (λ text. reads ≤ length text) }
     ensures within { MakesCalls 0 reads (R.calls reader.old) (R.calls reader.new) }
 {
     let text = read_all(alloc, reader, reads)?;
@@ -39,6 +40,7 @@ fn read_all<R: Intake>(alloc: Global, reader: &mut R, reads: u64) -> Result<Vec<
     ensures end { TellsEnd result (R.ended reader.old) (R.ended reader.new) }
     ensures failures { TellsFailure result (R.failures reader.old) (R.failures reader.new) }
     ensures turns { result ≡ Err CsvFault.Turns → R.calls reader.new ≡ after_calls reads (R.calls reader.old) }
+    ensures gave { result ≡ Err CsvFault.Turns → IfSome (R.remaining reader.old) (λ text. reads ≤ length text) }
     ensures within { MakesCalls 0 reads (R.calls reader.old) (R.calls reader.new) }
 {
     let mut bytes = Vec::new(alloc);

@@ -27,12 +27,12 @@ PollIs q p old new PausedPoll = new.given ≡ old.given
 unfoldable pub left_in : QueryData → Known → Walker → ℕ
 left_in q p w = left_with q p w.state w.stage
 
--- how many calls of `enter` its searches have made, by the count of their tests
+-- the walker's own count of the calls of `enter` that its searches have made
 unfoldable pub entered_by : Walker → ℕ
 entered_by w = w.entered
 
--- No more turns are taken than the budget. Each is counted and enters one row at most, so no more rows are entered than
--- turns are counted; the count of the entered rows never falls.
+-- At most budget turns are counted, and the number of rows entered, as the walker keeps it, rises by no more than they do;
+-- the count of the entered rows never falls.
 abbrev pub TurnsAreCounted : ℕ → ℕ → ℕ → ℕ → ℕ → Type 0
 TurnsAreCounted budget steps steps' entered entered' =
     (steps' ≤ steps + budget) × (entered' + steps ≤ entered + steps') × (entered ≤ entered')
@@ -43,7 +43,7 @@ PollTakes budget steps steps' (ItemPoll k x) = steps < steps'
 PollTakes budget steps steps' IdlePoll = steps ≤ steps'
 PollTakes budget steps steps' PausedPoll = steps' ≡ steps + budget
 
--- so many turns at least are taken off what is left
+-- a paused poll takes its budget off what is left, an item one turn at least, and an idle poll doesn't raise it
 abbrev pub PollLowers : ℕ → ℕ → ℕ → Poll → Type 0
 PollLowers budget before after (ItemPoll k x) = after < before
 PollLowers budget before after IdlePoll = after ≤ before

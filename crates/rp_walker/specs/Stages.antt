@@ -78,7 +78,7 @@ pub record Gives (q : QueryData) (p : Known) (place : Place) (result : Found) (a
   pub ordered : ahead.next ≤ ahead.end
   pub high : ahead.end ≤ suc (count p)
 
--- A record whose answer goes on.
+-- A record whose answer goes on and that can go on: from row 1, with fewer matches than its row, and what it reads is kept.
 pub record IsGoing (q : QueryData) (r : MatcherState) : Type 0 where
   pub going : r.over ≡ false
   pub from_one : 1 ≤ r.at
@@ -86,6 +86,7 @@ pub record IsGoing (q : QueryData) (r : MatcherState) : Type 0 where
   pub kept : r.first ≤ first_read q r.at
   pub enough : r.here ≤ r.given
 
+-- what a stage holds stands over what is known
 abbrev pub StageStands : QueryData → Known → MatcherState → Stage → Type 0
 StageStands q p r (Begin spare) = IsSpare q spare
 StageStands q p r (Searching run) = Searches q p r.at run

@@ -26,11 +26,12 @@ stands_by false q p w = GoesOnWell q p w
 unfoldable pub record_of : Walker → MatcherState
 record_of w = w.state
 
--- what it has found so far fits these rows
+-- While the answer goes on, what it has found so far fits these rows; once it is over, no more were given of the last search than in
+-- all.
 unfoldable pub Stands : QueryData → Known → Walker → Type 0
 Stands q p w = stands_by w.state.over q p w
 
--- Only the conditions of `resume` are asked of a record.
+-- With 1 ≤ first, all that `resume` asks of a record.
 pub record CanGoOn (q : QueryData) (r : MatcherState) : Type 0 where
   pub here : r.here ≤ r.given
   pub going : r.over ≡ false → (1 ≤ r.at) × (r.matches < r.at) × (r.first ≤ first_read q r.at)

@@ -1,5 +1,5 @@
 //! From a CSV input to the lines of its answers.
-ghost use Rattle.std.specs.Prelude.{◌≡◌, ◌<◌, true, IfErr, OnErr, OnOk};
+ghost use Rattle.std.specs.Prelude.{◌≡◌, ◌<◌, ◌≤◌, length, IfSome, true, IfErr, OnErr, OnOk};
 ghost use Rattle.std.specs.Io.KnownBytes.{Appends};
 ghost use Rattle.std.specs.List.{flat_map};
 ghost use Rattle.rp_check.specs.QueryView.{data_of};
@@ -43,6 +43,7 @@ pub fn run_whole<R: Intake, W: Outlet>(
     ensures write { TellsWrite result (W.failures writer.old) (W.failures writer.new) }
     ensures turns { result ≡ Err (WholeFault.Csv Turns) → R.calls reader.new ≡ after_calls reads (R.calls reader.old) }
     ensures untold { result ≡ Err (WholeFault.Csv Turns) → R.ended reader.new ≡ R.ended reader.old }
+    ensures gave { result ≡ Err (WholeFault.Csv Turns) → IfSome (R.remaining reader.old) (λ text. reads ≤ length text) }
     ensures within { MakesCalls 0 reads (R.calls reader.old) (R.calls reader.new) }
 {
     let rows = read_rows(alloc, reader, query.table(), reads)?;

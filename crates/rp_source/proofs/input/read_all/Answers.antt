@@ -1,6 +1,7 @@
-use Rattle.std.proofs.Common.{◌≡◌, ◌∙◌, ◌+◌, refl, ◌++◌, take, drop, length, arith, ap, rules}
+use Rattle.std.proofs.Common.{◌≡◌, ◌∙◌, ◌+◌, ◌-◌, refl, ◌++◌, take, drop, length, arith, ap, rules, length-take-le}
 use Rattle.std.proofs.KnownBytes.{Consumes-trans}
 use Rattle.rp_lines.specs.Counts.{raised}
+use Rattle.rp_lines.proofs.Giving.{AsManyBytesAsReads-all, AsManyBytesAsReads-read, AsManyBytesAsReads-start, AsManyBytesAsReads-trans}
 use Rattle.rp_source.proofs.Calls.{after_more, whole_of}
 use Rattle.rp_source.proofs.input.read_all.Goals as goal
 
@@ -14,6 +15,10 @@ loop-read-preserved g c =
       goes = c.in-Ok.ensures.no_failure ∙ c.loop-read.invariant.goes;
       calls = c.in-Ok.ensures.calls ∙ ap raised c.loop-read.invariant.calls ∙ after_more c.loop-read._read (g.R.Intake.calls c.args.reader.now);
       ended = c.in-Ok.ensures.more (omega arith) ∙ c.loop-read.invariant.ended;
+      gives =
+          let size : length (take c.in-Ok.count c.read.new.buffer) ≡ c.in-Ok.count = length-take-le c.in-Ok.count c.read.new.buffer c.in-Ok.ensures.within in
+          AsManyBytesAsReads-trans _ _ _ _ _ _ c.loop-read.invariant.gives
+          (AsManyBytesAsReads-read (c.args.reads - c.loop-read._read) (c.args.reads - (c.loop-read._read + 1)) (g.R.Intake.remaining c.loop-read.reader) (g.R.Intake.remaining c.read.new.self) (take c.in-Ok.count c.read.new.buffer) (omega arith) c.in-Ok.ensures.bytes.0 (omega arith));
       room = search rules;
     }
 
@@ -57,3 +62,18 @@ returns-in_err-extend_from_slice-clause-within g c = (
 
 pub returns-clause-within : goal.returns-clause-within
 returns-clause-within g c = (c.loop-read._read, omega arith, omega arith, c.loop-read.invariant.calls)
+
+pub returns-clause-gave : goal.returns-clause-gave
+returns-clause-gave g c = λ is. AsManyBytesAsReads-all c.args.reads (c.args.reads - c.loop-read._read) _ _ (omega arith) c.loop-read.invariant.gives
+
+pub loop-read-init : goal.loop-read-init
+loop-read-init g c = record {
+  consumes = search rules;
+  goes = refl;
+  calls = refl;
+  ended = refl;
+  gives =
+      let all : c.args.reads - 0 ≡ c.args.reads = omega arith in
+      rw all (AsManyBytesAsReads-start c.args.reads (g.R.Intake.remaining c.args.reader.now));
+  room = search rules;
+}

@@ -1,6 +1,6 @@
-use Rattle.std.proofs.Common.{◌≡◌, length}
+use Rattle.std.proofs.Common.{◌≡◌, ◌-◌, length}
 use Rattle.std.specs.Io.KnownBytes.{Consumes}
-use Rattle.rp_lines.specs.Devices.{after_calls}
+use Rattle.rp_lines.specs.Devices.{AsManyBytesAsReads, after_calls}
 use Rattle.rp_source.proofs.input.read_all.Given as goal
 
 abbrev pub invariant-loop-read : goal.invariant-loop-read
@@ -9,5 +9,6 @@ invariant-loop-read g l = record {
   goes : g.R.Intake.failures l.reader ≡ g.R.Intake.failures l.fn.reader;
   calls : g.R.Intake.calls l.reader ≡ after_calls l._read (g.R.Intake.calls l.fn.reader);
   ended : g.R.Intake.ended l.reader ≡ g.R.Intake.ended l.fn.reader;
+  gives : AsManyBytesAsReads l.reads (l.reads - l._read) (g.R.Intake.remaining l.fn.reader) (g.R.Intake.remaining l.reader);
   room : length l.chunk.items ≡ 65536;
 }
