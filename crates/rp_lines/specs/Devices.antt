@@ -11,7 +11,7 @@ after_calls (suc more) count = after_calls more (raised count)
 abbrev pub MakesCalls : ℕ → ℕ → ℕ → ℕ → Type 0
 MakesCalls least most old new = (made : ℕ) × (least ≤ made) × (made ≤ most) × (new ≡ after_calls made old)
 
--- Of the calls that were allowed before, those that are allowed no more were made: by them the count of calls has gone from old to new.
+-- As many calls were made as fewer are allowed after than before: by them the count of calls has gone from old to new.
 abbrev pub UsesCalls : ℕ → ℕ → ℕ → ℕ → Type 0
 UsesCalls before after old new = (made : ℕ) × (made + after ≡ before) × (new ≡ after_calls made old)
 
@@ -28,7 +28,7 @@ AppendsFront None new bytes = Unit {0}
 AppendsFront (Some xs) None bytes = ⊥
 AppendsFront (Some xs) (Some ys) bytes = (front : List ℕ) × (rest : List ℕ) × (bytes ≡ front ++ rest) × (ys ≡ xs ++ front)
 
--- The bytes written, where they are known, grow by the first ones of a text, and the rest of the text is kept.
+-- Where the bytes written are known: they grow by the first ones of a text, and the rest of the text is kept.
 abbrev pub Moves : Option (List ℕ) → List ℕ → Option (List ℕ) → List ℕ → Type 0
 Moves None text new rest = Unit {0}
 Moves (Some xs) text None rest = ⊥

@@ -168,7 +168,8 @@ pub fn write_block<W: Outlet>(writer: &mut W, text: &mut Vec<u8>) -> Result<(), 
     ensures no_failure { OnOk result (W.failures writer.new ≡ W.failures writer.old) }
     ensures few { OnOk result (vec_len text.new < BLOCK) }
     ensures calls { OnOk result (MakesCalls 0 (length text.old.items) (W.calls writer.old) (W.calls writer.new)) }
-    ensures calls_failed { OnErr result (MakesCalls 1 (length text.old.items) (W.calls writer.old) (W.calls writer.new)) }
+    ensures calls_failed { OnErr result
+        (MakesCalls 1 (length text.old.items) (W.calls writer.old) (W.calls writer.new)) }
 {
     if text.len() < BLOCK {
         return Ok(());

@@ -17,7 +17,8 @@ use Rattle.rp_pattern.specs.Continuations.{tail_parts, later_parts, chain_words,
 unfoldable pub start_of : Choices → ℕ
 start_of c = c.start
 
--- the labels as they stand: those of the rows before the preferred choice, and of the row that it maps
+-- the labels as they stand: those before the choice that was taken up or given up last and, until it is given up, that
+-- of the row that it maps. The preferred choice may have fewer before it; when it is taken up, they are cut back to it.
 unfoldable pub entered : Choices → List Label
 entered c = c.labels.items
 
@@ -120,7 +121,7 @@ pub record IsSameRemaining (old new : Choices) (n : ℕ) (e : End) : Type 0 wher
   pub turns : AtEachLater n e (λ n' e'. turns_left new n' e' ≡ turns_left old n' e')
 
 -- The preferred choice maps a row: the remaining words are those that may follow the row, each behind the labels up to
--- it, and then those below. So are the turns left, with one for admitting the row.
+-- it, and then those below. So are the turns left, with one for the row itself.
 pub record DividesAtRow (c : Choices) (n : ℕ) (e : End) : Type 0 where
   pub words : AtEachLater n e (λ n' e'. remaining c n' e' ≡ map (preceded (entered c)) (after c n' e') ++ below c n' e')
   pub turns : AtEachLater n e (λ n' e'. turns_left c n' e' ≡ 1 + turns_left_after c n' e' + turns_left_below c n' e')

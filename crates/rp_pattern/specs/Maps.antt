@@ -1,7 +1,7 @@
 -- Which mappings a pattern has, rule by rule, with no list and no order of preferment.
 -- Source: the row patterns of ISO/IEC 9075-2:2016, as ISO/IEC TR 19075-5:2016 explains them. Three rules are this
--- project's own: an iteration past the required ones takes a row, a bound may be 0, and past the last row of an open
--- partition a mapping is open.
+-- project's own: an iteration past the required ones takes a row, a bound may be 0, and past the last known row of an
+-- open partition a mapping is open.
 use Rattle.std.specs.Prelude.{◌≡◌, ℕ, zero, suc, ◌+◌, ◌-◌, ◌<◌, ◌≤◌, Bool, false, List, [], ◌∷◌, map, length, Option, Some, None, Contains, IsPermutation, ⊤, ◌↔◌}
 use Rattle.std.specs.declared.vec.Vec.{Vec}
 use Rattle.std.specs.declared.rc.Rc.{Rc}

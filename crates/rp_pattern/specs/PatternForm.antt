@@ -2,6 +2,6 @@
 use Rattle.rp_pattern.specs.declared.form.Form.{Form}
 use Rattle.rp_pattern.specs.declared.form.Pattern.{Pattern}
 
--- the tree of a pattern
+-- the form of a pattern
 unfoldable pub form_of : Pattern → Form
 form_of p = p.form

@@ -90,7 +90,8 @@ pub data IsPreferred : List ℕ → List ℕ → Type 0 where
   here : {x y : ℕ} {c d : List ℕ} → x < y → IsPreferred (x ∷ c) (y ∷ d)
   later : {x : ℕ} {c d : List ℕ} → IsPreferred c d → IsPreferred (x ∷ c) (x ∷ d)
 
--- These are the readings of a pattern, with their mappings, all of them, each before those that it is preferred to.
+-- These are the readings of a pattern, with their mappings: all of them, each preferred to all that come after it, so
+-- that none stands twice.
 pub record AreReadings (n : ℕ) (e : End) (f : Form) (i : ℕ) (readings : List (List ℕ × Mapping)) : Type 0 where
   pub each : All (λ r. MapsBy n e f i r.0 r.1) readings
   pub every : (c : List ℕ) (w : Mapping) → MapsBy n e f i c w → Contains readings (c, w)

@@ -1,5 +1,6 @@
--- How many turns a search takes at most, over rows that no condition refuses. A turn takes up one choice: to take a form apart is
--- a turn of its own, and so is to stop iterating.
+-- How many turns a search takes at most, over rows that no condition refuses. A turn takes up one choice: to take a
+-- form apart is a turn of its own, and so is to stop iterating. Not counted are turns that take up a choice of which
+-- nothing is left, one for each full word, and a last turn that finds no choice.
 -- The count is this project's own: the standard has none.
 use Rattle.std.specs.Prelude.{ℕ, zero, suc, ◌+◌, ◌-◌, Bool, List, [], ◌∷◌, map, length, drop, sum_by, nat_lt, if◌then◌else◌}
 use Rattle.std.specs.List.{flat_map}
@@ -69,7 +70,7 @@ turns_step n e (Exclusion p) = λ i. 1 + p.value.1 i
 turns_step n e (Quantified p lower upper reluctant) =
     required_turns lower (part n e p.value) (optional_turns (part n e p.value) (further n lower upper))
 
--- how many choices a search takes up at most, from a row, over the rows 1 to n and that end
+-- how many choices of which something is left a search takes up at most, from a row, over the rows 1 to n and that end
 abbrev pub turns : ℕ → End → Form → TurnCounts
 turns n e = para-Form TurnCounts (turns_step n e)
 

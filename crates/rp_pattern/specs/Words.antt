@@ -1,7 +1,7 @@
 -- The words of a pattern: the ways to map rows to it from a row on, in preferment order.
 -- Source: the row patterns of ISO/IEC 9075-2:2016, as ISO/IEC TR 19075-5:2016 explains them. Three rules are this
--- project's own: an iteration past the required ones takes a row, a bound may be 0, and past the last row of an open
--- partition a word is open.
+-- project's own: an iteration past the required ones takes a row, a bound may be 0, and past the last known row of an
+-- open partition a word is open.
 use Rattle.std.specs.Prelude.{ℕ, zero, suc, ◌+◌, ◌-◌, Bool, true, false, List, [], ◌∷◌, ◌++◌, map, length, nat_le, nat_lt, nat_eq, if◌then◌else◌, Option, Some, None}
 use Rattle.std.specs.List.{flat_map, filter}
 use Rattle.rp_pattern.specs.declared.form.Form.{Form}
@@ -79,7 +79,8 @@ moving p i = filter moves (p i)
 abbrev pub only_past : ℕ → Mappings
 only_past since i = if nat_lt since i then Full [] ∷ [] else []
 
--- whether the quantifier is reluctant: a greedy one prefers another iteration to stopping, a reluctant one prefers stopping
+-- the words of another iteration and those of stopping, the preferred ones first, by whether the quantifier is
+-- reluctant: a greedy one prefers another iteration to stopping, a reluctant one prefers stopping
 abbrev pub preferred : Bool → List Mapping → List Mapping → List Mapping
 preferred false another stop = another ++ stop
 preferred true another stop = stop ++ another

@@ -66,7 +66,8 @@ impl Choices {
             turns n e (form_of pattern.now) row + length (words n e (form_of pattern.now) row)) }
         ensures whole { IfOk result (λ c. (n : ℕ) (e : End) → whole c n e ≡ words n e (form_of pattern.now) start) }
         ensures whole_turns { IfOk result (λ c. (n : ℕ) (e : End) →
-            whole_turns c n e ≡ turns n e (form_of pattern.now) start + length (words n e (form_of pattern.now) start)) }
+            whole_turns c n e ≡
+            turns n e (form_of pattern.now) start + length (words n e (form_of pattern.now) start)) }
         ensures remaining { IfOk result (λ c. (n : ℕ) (e : End) → remaining c n e ≡ whole c n e) }
         ensures left { IfOk result (λ c. (n : ℕ) (e : End) → turns_left c n e ≡ whole_turns c n e) }
     {
@@ -85,7 +86,8 @@ impl Choices {
         })
     }
 
-    /// The labels of the rows before the preferred choice, and of the row that it maps.
+    /// The labels of the rows before the choice that was taken up or given up last and, until that is given up, of the
+    /// row that it maps. When the preferred choice is taken up, they are cut back to those before it.
     #[inline]
     pub fn labels(&self) -> &[Label]
         ensures { result.now ≡ entered self.now }

@@ -12,7 +12,7 @@ ghost use Rattle.rp_pattern.specs.Readings.{WordsAreReadings, ReadingsAreOne, On
 pub fn law_words()
     ensures mappings { WordsAreMappings }
     ensures readings { WordsAreReadings }
-    ensures one_list { ReadingsAreOne }
+    ensures one_reading_list { ReadingsAreOne }
     ensures one_mapping { OneMappingEach }
     ensures extend { WordsExtend }
     ensures no_bound { StarEquation }

@@ -43,8 +43,9 @@ impl<T: Drop> From<AllocFailed<T>> for ListFault {
 }
 
 /// All words of the pattern from row `row` on, over the rows 1 to `last` and that end, in preferment order. Equal words
-/// that the pattern lists more than once stand there as often. `TooMany` where there are more than `cap`: no more than
-/// `cap + 1` of them are looked for, so a pattern of countless words is refused at once.
+/// that the pattern lists more than once stand there as often. `TooMany` where there are more than `cap`: the listing
+/// stops at the first word beyond them, and doesn't go through the others. How many turns it takes to come to a word
+/// isn't bounded by `cap`.
 pub fn list_words(
     alloc: Global,
     pattern: &Pattern,

@@ -40,7 +40,7 @@ status_from w OpenTest = Undecided
 abbrev pub status : Test → Mapping → Status
 status test w = status_from w (tested test (labels_of w))
 
--- what is found among words: a match with its labels, none, or that rows must come first
+-- what is found among words: a match with its labels, none, or that rows or the close must come first
 pub data Found : Type 0 where
   Match : List Label → Found
   NoMatch : Found

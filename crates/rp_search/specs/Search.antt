@@ -29,7 +29,8 @@ start_of_search s = start_of s.choices
 unfoldable pub words_from : Search → ℕ → End → ℕ → List Mapping
 words_from s n e row = whole_from s.choices n e row
 
--- how many turns it takes from that row at most, and one more for each word
+-- how many turns it takes from that row at most, one for each word among them. A last turn that finds no choice isn't
+-- counted.
 unfoldable pub turns_from : Search → ℕ → End → ℕ → ℕ
 turns_from s n e row = whole_turns_from s.choices n e row
 
@@ -37,12 +38,12 @@ turns_from s n e row = whole_turns_from s.choices n e row
 abbrev pub words_of_search : Search → ℕ → End → List Mapping
 words_of_search s n e = words_from s n e (start_of_search s)
 
--- how many turns it takes from its start row at most, and one more for each word
+-- the same from its start row
 abbrev pub most_turns : Search → ℕ → End → ℕ
 most_turns s n e = turns_from s n e (start_of_search s)
 
--- It is a search for this pattern: from each row it has the pattern's words, and takes at most the pattern's turns and
--- one for each word.
+-- It is a search for this pattern: from each row it has the pattern's words, and takes at most the pattern's turns, one
+-- for each word, and a last one that finds no choice, which `turns_from` doesn't count.
 pub record IsSearchFor (form : Form) (s : Search) : Type 0 where
   pub same_words : (n : ℕ) (e : End) (row : ℕ) → words_from s n e row ≡ words n e form row
   pub same_turns : (n : ℕ) (e : End) (row : ℕ) → turns_from s n e row ≡ turns n e form row + length (words n e form row)
@@ -129,11 +130,13 @@ abbrev pub SearchFitsStays : Type 0
 SearchFitsStays = (s : Search) (old new : Asked) →
     AskedExtend (start_of_search s) old new → SearchFits s old → SearchFits s new
 
--- No more turns are left than the pattern takes from its start row, and one for each word.
+-- A search that fits what is asked has no more turns left than the pattern takes from its start row, and one for each
+-- word.
 abbrev pub LeftIsBounded : Type 0
 LeftIsBounded = (s : Search) (asked : Asked) → SearchFits s asked → left_by s asked ≤ most_turns s asked.known asked.end
 
--- As many turns are left where something else is asked that answers the same: each extends the other.
+-- A search that fits what is asked has as many turns left where something else is asked that answers the same: each
+-- extends the other.
 abbrev pub LeftIsSame : Type 0
 LeftIsSame = (s : Search) (old new : Asked) →
     AskedExtend (start_of_search s) old new → AskedExtend (start_of_search s) new old → SearchFits s old →

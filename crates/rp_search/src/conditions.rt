@@ -19,7 +19,8 @@ pub trait Tests {
 
     ghost subject: { Self → Self.Subject };
 
-    /// What is asked of a subject: its known rows and its end, and what the last of some labels is answered.
+    /// What is asked of a subject: how many rows are known, whether more may come, which variables are tested, and what
+    /// the test of the last of some labels says.
     ghost asked: { Self.Subject → Asked };
 
     /// Whether these labels, from this start row on, are those that were entered: the tests were told of them, and they

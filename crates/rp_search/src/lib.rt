@@ -8,6 +8,7 @@
 //! while search.run(&mut tests, 1_000, &mut steps)? == Outcome::Paused {}
 //! let labels = search.labels(); // after a match
 //! search.restart(2);
+//! tests.cut(0); // no label is entered any more
 //! ```
 //!
 //! What is found is said by `specs/Found`, what is asked by `specs/Asked`, and what a search does by `specs/Search`.

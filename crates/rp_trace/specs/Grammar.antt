@@ -36,7 +36,7 @@ tree_step (Permute ps) = Other
 tree_step (Exclusion p) = Other
 tree_step (Quantified p lower upper reluctant) = quantified_tree lower upper reluctant p.value
 
--- the tree of a pattern
+-- the tree of a form
 abbrev pub tree_of : Form → Tree
 tree_of = fold-Form Tree tree_step
 

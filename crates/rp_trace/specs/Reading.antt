@@ -42,14 +42,15 @@ ReadsOnly level symbols tree rest = (used rest' : List ℕ) (tree' : Tree) → D
 abbrev pub ReadsNone : Level → List ℕ → Type 0
 ReadsNone level symbols = (used rest : List ℕ) (tree : Tree) → Derives level used tree → symbols ≡ used ++ rest → Ends level rest → ⊥
 
--- A front of the symbols derives the form, no other front derives a tree, and fewer symbols are left.
+-- A front of the symbols derives the form, which is lettered. No other front derives a tree where what follows can't go
+-- on with it, and this one no other tree. Fewer symbols are left.
 pub record ReadsForm (level : Level) (symbols : List ℕ) (form : Form) (rest : List ℕ) : Type 0 where
   pub lettered : IsLettered form
   pub reads : ReadsTree level symbols (tree_of form) rest
   pub only : ReadsOnly level symbols (tree_of form) rest
   pub shorter : length rest < length symbols
 
--- No front of the symbols derives a tree, and where that shows `left` of them still follow.
+-- No front of the symbols derives a tree where what follows can't go on with it; `left` is no more than there are symbols.
 pub record StopsAt (level : Level) (symbols : List ℕ) (left : ℕ) : Type 0 where
   pub none : ReadsNone level symbols
   pub within : left ≤ length symbols

@@ -54,10 +54,11 @@ last_reply form (byte ∷ part) = reply_to form (byte ∷ part)
 abbrev pub replies_to : Form → List (List ℕ) → List ℕ
 replies_to form lines = flat_map (reply_to form) lines
 
--- all replies to the lines of an input are written, where its bytes are known
+-- Where the bytes of the input are known: those written, where they are known too, grow by the replies to all of its lines.
 abbrev pub WritesReplies : Form → Option (List ℕ) → Option (List ℕ) → Option (List ℕ) → Type 0
 WritesReplies form input old new = IfSome input (λ bytes. Appends old new (replies_to form (lines_of bytes)))
 
--- the first bytes of these replies are written, perhaps none or all of them
+-- Where the bytes of the input are known: those written, where they are known too, grow by the first bytes of these
+-- replies, perhaps none or all.
 abbrev pub WritesFront : Form → Option (List ℕ) → Option (List ℕ) → Option (List ℕ) → Type 0
 WritesFront form input old new = IfSome input (λ bytes. AppendsFront old new (replies_to form (lines_of bytes)))

@@ -30,7 +30,7 @@ most_numbers = 2 ^ 64 - 1
 abbrev pub summed : List ℤ → Summed
 summed numbers = record { count = length numbers; sum = exact_sum numbers }
 
--- the sum as a value: null where it is outside 64 bits with sign, and 0 where no number was added up
+-- the sum as a value: null where it is outside 64 bits with sign
 abbrev pub sum_value : Summed → Value
 sum_value s = fitted s.sum
 

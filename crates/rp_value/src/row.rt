@@ -122,7 +122,7 @@ pub enum RowFault {
     /// The value in this column, from 1, is neither null nor of the column's kind.
     #[error("kind {0}")]
     Kind(usize),
-    /// No memory was left for the row. It says nothing of the values.
+    /// The values have neither fault, but no memory was left for the row.
     #[error("out of memory")]
     OutOfMemory,
 }

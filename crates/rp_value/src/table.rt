@@ -131,7 +131,7 @@ pub enum TableFault {
     /// Two columns have the same name, byte by byte.
     #[error("DoubleName")]
     DoubleName,
-    /// No memory was left for the table. It says nothing of the list.
+    /// The list has none of these faults, but no memory was left for the table.
     #[error("out of memory")]
     OutOfMemory,
 }

@@ -90,22 +90,22 @@ pub gives_first : (q : QueryData) (p : Known) (place : Place) (result : Found) (
 gives_first q p place result a known found in_rows seen low ordered high rows =
     record { known = known; found = found; in_rows = in_rows; passed = []; rows = rows; seen = seen; fewer = omega (arith, seen, low); low = low; ordered = ordered; high = high }
 
-pub begins_giving : (q : QueryData) (p : Known) (w : Walker) (found : Ended) (a : Ahead) (run : Run) → IsGoing q w.state → Gives q p (place_of w.state) (result_of found) a → a.seen ≡ 0 → MatchTotalled q p w.state.at found → Serves q (run_of found) →
-    KeepsGoing q p w.state (Searching run) (record w { stage = Giving found a }) Went
-begins_giving q p w found a run g gives seen totals serves =
+pub begins_giving : (q : QueryData) (p : Known) (w : Walker) (found : Ended) (a : Ahead) (run : Run) (taken : ℕ) → taken ≤ left_by run.search (asked_by q p) + 1 → IsGoing q w.state → Gives q p (place_of w.state) (result_of found) a → a.seen ≡ 0 → MatchTotalled q p w.state.at found → Serves q (run_of found) →
+    KeepsGoing taken q p w.state (Searching run) (record w { stage = Giving found a }) Went
+begins_giving q p w found a run taken few g gives seen totals serves =
     record {
       given = refl;
       first = refl;
       stands = stands_going q p (record w { stage = Giving found a }) g (gives, omega (arith, seen), totals, serves);
-      lowers = omega (arith, gives.low, gives.ordered, gives.high, left_going q p w.state (Giving found a) g.going gives.known, left_going q p w.state (Searching run) g.going gives.known);
+      lowers = omega (arith, few, gives.low, gives.ordered, gives.high, left_going q p w.state (Giving found a) g.going gives.known, left_going q p w.state (Searching run) g.going gives.known);
       follows = λ within. record { moves = stays_put q p w.state g.going within; is = refl };
     }
 
 -- ---- a search that goes on
 
-pub searches_on : (q : QueryData) (p : Known) (w : Walker) (old new : Run) → IsGoing q w.state → Searches q p w.state.at new → left_by new.search (asked_by q p) + 1 ≤ left_by old.search (asked_by q p) →
-    KeepsGoing q p w.state (Searching old) (record w { stage = Searching new }) Went
-searches_on q p w old new g s fewer =
+pub searches_on : (q : QueryData) (p : Known) (w : Walker) (old new : Run) (taken : ℕ) → IsGoing q w.state → Searches q p w.state.at new → left_by new.search (asked_by q p) + taken ≤ left_by old.search (asked_by q p) →
+    KeepsGoing taken q p w.state (Searching old) (record w { stage = Searching new }) Went
+searches_on q p w old new taken g s fewer =
     record {
       given = refl;
       first = refl;
@@ -120,9 +120,9 @@ stops_here q p r g none within =
     let zero_here : r.here ≡ 0 = omega (arith, no_item) in
     (stays_put q p r g.going within, record { stops = subst IsStop (sym none) tt; all = zero_here ∙ sym (ap (λ t. length (leg_items t)) none) })
 
-pub search_waits : (q : QueryData) (p : Known) (w : Walker) (old new : Run) → IsGoing q w.state → Searches q p w.state.at new → found_at q p w.state.at ≡ Waits → left_by new.search (asked_by q p) ≤ left_by old.search (asked_by q p) →
-    KeepsGoing q p w.state (Searching old) (record w { stage = Searching new }) Idle
-search_waits q p w old new g s found fewer =
+pub search_waits : (q : QueryData) (p : Known) (w : Walker) (old new : Run) (taken : ℕ) → IsGoing q w.state → Searches q p w.state.at new → found_at q p w.state.at ≡ Waits → left_by new.search (asked_by q p) ≤ left_by old.search (asked_by q p) →
+    KeepsGoing taken q p w.state (Searching old) (record w { stage = Searching new }) Idle
+search_waits q p w old new taken g s found fewer =
     let none : leg q p (place_of w.state) ≡ Pauses [] = leg_of q p (place_of w.state) Waits [] s.known found refl in
     record {
       given = refl;
@@ -134,10 +134,11 @@ search_waits q p w old new g s found fewer =
 
 -- ---- a start row that begins
 
-pub from_more : (q : QueryData) (p : Known) (r : MatcherState) (new : Walker) (stage more : Stage) (step : Step) → left_with q p r stage ≤ left_with q p r more → KeepsGoing q p r stage new step → KeepsGoing q p r more new step
-from_more q p r new stage more step h k = record { given = k.given; first = k.first; stands = k.stands; lowers = lower step k.lowers; follows = k.follows }
+pub from_more : (taken : ℕ) (q : QueryData) (p : Known) (r : MatcherState) (new : Walker) (stage more : Stage) (step : Step) → left_with q p r stage ≤ left_with q p r more →
+    KeepsGoing taken q p r stage new step → KeepsGoing taken q p r more new step
+from_more taken q p r new stage more step h k = record { given = k.given; first = k.first; stands = k.stands; lowers = lower step k.lowers; follows = k.follows }
   where
-    lower : (s : Step) → Lowers s (left_with q p r stage) (left_with q p new.state new.stage) → Lowers s (left_with q p r more) (left_with q p new.state new.stage)
+    lower : (s : Step) → Lowers taken s (left_with q p r stage) (left_with q p new.state new.stage) → Lowers taken s (left_with q p r more) (left_with q p new.state new.stage)
     lower Went l = omega (arith, h, l)
     lower (Gave x) l = omega (arith, h, l)
     lower Idle l = omega (arith, h, l)
@@ -163,7 +164,7 @@ left_past q p r stage going h =
     let some : ℕ = stage_left q p r stage + (starts_to q p (count p) - starts_to q p r.at) in
     ap (λ b. cond b 0 (1 + cond (nat_le r.at (count p)) some 0)) going ∙ ap (λ b. 1 + cond b some 0) past
 
-pub waits_past : (q : QueryData) (p : Known) (w : Walker) → IsGoing q w.state → StageStands q p w.state w.stage → count p < w.state.at → p.end ≡ OpenEnd → KeepsGoing q p w.state w.stage w Idle
+pub waits_past : (q : QueryData) (p : Known) (w : Walker) → IsGoing q w.state → StageStands q p w.state w.stage → count p < w.state.at → p.end ≡ OpenEnd → KeepsGoing 1 q p w.state w.stage w Idle
 waits_past q p w g stands past is_open =
     let none : leg q p (place_of w.state) ≡ Pauses [] = leg_past q p (place_of w.state) past ∙ ap at_last is_open in
     record {

@@ -123,10 +123,9 @@ module _ (leads : SearchesLeadOn) (q : QueryData) (p : Known) (w : Walker) (foun
         counted = omega (arith, adds.many, not_past, within);
         within = omega arith;
         ended = subst (λ b. ended_by b q p moved_on) (sym g.going) tt;
-        first = refl;
       }
 
-  pub goes_to : KeepsGoing q p w.state (Giving found a) (record w { state = moved_on; stage = Begin (Some (run_of found)) }) Went
+  pub goes_to : KeepsGoing 1 q p w.state (Giving found a) (record w { state = moved_on; stage = Begin (Some (run_of found)) }) Went
   goes_to =
       record {
         given = refl;
@@ -161,7 +160,7 @@ module _ (q : QueryData) (p : Known) (w : Walker) (stage : Stage) (x : Item) (k 
       let e : length (h.items ++ x ∷ []) ≡ k + 1 = omega (arith, h.many, length-append h.items (x ∷ [])) in
       (ap (λ u. length (leg_items u)) h.is ∙ e, subst IsEnd (sym h.is) tt, subst IsStop (sym h.is) tt)
 
-  gives_last : w.state.here ≡ k → KeepsGoing q p w.state stage (record w { state = gave_last; stage = Begin None }) (Gave x)
+  gives_last : w.state.here ≡ k → KeepsGoing 1 q p w.state stage (record w { state = gave_last; stage = Begin None }) (Gave x)
   gives_last due =
       record {
         given = refl;
@@ -174,12 +173,12 @@ module _ (q : QueryData) (p : Known) (w : Walker) (stage : Stage) (x : Item) (k 
             let at : slice_get (leg_items (leg q p (place_of w.state))) w.state.here ≡ Some x =
             ap (λ t. slice_get (leg_items t) w.state.here) h.is ∙ ap (λ i. slice_get (h.items ++ x ∷ []) i) (due ∙ sym h.many) ∙ get_last h.items x in
             record {
-              moves = record { before = 0; comes = here; counted = omega (arith, due); within = omega (arith, ends.0); ended = record { ends = ends.1; all = sym ends.0 }; first = refl };
+              moves = record { before = 0; comes = here; counted = omega (arith, due); within = omega (arith, ends.0); ended = record { ends = ends.1; all = sym ends.0 } };
               is = (refl, at);
             };
       }
 
-  gave_last_before : w.state.here ≢ k → KeepsGoing q p w.state stage (record w { state = was_last; stage = Begin None }) Idle
+  gave_last_before : w.state.here ≢ k → KeepsGoing 1 q p w.state stage (record w { state = was_last; stage = Begin None }) Idle
   gave_last_before other =
       record {
         given = refl;
@@ -190,21 +189,21 @@ module _ (q : QueryData) (p : Known) (w : Walker) (stage : Stage) (x : Item) (k 
             let ends = in_all (leg q p (place_of w.state)) (last within_old) in
             let here_is : w.state.here ≡ k + 1 = omega (arith, other, not_past, ends.0, within_old) in
             record {
-              moves = record { before = 0; comes = here; counted = omega arith; within = within_old; ended = record { ends = ends.1; all = here_is ∙ sym ends.0 }; first = refl };
+              moves = record { before = 0; comes = here; counted = omega arith; within = within_old; ended = record { ends = ends.1; all = here_is ∙ sym ends.0 } };
               is = (refl, record { stops = ends.2; all = here_is ∙ sym ends.0 });
             };
       }
 
   -- whichever it is
   pub ends_with : (new : Walker) (step : Step) → (w.state.here ≢ k → (step ≡ Idle) × (new ≡ record w { state = was_last; stage = Begin None })) → (w.state.here ≡ k → (step ≡ Gave x) × (new ≡ record w { state = gave_last; stage = Begin None })) →
-      KeepsGoing q p w.state stage new step
+      KeepsGoing 1 q p w.state stage new step
   ends_with new step other due = go (nat_eq w.state.here k) refl
     where
-      go : (b : Bool) → nat_eq w.state.here k ≡ b → KeepsGoing q p w.state stage new step
+      go : (b : Bool) → nat_eq w.state.here k ≡ b → KeepsGoing 1 q p w.state stage new step
       go true e =
           let h = due (grind (arith, nat_tests)) in
-          subst (λ s. KeepsGoing q p w.state stage new s) (sym h.0) (subst (λ n. KeepsGoing q p w.state stage n (Gave x)) (sym h.1) (gives_last (grind (arith, nat_tests))))
+          subst (λ s. KeepsGoing 1 q p w.state stage new s) (sym h.0) (subst (λ n. KeepsGoing 1 q p w.state stage n (Gave x)) (sym h.1) (gives_last (grind (arith, nat_tests))))
       go false e =
           let ne : w.state.here ≢ k = λ same. grind (arith, nat_tests, same) in
           let h = other ne in
-          subst (λ s. KeepsGoing q p w.state stage new s) (sym h.0) (subst (λ n. KeepsGoing q p w.state stage n Idle) (sym h.1) (gave_last_before ne))
+          subst (λ s. KeepsGoing 1 q p w.state stage new s) (sym h.0) (subst (λ n. KeepsGoing 1 q p w.state stage n Idle) (sym h.1) (gave_last_before ne))

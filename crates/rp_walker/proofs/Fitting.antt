@@ -109,7 +109,7 @@ module _ (law : LegStays) (leads : LegsLeadOn) (q : QueryData) (reaches : IsSoun
   pub within_kept : IsWithin q k old
   within_kept = subst (λ t. old.here ≤ length (leg_items t)) (sym (leg_agrees law leads q reaches p k old.first a (place_of old) fits.kept from_one)) fits.within
 
-  module _ (m : Moves q k old new) where
+  module _ (same_first : new.first ≡ old.first) (m : Moves q k old new) where
     up : old.at ≤ new.at
     up = comes_up leads m.comes
 
@@ -132,7 +132,7 @@ module _ (law : LegStays) (leads : LegsLeadOn) (q : QueryData) (reaches : IsSoun
           comes = comes;
           counted = counted;
           within = subst (λ t. new.here ≤ length (leg_items t)) same_leg m.within;
-          kept = subst (λ i. i ≤ first_read q new.at) (sym m.first) still_kept;
+          kept = subst (λ i. i ≤ first_read q new.at) (sym same_first) still_kept;
         }
 
     -- all that is known, where no more than the items of the last leg is
@@ -154,6 +154,21 @@ module _ (law : LegStays) (leads : LegsLeadOn) (q : QueryData) (reaches : IsSoun
           counted = sym (all_of w.0 (h.all ∙ ap (λ t. length (leg_items t)) same_leg));
         }
 
+    ended_there : (b : Bool) → ended_by b q k new → ended_by b q p new
+    ended_there true h =
+        record { ends = subst IsEnd same_leg h.ends; all = h.all ∙ ap (λ t. length (leg_items t)) same_leg }
+    ended_there false h = tt
+
+    moves_there : Moves q p old new
+    moves_there =
+        record {
+          before = m.before;
+          comes = comes_agrees law leads q reaches p k old.first a fits.kept from_one m.comes;
+          counted = m.counted;
+          within = on_walk.within;
+          ended = ended_there new.over m.ended;
+        }
+
     fits_new : (b : Bool) → ended_by b q k new → fits_by b q new p
     fits_new true h = over h
     fits_new false h = on_walk
@@ -162,6 +177,7 @@ module _ (law : LegStays) (leads : LegsLeadOn) (q : QueryData) (reaches : IsSoun
     meant =
         record {
           fits = fits_new new.over m.ended;
+          moves = moves_there;
           next = λ x h.
               let b = comes_after leads q p fits.comes in
               let place : old.given ≡ length b.front + old.here = omega (arith, fits.counted, b.many) in

@@ -22,7 +22,7 @@ module _ (leads : LegsLeadOn) (q : QueryData) (p : Known) where
 
   pub moves_more : {a b c : MatcherState} → Moves q p a b → Moves q p b c → Moves q p a c
   moves_more x y =
-      record { before = x.before + y.before; comes = comes_further x.comes y.comes; counted = omega (arith, x.counted, y.counted); within = y.within; ended = y.ended; first = y.first ∙ x.first }
+      record { before = x.before + y.before; comes = comes_further x.comes y.comes; counted = omega (arith, x.counted, y.counted); within = y.within; ended = y.ended }
 
   -- ---- the walk from a place is the leg there, and then the walk from the next
 

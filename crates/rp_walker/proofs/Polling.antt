@@ -25,8 +25,8 @@ pub record Further (q : QueryData) (p : Known) (first now next : MatcherState) (
   pub is : StepIs q p now next step
 
 module _ (leads : LegsLeadOn) (q : QueryData) (p : Known) (first : MatcherState) (now : Walker) (next : Walker) (moved : Moves q p first now.state) where
-  pub further : (stage : Stage) (step : Step) → KeepsGoing q p now.state stage next step → Further q p first now.state next.state step
-  further stage step k = let f = k.follows moved.within in record { before = moved; moves = moves_more leads q p moved f.moves; is = f.is }
+  pub further : (taken : ℕ) (stage : Stage) (step : Step) → KeepsGoing taken q p now.state stage next step → Further q p first now.state next.state step
+  further taken stage step k = let f = k.follows moved.within in record { before = moved; moves = moves_more leads q p moved f.moves; is = f.is }
 
   pub polled_gave : (x : Item) → now.state.given ≡ first.given → Further q p first now.state next.state (Gave x) → Polled q p first next.state (ItemPoll next.state.given x)
   polled_gave x same f =

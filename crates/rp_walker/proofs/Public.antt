@@ -14,7 +14,7 @@ use Rattle.rp_walker.specs.declared.record.MatcherState.{MatcherState}
 use Rattle.rp_walker.specs.Records.{place_of, IsWithin, IsOnWalk, IsOver, IsLastStart, Fits, fits_by}
 use Rattle.rp_walker.specs.Steps.{IsDone, Moves}
 use Rattle.rp_walker.specs.FitLaws.{AgreesFrom, Meant, StepsMean}
-use Rattle.rp_walker.specs.Polls.{Polled, PollIs, AnswerIs, Answers, StopsAtLast, StillFits}
+use Rattle.rp_walker.specs.Polls.{Polled, PollIs, AnswerIs, Answers, StopsAtLast, GoesAlong, moves_by}
 use Rattle.rp_walker.proofs.Moving.{comes_after}
 
 -- no more items than known were given
@@ -35,9 +35,11 @@ given_known leads false q r p h =
 same_count : {first : ℕ} {k p : Known} → AgreesFrom first k p → count p ≡ count k
 same_count {k = k} {p = p} a = let x : count k ≤ count p = a.on.later.0 in let y : count p ≤ count k = a.back.later.0 in omega (arith, x, y)
 
-module _ (means : StepsMean) (leads : LegsLeadOn) (short : KnownIsShort) (q : QueryData) (sound : IsSound q) (k : Known) (few : count k < 2 ^ 64 - 1) (old new : MatcherState) (going : old.over ≡ false) (from_one : 1 ≤ old.at) where
+module _ (means : StepsMean) (leads : LegsLeadOn) (short : KnownIsShort) (q : QueryData) (sound : IsSound q) (k : Known) (few : count k < 2 ^ 64 - 1) (old new : MatcherState) (going : old.over ≡ false) (from_one : 1 ≤ old.at) (first : new.first ≡ old.first) where
   on_kept : (p : Known) → AgreesFrom old.first k p → Fits q old p → IsWithin q k old × (Moves q k old new → Meant q old new k p)
-  on_kept p are fits = means q old new k p sound from_one are (subst (λ b. fits_by b q old p) going fits)
+  on_kept p are fits =
+      let h = means q old new k p sound from_one are (subst (λ b. fits_by b q old p) going fits) in
+      (h.0, h.1 first)
 
   idle_is : (p : Known) → AgreesFrom old.first k p → Meant q old new k p → new.given ≡ old.given → IsDone q k new ⊎ (new.given ≡ 2 ^ 128 - 1) → length (known q p) ≡ old.given
   idle_is p are h same (inl d) = h.done d ∙ same
@@ -65,14 +67,20 @@ module _ (means : StepsMean) (leads : LegsLeadOn) (short : KnownIsShort) (q : Qu
       let a = polled h.0 in
       idle_last p are (h.1 a.moves) (subst (λ x. PollIs q k old new x) idle a.is).1
 
-  pub still_fits : (IsWithin q k old → Moves q k old new) → StillFits q k old new
-  still_fits moved p are fits = let h = on_kept p are fits in (h.1 (moved h.0)).fits
+  pub goes_along : (IsWithin q k old → Moves q k old new) → GoesAlong q k old new
+  goes_along moved p are fits =
+      let h = on_kept p are fits in
+      let meant = h.1 (moved h.0) in
+      (meant.fits, subst (λ b. moves_by b q p old new) (sym going) meant.moves)
 
 -- where the answer is over, all that is known was given
 pub over_answers : (q : QueryData) (k : Known) (r : MatcherState) → r.over ≡ true → Answers q k r r IdlePoll
 over_answers q k r over p are fits =
     let h : IsOver q r p = subst (λ b. fits_by b q r p) over fits in
     (fits, (refl, sym h.counted))
+
+pub over_stays : (q : QueryData) (k : Known) (r : MatcherState) → r.over ≡ true → GoesAlong q k r r
+over_stays q k r over p are fits = (fits, subst (λ b. moves_by b q p r r) (sym over) refl)
 
 pub over_stops : (q : QueryData) (k : Known) (r : MatcherState) (answer : Poll) → r.over ≡ true → StopsAtLast q k r r answer
 over_stops q k r answer over p are fits idle going = absurd (let e : true ≡ false = sym over ∙ going in cc)

@@ -1,4 +1,4 @@
--- What a turn of a search comes to.
+-- What turns of a search come to.
 use Rattle.std.proofs.Common.{◌≡◌, ℕ, ◌+◌, ◌-◌, ◌≤◌, refl, sym, ap, ◌∙◌, subst, arith}
 use Rattle.rp_pattern.specs.PatternForm.{form_of}
 use Rattle.rp_pattern.specs.Words.{words}
@@ -8,7 +8,7 @@ use Rattle.rp_search.specs.declared.search.Search.{Search}
 use Rattle.rp_search.specs.Asked.{Asked}
 use Rattle.rp_search.specs.Fits.{SearchFits, left_by}
 use Rattle.rp_search.specs.Found.{found}
-use Rattle.rp_search.specs.Search.{IsSearchFor, IsSameSearch, RunAnswers, Lowers, found_by, start_of_search, labels_of_search}
+use Rattle.rp_search.specs.Search.{IsSearchFor, IsSameSearch, RunAnswers, Lowers, found_by, start_of_search, labels_of_search, turns_of_run}
 use Rattle.rp_check.specs.declared.query.QueryData.{QueryData}
 use Rattle.rp_eval.specs.declared.totals.Totals.{Totals}
 use Rattle.rp_eval.specs.Entered.{AreTotals, plan_of, totals_in}
@@ -36,9 +36,9 @@ came_to q p start old new WaitsOutcome e a = sym e ∙ a.0
 came_to q p start old new PausedOutcome e a = tt
 
 pub ran_of : (q : QueryData) (p : Known) (start : ℕ) (old : Run) (new : Search) (totals : Totals) (outcome : Outcome) (a : Asked) (taken : ℕ) → a ≡ asked_by q p → Searches q p start old → IsSameSearch old.search new →
-    SearchFits new a → RunAnswers old.search new a outcome → Lowers taken old.search new a outcome → taken ≡ 1 → plan_of totals ≡ totals_in q → AreTotals totals p.rows start (labels_of_search new) →
+    SearchFits new a → RunAnswers old.search new a outcome → Lowers taken old.search new a outcome → taken ≡ turns_of_run new → plan_of totals ≡ totals_in q → AreTotals totals p.rows start (labels_of_search new) →
     Ran q p start old (record { search = new; totals = totals }) outcome
-ran_of q p start old new totals outcome a taken e h same fits answers lowers one plan entered =
+ran_of q p start old new totals outcome a taken e h same fits answers lowers many plan entered =
     let now : Lowers taken old.search new (asked_by q p) outcome = subst (λ x. Lowers taken old.search new x outcome) e lowers in
     record {
       searches =
@@ -51,5 +51,6 @@ ran_of q p start old new totals outcome a taken e h same fits answers lowers one
           };
       came = came_to q p start old.search (record { search = new; totals = totals }) outcome (found_same q p start old.search h.begins h.pattern) (subst (λ x. RunAnswers old.search new x outcome) e answers);
       left = now.never_rises;
-      paused = λ is. omega (arith, now.paused is, one);
+      falls = omega (arith, now.falls, many);
+      paused = λ is. omega (arith, now.paused is, many);
     }

@@ -134,7 +134,7 @@ left_going q p r stage going h =
 
 pub stays_put : (q : QueryData) (p : Known) (r : MatcherState) → r.over ≡ false → IsWithin q p r → Moves q p r r
 stays_put q p r going w =
-    record { before = 0; comes = here; counted = omega arith; within = w; ended = subst (λ b. ended_by b q p r) (sym going) tt; first = refl }
+    record { before = 0; comes = here; counted = omega arith; within = w; ended = subst (λ b. ended_by b q p r) (sym going) tt }
 
 pub stands_going : (q : QueryData) (p : Known) (w : Walker) → IsGoing q w.state → StageStands q p w.state w.stage → stands_by w.state.over q p w
 stands_going q p w g s = subst (λ b. stands_by b q p w) (sym g.going) (record { going = g; stands = s })

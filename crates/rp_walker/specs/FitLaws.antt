@@ -17,6 +17,7 @@ pub record AgreesFrom (first : ℕ) (p p' : Known) : Type 0 where
 -- what steps over rows that are kept say of the partition that they are of
 pub record Meant (q : QueryData) (old new : MatcherState) (k p : Known) : Type 0 where
   pub fits : Fits q new p
+  pub moves : Moves q p old new
   pub next : (x : Item) →
       slice_get (walk_from q k (place_of old)) old.here ≡ Some x → slice_get (known q p) old.given ≡ Some x
   pub done : IsDone q k new → length (known q p) ≡ new.given
@@ -26,7 +27,7 @@ pub record Meant (q : QueryData) (old new : MatcherState) (k p : Known) : Type 0
 abbrev pub StepsMean : Type 0
 StepsMean = (q : QueryData) (old new : MatcherState) (k p : Known) →
     IsSound q → 1 ≤ old.at → AgreesFrom old.first k p → IsOnWalk q old p →
-    IsWithin q k old × (Moves q k old new → Meant q old new k p)
+    IsWithin q k old × (new.first ≡ old.first → Moves q k old new → Meant q old new k p)
 
 -- A record that fits what is known of an open partition fits what is known of every continuation.
 abbrev pub FitsStay : Type 0

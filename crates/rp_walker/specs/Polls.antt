@@ -1,5 +1,5 @@
 -- What a poll comes to.
-use Rattle.std.specs.Prelude.{◌≡◌, ℕ, ◌+◌, ◌-◌, ◌^◌, ◌<◌, ◌≤◌, ◌⊎◌, false, length, Some, slice_get}
+use Rattle.std.specs.Prelude.{◌≡◌, ℕ, ◌+◌, ◌-◌, ◌^◌, ◌<◌, ◌≤◌, ◌⊎◌, Bool, true, false, length, Some, slice_get}
 use Rattle.rp_check.specs.declared.query.QueryData.{QueryData}
 use Rattle.rp_known.specs.declared.item.Item.{Item}
 use Rattle.rp_known.specs.Known.{Known}
@@ -11,7 +11,7 @@ use Rattle.rp_walker.specs.declared.walker.Walker.{Walker}
 use Rattle.rp_walker.specs.FitLaws.{AgreesFrom}
 use Rattle.rp_walker.specs.Records.{place_of, Fits, IsLastStart}
 use Rattle.rp_walker.specs.Steps.{IsDone, Moves}
-use Rattle.rp_walker.specs.Stages.{left_with}
+use Rattle.rp_walker.specs.Stages.{left_with, left_anew}
 
 -- the item comes next from the record's search on
 abbrev pub IsNext : QueryData → Known → MatcherState → Item → Type 0
@@ -80,6 +80,16 @@ abbrev pub StopsAtLast : QueryData → Known → MatcherState → MatcherState �
 StopsAtLast q k old new answer =
     ForEachThatFits q k old (λ p. answer ≡ IdlePoll → new.over ≡ false → IsLastStart q p new.at)
 
--- A refused poll leaves a record that fits what it fitted.
-abbrev pub StillFits : QueryData → Known → MatcherState → MatcherState → Type 0
-StillFits q k old new = ForEachThatFits q k old (Fits q new)
+-- while the answer goes on, a record moves along the walk; once it is over, nothing but its first row changes
+abbrev pub moves_by : Bool → QueryData → Known → MatcherState → MatcherState → Type 0
+moves_by true q p old new = new ≡ record old { first = new.first }
+moves_by false q p old new = Moves q p old new
+
+-- What a poll does to the record, whatever it answers: it still fits, and it has moved along the walk.
+abbrev pub GoesAlong : QueryData → Known → MatcherState → MatcherState → Type 0
+GoesAlong q k old new = ForEachThatFits q k old (λ p. Fits q new p × moves_by old.over q p old new)
+
+-- What stands after want of memory: as many items were given, and the search begins again from the record's start row.
+pub record StartsAgain (q : QueryData) (p : Known) (before : ℕ) (r : MatcherState) (left : ℕ) : Type 0 where
+  pub given : r.given ≡ before
+  pub left : left ≡ left_anew q p r

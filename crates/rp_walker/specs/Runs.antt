@@ -1,17 +1,17 @@
--- What a turn of a run comes to.
+-- What turns of a run come to.
 use Rattle.std.specs.Prelude.{◌≡◌, ℕ, ◌+◌, ◌≤◌, ⊤}
 use Rattle.rp_search.specs.declared.search.Outcome.{Outcome}
 use Rattle.rp_search.specs.declared.search.Outcome.TheVariants.{Match as MatchOutcome, NoMatch as NoMatchOutcome, Waits as WaitsOutcome, Paused as PausedOutcome}
 use Rattle.rp_search.specs.Fits.{left_by}
 use Rattle.rp_search.specs.Found.{Match, NoMatch, Waits}
-use Rattle.rp_search.specs.Search.{labels_of_search}
+use Rattle.rp_search.specs.Search.{labels_of_search, turns_of_run}
 use Rattle.rp_check.specs.declared.query.QueryData.{QueryData}
 use Rattle.rp_known.specs.Known.{Known}
 use Rattle.rp_known.specs.Walk.{found_at}
 use Rattle.rp_walker.specs.declared.run.Run.{Run}
 use Rattle.rp_walker.specs.Stages.{Searches, asked_by}
 
--- what was found, where the turn was the last
+-- what was found, where the last turn ended the search
 abbrev pub CameTo : QueryData → Known → ℕ → Run → Outcome → Type 0
 CameTo q p start run MatchOutcome = found_at q p start ≡ Match (labels_of_search run.search)
 CameTo q p start run NoMatchOutcome = found_at q p start ≡ NoMatch
@@ -22,4 +22,6 @@ pub record Ran (q : QueryData) (p : Known) (start : ℕ) (old new : Run) (outcom
   pub searches : Searches q p start new
   pub came : CameTo q p start new outcome
   pub left : left_by new.search (asked_by q p) ≤ left_by old.search (asked_by q p)
-  pub paused : outcome ≡ PausedOutcome → left_by new.search (asked_by q p) + 1 ≤ left_by old.search (asked_by q p)
+  pub falls : turns_of_run new.search ≤ left_by old.search (asked_by q p) + 1
+  pub paused : outcome ≡ PausedOutcome →
+      left_by new.search (asked_by q p) + turns_of_run new.search ≤ left_by old.search (asked_by q p)

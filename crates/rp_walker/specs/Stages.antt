@@ -108,14 +108,18 @@ left_with q p r stage =
     if r.over then 0
     else 1 + (if nat_le r.at (count p) then stage_left q p r stage + (starts_to q p (count p) - starts_to q p r.at) else 0)
 
+-- at most so many turns are left where the search of the record's start row is to begin
+abbrev pub left_anew : QueryData → Known → MatcherState → ℕ
+left_anew q p r = left_with q p r (Begin None)
+
 -- what a step came to
 abbrev pub StepIs : QueryData → Known → MatcherState → MatcherState → Step → Type 0
 StepIs q p old new Went = new.given ≡ old.given
 StepIs q p old new (Gave x) = (new.given ≡ old.given + 1) × (slice_get (leg_items (leg q p (place_of old))) old.here ≡ Some x)
 StepIs q p old new Idle = (new.given ≡ old.given) × IsDone q p new
 
--- a step lowers what is left, unless it comes to nothing
-abbrev pub Lowers : Step → ℕ → ℕ → Type 0
-Lowers Went before after = after < before
-Lowers (Gave x) before after = after < before
-Lowers Idle before after = after ≤ before
+-- what is left falls by the turns taken, with an item by one at least, and doesn't rise where nothing comes
+abbrev pub Lowers : ℕ → Step → ℕ → ℕ → Type 0
+Lowers taken Went before after = after + taken ≤ before
+Lowers taken (Gave x) before after = after < before
+Lowers taken Idle before after = after ≤ before

@@ -39,4 +39,3 @@ pub record Moves (q : QueryData) (p : Known) (old new : MatcherState) : Type 0 w
   pub counted : old.given + before + new.here ≡ new.given + old.here
   pub within : IsWithin q p new
   pub ended : ended_by new.over q p new
-  pub first : new.first ≡ old.first

@@ -52,10 +52,10 @@ IsGivenBy Went before after = after ≡ before
 IsGivenBy (Gave x) before after = after ≡ before + 1
 IsGivenBy Idle before after = after ≡ before
 
--- A step from a stage on.
-pub record KeepsGoing (q : QueryData) (p : Known) (old : MatcherState) (stage : Stage) (new : Walker) (step : Step) : Type 0 where
+-- A step of so many turns from a stage on.
+pub record KeepsGoing (taken : ℕ) (q : QueryData) (p : Known) (old : MatcherState) (stage : Stage) (new : Walker) (step : Step) : Type 0 where
   pub given : IsGivenBy step old.given new.state.given
   pub first : new.state.first ≡ old.first
   pub stands : stands_by new.state.over q p new
-  pub lowers : Lowers step (left_with q p old stage) (left_with q p new.state new.stage)
+  pub lowers : Lowers taken step (left_with q p old stage) (left_with q p new.state new.stage)
   pub follows : IsWithin q p old → Follows q p old new.state step

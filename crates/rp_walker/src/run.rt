@@ -1,5 +1,5 @@
 //! Searches over lent rows.
-ghost use Rattle.std.specs.Prelude.{◌≡◌, ◌+◌, ◌≤◌, length, IfOk, OnOk};
+ghost use Rattle.std.specs.Prelude.{◌≡◌, ◌+◌, ◌<◌, ◌≤◌, length, IfOk, OnOk};
 ghost use Rattle.rp_check.specs.QueryView.{data_of};
 ghost use Rattle.rp_check.specs.declared.query.QueryData.{QueryData};
 ghost use Rattle.rp_known.specs.Known.{Known, known_in, count};
@@ -58,26 +58,28 @@ fn begin_again(run: Run, start: u64) -> Run
     Run { search, totals }
 }
 
-/// Takes one turn of a search, and adds the rows that it enters to their count.
-pub(crate) fn run_one<R: Rows, L: Ledger>(
+/// Takes at most `budget` turns of a search, and adds the rows that it enters to their count.
+pub(crate) fn run_on<R: Rows, L: Ledger>(
     query: &Query,
     rows: &R,
     start: u64,
     run: Run,
+    budget: u32,
     entered: &mut u64,
     steps: &mut Steps<L>,
 ) -> Result<(Outcome, Run), AllocError>
+    requires some { 0 < budget }
     requires searches { Searches (data_of query.now) (known_in R.known R.ending rows.now) start run }
     ensures ran { IfOk result (λ r. Ran (data_of query.now) (known_in R.known R.ending rows.now) start run r.1 r.0) }
-    ensures ticked { OnOk result (steps.new ≡ steps.old + 1) }
-    ensures counted { IfOk result (λ r. steps.new ≡ steps.old + turns_of_run r.1.search) }
-    ensures turns { TurnsAreCounted 1 steps.old steps.new entered.old entered.new }
+    ensures taken { IfOk result (λ r. steps.new ≡ steps.old + turns_of_run r.1.search) }
+    ensures some { OnOk result (steps.old < steps.new) }
+    ensures turns { TurnsAreCounted budget steps.old steps.new entered.old entered.new }
 {
     rp_search::law_search();
     let _plan = query.plan();
     let mut search = run.search;
     let mut tester = Tester::new(rows, query, run.totals);
-    let ran = search.run(&mut tester, 1, steps);
+    let ran = search.run(&mut tester, budget, steps);
     *entered = entered.saturating_add(tester.entries());
     let outcome = ran?;
     let totals = tester.into_totals();

@@ -37,7 +37,7 @@ impl Ended {
     }
 }
 
-/// What one turn came to.
+/// What some turns came to.
 #[derive(Drop)]
 pub enum Step {
     /// There is more to do.

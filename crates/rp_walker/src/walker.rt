@@ -1,5 +1,5 @@
 //! A walker gives the items of a partition's known answer, one after another, over rows that are lent.
-ghost use Rattle.std.specs.Prelude.{◌≡◌, ◌≢◌, ◌+◌, ◌-◌, ◌^◌, ◌<◌, ◌≤◌, Bool, true, false, length, Some, None, OnOk, OnErr, IfOk};
+ghost use Rattle.std.specs.Prelude.{◌≡◌, ◌≢◌, ◌+◌, ◌-◌, ◌^◌, ◌<◌, ◌≤◌, ℕ, Bool, true, false, length, Some, None, OnOk, OnErr, IfOk};
 ghost use Rattle.rp_check.specs.QueryView.{data_of};
 ghost use Rattle.rp_check.specs.declared.query.QueryData.{QueryData};
 ghost use Rattle.rp_known.specs.Known.{Known, known_in};
@@ -9,16 +9,17 @@ ghost use Rattle.rp_walker.specs.declared.stage.Stage.TheVariants.{Begin as Begi
 ghost use Rattle.rp_walker.specs.Given.{past_row, is_hidden, result_of, run_of};
 ghost use Rattle.rp_walker.specs.Records.{at_place, gave_last, was_last, place_of, first_state, horizon_of, IsWithin};
 ghost use Rattle.rp_walker.specs.Steps.{Moves};
-ghost use Rattle.rp_walker.specs.Stages.{left_with, IsGoing, Searches, Gives, MatchTotalled, Serves, IsSpare, StageStands};
+ghost use Rattle.rp_search.specs.Fits.{left_by};
+ghost use Rattle.rp_walker.specs.Stages.{left_with, asked_by, IsGoing, Searches, Gives, MatchTotalled, Serves, IsSpare, StageStands};
 ghost use Rattle.rp_walker.specs.Walking.{KeepsGoing, GoesOnWell, stands_by, Stands, CanGoOn, record_of};
-ghost use Rattle.rp_walker.specs.Polls.{left_in, entered_by, TurnsAreCounted, PollTakes, GivenBy, PollLowers, Polled, Answers, StopsAtLast, StillFits};
+ghost use Rattle.rp_walker.specs.Polls.{left_in, entered_by, TurnsAreCounted, PollTakes, GivenBy, PollLowers, Polled, Answers, StopsAtLast, GoesAlong, StartsAgain};
 
 use crate::ahead::Ahead;
 use crate::giving::{ahead_of, is_hidden, make_item, next_of, place_of};
 use crate::laws::law_steps;
 use crate::poll::Poll;
 use crate::record::MatcherState;
-use crate::run::{Run, begin, run_one};
+use crate::run::{Run, begin, run_on};
 use crate::stage::{Ended, Stage, Step};
 use rp_check::Query;
 use rp_eval::Rows;
@@ -77,7 +78,7 @@ impl Walker {
         requires shown { is_hidden (data_of query.now).plan.rows self.old.state.at (result_of found) ahead.next ≡ false }
         requires few { self.old.state.given < 2 ^ 128 - 1 }
         ensures kept { OnErr result (self.new ≡ self.old) }
-        ensures keeps { IfOk result (KeepsGoing (data_of query.now) (known_in R.known R.ending rows.now)
+        ensures keeps { IfOk result (KeepsGoing 1 (data_of query.now) (known_in R.known R.ending rows.now)
             self.old.state (GivingStage found ahead) self.new) }
     {
         let _last = rows.last();
@@ -114,7 +115,7 @@ impl Walker {
         requires not_past { ahead.seen ≤ self.old.state.here }
         requires all { ahead.next ≡ ahead.end }
         requires few { self.old.state.given < 2 ^ 128 - 1 }
-        ensures { KeepsGoing (data_of query.now) (known_in R.known R.ending rows.now)
+        ensures { KeepsGoing 1 (data_of query.now) (known_in R.known R.ending rows.now)
             self.old.state (GivingStage found ahead) self.new result }
     {
         rp_known::law_legs();
@@ -176,7 +177,7 @@ impl Walker {
         requires not_past { ahead.seen ≤ self.old.state.here }
         requires few { self.old.state.given < 2 ^ 128 - 1 }
         ensures kept { OnErr result (self.new ≡ self.old) }
-        ensures keeps { IfOk result (KeepsGoing (data_of query.now) (known_in R.known R.ending rows.now)
+        ensures keeps { IfOk result (KeepsGoing 1 (data_of query.now) (known_in R.known R.ending rows.now)
             self.old.state (GivingStage found ahead) self.new) }
         ensures steps { steps.new ≡ steps.old + 1 }
     {
@@ -203,7 +204,9 @@ impl Walker {
         requires totals { MatchTotalled (data_of query.now) (known_in R.known R.ending rows.now)
             self.old.state.at found }
         requires serves { Serves (data_of query.now) (run_of found) }
-        ensures { (run : Run) → KeepsGoing (data_of query.now) (known_in R.known R.ending rows.now)
+        ensures { (run : Run) (taken : ℕ) →
+            taken ≤ left_by run.search (asked_by (data_of query.now) (known_in R.known R.ending rows.now)) + 1 →
+            KeepsGoing taken (data_of query.now) (known_in R.known R.ending rows.now)
             self.old.state (SearchingStage run) self.new result }
     {
         rp_known::law_legs();
@@ -213,36 +216,40 @@ impl Walker {
         Step::Went
     }
 
-    /// Takes a turn of the search.
+    /// Takes at most `budget` turns of the search, and tells how many.
     fn search<R: Rows, L: Ledger>(
         &mut self,
         query: &Query,
         rows: &R,
         run: Run,
+        budget: u32,
         entered: &mut u64,
         steps: &mut Steps<L>,
-    ) -> Result<Step, AllocError>
+    ) -> Result<(Step, u32), AllocError>
+        requires some { 0 < budget }
         requires going { IsGoing (data_of query.now) self.old.state }
         requires searches { Searches (data_of query.now) (known_in R.known R.ending rows.now) self.old.state.at run }
         ensures kept { OnErr result (self.new ≡ self.old) }
-        ensures keeps { IfOk result (KeepsGoing (data_of query.now) (known_in R.known R.ending rows.now)
-            self.old.state (SearchingStage run) self.new) }
-        ensures ticked { OnOk result (steps.new ≡ steps.old + 1) }
-        ensures turns { TurnsAreCounted 1 steps.old steps.new entered.old entered.new }
+        ensures keeps { IfOk result (λ r. KeepsGoing r.1 (data_of query.now) (known_in R.known R.ending rows.now)
+            self.old.state (SearchingStage run) self.new r.0) }
+        ensures taken { IfOk result (λ r. (0 < r.1) × (steps.new ≡ steps.old + r.1)) }
+        ensures turns { TurnsAreCounted budget steps.old steps.new entered.old entered.new }
     {
-        let (outcome, run) = run_one(query, rows, self.state.at, run, entered, steps)?;
-        match outcome {
+        let (outcome, run) = run_on(query, rows, self.state.at, run, budget, entered, steps)?;
+        let taken = run.search.turns_taken();
+        let step = match outcome {
             Outcome::Paused => {
                 self.stage = Stage::Searching(run);
-                Ok(Step::Went)
+                Step::Went
             }
             Outcome::Waits => {
                 self.stage = Stage::Searching(run);
-                Ok(Step::Idle)
+                Step::Idle
             }
-            Outcome::Match => Ok(self.begin_giving(query, rows, Ended::Match(run))),
-            Outcome::NoMatch => Ok(self.begin_giving(query, rows, Ended::NoMatch(run))),
-        }
+            Outcome::Match => self.begin_giving(query, rows, Ended::Match(run)),
+            Outcome::NoMatch => self.begin_giving(query, rows, Ended::NoMatch(run)),
+        };
+        Ok((step, taken))
     }
 
     /// Past the last start row.
@@ -252,7 +259,7 @@ impl Walker {
             self.old.state self.old.stage }
         requires past { length (R.known rows.now) < self.old.state.at }
         requires few { self.old.state.given < 2 ^ 128 - 1 }
-        ensures { KeepsGoing (data_of query.now) (known_in R.known R.ending rows.now)
+        ensures { KeepsGoing 1 (data_of query.now) (known_in R.known R.ending rows.now)
             self.old.state self.old.stage self.new result }
     {
         let _query = query;
@@ -262,55 +269,62 @@ impl Walker {
         }
     }
 
-    /// Begins at a start row.
+    /// Begins at a start row, with at most `budget` turns, and tells how many.
     fn begin_row<R: Rows, L: Ledger>(
         &mut self,
         query: &Query,
         rows: &R,
         spare: Option<Run>,
+        budget: u32,
         entered: &mut u64,
         steps: &mut Steps<L>,
-    ) -> Result<Step, AllocError>
+    ) -> Result<(Step, u32), AllocError>
+        requires some { 0 < budget }
         requires going { IsGoing (data_of query.now) self.old.state }
         requires stage { self.old.stage ≡ BeginStage None }
         requires spare { IsSpare (data_of query.now) spare }
         requires few { self.old.state.given < 2 ^ 128 - 1 }
         ensures kept { OnErr result (self.new ≡ self.old) }
-        ensures keeps { IfOk result (KeepsGoing (data_of query.now) (known_in R.known R.ending rows.now)
-            self.old.state (BeginStage spare) self.new) }
-        ensures ticked { OnOk result (steps.new ≡ steps.old + 1) }
-        ensures turns { TurnsAreCounted 1 steps.old steps.new entered.old entered.new }
+        ensures keeps { IfOk result (λ r. KeepsGoing r.1 (data_of query.now) (known_in R.known R.ending rows.now)
+            self.old.state (BeginStage spare) self.new r.0) }
+        ensures taken { IfOk result (λ r. (0 < r.1) × (steps.new ≡ steps.old + r.1)) }
+        ensures turns { TurnsAreCounted budget steps.old steps.new entered.old entered.new }
     {
         rp_search::law_search();
         if rows.last() < self.state.at {
             steps.tick();
             self.stage = Stage::Begin(spare);
-            return Ok(self.at_last(query, rows));
+            return Ok((self.at_last(query, rows), 1));
         }
         let run = begin(self.alloc, query, rows, self.state.at, spare)?;
-        self.search(query, rows, run, entered, steps)
+        self.search(query, rows, run, budget, entered, steps)
     }
 
-    /// Takes one turn.
-    fn turn<R: Rows, L: Ledger>(
+    /// Takes at most `budget` turns, those of a search at once, and tells how many.
+    fn advance<R: Rows, L: Ledger>(
         &mut self,
         query: &Query,
         rows: &R,
+        budget: u32,
         entered: &mut u64,
         steps: &mut Steps<L>,
-    ) -> Result<Step, AllocError>
+    ) -> Result<(Step, u32), AllocError>
+        requires some { 0 < budget }
         requires stands { GoesOnWell (data_of query.now) (known_in R.known R.ending rows.now) self.old }
         requires few { self.old.state.given < 2 ^ 128 - 1 }
         ensures kept { OnErr result (self.new ≡ record self.old { stage = BeginStage None }) }
-        ensures keeps { IfOk result (KeepsGoing (data_of query.now) (known_in R.known R.ending rows.now)
-            self.old.state self.old.stage self.new) }
-        ensures ticked { OnOk result (steps.new ≡ steps.old + 1) }
-        ensures turns { TurnsAreCounted 1 steps.old steps.new entered.old entered.new }
+        ensures keeps { IfOk result (λ r. KeepsGoing r.1 (data_of query.now) (known_in R.known R.ending rows.now)
+            self.old.state self.old.stage self.new r.0) }
+        ensures taken { IfOk result (λ r. (0 < r.1) × (steps.new ≡ steps.old + r.1)) }
+        ensures turns { TurnsAreCounted budget steps.old steps.new entered.old entered.new }
     {
         match mem::replace(&mut self.stage, Stage::Begin(None)) {
-            Stage::Begin(spare) => self.begin_row(query, rows, spare, entered, steps),
-            Stage::Searching(run) => self.search(query, rows, run, entered, steps),
-            Stage::Giving(found, ahead) => self.give(query, rows, found, ahead, steps),
+            Stage::Begin(spare) => self.begin_row(query, rows, spare, budget, entered, steps),
+            Stage::Searching(run) => self.search(query, rows, run, budget, entered, steps),
+            Stage::Giving(found, ahead) => {
+                let step = self.give(query, rows, found, ahead, steps)?;
+                Ok((step, 1))
+            }
         }
     }
 
@@ -328,25 +342,28 @@ impl Walker {
             (data_of query.now) (known_in R.known R.ending rows.now) self.new }
         ensures first { self.new.state.first ≡ self.old.state.first }
         ensures given { IfOk result (GivenBy self.old.state.given self.new.state.given) }
-        ensures kept { OnErr result (self.new.state.given ≡ self.old.state.given) }
+        ensures kept { OnErr result
+            ((self.new.state.given ≡ self.old.state.given) × (self.new.stage ≡ BeginStage None)) }
         ensures lowers { IfOk result (PollLowers budget
             (left_with (data_of query.now) (known_in R.known R.ending rows.now) self.old.state self.old.stage)
             (left_with (data_of query.now) (known_in R.known R.ending rows.now) self.new.state self.new.stage)) }
         ensures polled { IfOk result (λ answer.
             IsWithin (data_of query.now) (known_in R.known R.ending rows.now) self.old.state →
             Polled (data_of query.now) (known_in R.known R.ending rows.now) self.old.state self.new.state answer) }
-        ensures refused { OnErr result (
-            IsWithin (data_of query.now) (known_in R.known R.ending rows.now) self.old.state →
-            Moves (data_of query.now) (known_in R.known R.ending rows.now) self.old.state self.new.state) }
+        ensures moves { IsWithin (data_of query.now) (known_in R.known R.ending rows.now) self.old.state →
+            Moves (data_of query.now) (known_in R.known R.ending rows.now) self.old.state self.new.state }
         ensures turns { TurnsAreCounted budget steps.old steps.new entered.old entered.new }
         ensures takes { IfOk result (PollTakes budget steps.old steps.new) }
     {
         rp_known::law_legs();
-        for _turn in 0..budget {
+        let mut left = budget;
+        while left > 0 {
             if self.state.over || self.state.given == u128::MAX {
                 return Ok(Poll::Idle);
             }
-            match self.turn(query, rows, entered, steps)? {
+            let (step, taken) = self.advance(query, rows, left, entered, steps)?;
+            left -= taken;
+            match step {
                 Step::Went => {}
                 Step::Gave(item) => return Ok(Poll::Item(self.state.given, item)),
                 Step::Idle => return Ok(Poll::Idle),
@@ -427,7 +444,7 @@ impl Walker {
     /// Takes at most `budget` turns, until an item comes or nothing is left to give. A turn is one choice taken up, one
     /// start row ended or one item looked at: `Paused` comes after just `budget` turns, and an item after one at least.
     /// A budget of 0 answers `Paused`, changes nothing and takes no memory. After `AllocError` the same item is still to
-    /// come.
+    /// come, and the search begins again from its start row.
     pub fn poll<R: Rows, L: Ledger>(
         &mut self,
         query: &Query,
@@ -439,13 +456,15 @@ impl Walker {
         ensures stands { Stands (data_of query.now) (known_in R.known R.ending rows.now) self.new }
         ensures answers { IfOk result (Answers (data_of query.now) (known_in R.known R.ending rows.now)
             (record_of self.old) (record_of self.new)) }
-        ensures refused { OnErr result (StillFits (data_of query.now) (known_in R.known R.ending rows.now)
-            (record_of self.old) (record_of self.new)) }
+        ensures moves { GoesAlong (data_of query.now) (known_in R.known R.ending rows.now)
+            (record_of self.old) (record_of self.new) }
         ensures stops { IfOk result (StopsAtLast (data_of query.now) (known_in R.known R.ending rows.now)
             (record_of self.old) (record_of self.new)) }
         ensures first { (record_of self.new).first ≡ (record_of self.old).first }
         ensures given { IfOk result (GivenBy (record_of self.old).given (record_of self.new).given) }
-        ensures kept { OnErr result ((record_of self.new).given ≡ (record_of self.old).given) }
+        ensures out_of_memory { OnErr result (StartsAgain (data_of query.now) (known_in R.known R.ending rows.now)
+            (record_of self.old).given (record_of self.new)
+            (left_in (data_of query.now) (known_in R.known R.ending rows.now) self.new)) }
         ensures lowers { IfOk result (PollLowers budget
             (left_in (data_of query.now) (known_in R.known R.ending rows.now) self.old)
             (left_in (data_of query.now) (known_in R.known R.ending rows.now) self.new)) }

@@ -35,10 +35,10 @@ pub record AreLinesOf (q : QueryData) (text lines : List ℕ) : Type 0 where
   pub ordered : AreOrderedParts q.partition.items q.order.items rows parts
   pub are : lines ≡ flat_map (part_lines q) parts
 
--- where the bytes of the input are known, its lines are written
+-- Where the bytes of the input are known: those written, where they are known too, grow by its lines.
 abbrev pub WritesLines : QueryData → Option (List ℕ) → Option (List ℕ) → Option (List ℕ) → Type 0
 WritesLines q input old new = IfSome input (λ text. (lines : List ℕ) × AreLinesOf q text lines × Appends old new lines)
 
--- a front of its lines is written
+-- Where the bytes of the input are known: those written, where they are known too, grow by a front of its lines.
 abbrev pub WritesFront : QueryData → Option (List ℕ) → Option (List ℕ) → Option (List ℕ) → Type 0
 WritesFront q input old new = IfSome input (λ text. (lines : List ℕ) × AreLinesOf q text lines × AppendsFront old new lines)

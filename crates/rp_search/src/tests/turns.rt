@@ -1,5 +1,5 @@
 //! How many turns a search takes. Each choice that is taken up is one: where parts are joined or chosen from, a row, a
-//! place that takes none, a whole word, and that nothing is left. Where a part that begins with a variable is chosen,
+//! place that takes none, a full word, and that nothing is left. Where a part that begins with a variable is chosen,
 //! excluded, repeated or joined with another behind it, its row is the next choice, and joining it takes none.
 
 use super::grid::Grid;

@@ -16,8 +16,8 @@ returns-clause-mappings c = words_are_mappings
 pub returns-clause-readings : goal.returns-clause-readings
 returns-clause-readings c = words_are_readings
 
-pub returns-clause-one_list : goal.returns-clause-one_list
-returns-clause-one_list c = readings_are_one
+pub returns-clause-one_reading_list : goal.returns-clause-one_reading_list
+returns-clause-one_reading_list c = readings_are_one
 
 pub returns-clause-one_mapping : goal.returns-clause-one_mapping
 returns-clause-one_mapping c = one_mapping_each

@@ -19,7 +19,7 @@ ahead_of-ahead-requires-clause-in_rows g c =
     subst (λ (place : Place). AreKnown place.start c.last.result (result_of c.args.found)) (sym c.place_of-place.ensures) (subst (λ n. AreKnown r.at n (result_of c.args.found)) (sym c.last.ensures) known)
 
 pub returns : goal.returns
-returns g c = λ run.
+returns g c = λ run taken few.
     let q = data_of c.args.query.now in
     let p = known_in g.R.Rows.known g.R.Rows.ending c.args.rows.now in
     let w = c.args.self.now in
@@ -30,7 +30,7 @@ returns g c = λ run.
     let start : c.place_of-place.result.start ≡ w.state.at = ap (λ (x : Place). x.start) here in
     let found = ap (found_at q p) start ∙ c.requires.found in
     let in_rows : AreKnown c.place_of-place.result.start (count p) (result_of c.args.found) = subst (λ i. AreKnown i (count p) (result_of c.args.found)) (sym start) known in
-    begins_giving q p w c.args.found a run c.requires.going
+    begins_giving q p w c.args.found a run taken few c.requires.going
     (subst (λ (x : Place). Gives q p x (result_of c.args.found) a) here
     (gives_first q p c.place_of-place.result (result_of c.args.found) a (omega (arith, start, c.requires.known)) found in_rows e.seen e.low e.ordered (omega (arith, e.high, c.last.ensures)) e.rows))
     e.seen c.requires.totals c.requires.serves

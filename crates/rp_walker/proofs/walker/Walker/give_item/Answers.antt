@@ -49,7 +49,7 @@ returns-in-Some-clause-keeps g c =
       follows = λ within.
           let is_here = gave q p w.state result a c.requires.gives c.requires.more c.requires.shown c.requires.due within c.in-Some.item some in
           record {
-            moves = record { before = 0; comes = here; counted = omega (arith, c.requires.due); within = omega (arith, is_here.more, c.requires.due); ended = subst (λ b. ended_by b q p r) (sym h.going) tt; first = refl };
+            moves = record { before = 0; comes = here; counted = omega (arith, c.requires.due); within = omega (arith, is_here.more, c.requires.due); ended = subst (λ b. ended_by b q p r) (sym h.going) tt };
             is = (refl, is_here.at);
           };
     }

@@ -1,4 +1,4 @@
-use Rattle.std.proofs.Common.{◌≡◌, ◌+◌, ◌≤◌}
+use Rattle.std.proofs.Common.{◌≡◌, ◌+◌, ◌-◌, ◌≤◌}
 use Rattle.rp_check.specs.QueryView.{data_of}
 use Rattle.rp_known.specs.Known.{known_in}
 use Rattle.rp_walker.specs.Records.{IsWithin}
@@ -7,16 +7,17 @@ use Rattle.rp_walker.specs.Walking.{stands_by}
 use Rattle.rp_walker.specs.Stages.{left_with}
 use Rattle.rp_walker.proofs.walker.Walker.go_on.Given as goal
 
-abbrev pub invariant-loop-turn : goal.invariant-loop-turn
-invariant-loop-turn g l = record {
+abbrev pub invariant-loop-left : goal.invariant-loop-left
+invariant-loop-left g l = record {
   stands : stands_by l.self.state.over (data_of l.query) (known_in g.R.Rows.known g.R.Rows.ending l.rows) l.self;
   first : l.self.state.first ≡ l.fn.self.state.first;
   given : l.self.state.given ≡ l.fn.self.state.given;
-  lowered : left_with (data_of l.query) (known_in g.R.Rows.known g.R.Rows.ending l.rows) l.self.state l.self.stage + l._turn
+  lowered : left_with (data_of l.query) (known_in g.R.Rows.known g.R.Rows.ending l.rows) l.self.state l.self.stage + (l.fn.budget - l.left)
       ≤ left_with (data_of l.query) (known_in g.R.Rows.known g.R.Rows.ending l.rows) l.fn.self.state l.fn.self.stage;
   moved : IsWithin (data_of l.query) (known_in g.R.Rows.known g.R.Rows.ending l.rows) l.fn.self.state →
       Moves (data_of l.query) (known_in g.R.Rows.known g.R.Rows.ending l.rows) l.fn.self.state l.self.state;
-  counted : l.steps ≡ l.fn.steps + l._turn;
-  entered : l.entered ≤ l.fn.entered + l._turn;
+  within : l.left ≤ l.fn.budget;
+  counted : l.steps + l.left ≡ l.fn.steps + l.fn.budget;
+  entered : l.entered + l.left ≤ l.fn.entered + l.fn.budget;
   grows : l.fn.entered ≤ l.entered;
 }

@@ -1,14 +1,15 @@
-use Rattle.std.proofs.Common.{subst}
+use Rattle.std.proofs.Common.{◌≡◌, None, ap, subst}
 use Rattle.std.specs.declared.alloc.AllocError.{AllocError}
 use Rattle.rp_check.specs.QueryView.{data_of}
 use Rattle.rp_known.specs.Known.{known_in}
 use Rattle.rp_walker.specs.Records.{IsWithin}
-use Rattle.rp_walker.specs.Steps.{Moves}
+use Rattle.rp_walker.specs.declared.stage.Stage.TheVariants.{Begin}
+use Rattle.rp_walker.specs.Stages.{left_with}
 use Rattle.rp_walker.specs.Walking.{GoesOnWell, stands_by, Stands, record_of}
-use Rattle.rp_walker.specs.Polls.{Polled, Answers, StopsAtLast, StillFits, left_in, entered_by}
+use Rattle.rp_walker.specs.Polls.{Polled, Answers, StopsAtLast, GoesAlong, StartsAgain, left_in, entered_by}
 use Rattle.rp_walker.proofs.Begins.{if_ok_map}
 use Rattle.rp_walker.proofs.Steps.{stands_counted}
-use Rattle.rp_walker.proofs.Public.{answers, stops_at_last, still_fits, on_err_map}
+use Rattle.rp_walker.proofs.Public.{answers, stops_at_last, goes_along, on_err_map}
 use Rattle.rp_walker.proofs.walker.Walker.poll.Goals as goal
 
 pub returns-clause-stands : goal.returns-clause-stands
@@ -28,7 +29,7 @@ returns-clause-answers g c =
     let new = c.go_on-answer.new.self in
     let well : GoesOnWell q k w = subst (λ b. stands_by b q k w) c.if-self.false c.requires.stands in
     if_ok_map (λ answer. IsWithin q k w.state → Polled q k w.state new.state answer) (Answers q k w.state new.state) c.go_on-answer.result
-    (λ answer polled. answers c.law_steps.ensures c.law_legs.ensures.lead c.law_known.ensures.short q c.plan-plan.ensures.sound k (g.met.R.Rows.few c.args.rows.now) w.state new.state c.if-self.false well.going.from_one answer polled)
+    (λ answer polled. answers c.law_steps.ensures c.law_legs.ensures.lead c.law_known.ensures.short q c.plan-plan.ensures.sound k (g.met.R.Rows.few c.args.rows.now) w.state new.state c.if-self.false well.going.from_one c.go_on-answer.ensures.first answer polled)
     c.go_on-answer.ensures.polled
 
 pub returns-clause-stops : goal.returns-clause-stops
@@ -40,17 +41,25 @@ returns-clause-stops g c =
     let new = c.go_on-answer.new.self in
     let well : GoesOnWell q k w = subst (λ b. stands_by b q k w) c.if-self.false c.requires.stands in
     if_ok_map (λ answer. IsWithin q k w.state → Polled q k w.state new.state answer) (StopsAtLast q k w.state new.state) c.go_on-answer.result
-    (λ answer polled. stops_at_last c.law_steps.ensures c.law_legs.ensures.lead c.law_known.ensures.short q c.plan-plan.ensures.sound k (g.met.R.Rows.few c.args.rows.now) w.state new.state c.if-self.false well.going.from_one answer polled)
+    (λ answer polled. stops_at_last c.law_steps.ensures c.law_legs.ensures.lead c.law_known.ensures.short q c.plan-plan.ensures.sound k (g.met.R.Rows.few c.args.rows.now) w.state new.state c.if-self.false well.going.from_one c.go_on-answer.ensures.first answer polled)
     c.go_on-answer.ensures.polled
 
-pub returns-clause-refused : goal.returns-clause-refused
+pub returns-clause-moves : goal.returns-clause-moves
 unfolding Stands record_of left_in entered_by
-returns-clause-refused g c =
+returns-clause-moves g c =
     let q = data_of c.args.query.now in
     let k = known_in g.R.Rows.known g.R.Rows.ending c.args.rows.now in
     let w = c.args.self.now in
     let new = c.go_on-answer.new.self in
     let well : GoesOnWell q k w = subst (λ b. stands_by b q k w) c.if-self.false c.requires.stands in
-    on_err_map (IsWithin q k w.state → Moves q k w.state new.state) (StillFits q k w.state new.state) c.go_on-answer.result
-    (λ moved. still_fits c.law_steps.ensures c.law_legs.ensures.lead c.law_known.ensures.short q c.plan-plan.ensures.sound k (g.met.R.Rows.few c.args.rows.now) w.state new.state c.if-self.false well.going.from_one moved)
-    c.go_on-answer.ensures.refused
+    goes_along c.law_steps.ensures c.law_legs.ensures.lead c.law_known.ensures.short q c.plan-plan.ensures.sound k (g.met.R.Rows.few c.args.rows.now) w.state new.state c.if-self.false well.going.from_one
+    c.go_on-answer.ensures.first c.go_on-answer.ensures.moves
+
+pub returns-clause-out_of_memory : goal.returns-clause-out_of_memory
+unfolding Stands record_of left_in entered_by
+returns-clause-out_of_memory g c =
+    let q = data_of c.args.query.now in
+    let k = known_in g.R.Rows.known g.R.Rows.ending c.args.rows.now in
+    let new = c.go_on-answer.new.self in
+    on_err_map ((new.state.given ≡ c.args.self.now.state.given) × (new.stage ≡ Begin None)) (StartsAgain q k c.args.self.now.state.given new.state (left_with q k new.state new.stage)) c.go_on-answer.result
+    (λ kept. record { given = kept.0; left = ap (λ s. left_with q k new.state s) kept.1 }) c.go_on-answer.ensures.kept

@@ -10,7 +10,7 @@ pub returns-in-Paused-clause-keeps : goal.returns-in-Paused-clause-keeps
 returns-in-Paused-clause-keeps g c =
     let w = c.args.self.now in
     let ran = c.in_ok-outcome.ensures.ran in
-    searches_on (data_of c.args.query.now) (known_in g.R.Rows.known g.R.Rows.ending c.args.rows.now) w c.args.run c.in_ok-outcome.run' c.requires.going ran.searches (ran.paused c.in-Paused.is)
+    searches_on (data_of c.args.query.now) (known_in g.R.Rows.known g.R.Rows.ending c.args.rows.now) w c.args.run c.in_ok-outcome.run' c.turns_taken-taken.result c.requires.going ran.searches (ran.paused c.in-Paused.is)
 
 pub returns-in-Waits-clause-keeps : goal.returns-in-Waits-clause-keeps
 returns-in-Waits-clause-keeps g c =
@@ -18,4 +18,4 @@ returns-in-Waits-clause-keeps g c =
     let q = data_of c.args.query.now in
     let p = known_in g.R.Rows.known g.R.Rows.ending c.args.rows.now in
     let ran = subst (λ o. Ran q p w.state.at c.args.run c.in_ok-outcome.run' o) c.in-Waits.is c.in_ok-outcome.ensures.ran in
-    search_waits q p w c.args.run c.in_ok-outcome.run' c.requires.going ran.searches ran.came ran.left
+    search_waits q p w c.args.run c.in_ok-outcome.run' c.turns_taken-taken.result c.requires.going ran.searches ran.came ran.left

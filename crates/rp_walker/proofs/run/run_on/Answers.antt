@@ -9,7 +9,7 @@ use Rattle.rp_tester.specs.Entered.{tested_by as tester_of}
 use Rattle.rp_known.specs.Known.{known_in}
 use Rattle.rp_known.specs.Plans.{tested_by}
 use Rattle.rp_walker.proofs.Running.{ran_of}
-use Rattle.rp_walker.proofs.run.run_one.Goals as goal
+use Rattle.rp_walker.proofs.run.run_on.Goals as goal
 
 pub run-ran-requires : goal.run-ran-requires
 run-ran-requires g c =
@@ -27,8 +27,8 @@ run-ran-requires g c =
           (subst (λ i. AreTotals c.args.run.totals p.rows i (labels_of_search s)) (sym h.begins) h.totalled.totals);
     }
 
-pub returns-clause-counted : goal.returns-clause-counted
-returns-clause-counted g c = c.in_ok-outcome.ensures.taken (omega arith)
+pub returns-clause-taken : goal.returns-clause-taken
+returns-clause-taken g c = c.in_ok-outcome.ensures.taken c.requires.some
 
 pub returns-clause-ran : goal.returns-clause-ran
 returns-clause-ran g c =
@@ -40,6 +40,6 @@ returns-clause-ran g c =
     let same_start : start_of_search s ≡ c.args.start = c.run-ran.ensures.same.start ∙ c.requires.searches.begins in
     let here = c.into_totals-totals.ensures.entered (start_of_search s) (labels_of_search s) c.run-ran.ensures.entered in
     ran_of q p c.args.start c.args.run s totals c.in_ok-outcome.outcome (asked_of (tester_of c.new-tester.result)) (c.run-ran.new.steps - c.args.steps.now) (ap asked_of c.new-tester.ensures.subject) c.requires.searches c.run-ran.ensures.same c.run-ran.ensures.fits
-    c.in_ok-outcome.ensures.answers c.in_ok-outcome.ensures.left (omega (arith, c.in_ok-outcome.ensures.turns.within, c.in_ok-outcome.ensures.turns.some))
+    c.in_ok-outcome.ensures.answers c.in_ok-outcome.ensures.left (omega (arith, c.in_ok-outcome.ensures.taken c.requires.some))
     (c.into_totals-totals.ensures.totals ∙ ap (λ (t : Tested). totals_in t.query) same)
     (subst (λ i. AreTotals totals p.rows i (labels_of_search s)) same_start (subst (λ (t : Tested). AreTotals totals t.rows (start_of_search s) (labels_of_search s)) same here))
