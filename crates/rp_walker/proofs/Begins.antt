@@ -90,7 +90,7 @@ pub gives_first : (q : QueryData) (p : Known) (place : Place) (result : Found) (
 gives_first q p place result a known found in_rows seen low ordered high rows =
     record { known = known; found = found; in_rows = in_rows; passed = []; rows = rows; seen = seen; fewer = omega (arith, seen, low); low = low; ordered = ordered; high = high }
 
-pub begins_giving : (q : QueryData) (p : Known) (w : Walker) (found : Ended) (a : Ahead) (run : Run) (taken : ℕ) → taken ≤ left_by run.search (asked_by q p) + 1 → IsGoing q w.state → Gives q p (place_of w.state) (result_of found) a → a.seen ≡ 0 → MatchTotalled q p w.state.at found → Serves q (run_of found) →
+pub begins_giving : (q : QueryData) (p : Known) (w : Walker) (found : Ended) (a : Ahead) (run : Run) (taken : ℕ) → taken ≤ left_by run.search.value (asked_by q p) + 1 → IsGoing q w.state → Gives q p (place_of w.state) (result_of found) a → a.seen ≡ 0 → MatchTotalled q p w.state.at found → Serves q (run_of found) →
     KeepsGoing taken q p w.state (Searching run) (record w { stage = Giving found a }) Went
 begins_giving q p w found a run taken few g gives seen totals serves =
     record {
@@ -103,7 +103,7 @@ begins_giving q p w found a run taken few g gives seen totals serves =
 
 -- ---- a search that goes on
 
-pub searches_on : (q : QueryData) (p : Known) (w : Walker) (old new : Run) (taken : ℕ) → IsGoing q w.state → Searches q p w.state.at new → left_by new.search (asked_by q p) + taken ≤ left_by old.search (asked_by q p) →
+pub searches_on : (q : QueryData) (p : Known) (w : Walker) (old new : Run) (taken : ℕ) → IsGoing q w.state → Searches q p w.state.at new → left_by new.search.value (asked_by q p) + taken ≤ left_by old.search.value (asked_by q p) →
     KeepsGoing taken q p w.state (Searching old) (record w { stage = Searching new }) Went
 searches_on q p w old new taken g s fewer =
     record {
@@ -120,7 +120,7 @@ stops_here q p r g none within =
     let zero_here : r.here ≡ 0 = omega (arith, no_item) in
     (stays_put q p r g.going within, record { stops = subst IsStop (sym none) tt; all = zero_here ∙ sym (ap (λ t. length (leg_items t)) none) })
 
-pub search_waits : (q : QueryData) (p : Known) (w : Walker) (old new : Run) (taken : ℕ) → IsGoing q w.state → Searches q p w.state.at new → found_at q p w.state.at ≡ Waits → left_by new.search (asked_by q p) ≤ left_by old.search (asked_by q p) →
+pub search_waits : (q : QueryData) (p : Known) (w : Walker) (old new : Run) (taken : ℕ) → IsGoing q w.state → Searches q p w.state.at new → found_at q p w.state.at ≡ Waits → left_by new.search.value (asked_by q p) ≤ left_by old.search.value (asked_by q p) →
     KeepsGoing taken q p w.state (Searching old) (record w { stage = Searching new }) Idle
 search_waits q p w old new taken g s found fewer =
     let none : leg q p (place_of w.state) ≡ Pauses [] = leg_of q p (place_of w.state) Waits [] s.known found refl in
@@ -143,13 +143,13 @@ from_more taken q p r new stage more step h k = record { given = k.given; first 
     lower (Gave x) l = omega (arith, h, l)
     lower Idle l = omega (arith, h, l)
 
-pub most_of : (q : QueryData) (p : Known) (start : ℕ) (run : Run) → Searches q p start run → most_turns run.search (count p) p.end ≡ turns (count p) p.end (form_of q.pattern) start + length (words (count p) p.end (form_of q.pattern) start)
+pub most_of : (q : QueryData) (p : Known) (start : ℕ) (run : Run) → Searches q p start run → most_turns run.search.value (count p) p.end ≡ turns (count p) p.end (form_of q.pattern) start + length (words (count p) p.end (form_of q.pattern) start)
 most_of q p start run h =
     h.pattern.same_turns (count p) p.end _ ∙ ap (λ i. turns (count p) p.end (form_of q.pattern) i + length (words (count p) p.end (form_of q.pattern) i)) h.begins
 
 pub search_begins : LeftIsBounded → (q : QueryData) (p : Known) (r : MatcherState) (run : Run) (spare : Option Run) → IsGoing q r → Searches q p r.at run → left_with q p r (Searching run) ≤ left_with q p r (Begin spare)
 search_begins bounded q p r run spare g h =
-    omega (arith, left_going q p r (Searching run) g.going h.known, left_going q p r (Begin spare) g.going h.known, bounded run.search (asked_by q p) h.fits, most_of q p r.at run h)
+    omega (arith, left_going q p r (Searching run) g.going h.known, left_going q p r (Begin spare) g.going h.known, bounded run.search.value (asked_by q p) h.fits, most_of q p r.at run h)
 
 -- ---- past the last start row
 

@@ -43,24 +43,24 @@ unfolding ChoicesStand labels_of_search start_of_search
 labels_known s asked h = h.stands.known
 
 module _ (found_stays : FindingsStay) (fits_stay : SearchFitsStays) (tests : TestsGoOn) (totals_stay : TotalsStay) (q : QueryData) (p p' : Known) (sound : IsSound q) where
-  totals_later : (start : ℕ) (run : Run) → 1 ≤ start → GoesOnFrom (first_read q start) p p' → start + length (labels_of_search run.search) ≤ suc (count p) → Totalled q p start run → Totalled q p' start run
+  totals_later : (start : ℕ) (run : Run) → 1 ≤ start → GoesOnFrom (first_read q start) p p' → start + length (labels_of_search run.search.value) ≤ suc (count p) → Totalled q p start run → Totalled q p' start run
   totals_later start run one g within h =
       record {
         plan = h.plan;
-        totals = totals_stay run.totals p.rows p'.rows start (labels_of_search run.search) (λ row low high. g.same row (omega (arith, low, one)) (omega (arith, high, within))) h.totals;
+        totals = totals_stay run.totals p.rows p'.rows start (labels_of_search run.search.value) (λ row low high. g.same row (omega (arith, low, one)) (omega (arith, high, within))) h.totals;
       }
 
   searches_later : (start : ℕ) (run : Run) → 1 ≤ start → GoesOnFrom (first_read q start) p p' → Searches q p start run → Searches q p' start run
   searches_later start run one g h =
       let more : count p ≤ count p' = g.later.0 in
       let extends : AskedExtend start (asked_by q p) (asked_by q p') = tests (tested_by q p) p'.rows p'.end start one sound g in
-      let short : length (labels_of_search run.search) ≤ rows_from (start_of_search run.search) (count p) = labels_known run.search (asked_by q p) h.fits in
+      let short : length (labels_of_search run.search.value) ≤ rows_from (start_of_search run.search.value) (count p) = labels_known run.search.value (asked_by q p) h.fits in
       record {
         known = omega (arith, h.known, more);
         begins = h.begins;
         pattern = h.pattern;
-        fits = fits_stay run.search (asked_by q p) (asked_by q p') (subst (λ i. AskedExtend i (asked_by q p) (asked_by q p')) (sym h.begins) extends) h.fits;
-        totalled = totals_later start run one g (omega (arith, h.known, subst (λ i. length (labels_of_search run.search) ≤ rows_from i (count p)) h.begins short)) h.totalled;
+        fits = fits_stay run.search.value (asked_by q p) (asked_by q p') (subst (λ i. AskedExtend i (asked_by q p) (asked_by q p')) (sym h.begins) extends) h.fits;
+        totalled = totals_later start run one g (omega (arith, h.known, subst (λ i. length (labels_of_search run.search.value) ≤ rows_from i (count p)) h.begins short)) h.totalled;
       }
 
   match_later : (start : ℕ) (found : Ended) → 1 ≤ start → GoesOnFrom (first_read q start) p p' → AreKnown start (count p) (result_of found) → MatchTotalled q p start found → MatchTotalled q p' start found

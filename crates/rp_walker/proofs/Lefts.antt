@@ -31,7 +31,7 @@ use Rattle.rp_walker.proofs.Ends.{starts_up, starts_before}
 module _ (bounded : SearchLeft) (q : QueryData) (p : Known) where
   stage_bounded : (r : MatcherState) (stage : Stage) → StageStands q p r stage → stage_left q p r stage ≤ stage_left q p r (Begin None)
   stage_bounded r (Begin spare) h = omega arith
-  stage_bounded r (Searching run) h = omega (arith, bounded run.search (asked_by q p) h.fits, most_of q p r.at run h)
+  stage_bounded r (Searching run) h = omega (arith, bounded run.search.value (asked_by q p) h.fits, most_of q p r.at run h)
   stage_bounded r (Giving found a) h = omega (arith, h.0.low, h.0.ordered, h.0.high, h.0.known)
 
   going_bounded : (w : Walker) → GoesOnWell q p w → left_with q p w.state w.stage ≤ all_turns (count p) p.end (form_of q.pattern)
@@ -73,11 +73,11 @@ agreed_end : {first : ℕ} {p p' : Known} → AgreesFrom first p p' → p'.end �
 agreed_end {p = p} {p' = p'} a = same_end p.end p'.end (λ h. (a.on.later.1 h).1) (λ h. (a.back.later.1 h).1)
 
 module _ (same : SearchLeftSame) (tests : TestsGoOn) (q : QueryData) (p p' : Known) (sound : IsSound q) where
-  search_same : (start : ℕ) (run : Run) → 1 ≤ start → AgreesFrom (first_read q start) p p' → Searches q p start run → left_by run.search (asked_by q p') ≡ left_by run.search (asked_by q p)
+  search_same : (start : ℕ) (run : Run) → 1 ≤ start → AgreesFrom (first_read q start) p p' → Searches q p start run → left_by run.search.value (asked_by q p') ≡ left_by run.search.value (asked_by q p)
   search_same start run one a h =
       let on : AskedExtend start (asked_by q p) (asked_by q p') = tests (tested_by q p) p'.rows p'.end start one sound a.on in
       let back : AskedExtend start (asked_by q p') (asked_by q p) = tests (tested_by q p') p.rows p.end start one sound a.back in
-      same run.search (asked_by q p) (asked_by q p') (subst (λ i. AskedExtend i (asked_by q p) (asked_by q p')) (sym h.begins) on)
+      same run.search.value (asked_by q p) (asked_by q p') (subst (λ i. AskedExtend i (asked_by q p) (asked_by q p')) (sym h.begins) on)
       (subst (λ i. AskedExtend i (asked_by q p') (asked_by q p)) (sym h.begins) back) h.fits
 
   stage_same : (r : MatcherState) (stage : Stage) → 1 ≤ r.at → AgreesFrom (first_read q r.at) p p' → StageStands q p r stage → stage_left q p' r stage ≡ stage_left q p r stage
@@ -85,7 +85,7 @@ module _ (same : SearchLeftSame) (tests : TestsGoOn) (q : QueryData) (p p' : Kno
       ap (λ n. turns n p'.end (form_of q.pattern) r.at + length (words n p'.end (form_of q.pattern) r.at) + (n - r.at) + 4) (agreed_count a)
       ∙ ap (λ e. turns (count p) e (form_of q.pattern) r.at + length (words (count p) e (form_of q.pattern) r.at) + (count p - r.at) + 4) (agreed_end a)
   stage_same r (Searching run) one a h =
-      ap (λ k. k + (count p' - r.at) + 4) (search_same r.at run one a h) ∙ ap (λ n. left_by run.search (asked_by q p) + (n - r.at) + 4) (agreed_count a)
+      ap (λ k. k + (count p' - r.at) + 4) (search_same r.at run one a h) ∙ ap (λ n. left_by run.search.value (asked_by q p) + (n - r.at) + 4) (agreed_count a)
   stage_same r (Giving found a) one b h = refl
 
   with_same : (r : MatcherState) (stage : Stage) → count p' ≡ count p → p'.end ≡ p.end → stage_left q p' r stage ≡ stage_left q p r stage → left_with q p' r stage ≡ left_with q p r stage

@@ -29,27 +29,27 @@ same_pattern : (q : QueryData) (old new : Search) → IsSameSearch old new → I
 same_pattern q old new same h =
     record { same_words = λ n e row. same.pattern.words n e row ∙ h.same_words n e row; same_turns = λ n e row. same.pattern.turns n e row ∙ h.same_turns n e row }
 
-came_to : (q : QueryData) (p : Known) (start : ℕ) (old : Search) (new : Run) (outcome : Outcome) → found_by old (asked_by q p) ≡ found_at q p start → RunAnswers old new.search (asked_by q p) outcome → CameTo q p start new outcome
+came_to : (q : QueryData) (p : Known) (start : ℕ) (old : Search) (new : Run) (outcome : Outcome) → found_by old (asked_by q p) ≡ found_at q p start → RunAnswers old new.search.value (asked_by q p) outcome → CameTo q p start new outcome
 came_to q p start old new MatchOutcome e a = sym e ∙ a
 came_to q p start old new NoMatchOutcome e a = sym e ∙ a
 came_to q p start old new WaitsOutcome e a = sym e ∙ a.0
 came_to q p start old new PausedOutcome e a = tt
 
-pub ran_of : (q : QueryData) (p : Known) (start : ℕ) (old : Run) (new : Search) (totals : Totals) (outcome : Outcome) (a : Asked) (taken : ℕ) → a ≡ asked_by q p → Searches q p start old → IsSameSearch old.search new →
-    SearchFits new a → RunAnswers old.search new a outcome → Lowers taken old.search new a outcome → taken ≡ turns_of_run new → plan_of totals ≡ totals_in q → AreTotals totals p.rows start (labels_of_search new) →
-    Ran q p start old (record { search = new; totals = totals }) outcome
+pub ran_of : (q : QueryData) (p : Known) (start : ℕ) (old : Run) (new : Search) (totals : Totals) (outcome : Outcome) (a : Asked) (taken : ℕ) → a ≡ asked_by q p → Searches q p start old → IsSameSearch old.search.value new →
+    SearchFits new a → RunAnswers old.search.value new a outcome → Lowers taken old.search.value new a outcome → taken ≡ turns_of_run new → plan_of totals ≡ totals_in q → AreTotals totals p.rows start (labels_of_search new) →
+    Ran q p start old (record { search = record { value = new }; totals = totals }) outcome
 ran_of q p start old new totals outcome a taken e h same fits answers lowers many plan entered =
-    let now : Lowers taken old.search new (asked_by q p) outcome = subst (λ x. Lowers taken old.search new x outcome) e lowers in
+    let now : Lowers taken old.search.value new (asked_by q p) outcome = subst (λ x. Lowers taken old.search.value new x outcome) e lowers in
     record {
       searches =
           record {
             known = h.known;
             begins = same.start ∙ h.begins;
-            pattern = same_pattern q old.search new same h.pattern;
+            pattern = same_pattern q old.search.value new same h.pattern;
             fits = subst (λ x. SearchFits new x) e fits;
             totalled = record { plan = plan; totals = entered };
           };
-      came = came_to q p start old.search (record { search = new; totals = totals }) outcome (found_same q p start old.search h.begins h.pattern) (subst (λ x. RunAnswers old.search new x outcome) e answers);
+      came = came_to q p start old.search.value (record { search = record { value = new }; totals = totals }) outcome (found_same q p start old.search.value h.begins h.pattern) (subst (λ x. RunAnswers old.search.value new x outcome) e answers);
       left = now.never_rises;
       falls = omega (arith, now.falls, many);
       paused = λ is. omega (arith, now.paused is, many);

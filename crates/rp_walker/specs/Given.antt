@@ -33,7 +33,7 @@ past_row a seen = record { next = a.next + 1; end = a.end; seen = seen }
 -- what an ended search has found
 abbrev pub result_of : Ended → Found
 result_of (EndedNoMatch run) = NoMatch
-result_of (EndedMatch run) = Match (labels_of_search run.search)
+result_of (EndedMatch run) = Match (labels_of_search run.search.value)
 
 abbrev pub run_of : Ended → Run
 run_of (EndedNoMatch run) = run

@@ -13,7 +13,7 @@ use Rattle.rp_walker.specs.Stages.{Searches, asked_by}
 
 -- what was found, where the last turn ended the search
 abbrev pub CameTo : QueryData → Known → ℕ → Run → Outcome → Type 0
-CameTo q p start run MatchOutcome = found_at q p start ≡ Match (labels_of_search run.search)
+CameTo q p start run MatchOutcome = found_at q p start ≡ Match (labels_of_search run.search.value)
 CameTo q p start run NoMatchOutcome = found_at q p start ≡ NoMatch
 CameTo q p start run WaitsOutcome = found_at q p start ≡ Waits
 CameTo q p start run PausedOutcome = ⊤
@@ -21,7 +21,7 @@ CameTo q p start run PausedOutcome = ⊤
 pub record Ran (q : QueryData) (p : Known) (start : ℕ) (old new : Run) (outcome : Outcome) : Type 0 where
   pub searches : Searches q p start new
   pub came : CameTo q p start new outcome
-  pub left : left_by new.search (asked_by q p) ≤ left_by old.search (asked_by q p)
-  pub falls : turns_of_run new.search ≤ left_by old.search (asked_by q p) + 1
+  pub left : left_by new.search.value (asked_by q p) ≤ left_by old.search.value (asked_by q p)
+  pub falls : turns_of_run new.search.value ≤ left_by old.search.value (asked_by q p) + 1
   pub paused : outcome ≡ PausedOutcome →
-      left_by new.search (asked_by q p) + turns_of_run new.search ≤ left_by old.search (asked_by q p)
+      left_by new.search.value (asked_by q p) + turns_of_run new.search.value ≤ left_by old.search.value (asked_by q p)

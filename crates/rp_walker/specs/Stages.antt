@@ -37,14 +37,14 @@ asked_by q p = asked_of (tested_by q p)
 -- A run's totals are those of the labels of its search.
 pub record Totalled (q : QueryData) (p : Known) (start : ℕ) (run : Run) : Type 0 where
   pub plan : plan_of run.totals ≡ totals_in q
-  pub totals : AreTotals run.totals p.rows start (labels_of_search run.search)
+  pub totals : AreTotals run.totals p.rows start (labels_of_search run.search.value)
 
 -- a run for the query's pattern from a row
 pub record Searches (q : QueryData) (p : Known) (start : ℕ) (run : Run) : Type 0 where
   pub known : start ≤ count p
-  pub begins : start_of_search run.search ≡ start
-  pub pattern : IsSearchFor (form_of q.pattern) run.search
-  pub fits : SearchFits run.search (asked_by q p)
+  pub begins : start_of_search run.search.value ≡ start
+  pub pattern : IsSearchFor (form_of q.pattern) run.search.value
+  pub fits : SearchFits run.search.value (asked_by q p)
   pub totalled : Totalled q p start run
 
 -- the rows of these that are shown
@@ -57,7 +57,7 @@ MatchTotalled q p start (EndedMatch run) = Totalled q p start run
 
 -- A run is of the query, so that it can begin again from any row.
 pub record Serves (q : QueryData) (run : Run) : Type 0 where
-  pub pattern : IsSearchFor (form_of q.pattern) run.search
+  pub pattern : IsSearchFor (form_of q.pattern) run.search.value
   pub plan : plan_of run.totals ≡ totals_in q
 
 -- a run that is kept, if any
@@ -95,7 +95,7 @@ StageStands q p r (Giving found ahead) = Gives q p (place_of r) (result_of found
 -- turns of the present start row
 abbrev pub stage_left : QueryData → Known → MatcherState → Stage → ℕ
 stage_left q p r (Begin spare) = turns (count p) p.end (form_of q.pattern) r.at + length (words (count p) p.end (form_of q.pattern) r.at) + (count p - r.at) + 4
-stage_left q p r (Searching run) = left_by run.search (asked_by q p) + (count p - r.at) + 4
+stage_left q p r (Searching run) = left_by run.search.value (asked_by q p) + (count p - r.at) + 4
 stage_left q p r (Giving found ahead) = ahead.end - ahead.next + 2
 
 -- the turns of the starts up to a row

@@ -15,10 +15,10 @@ use rp_tester::Tester;
 use std::alloc::{AllocError, Global};
 use std::sync::ledger::Ledger;
 
-/// A search, with the totals of the rows that it has mapped.
+/// A search, with the totals of the rows that it has mapped. The search stays where it is when the run is handed on.
 #[derive(Drop)]
 pub struct Run {
-    pub(crate) search: Search,
+    pub(crate) search: Box<Search>,
     pub(crate) totals: Totals,
 }
 
@@ -39,7 +39,7 @@ pub(crate) fn begin<R: Rows>(
     match spare {
         Some(run) => Ok(begin_again(run, start)),
         None => {
-            let search = Search::new(alloc, query.pattern(), start)?;
+            let search = Box::new(alloc, Search::new(alloc, query.pattern(), start)?)?;
             let totals = Totals::new(alloc, query)?;
             Ok(Run { search, totals })
         }
@@ -71,7 +71,7 @@ pub(crate) fn run_on<R: Rows, L: Ledger>(
     requires some { 0 < budget }
     requires searches { Searches (data_of query.now) (known_in R.known R.ending rows.now) start run }
     ensures ran { IfOk result (λ r. Ran (data_of query.now) (known_in R.known R.ending rows.now) start run r.1 r.0) }
-    ensures taken { IfOk result (λ r. steps.new ≡ steps.old + turns_of_run r.1.search) }
+    ensures taken { IfOk result (λ r. steps.new ≡ steps.old + turns_of_run r.1.search.value) }
     ensures some { OnOk result (steps.old < steps.new) }
     ensures turns { TurnsAreCounted budget steps.old steps.new entered.old entered.new }
 {

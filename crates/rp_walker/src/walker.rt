@@ -205,7 +205,7 @@ impl Walker {
             self.old.state.at found }
         requires serves { Serves (data_of query.now) (run_of found) }
         ensures { (run : Run) (taken : ℕ) →
-            taken ≤ left_by run.search (asked_by (data_of query.now) (known_in R.known R.ending rows.now)) + 1 →
+            taken ≤ left_by run.search.value (asked_by (data_of query.now) (known_in R.known R.ending rows.now)) + 1 →
             KeepsGoing taken (data_of query.now) (known_in R.known R.ending rows.now)
             self.old.state (SearchingStage run) self.new result }
     {

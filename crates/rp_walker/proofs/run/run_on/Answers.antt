@@ -15,7 +15,7 @@ pub run-ran-requires : goal.run-ran-requires
 run-ran-requires g c =
     let q = data_of c.args.query.now in
     let p = known_in g.R.Rows.known g.R.Rows.ending c.args.rows.now in
-    let s = c.args.run.search in
+    let s = c.args.run.search.value in
     let h = c.requires.searches in
     let same : tested_by q p ≡ tester_of c.new-tester.result = sym c.new-tester.ensures.subject in
     record {
