@@ -21,20 +21,27 @@ pub(crate) fn partitions(
     ensures { IfOk result (λ parts. parts_of parts.entries ≡ partitions_are columns.now rows.items) }
 {
     let mut parts = IndexMap::new(alloc);
+    let mut room = Vec::new(alloc);
     for row in rows {
-        let key = key_of(alloc, columns, &row)?;
-        add_row(alloc, &mut parts, key, row)?;
+        let key = key_of(room, columns, &row)?;
+        room = add_row(alloc, &mut parts, key, row)?;
     }
     Ok(parts)
 }
 
-/// Adds a row to the partition of its key, which comes last where it is new.
-fn add_row(alloc: Global, parts: &mut Parts, key: Cells, row: Row) -> Result<(), AllocError>
+/// Adds a row to the partition of its key, which comes last where it is new. Gives back the room of a key that isn't kept.
+fn add_row(alloc: Global, parts: &mut Parts, key: Cells, row: Row) -> Result<Vec<Value>, AllocError>
     ensures { OnOk result (parts_of parts.new.entries ≡ with_row (parts_of parts.old.entries) key row) }
 {
     match parts.get_index_of(&key) {
-        Some(index) => push(&mut parts[index], row),
-        None => add_part(alloc, parts, key, row),
+        Some(index) => {
+            push(&mut parts[index], row)?;
+            Ok(key.into_vec())
+        }
+        None => {
+            add_part(alloc, parts, key, row)?;
+            Ok(Vec::new(alloc))
+        }
     }
 }
 
@@ -60,19 +67,20 @@ fn push(rows: &mut Vec<Row>, row: Row) -> Result<(), AllocError>
     }
 }
 
-/// The key of a row: its values in these columns.
-fn key_of(alloc: Global, columns: &[usize], row: &Row) -> Result<Cells, AllocError>
+/// The key of a row: its values in these columns, in the room of an earlier key.
+fn key_of(room: Vec<Value>, columns: &[usize], row: &Row) -> Result<Cells, AllocError>
     ensures { IfOk result (λ key. key ≡ key_is columns.now row.now) }
 {
-    let mut values = Vec::with_capacity(alloc, columns.len())?;
+    let mut values = room;
+    values.clear();
     for column in columns {
-        values.push(value_at(alloc, *column, row)?)?;
+        values.push(value_at(*column, row)?)?;
     }
     Ok(Cells::new(values))
 }
 
 /// The value of a row in a column, from 1.
-fn value_at(alloc: Global, column: usize, row: &Row) -> Result<Value, AllocError>
+fn value_at(column: usize, row: &Row) -> Result<Value, AllocError>
     ensures { IfOk result (λ value. value ≡ value_is column row.now) }
 {
     match row.cell(column) {

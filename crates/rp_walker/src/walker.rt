@@ -75,7 +75,8 @@ impl Walker {
         requires serves { Serves (data_of query.now) (run_of found) }
         requires due { ahead.seen ≡ self.old.state.here }
         requires more { ahead.next < ahead.end }
-        requires shown { is_hidden (data_of query.now).plan.rows self.old.state.at (result_of found) ahead.next ≡ false }
+        requires shown { is_hidden (data_of query.now).plan.rows self.old.state.at (result_of found) ahead.next
+            ≡ false }
         requires few { self.old.state.given < 2 ^ 128 - 1 }
         ensures kept { OnErr result (self.new ≡ self.old) }
         ensures keeps { IfOk result (KeepsGoing 1 (data_of query.now) (known_in R.known R.ending rows.now)
@@ -443,8 +444,8 @@ impl Walker {
 
     /// Takes at most `budget` turns, until an item comes or nothing is left to give. A turn is one choice taken up, one
     /// start row ended or one item looked at: `Paused` comes after just `budget` turns, and an item after one at least.
-    /// A budget of 0 answers `Paused`, changes nothing and takes no memory. After `AllocError` the same item is still to
-    /// come, and the search begins again from its start row.
+    /// A budget of 0 answers `Paused`, changes nothing and takes no memory. After `AllocError` the same item is still
+    /// to come, and the search begins again from its start row.
     pub fn poll<R: Rows, L: Ledger>(
         &mut self,
         query: &Query,

@@ -29,7 +29,8 @@ impl Gathered {
 
     /// Adds the line of an item, with its line feed.
     pub(crate) fn push(&mut self, key: &Cells, place: u128, item: &Item) -> Result<(), AllocError>
-        ensures { OnOk result (self.new.text.items ≡ self.old.text.items ++ (item_text key.now place item.now ++ 10 ∷ [])) }
+        ensures { OnOk result
+            (self.new.text.items ≡ self.old.text.items ++ (item_text key.now place item.now ++ 10 ∷ [])) }
     {
         self.line.clear();
         push_item_line(self.alloc, &mut self.line, key, place, item)?;

@@ -22,11 +22,11 @@ use std::alloc::Global;
 use std::marker::Brand;
 use std::sync::ledger::{Blank, Ledger};
 
-/// Writes the answers of a CSV input: of each partition, by first appearance, the lines of the items of its answer, with
-/// their places from 1.
+/// Writes the answers of a CSV input: of each partition, by first appearance, the lines of the items of its answer,
+/// with their places from 1.
 ///
-/// All is read before the first line is written, by at most `reads` calls of the reader. Bytes are written in blocks, so
-/// after a fault of the writer or of memory some lines may be missing.
+/// All is read before the first line is written, by at most `reads` calls of the reader. Bytes are written in blocks,
+/// so after a fault of the writer or of memory some lines may be missing.
 pub fn run_whole<R: Intake, W: Outlet>(
     alloc: Global,
     query: Query,

@@ -4,7 +4,6 @@ use Rattle.std.specs.Map.{keys_of, lookup}
 use Rattle.rp_value.specs.declared.value.Value.{Value}
 use Rattle.rp_source.specs.Partitions.{same_key}
 use Rattle.rp_source.proofs.Gathering.{with_row_at, with_row_new}
-use Rattle.rp_source.proofs.Orders.{on_ok}
 use Rattle.rp_source.proofs.partition.add_row.Goals as goal
 
 pub returns-in-Some : goal.returns-in-Some
@@ -13,9 +12,9 @@ returns-in-Some c =
     let found : position (same_key c.args.key) (keys_of entries) ≡ Some c.in-Some.index = sym c.in-Some.ensures.index in
     let at : (d : List Value) → (c.in-Some.index < length (keys_of entries)) × (same_key c.args.key (get_or (keys_of entries) c.in-Some.index d) ≡ true) × ((k : ℕ) → k < c.in-Some.index → same_key c.args.key (get_or (keys_of entries) k d) ≡ false) =
     λ d. position-Some (same_key c.args.key) (keys_of entries) c.in-Some.index d found in
-    on_ok _ _ c.push.result c.push.ensures (λ gains. with_row_at entries c.in-Some.index c.args.key c.args.row c.index_mut.result.now c.push.new.rows (at []).0 (λ d. (at d).1) (λ d. (at d).2) c.index_mut.ensures.value gains)
+    with_row_at entries c.in-Some.index c.args.key c.args.row c.index_mut.result.now c.push.new.rows (at []).0 (λ d. (at d).1) (λ d. (at d).2) c.index_mut.ensures.value c.in_ok-push.ensures
 
 pub returns-in-None : goal.returns-in-None
 returns-in-None c =
     let none : lookup (same_key c.args.key) c.args.parts.now.entries ≡ None = search rules in
-    on_ok _ _ c.add_part.result c.add_part.ensures (λ h. h ∙ sym (with_row_new c.args.parts.now.entries c.args.key c.args.row none))
+    c.in_ok-add_part.ensures ∙ sym (with_row_new c.args.parts.now.entries c.args.key c.args.row none)
