@@ -59,7 +59,8 @@ fn write_next<W: Outlet, L: Ledger>(
     ensures stands { Stands (data_of query.now) (closed part.now.rows.items) walker.new }
     ensures fits { OnOk result (Fits (data_of query.now) (record_of walker.new) (closed part.now.rows.items)) }
     ensures written { OnOk result (WritesOn (data_of query.now) (part_of part.now)
-        (record_of walker.old) (record_of walker.new) (W.contents writer.old) gathered.old.text.items (W.contents writer.new) gathered.new.text.items) }
+        (record_of walker.old) (record_of walker.new)
+        (W.contents writer.old) gathered.old.text.items (W.contents writer.new) gathered.new.text.items) }
     ensures front { OnErr result (AppendsFront (W.contents writer.old) (W.contents writer.new)
         (gathered.old.text.items ++ lines_to_come (data_of query.now) (part_of part.now) (record_of walker.old))) }
     ensures falls { result ≡ Ok true → left_in (data_of query.now) (closed part.now.rows.items) walker.new
