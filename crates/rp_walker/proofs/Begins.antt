@@ -1,29 +1,27 @@
 -- A search that ends, and a start row that begins.
-use Rattle.std.proofs.Common.{◌≡◌, ℕ, zero, suc, ◌+◌, ◌-◌, ◌<◌, ◌≤◌, List, [], ◌∷◌, ◌++◌, length, length-append, append_assoc, map, Bool, true, false, cond, Option, Some, None, refl, sym, ap, ◌∙◌, subst, arith}
-use Rattle.std.specs.Prelude.{◌≢◌, ⊤, slice_get, nat_le, Result, IfOk, OnErr}
+use Rattle.std.proofs.Common.{◌≡◌, ℕ, suc, ◌+◌, ◌-◌, ◌<◌, ◌≤◌, List, [], ◌∷◌, ◌++◌, length, length-append, append_assoc, Bool, false, cond, Option, Some, refl, sym, ap, ◌∙◌, subst, arith}
+use Rattle.std.specs.Prelude.{◌≢◌, slice_get, nat_le, Result, IfOk}
 use Rattle.std.proofs.Common.{Ok, Err}
 use Rattle.std.proofs.lemmas.Bool.Decides.{nat_tests}
 use Rattle.rp_pattern.specs.declared.word.Label.{Label}
-use Rattle.rp_pattern.specs.declared.word.End.{End}
 use Rattle.rp_pattern.specs.declared.word.End.TheVariants.{Open as OpenEnd, Closed as ClosedEnd}
 use Rattle.rp_pattern.specs.PatternForm.{form_of}
-use Rattle.rp_pattern.specs.Turns.{turns, starts_turns}
+use Rattle.rp_pattern.specs.Turns.{turns}
 use Rattle.rp_pattern.specs.Words.{words}
 use Rattle.rp_syntax.specs.declared.tree.RowsPerMatch.{RowsPerMatch}
 use Rattle.rp_syntax.specs.declared.tree.RowsPerMatch.TheVariants.{One, AllShowEmpty, AllOmitEmpty, AllWithUnmatched}
 use Rattle.rp_search.specs.Fits.{left_by}
-use Rattle.rp_search.specs.Found.{Found, Match, NoMatch, Waits}
+use Rattle.rp_search.specs.Found.{Found, Match, Waits}
 use Rattle.rp_search.specs.Search.{LeftIsBounded, most_turns}
 use Rattle.rp_check.specs.declared.query.QueryData.{QueryData}
-use Rattle.rp_known.specs.declared.item.Item.{Item}
 use Rattle.rp_known.specs.declared.item.Item.TheVariants.{End as EndItem}
 use Rattle.rp_known.specs.declared.place.Place.{Place}
 use Rattle.rp_known.specs.Known.{Known, count}
-use Rattle.rp_known.specs.Items.{unexcluded, item_at, item_rows, items_of}
-use Rattle.rp_known.specs.Walk.{Leg, Goes, Pauses, Ends, after_item, after_items, after_match, after_found, found_at, at_last, searched, leg, leg_items, and_then, walk, walk_from, known, first_place, ComesTo, here, on}
-use Rattle.rp_known.specs.WalkLaws.{LeadsOn, LegsLeadOn, SearchesLeadOn, AreKnown}
-use Rattle.rp_walker.specs.Records.{place_of, IsWithin, IsOnWalk, IsOver, IsLast, Fits, fits_by, first_state}
-use Rattle.rp_walker.specs.Steps.{IsDone, IsStop, IsEnd, HasEnded, ended_by, Moves}
+use Rattle.rp_known.specs.Items.{unexcluded, item_rows}
+use Rattle.rp_known.specs.Walk.{Pauses, found_at, at_last, searched, leg, leg_items, known}
+use Rattle.rp_known.specs.WalkLaws.{AreKnown}
+use Rattle.rp_walker.specs.Records.{place_of, IsWithin}
+use Rattle.rp_walker.specs.Steps.{IsDone, IsStop, Moves}
 use Rattle.rp_walker.specs.declared.ahead.Ahead.{Ahead}
 use Rattle.rp_walker.specs.declared.record.MatcherState.{MatcherState}
 use Rattle.rp_walker.specs.declared.run.Run.{Run}

@@ -1,6 +1,6 @@
 -- A record that fits goes on fitting.
 use Rattle.std.proofs.Common.{◌≡◌, ℕ, zero, suc, ◌+◌, ◌-◌, ◌<◌, ◌≤◌, List, [], ◌∷◌, ◌++◌, length, length-append, map, Bool, true, false, cond, Option, Some, None, refl, sym, ap, ◌∙◌, subst, arith}
-use Rattle.std.specs.Prelude.{nat_le, max, option_map, ⊤, Result, Ok, Err}
+use Rattle.std.specs.Prelude.{nat_le, option_map, ⊤, Result, Ok, Err}
 use Rattle.std.proofs.lemmas.Bool.Decides.{nat_tests}
 use Rattle.rp_value.specs.declared.value.Value.{Value}
 use Rattle.rp_pattern.specs.declared.word.Label.{Label}
@@ -14,10 +14,10 @@ use Rattle.rp_known.specs.declared.item.Item.TheVariants.{Row as RowItem, Fault 
 use Rattle.rp_known.specs.declared.item.SkipFault.{SkipFault}
 use Rattle.rp_known.specs.declared.place.Place.{Place}
 use Rattle.rp_known.specs.Known.{Known, count, Continues, GoesOnFrom}
-use Rattle.rp_known.specs.Plans.{first_read, setting_of, values_of, no_measures}
+use Rattle.rp_known.specs.Plans.{first_read, setting_of, values_of}
 use Rattle.rp_known.specs.Skips.{next_start}
-use Rattle.rp_known.specs.Items.{items_of, item_at, item_rows, row_item}
-use Rattle.rp_known.specs.Walk.{Leg, Goes, Pauses, Ends, after_item, after_items, after_match, after_found, found_at, at_last, searched, leg, leg_items, and_then, walk, walk_from, first_place, known, ComesTo, here, on}
+use Rattle.rp_known.specs.Items.{item_at, item_rows, row_item}
+use Rattle.rp_known.specs.Walk.{Leg, Goes, Pauses, Ends, after_item, after_items, after_match, after_found, found_at, at_last, searched, leg, leg_items, and_then, walk, first_place, known, here}
 use Rattle.rp_known.specs.WalkLaws.{IsPrefixOf, Stays, LegStays, WalkStays, LeadsOn, LegsLeadOn}
 use Rattle.rp_walker.specs.declared.record.MatcherState.{MatcherState}
 use Rattle.rp_walker.specs.Records.{place_of, IsLast, IsOnWalk, IsOver, Fits, fits_by, first_state}

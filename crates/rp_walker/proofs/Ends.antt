@@ -1,22 +1,22 @@
 -- How a start row ends, and how the answer ends.
 use Rattle.std.proofs.Common.{◌≡◌, ℕ, zero, suc, ◌+◌, ◌-◌, ◌<◌, ◌≤◌, List, [], ◌∷◌, ◌++◌, length, length-append, map, Bool, true, false, cond, Option, Some, None, refl, sym, ap, ◌∙◌, subst, arith}
-use Rattle.std.specs.Prelude.{◌≢◌, ⊤, slice_get, nat_le, nat_eq, max}
+use Rattle.std.specs.Prelude.{◌≢◌, slice_get, nat_le, nat_eq, max}
 use Rattle.std.proofs.lemmas.Bool.Decides.{nat_tests}
 use Rattle.rp_pattern.specs.declared.word.End.{End}
 use Rattle.rp_pattern.specs.declared.form.Form.{Form}
 use Rattle.rp_pattern.specs.PatternForm.{form_of}
 use Rattle.rp_pattern.specs.Turns.{turns, starts_turns}
 use Rattle.rp_pattern.specs.Words.{words}
-use Rattle.rp_search.specs.Found.{Found, Match, NoMatch, Waits}
+use Rattle.rp_search.specs.Found.{Found}
 use Rattle.rp_check.specs.declared.query.QueryData.{QueryData}
 use Rattle.rp_known.specs.declared.item.Item.{Item}
 use Rattle.rp_known.specs.declared.place.Place.{Place}
 use Rattle.rp_known.specs.Known.{Known, count}
 use Rattle.rp_known.specs.Items.{item_at, item_rows}
-use Rattle.rp_known.specs.Walk.{Leg, Goes, Pauses, Ends, after_item, after_items, after_match, after_found, found_at, at_last, searched, leg, leg_items, and_then, walk, walk_from, known, first_place, ComesTo, here, on}
-use Rattle.rp_known.specs.WalkLaws.{LeadsOn, LegsLeadOn, SearchesLeadOn, AreKnown}
-use Rattle.rp_walker.specs.Records.{place_of, IsWithin, IsOnWalk, IsOver, IsLast, Fits, fits_by, first_state}
-use Rattle.rp_walker.specs.Steps.{IsDone, IsStop, IsEnd, HasEnded, ended_by, Moves}
+use Rattle.rp_known.specs.Walk.{Leg, Goes, Ends, after_items, after_found, leg, leg_items, here, on}
+use Rattle.rp_known.specs.WalkLaws.{LeadsOn, SearchesLeadOn}
+use Rattle.rp_walker.specs.Records.{place_of, IsWithin}
+use Rattle.rp_walker.specs.Steps.{IsStop, IsEnd, ended_by, Moves}
 use Rattle.rp_walker.specs.declared.ahead.Ahead.{Ahead}
 use Rattle.rp_walker.specs.declared.record.MatcherState.{MatcherState}
 use Rattle.rp_walker.specs.declared.run.Run.{Run}
@@ -27,7 +27,7 @@ use Rattle.rp_walker.specs.declared.stage.Step.{Step}
 use Rattle.rp_walker.specs.declared.stage.Step.TheVariants.{Went, Gave, Idle}
 use Rattle.rp_walker.specs.declared.walker.Walker.{Walker}
 use Rattle.rp_walker.specs.Given.{result_of, run_of, shown_from, is_hidden}
-use Rattle.rp_walker.specs.Stages.{Gives, Serves, rows_ahead, IsGoing, stage_left, starts_to, left_with}
+use Rattle.rp_walker.specs.Stages.{Gives, Serves, IsGoing, stage_left, starts_to, left_with}
 use Rattle.rp_walker.specs.Walking.{KeepsGoing}
 use Rattle.rp_walker.proofs.Shown.{Adds, all_here}
 use Rattle.rp_walker.proofs.Steps.{leg_of, left_going, stands_going}

@@ -1,5 +1,5 @@
 -- What steps over the rows that are kept mean for the partition that they are of.
-use Rattle.std.proofs.Common.{◌≡◌, ℕ, zero, suc, ◌+◌, ◌-◌, ◌<◌, ◌≤◌, List, [], ◌∷◌, ◌++◌, length, length-append, append_assoc, Bool, true, false, cond, Option, Some, None, refl, sym, ap, ◌∙◌, subst, arith}
+use Rattle.std.proofs.Common.{◌≡◌, ℕ, suc, ◌+◌, ◌-◌, ◌<◌, ◌≤◌, List, [], ◌∷◌, ◌++◌, length, length-append, append_assoc, Bool, true, false, cond, Option, Some, None, refl, sym, ap, ◌∙◌, subst, arith}
 use Rattle.std.specs.Prelude.{slice_get, nat_le, ⊤, Result, Ok, Err}
 use Rattle.rp_pattern.specs.declared.word.Label.{Label}
 use Rattle.rp_pattern.specs.declared.word.End.{End}
@@ -17,8 +17,8 @@ use Rattle.rp_known.specs.Items.{items_of}
 use Rattle.rp_known.specs.Walk.{Leg, Goes, Pauses, Ends, after_item, after_items, after_match, after_found, found_at, at_last, searched, leg, leg_items, and_then, walk, walk_from, known, first_place, ComesTo, here, on}
 use Rattle.rp_known.specs.WalkLaws.{LegStays, LeadsOn, LegsLeadOn}
 use Rattle.rp_walker.specs.declared.record.MatcherState.{MatcherState}
-use Rattle.rp_walker.specs.Records.{place_of, IsWithin, IsOnWalk, IsOver, IsLast, Fits, fits_by}
-use Rattle.rp_walker.specs.Steps.{IsDone, IsStop, IsEnd, HasEnded, ended_by, Moves}
+use Rattle.rp_walker.specs.Records.{place_of, IsWithin, IsOnWalk, IsOver, IsLast, fits_by}
+use Rattle.rp_walker.specs.Steps.{IsStop, IsEnd, HasEnded, ended_by, Moves}
 use Rattle.rp_walker.specs.FitLaws.{AgreesFrom, Meant}
 use Rattle.rp_walker.proofs.Moving.{comes_further, comes_after, get_behind}
 use Rattle.rp_walker.proofs.Agreeing.{leg_agrees, comes_agrees, walk_agrees, still_read}

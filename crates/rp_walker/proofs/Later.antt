@@ -1,7 +1,6 @@
 -- A walker over rows that go on.
-use Rattle.std.proofs.Common.{◌≡◌, ℕ, suc, ◌+◌, ◌-◌, ◌<◌, ◌≤◌, max, List, length, Bool, true, false, Option, Some, None, refl, sym, ap, ◌∙◌, subst, arith}
-use Rattle.std.specs.Prelude.{◌≢◌, ⊤}
-use Rattle.rp_pattern.specs.declared.word.Label.{Label}
+use Rattle.std.proofs.Common.{ℕ, suc, ◌+◌, ◌≤◌, length, Bool, true, false, sym, ◌∙◌, subst, arith}
+use Rattle.std.specs.Prelude.{◌≢◌}
 use Rattle.rp_search.specs.declared.search.Search.{Search}
 use Rattle.rp_search.specs.Asked.{Asked, AskedExtend, rows_from}
 use Rattle.rp_search.specs.Fits.{SearchFits, ChoicesStand}
@@ -26,7 +25,7 @@ use Rattle.rp_walker.specs.declared.walker.Walker.{Walker}
 use Rattle.rp_walker.specs.Given.{result_of}
 use Rattle.rp_walker.specs.Records.{place_of}
 use Rattle.rp_walker.specs.Stages.{Searches, Gives, Totalled, MatchTotalled, StageStands, asked_by}
-use Rattle.rp_walker.specs.Walking.{GoesOnWell, stands_by, Stands, StandsStays, record_of}
+use Rattle.rp_walker.specs.Walking.{stands_by, Stands, record_of}
 
 not_waits : (found : Ended) → result_of found ≢ Waits
 not_waits (EndedNoMatch run) = λ e. cc

@@ -1,6 +1,5 @@
 -- What a step adds to those before it.
-use Rattle.std.proofs.Common.{◌≡◌, ℕ, ◌+◌, ◌-◌, ◌<◌, ◌≤◌, Bool, true, false, Some, refl, sym, ap, ◌∙◌, subst, inl, arith}
-use Rattle.std.specs.Prelude.{slice_get}
+use Rattle.std.proofs.Common.{◌≡◌, ℕ, refl, ◌∙◌, inl, arith}
 use Rattle.rp_check.specs.declared.query.QueryData.{QueryData}
 use Rattle.rp_known.specs.declared.item.Item.{Item}
 use Rattle.rp_known.specs.Known.{Known}
@@ -9,9 +8,9 @@ use Rattle.rp_walker.specs.declared.poll.Poll.TheVariants.{Item as ItemPoll, Idl
 use Rattle.rp_walker.specs.declared.record.MatcherState.{MatcherState}
 use Rattle.rp_walker.specs.declared.stage.Stage.{Stage}
 use Rattle.rp_walker.specs.declared.stage.Step.{Step}
-use Rattle.rp_walker.specs.declared.stage.Step.TheVariants.{Went, Gave, Idle}
+use Rattle.rp_walker.specs.declared.stage.Step.TheVariants.{Gave, Idle}
 use Rattle.rp_walker.specs.declared.walker.Walker.{Walker}
-use Rattle.rp_walker.specs.Records.{place_of, IsWithin}
+use Rattle.rp_walker.specs.Records.{place_of}
 use Rattle.rp_walker.specs.Steps.{Moves}
 use Rattle.rp_walker.specs.Stages.{StepIs}
 use Rattle.rp_walker.specs.Walking.{KeepsGoing}

@@ -1,9 +1,8 @@
 -- What a poll means for each partition that the record fits.
-use Rattle.std.proofs.Common.{◌≡◌, ℕ, suc, ◌+◌, ◌-◌, ◌^◌, ◌<◌, ◌≤◌, ◌⊎◌, inl, inr, List, ◌++◌, length, length-append, Bool, true, false, Some, Result, Ok, Err, refl, sym, ap, ◌∙◌, subst, arith}
-use Rattle.std.specs.Prelude.{slice_get, OnErr}
+use Rattle.std.proofs.Common.{◌≡◌, ℕ, suc, ◌-◌, ◌^◌, ◌<◌, ◌≤◌, ◌⊎◌, inl, inr, length, length-append, Bool, true, false, Result, Ok, Err, refl, sym, ap, ◌∙◌, subst, arith}
+use Rattle.std.specs.Prelude.{OnErr}
 use Rattle.rp_check.specs.declared.query.QueryData.{QueryData}
 use Rattle.rp_check.specs.Sound.{IsSound}
-use Rattle.rp_known.specs.declared.item.Item.{Item}
 use Rattle.rp_known.specs.declared.place.Place.{Place}
 use Rattle.rp_known.specs.Known.{Known, count}
 use Rattle.rp_known.specs.Walk.{Leg, Goes, Pauses, Ends, leg, leg_items, and_then, walk, walk_from, known}
@@ -16,6 +15,7 @@ use Rattle.rp_walker.specs.Steps.{IsDone, Moves}
 use Rattle.rp_walker.specs.FitLaws.{AgreesFrom, Meant, StepsMean}
 use Rattle.rp_walker.specs.Polls.{Polled, PollIs, AnswerIs, Answers, StopsAtLast, GoesAlong, moves_by}
 use Rattle.rp_walker.proofs.Moving.{comes_after}
+use Rattle.rp_walker.proofs.Steps.{stays_put}
 
 -- no more items than known were given
 given_known : LegsLeadOn → (b : Bool) (q : QueryData) (r : MatcherState) (p : Known) → fits_by b q r p → r.given ≤ length (known q p)
@@ -79,8 +79,13 @@ over_answers q k r over p are fits =
     let h : IsOver q r p = subst (λ b. fits_by b q r p) over fits in
     (fits, (refl, sym h.counted))
 
-pub over_stays : (q : QueryData) (k : Known) (r : MatcherState) → r.over ≡ true → GoesAlong q k r r
-over_stays q k r over p are fits = (fits, subst (λ b. moves_by b q p r r) (sym over) refl)
+-- a record that stays as it is
+pub stays_along : (q : QueryData) (k : Known) (r : MatcherState) → GoesAlong q k r r
+stays_along q k r p are fits = (fits, go r.over refl)
+  where
+    go : (b : Bool) → r.over ≡ b → moves_by b q p r r
+    go true e = refl
+    go false e = let h : IsOnWalk q r p = subst (λ b. fits_by b q r p) e fits in stays_put q p r e h.within
 
 pub over_stops : (q : QueryData) (k : Known) (r : MatcherState) (answer : Poll) → r.over ≡ true → StopsAtLast q k r r answer
 over_stops q k r answer over p are fits idle going = absurd (let e : true ≡ false = sym over ∙ going in cc)

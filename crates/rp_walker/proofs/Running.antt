@@ -1,16 +1,15 @@
 -- What turns of a search come to.
-use Rattle.std.proofs.Common.{◌≡◌, ℕ, ◌+◌, ◌-◌, ◌≤◌, refl, sym, ap, ◌∙◌, subst, arith}
+use Rattle.std.proofs.Common.{◌≡◌, ℕ, sym, ap, ◌∙◌, subst, arith}
 use Rattle.rp_pattern.specs.PatternForm.{form_of}
 use Rattle.rp_pattern.specs.Words.{words}
 use Rattle.rp_search.specs.declared.search.Outcome.{Outcome}
 use Rattle.rp_search.specs.declared.search.Outcome.TheVariants.{Match as MatchOutcome, NoMatch as NoMatchOutcome, Waits as WaitsOutcome, Paused as PausedOutcome}
 use Rattle.rp_search.specs.declared.search.Search.{Search}
 use Rattle.rp_search.specs.Asked.{Asked}
-use Rattle.rp_search.specs.Fits.{SearchFits, left_by}
+use Rattle.rp_search.specs.Fits.{SearchFits}
 use Rattle.rp_search.specs.Found.{found}
 use Rattle.rp_search.specs.Search.{IsSearchFor, IsSameSearch, RunAnswers, Lowers, found_by, start_of_search, labels_of_search, turns_of_run}
 use Rattle.rp_check.specs.declared.query.QueryData.{QueryData}
-use Rattle.rp_eval.specs.declared.totals.Totals.{Totals}
 use Rattle.rp_eval.specs.Entered.{AreTotals, plan_of, totals_in}
 use Rattle.rp_tester.specs.Tested.{outcome_of}
 use Rattle.rp_known.specs.Known.{Known, count}
@@ -35,22 +34,26 @@ came_to q p start old new NoMatchOutcome e a = sym e ∙ a
 came_to q p start old new WaitsOutcome e a = sym e ∙ a.0
 came_to q p start old new PausedOutcome e a = tt
 
-pub ran_of : (q : QueryData) (p : Known) (start : ℕ) (old : Run) (new : Search) (totals : Totals) (outcome : Outcome) (a : Asked) (taken : ℕ) → a ≡ asked_by q p → Searches q p start old → IsSameSearch old.search.value new →
-    SearchFits new a → RunAnswers old.search.value new a outcome → Lowers taken old.search.value new a outcome → taken ≡ turns_of_run new → plan_of totals ≡ totals_in q → AreTotals totals p.rows start (labels_of_search new) →
-    Ran q p start old (record { search = record { value = new }; totals = totals }) outcome
-ran_of q p start old new totals outcome a taken e h same fits answers lowers many plan entered =
-    let now : Lowers taken old.search.value new (asked_by q p) outcome = subst (λ x. Lowers taken old.search.value new x outcome) e lowers in
+-- the run kept its search at its place, where it was called s
+pub ran_of : (q : QueryData) (p : Known) (start : ℕ) (old new : Run) (s : Search) (outcome : Outcome) (a : Asked) (taken : ℕ) → s ≡ old.search.value → a ≡ asked_by q p → Searches q p start old → IsSameSearch s new.search.value →
+    SearchFits new.search.value a → RunAnswers s new.search.value a outcome → Lowers taken s new.search.value a outcome → taken ≡ turns_of_run new.search.value → plan_of new.totals ≡ totals_in q →
+    AreTotals new.totals p.rows start (labels_of_search new.search.value) → Ran q p start old new outcome
+ran_of q p start old new s outcome a taken is e h same fits answers lowers many plan entered =
+    let stayed : IsSameSearch old.search.value new.search.value = subst (λ x. IsSameSearch x new.search.value) is same in
+    let now : Lowers taken old.search.value new.search.value (asked_by q p) outcome =
+    subst (λ x. Lowers taken old.search.value new.search.value x outcome) e (subst (λ x. Lowers taken x new.search.value a outcome) is lowers) in
     record {
       searches =
           record {
             known = h.known;
-            begins = same.start ∙ h.begins;
-            pattern = same_pattern q old.search.value new same h.pattern;
-            fits = subst (λ x. SearchFits new x) e fits;
+            begins = stayed.start ∙ h.begins;
+            pattern = same_pattern q old.search.value new.search.value stayed h.pattern;
+            fits = subst (λ x. SearchFits new.search.value x) e fits;
             totalled = record { plan = plan; totals = entered };
           };
-      came = came_to q p start old.search.value (record { search = record { value = new }; totals = totals }) outcome (found_same q p start old.search.value h.begins h.pattern) (subst (λ x. RunAnswers old.search.value new x outcome) e answers);
+      came = came_to q p start old.search.value new outcome (found_same q p start old.search.value h.begins h.pattern)
+          (subst (λ x. RunAnswers old.search.value new.search.value x outcome) e (subst (λ x. RunAnswers x new.search.value a outcome) is answers));
       left = now.never_rises;
       falls = omega (arith, now.falls, many);
-      paused = λ is. omega (arith, now.paused is, many);
+      paused = λ is_paused. omega (arith, now.paused is_paused, many);
     }

@@ -1,15 +1,13 @@
 -- What one step over the rows ahead does.
-use Rattle.std.proofs.Common.{◌≡◌, ℕ, zero, suc, ◌+◌, ◌-◌, ◌<◌, ◌≤◌, List, [], ◌∷◌, ◌++◌, length, length-append, append_assoc, map, Bool, true, false, cond, Option, Some, None, refl, sym, ap, ◌∙◌, subst, arith}
-use Rattle.std.specs.Prelude.{slice_get, nat_le}
+use Rattle.std.proofs.Common.{◌≡◌, ℕ, suc, ◌+◌, ◌-◌, ◌<◌, ◌≤◌, List, [], ◌∷◌, ◌++◌, length, length-append, append_assoc, map, Bool, true, false, cond, Some, None, sym, ap, ◌∙◌, subst, arith}
+use Rattle.std.specs.Prelude.{nat_le}
 use Rattle.std.proofs.lemmas.Bool.Decides.{nat_tests}
-use Rattle.rp_pattern.specs.Turns.{starts_turns}
 use Rattle.rp_search.specs.Found.{Found}
-use Rattle.rp_known.specs.Walk.{Leg, Goes, Pauses, Ends, after_item, after_items, after_match, after_found, found_at, at_last, searched, leg, leg_items, and_then, walk, walk_from, known, first_place, ComesTo, here, on}
-use Rattle.rp_walker.specs.Records.{place_of, IsWithin, IsOnWalk, IsOver, IsLast, Fits, fits_by, first_state}
-use Rattle.rp_walker.specs.Steps.{IsDone, IsStop, IsEnd, HasEnded, ended_by, Moves}
+use Rattle.rp_known.specs.Walk.{after_items, after_found, found_at, at_last, searched, leg, leg_items, here}
+use Rattle.rp_walker.specs.Records.{place_of, IsWithin}
+use Rattle.rp_walker.specs.Steps.{IsDone, IsStop, ended_by, Moves}
 use Rattle.rp_check.specs.declared.query.QueryData.{QueryData}
 use Rattle.rp_known.specs.Known.{Known, count}
-use Rattle.rp_pattern.specs.PatternForm.{form_of}
 use Rattle.rp_known.specs.declared.item.Item.{Item}
 use Rattle.rp_walker.specs.declared.ahead.Ahead.{Ahead}
 use Rattle.rp_walker.specs.declared.walker.Walker.{Walker}
@@ -20,7 +18,7 @@ use Rattle.rp_known.specs.Items.{item_at, item_rows, items_of}
 use Rattle.rp_walker.specs.Given.{is_hidden, shown_from}
 use Rattle.rp_walker.specs.Stages.{Gives, rows_ahead, IsGoing, StageStands, stage_left, starts_to, left_with}
 use Rattle.rp_walker.specs.Walking.{stands_by}
-use Rattle.rp_walker.proofs.Shown.{IsHere, StopsAt, Adds, item_here, none_here, all_here}
+use Rattle.rp_walker.proofs.Shown.{IsHere, item_here, none_here}
 
 -- ---- rows ahead
 

@@ -1,7 +1,7 @@
 -- What is still to be looked at of a search's rows, once it has ended.
-use Rattle.std.specs.Prelude.{ℕ, zero, suc, ◌+◌, ◌-◌, Bool, true, false, List, [], ◌∷◌, length, Option, Some, None, slice_get, if◌then◌else◌}
+use Rattle.std.specs.Prelude.{ℕ, zero, suc, ◌+◌, ◌-◌, Bool, false, List, [], ◌∷◌, Option, Some, None, slice_get, if◌then◌else◌}
 use Rattle.rp_syntax.specs.declared.tree.RowsPerMatch.{RowsPerMatch}
-use Rattle.rp_syntax.specs.declared.tree.RowsPerMatch.TheVariants.{One, AllShowEmpty, AllOmitEmpty, AllWithUnmatched}
+use Rattle.rp_syntax.specs.declared.tree.RowsPerMatch.TheVariants.{One}
 use Rattle.rp_pattern.specs.declared.word.Label.{Label}
 use Rattle.rp_search.specs.Found.{Found, Match, NoMatch, Waits}
 use Rattle.rp_search.specs.Search.{labels_of_search}

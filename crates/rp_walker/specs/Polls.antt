@@ -90,6 +90,6 @@ abbrev pub GoesAlong : QueryData → Known → MatcherState → MatcherState →
 GoesAlong q k old new = ForEachThatFits q k old (λ p. Fits q new p × moves_by old.over q p old new)
 
 -- What stands after want of memory: as many items were given, and the search begins again from the record's start row.
-pub record StartsAgain (q : QueryData) (p : Known) (before : ℕ) (r : MatcherState) (left : ℕ) : Type 0 where
+pub record StartsAgain (q : QueryData) (p : Known) (before : ℕ) (r : MatcherState) (turns : ℕ) : Type 0 where
   pub given : r.given ≡ before
-  pub left : left ≡ left_anew q p r
+  pub left : turns ≡ left_anew q p r

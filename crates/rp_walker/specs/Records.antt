@@ -6,7 +6,7 @@ use Rattle.rp_known.specs.declared.item.Item.TheVariants.{Row as RowItem, Fault 
 use Rattle.rp_known.specs.declared.place.Place.{Place}
 use Rattle.rp_known.specs.Known.{Known, count}
 use Rattle.rp_known.specs.Plans.{first_read}
-use Rattle.rp_known.specs.Walk.{leg, leg_items, walk_from, first_place, known, ComesTo}
+use Rattle.rp_known.specs.Walk.{leg, leg_items, first_place, known, ComesTo}
 use Rattle.rp_walker.specs.declared.record.MatcherState.{MatcherState}
 
 abbrev pub place_of : MatcherState → Place

@@ -238,19 +238,18 @@ impl Walker {
     {
         let (outcome, run) = run_on(query, rows, self.state.at, run, budget, entered, steps)?;
         let taken = run.search.turns_taken();
-        let step = match outcome {
+        match outcome {
             Outcome::Paused => {
                 self.stage = Stage::Searching(run);
-                Step::Went
+                Ok((Step::Went, taken))
             }
             Outcome::Waits => {
                 self.stage = Stage::Searching(run);
-                Step::Idle
+                Ok((Step::Idle, taken))
             }
-            Outcome::Match => self.begin_giving(query, rows, Ended::Match(run)),
-            Outcome::NoMatch => self.begin_giving(query, rows, Ended::NoMatch(run)),
-        };
-        Ok((step, taken))
+            Outcome::Match => Ok((self.begin_giving(query, rows, Ended::Match(run)), taken)),
+            Outcome::NoMatch => Ok((self.begin_giving(query, rows, Ended::NoMatch(run)), taken)),
+        }
     }
 
     /// Past the last start row.

@@ -1,4 +1,4 @@
-use Rattle.std.proofs.Common.{◌≡◌, ◌+◌, ◌<◌, ◌≤◌, length, max, ap, ◌∙◌, arith}
+use Rattle.std.proofs.Common.{◌≡◌, ◌+◌, length, ap, ◌∙◌, arith}
 use Rattle.rp_check.specs.QueryView.{data_of}
 use Rattle.rp_check.specs.declared.query.Plan.{Plan}
 use Rattle.rp_walker.proofs.Begins.{all_ahead}

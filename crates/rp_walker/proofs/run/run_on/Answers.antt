@@ -1,11 +1,14 @@
-use Rattle.std.proofs.Common.{◌≡◌, ◌+◌, ◌-◌, ◌<◌, ◌≤◌, sym, subst, ap, ◌∙◌, arith}
+use Rattle.std.specs.Box.{with_value}
+use Rattle.rp_walker.specs.declared.run.Run.{Run}
+use Rattle.std.proofs.Common.{◌≡◌, ◌-◌, ◌≤◌, sym, subst, ap, ◌∙◌, arith}
 use Rattle.rp_pattern.specs.PatternForm.{form_of}
 use Rattle.rp_search.specs.Fits.{SearchFits}
-use Rattle.rp_search.specs.Search.{HasVariablesBelow, labels_of_search, start_of_search}
+use Rattle.rp_search.specs.declared.search.Search.{Search}
+use Rattle.rp_search.specs.Search.{CanRun, HasVariablesBelow, labels_of_search, start_of_search}
 use Rattle.rp_check.specs.QueryView.{data_of}
-use Rattle.rp_eval.specs.Entered.{AreTotals, plan_of, totals_in}
+use Rattle.rp_eval.specs.Entered.{AreTotals, totals_in}
 use Rattle.rp_tester.specs.Tested.{Tested, asked_of}
-use Rattle.rp_tester.specs.Entered.{tested_by as tester_of}
+use Rattle.rp_tester.specs.Entered.{tested_by as tester_of, HasEntered}
 use Rattle.rp_known.specs.Known.{known_in}
 use Rattle.rp_known.specs.Plans.{tested_by}
 use Rattle.rp_walker.proofs.Running.{ran_of}
@@ -17,15 +20,17 @@ run-ran-requires g c =
     let p = known_in g.R.Rows.known g.R.Rows.ending c.args.rows.now in
     let s = c.args.run.search.value in
     let h = c.requires.searches in
+    let is : c.deref_mut.result.now ≡ s = c.deref_mut.ensures.value in
     let same : tested_by q p ≡ tester_of c.new-tester.result = sym c.new-tester.ensures.subject in
-    record {
+    subst (λ (x : Search). CanRun x (asked_of (tester_of c.new-tester.result)) (HasEntered c.new-tester.result)) (sym is)
+    (record {
       known = subst (λ (t : Tested). start_of_search s ≤ (asked_of t).known) same (omega (arith, h.begins, h.known));
       variables = subst (λ (t : Tested). HasVariablesBelow (asked_of t).variables s) same
           (c.law_search.ensures.variables (form_of q.pattern) s _ h.pattern c.plan-plan.ensures.sound.variables);
       fits = subst (λ (t : Tested). SearchFits s (asked_of t)) same h.fits;
       entered = c.new-tester.ensures.entered (start_of_search s) (labels_of_search s)
           (subst (λ i. AreTotals c.args.run.totals p.rows i (labels_of_search s)) (sym h.begins) h.totalled.totals);
-    }
+    })
 
 pub returns-clause-taken : goal.returns-clause-taken
 returns-clause-taken g c = c.in_ok-outcome.ensures.taken c.requires.some
@@ -35,11 +40,14 @@ returns-clause-ran g c =
     let q = data_of c.args.query.now in
     let p = known_in g.R.Rows.known g.R.Rows.ending c.args.rows.now in
     let s = c.run-ran.new.self in
+    let is : c.deref_mut.result.now ≡ c.args.run.search.value = c.deref_mut.ensures.value in
     let totals = c.into_totals-totals.result in
+    let new : Run = record { search = with_value c.args.run.search s; totals = totals } in
     let same : tester_of c.run-ran.new.tests ≡ tested_by q p = c.run-ran.ensures.subject ∙ c.new-tester.ensures.subject in
-    let same_start : start_of_search s ≡ c.args.start = c.run-ran.ensures.same.start ∙ c.requires.searches.begins in
+    let same_start : start_of_search s ≡ c.args.start = c.run-ran.ensures.same.start ∙ ap start_of_search is ∙ c.requires.searches.begins in
     let here = c.into_totals-totals.ensures.entered (start_of_search s) (labels_of_search s) c.run-ran.ensures.entered in
-    ran_of q p c.args.start c.args.run s totals c.in_ok-outcome.outcome (asked_of (tester_of c.new-tester.result)) (c.run-ran.new.steps - c.args.steps.now) (ap asked_of c.new-tester.ensures.subject) c.requires.searches c.run-ran.ensures.same c.run-ran.ensures.fits
+    ran_of q p c.args.start c.args.run new c.deref_mut.result.now c.in_ok-outcome.outcome (asked_of (tester_of c.new-tester.result)) (c.run-ran.new.steps - c.args.steps.now) is
+    (ap asked_of c.new-tester.ensures.subject) c.requires.searches c.run-ran.ensures.same c.run-ran.ensures.fits
     c.in_ok-outcome.ensures.answers c.in_ok-outcome.ensures.left (omega (arith, c.in_ok-outcome.ensures.taken c.requires.some))
     (c.into_totals-totals.ensures.totals ∙ ap (λ (t : Tested). totals_in t.query) same)
     (subst (λ i. AreTotals totals p.rows i (labels_of_search s)) same_start (subst (λ (t : Tested). AreTotals totals t.rows (start_of_search s) (labels_of_search s)) same here))

@@ -1,4 +1,4 @@
-use Rattle.std.proofs.Common.{◌≡◌, ◌<◌, ◌≤◌, sym, ◌∙◌, arith}
+use Rattle.std.proofs.Common.{sym, ◌∙◌, arith}
 use Rattle.rp_check.specs.QueryView.{data_of}
 use Rattle.rp_known.specs.declared.item.Item.TheVariants.{End as EndItem}
 use Rattle.rp_known.specs.Known.{known_in}

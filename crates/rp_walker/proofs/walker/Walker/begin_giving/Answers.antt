@@ -1,11 +1,10 @@
-use Rattle.std.proofs.Common.{◌≡◌, ◌+◌, ◌≤◌, length, sym, ap, ◌∙◌, subst, arith}
+use Rattle.std.proofs.Common.{◌≡◌, sym, ap, ◌∙◌, subst, arith}
 use Rattle.rp_check.specs.QueryView.{data_of}
 use Rattle.rp_known.specs.declared.place.Place.{Place}
 use Rattle.rp_known.specs.Known.{known_in, count}
 use Rattle.rp_known.specs.Walk.{found_at}
 use Rattle.rp_known.specs.WalkLaws.{AreKnown}
 use Rattle.rp_walker.specs.Given.{result_of}
-use Rattle.rp_walker.specs.Records.{place_of}
 use Rattle.rp_walker.specs.Stages.{Gives}
 use Rattle.rp_walker.proofs.Begins.{gives_first, begins_giving}
 use Rattle.rp_walker.proofs.walker.Walker.begin_giving.Goals as goal

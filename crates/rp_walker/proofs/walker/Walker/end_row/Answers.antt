@@ -1,4 +1,4 @@
-use Rattle.std.proofs.Common.{◌≡◌, ◌<◌, ◌≤◌, ◌++◌, ◌∷◌, [], length, Some, sym, ap, ◌∙◌, subst, arith}
+use Rattle.std.proofs.Common.{Some, sym, ap, ◌∙◌, subst, arith}
 use Rattle.rp_check.specs.QueryView.{data_of}
 use Rattle.rp_known.specs.declared.item.Item.TheVariants.{Fault as FaultItem}
 use Rattle.rp_known.specs.declared.place.Place.{Place}

@@ -1,10 +1,6 @@
-use Rattle.std.proofs.Common.{◌≡◌, ◌+◌, ◌-◌, ◌<◌, ◌≤◌, refl, sym, ◌∙◌, subst, arith}
+use Rattle.std.proofs.Common.{sym, ◌∙◌, arith}
 use Rattle.rp_check.specs.QueryView.{data_of}
 use Rattle.rp_known.specs.Known.{known_in}
-use Rattle.rp_walker.specs.declared.stage.Stage.TheVariants.{Giving as GivingStage}
-use Rattle.rp_walker.specs.Given.{result_of}
-use Rattle.rp_walker.specs.Records.{place_of}
-use Rattle.rp_walker.specs.Walking.{KeepsGoing}
 use Rattle.rp_walker.proofs.Passing.{passes_hidden, passes_given}
 use Rattle.rp_walker.proofs.walker.Walker.give.Goals as goal
 

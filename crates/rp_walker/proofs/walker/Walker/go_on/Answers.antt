@@ -1,13 +1,11 @@
-use Rattle.std.proofs.Common.{◌≡◌, ◌+◌, ◌-◌, ◌<◌, ◌≤◌, refl, sym, ap, ◌∙◌, subst, arith}
+use Rattle.std.proofs.Common.{◌≡◌, refl, sym, ap, ◌∙◌, subst, arith}
 use Rattle.rp_check.specs.QueryView.{data_of}
 use Rattle.rp_known.specs.Known.{known_in}
 use Rattle.rp_walker.specs.declared.stage.Step.TheVariants.{Went, Gave, Idle}
 use Rattle.rp_walker.specs.declared.walker.Walker.{Walker}
-use Rattle.rp_walker.specs.Records.{IsWithin}
 use Rattle.rp_walker.specs.Steps.{Moves}
 use Rattle.rp_walker.specs.Walking.{KeepsGoing}
 use Rattle.rp_walker.proofs.Steps.{stays_put, stands_going}
-use Rattle.rp_walker.proofs.Public.{on_err_of}
 use Rattle.rp_walker.proofs.Polling.{further, polled_gave, polled_idle}
 use Rattle.rp_walker.proofs.walker.Walker.go_on.Goals as goal
 
@@ -38,6 +36,24 @@ returns-in-Gave-clause-polled g c = λ within.
     let k = subst (λ s. KeepsGoing c.in_ok-step.taken q p now.state now.stage next s) c.in-Gave.is c.in_ok-step.ensures.keeps in
     let leads = c.law_legs.ensures.lead in
     polled_gave leads q p c.args.self.now.state now next (i.moved within) c.in-Gave.item i.given (further leads q p c.args.self.now.state now next (i.moved within) c.in_ok-step.taken now.stage (Gave c.in-Gave.item) k)
+
+pub returns-in-Gave-clause-moves : goal.returns-in-Gave-clause-moves
+returns-in-Gave-clause-moves g c = λ within.
+    let q = data_of c.args.query.now in
+    let p = known_in g.R.Rows.known g.R.Rows.ending c.args.rows.now in
+    let now = c.loop-left.self in
+    let next = c.advance.new.self in
+    let moved = c.loop-left.invariant.moved within in
+    (further c.law_legs.ensures.lead q p c.args.self.now.state now next moved c.in_ok-step.taken now.stage c.in_ok-step.step c.in_ok-step.ensures.keeps).moves
+
+pub returns-in-Idle-clause-moves : goal.returns-in-Idle-clause-moves
+returns-in-Idle-clause-moves g c = λ within.
+    let q = data_of c.args.query.now in
+    let p = known_in g.R.Rows.known g.R.Rows.ending c.args.rows.now in
+    let now = c.loop-left.self in
+    let next = c.advance.new.self in
+    let moved = c.loop-left.invariant.moved within in
+    (further c.law_legs.ensures.lead q p c.args.self.now.state now next moved c.in_ok-step.taken now.stage c.in_ok-step.step c.in_ok-step.ensures.keeps).moves
 
 pub returns-in-Idle-clause-polled : goal.returns-in-Idle-clause-polled
 returns-in-Idle-clause-polled g c = λ within.
@@ -73,7 +89,7 @@ loop-left-preserved g c =
       lowered = omega (arith, i.lowered, i.within, k.lowers);
       moved = λ within. (further leads q p c.args.self.now.state now next (i.moved within) c.in_ok-step.taken now.stage Went k).moves;
       within = omega (arith, i.within);
-      counted = omega (arith, i.counted, c.in_ok-step.ensures.taken.1);
-      entered = omega (arith, i.entered, c.advance.ensures.turns.0, c.advance.ensures.turns.1);
+      counted = omega (arith, i.counted, c.in_ok-step.ensures.taken.1, c.advance.ensures.turns.0);
+      entered = omega (arith, i.entered, c.in_ok-step.ensures.taken.1, c.advance.ensures.turns.0, c.advance.ensures.turns.1);
       grows = omega (arith, i.grows, c.advance.ensures.turns.2);
     }

@@ -21,3 +21,6 @@ invariant-loop-left g l = record {
   entered : l.entered + l.left ≤ l.fn.entered + l.fn.budget;
   grows : l.fn.entered ≤ l.entered;
 }
+
+abbrev pub decreases-loop-left : goal.decreases-loop-left
+decreases-loop-left g l = l.left

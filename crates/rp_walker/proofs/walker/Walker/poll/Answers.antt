@@ -1,15 +1,14 @@
 use Rattle.std.proofs.Common.{◌≡◌, None, ap, subst}
-use Rattle.std.specs.declared.alloc.AllocError.{AllocError}
 use Rattle.rp_check.specs.QueryView.{data_of}
 use Rattle.rp_known.specs.Known.{known_in}
 use Rattle.rp_walker.specs.Records.{IsWithin}
 use Rattle.rp_walker.specs.declared.stage.Stage.TheVariants.{Begin}
 use Rattle.rp_walker.specs.Stages.{left_with}
 use Rattle.rp_walker.specs.Walking.{GoesOnWell, stands_by, Stands, record_of}
-use Rattle.rp_walker.specs.Polls.{Polled, Answers, StopsAtLast, GoesAlong, StartsAgain, left_in, entered_by}
+use Rattle.rp_walker.specs.Polls.{Polled, Answers, StopsAtLast, StartsAgain, left_in, entered_by}
 use Rattle.rp_walker.proofs.Begins.{if_ok_map}
 use Rattle.rp_walker.proofs.Steps.{stands_counted}
-use Rattle.rp_walker.proofs.Public.{answers, stops_at_last, goes_along, on_err_map}
+use Rattle.rp_walker.proofs.Public.{answers, stops_at_last, goes_along, stays_along, on_err_map}
 use Rattle.rp_walker.proofs.walker.Walker.poll.Goals as goal
 
 pub returns-clause-stands : goal.returns-clause-stands
@@ -54,6 +53,16 @@ returns-clause-moves g c =
     let well : GoesOnWell q k w = subst (λ b. stands_by b q k w) c.if-self.false c.requires.stands in
     goes_along c.law_steps.ensures c.law_legs.ensures.lead c.law_known.ensures.short q c.plan-plan.ensures.sound k (g.met.R.Rows.few c.args.rows.now) w.state new.state c.if-self.false well.going.from_one
     c.go_on-answer.ensures.first c.go_on-answer.ensures.moves
+
+pub returns-then-budget-eq0-clause-moves : goal.returns-then-budget-eq0-clause-moves
+unfolding Stands record_of left_in entered_by
+returns-then-budget-eq0-clause-moves g c =
+    stays_along (data_of c.args.query.now) (known_in g.R.Rows.known g.R.Rows.ending c.args.rows.now) c.args.self.now.state
+
+pub returns-then-self-clause-moves : goal.returns-then-self-clause-moves
+unfolding Stands record_of left_in entered_by
+returns-then-self-clause-moves g c =
+    stays_along (data_of c.args.query.now) (known_in g.R.Rows.known g.R.Rows.ending c.args.rows.now) c.args.self.now.state
 
 pub returns-clause-out_of_memory : goal.returns-clause-out_of_memory
 unfolding Stands record_of left_in entered_by

@@ -1,5 +1,5 @@
-use Rattle.std.proofs.Common.{◌≡◌, ◌+◌, ◌≤◌, sym, ap, ◌∙◌, subst}
-use Rattle.rp_search.specs.declared.search.Outcome.TheVariants.{Waits, Paused}
+use Rattle.std.proofs.Common.{◌≡◌, ap, ◌∙◌, subst, arith}
+use Rattle.rp_search.specs.Search.{turns_of_run}
 use Rattle.rp_check.specs.QueryView.{data_of}
 use Rattle.rp_known.specs.Known.{known_in}
 use Rattle.rp_walker.specs.Runs.{Ran}
@@ -10,7 +10,9 @@ pub returns-in-Paused-clause-keeps : goal.returns-in-Paused-clause-keeps
 returns-in-Paused-clause-keeps g c =
     let w = c.args.self.now in
     let ran = c.in_ok-outcome.ensures.ran in
-    searches_on (data_of c.args.query.now) (known_in g.R.Rows.known g.R.Rows.ending c.args.rows.now) w c.args.run c.in_ok-outcome.run' c.turns_taken-taken.result c.requires.going ran.searches (ran.paused c.in-Paused.is)
+    let taken : c.turns_taken-taken.result ≡ turns_of_run c.in_ok-outcome.run'.search.value = c.turns_taken-taken.ensures ∙ ap turns_of_run c.deref.ensures in
+    searches_on (data_of c.args.query.now) (known_in g.R.Rows.known g.R.Rows.ending c.args.rows.now) w c.args.run c.in_ok-outcome.run' c.turns_taken-taken.result c.requires.going ran.searches
+    (omega (arith, taken, ran.paused c.in-Paused.is))
 
 pub returns-in-Waits-clause-keeps : goal.returns-in-Waits-clause-keeps
 returns-in-Waits-clause-keeps g c =
@@ -19,3 +21,13 @@ returns-in-Waits-clause-keeps g c =
     let p = known_in g.R.Rows.known g.R.Rows.ending c.args.rows.now in
     let ran = subst (λ o. Ran q p w.state.at c.args.run c.in_ok-outcome.run' o) c.in-Waits.is c.in_ok-outcome.ensures.ran in
     search_waits q p w c.args.run c.in_ok-outcome.run' c.turns_taken-taken.result c.requires.going ran.searches ran.came ran.left
+
+pub returns-in-Match-clause-keeps : goal.returns-in-Match-clause-keeps
+returns-in-Match-clause-keeps g c =
+    let taken : c.turns_taken-taken.result ≡ turns_of_run c.in_ok-outcome.run'.search.value = c.turns_taken-taken.ensures ∙ ap turns_of_run c.deref.ensures in
+    c.begin_giving.ensures c.args.run c.turns_taken-taken.result (omega (arith, taken, c.in_ok-outcome.ensures.ran.falls))
+
+pub returns-in-NoMatch-clause-keeps : goal.returns-in-NoMatch-clause-keeps
+returns-in-NoMatch-clause-keeps g c =
+    let taken : c.turns_taken-taken.result ≡ turns_of_run c.in_ok-outcome.run'.search.value = c.turns_taken-taken.ensures ∙ ap turns_of_run c.deref.ensures in
+    c.begin_giving-in-NoMatch.ensures c.args.run c.turns_taken-taken.result (omega (arith, taken, c.in_ok-outcome.ensures.ran.falls))
