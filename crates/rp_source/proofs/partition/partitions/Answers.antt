@@ -14,7 +14,7 @@ loop-row-preserved c =
     let laws : IsEquivalence same_key = laws-law in
     let gives : into_iter_items c.loop-row.row-iterator ≡ c.in-Some.row ∷ into_iter_items c.next.new.self = grind (arith, common_steps, c.in-Some.ensures.steps) in
     record {
-      parts = c.in_ok-add_row.ensures ∙ ap (λ parts. with_row parts c.in_ok-key.key c.in-Some.row) inv.parts
+      parts = c.in_ok-room.ensures ∙ ap (λ parts. with_row parts c.in_ok-key.key c.in-Some.row) inv.parts
           ∙ ap (λ key. with_row (partitions c.args.columns.now c.loop-row.yielded) key c.in-Some.row) c.in_ok-key.ensures
           ∙ sym (partitions_more laws c.args.columns.now c.loop-row.yielded c.in-Some.row);
       left = append_assoc c.loop-row.yielded (c.in-Some.row ∷ []) (into_iter_items c.next.new.self) ∙ ap (λ t. c.loop-row.yielded ++ t) (sym gives) ∙ inv.left;
