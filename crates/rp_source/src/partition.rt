@@ -12,19 +12,19 @@ use std::alloc::{AllocError, Global};
 /// The rows of each key, by the first appearance of the key.
 pub(crate) type Parts = IndexMap<Cells, Vec<Row>>;
 
-/// The partitions of rows by these columns, numbered from 1.
+/// The partitions of rows by these columns, numbered from 1. The rows are shared.
 pub(crate) fn partitions(
     alloc: Global,
     columns: &[usize],
-    rows: Vec<Row>,
+    rows: &[Row],
 ) -> Result<Parts, AllocError>
-    ensures { IfOk result (λ parts. parts_of parts.entries ≡ partitions_are columns.now rows.items) }
+    ensures { IfOk result (λ parts. parts_of parts.entries ≡ partitions_are columns.now rows.now) }
 {
     let mut parts = IndexMap::new(alloc);
     let mut room = Vec::new(alloc);
     for row in rows {
-        let key = key_of(room, columns, &row)?;
-        room = add_row(alloc, &mut parts, key, row)?;
+        let key = key_of(room, columns, row)?;
+        room = add_row(alloc, &mut parts, key, row.share()?)?;
     }
     Ok(parts)
 }

@@ -1,5 +1,5 @@
 -- The lines of a partition that are written item by item.
-use Rattle.std.proofs.Common.{◌≡◌, ◌∙◌, ℕ, ◌+◌, List, [], ◌∷◌, ◌++◌, Option, refl, sym, ap, subst, append_assoc, append-nil}
+use Rattle.std.proofs.Common.{◌≡◌, ◌∙◌, ℕ, List, [], ◌∷◌, ◌++◌, Option, sym, ap, subst, append_assoc, append-nil}
 use Rattle.rp_check.specs.declared.query.QueryData.{QueryData}
 use Rattle.rp_codec.specs.ReplyLines.{item_text}
 use Rattle.rp_known.specs.declared.item.Item.{Item}

@@ -1,8 +1,6 @@
 -- The lines that are still to come.
-use Rattle.std.proofs.Common.{◌≡◌, ◌∙◌, ℕ, zero, suc, ◌+◌, ◌≤◌, List, [], ◌∷◌, ◌++◌, length, drop, Option, Some, None, refl, sym, ap, arith, append_assoc, slice_get}
+use Rattle.std.proofs.Common.{◌≡◌, ◌∙◌, ℕ, zero, suc, ◌+◌, List, [], ◌∷◌, ◌++◌, length, drop, Some, refl, sym, ap, arith, append_assoc, slice_get}
 use Rattle.std.proofs.lemmas.List.{drop_all}
-use Rattle.rp_eval.specs.Laws.{GoesOn}
-use Rattle.rp_value.specs.declared.value.Value.{Value}
 use Rattle.rp_check.specs.declared.query.QueryData.{QueryData}
 use Rattle.rp_known.specs.declared.item.Item.{Item}
 use Rattle.rp_known.specs.Known.{Known, GoesOnFrom}

@@ -1,5 +1,5 @@
 -- What a fault of a run says of the input and of the devices.
-use Rattle.std.specs.Prelude.{◌≡◌, ◌≢◌, ◌⊎◌, ⊤, ℕ, List, Option, IfSome, Result, Ok, Err}
+use Rattle.std.specs.Prelude.{◌≡◌, ◌≢◌, ◌⊎◌, ⊤, ℕ, List, Option, IfSome, Result, Err}
 use Rattle.rp_check.specs.declared.query.QueryData.{QueryData}
 use Rattle.rp_lines.specs.Counts.{raised}
 use Rattle.rp_source.specs.Devices.{IsInputFault}

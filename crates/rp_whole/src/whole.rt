@@ -47,7 +47,7 @@ pub fn run_whole<R: Intake, W: Outlet>(
     ensures within { MakesCalls 0 reads (R.calls reader.old) (R.calls reader.new) }
 {
     let rows = read_rows(alloc, reader, query.table(), reads)?;
-    let parts = ordered_parts(alloc, &query, rows)?;
+    let parts = ordered_parts(alloc, &query, &rows)?;
     write_parts::<W, Brand>(alloc, &query, parts, writer, Blank::new(1))
 }
 

@@ -16,7 +16,7 @@ loop-key-preserved c =
     λ later h.
     let first : AreOrdered query.order.items (parts_of c.loop-key.key-iterator) ((c.in-Some.key, ordered) ∷ later) =
     subst (λ parts. AreOrdered query.order.items (parts_of parts) ((c.in-Some.key, ordered) ∷ later)) (sym gives) (refl, is, h) in
-    subst (AreOrderedParts query.partition.items query.order.items c.args.rows.items)
+    subst (AreOrderedParts query.partition.items query.order.items c.args.rows.now)
     (sym (ap (λ parts. parts ++ later) c.in_ok-push_ordered.ensures ∙ append_assoc (parts_of c.loop-key.ordered.items) ((c.in-Some.key, ordered) ∷ []) later))
     (c.loop-key.invariant ((c.in-Some.key, ordered) ∷ later) first)
 
@@ -24,5 +24,5 @@ pub returns : goal.returns
 returns c =
     let query = data_of c.args.query.now in
     let none : c.loop-key.key-iterator ≡ [] = grind (arith, common_steps, c.in-None.ensures.steps) in
-    subst (AreOrderedParts query.partition.items query.order.items c.args.rows.items) (append-nil (parts_of c.loop-key.ordered.items))
+    subst (AreOrderedParts query.partition.items query.order.items c.args.rows.now) (append-nil (parts_of c.loop-key.ordered.items))
     (c.loop-key.invariant [] (subst (λ parts. AreOrdered query.order.items (parts_of parts) []) (sym none) tt))

@@ -8,4 +8,4 @@ use Rattle.rp_source.proofs.number.ordered_parts.Given as goal
 -- the partitions so far, and then those that are left, in order
 abbrev pub invariant-loop-key : goal.invariant-loop-key
 invariant-loop-key l = (later : List Part) → AreOrdered (data_of l.query).order.items (parts_of l.key-iterator) later
-    → AreOrderedParts (data_of l.fn.query).partition.items (data_of l.fn.query).order.items l.fn.rows.items (parts_of l.ordered.items ++ later)
+    → AreOrderedParts (data_of l.fn.query).partition.items (data_of l.fn.query).order.items l.fn.rows (parts_of l.ordered.items ++ later)
