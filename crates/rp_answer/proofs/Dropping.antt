@@ -15,7 +15,9 @@ use Rattle.rp_walker.specs.FitLaws.{AgreesFrom}
 use Rattle.rp_check.specs.Sound.{IsSound}
 use Rattle.rp_walker.specs.declared.walker.Walker.{Walker}
 use Rattle.rp_walker.specs.Walking.{record_of, Stands, stands_by, StandsStays}
+use Rattle.rp_known.specs.Walk.{here}
 use Rattle.rp_walker.specs.Polls.{Answers, AnswerIs, StopsAtLast}
+use Rattle.rp_walker.specs.Steps.{ended_by}
 use Rattle.rp_walker.specs.Records.{Fits, fits_by, IsOnWalk, IsOver, horizon_of}
 use Rattle.rp_answer.specs.declared.kept.Kept.{Kept}
 use Rattle.rp_answer.specs.Kept.{kept_rows, kept_count}
