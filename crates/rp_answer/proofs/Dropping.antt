@@ -16,7 +16,7 @@ use Rattle.rp_check.specs.Sound.{IsSound}
 use Rattle.rp_walker.specs.declared.walker.Walker.{Walker}
 use Rattle.rp_walker.specs.Walking.{record_of, Stands, stands_by, StandsStays}
 use Rattle.rp_known.specs.Walk.{here}
-use Rattle.rp_walker.specs.Polls.{Answers, AnswerIs, StopsAtLast}
+use Rattle.rp_walker.specs.Polls.{Answers, AnswerIs, StopsAtLast, GoesAlong, moves_by}
 use Rattle.rp_walker.specs.Steps.{ended_by}
 use Rattle.rp_walker.specs.Records.{Fits, fits_by, IsOnWalk, IsOver, horizon_of}
 use Rattle.rp_answer.specs.declared.kept.Kept.{Kept}
@@ -82,6 +82,22 @@ answers_dropped q k old r new f answer is needed h =
 
 pub stops_dropped : (q : QueryData) (k : Known) (old r new : MatcherState) (f : ℕ) (answer : Poll) → new ≡ record r { first = f } → StopsAtLast q k old r answer → StopsAtLast q k old new answer
 stops_dropped q k old r new f answer is h = subst (λ n. StopsAtLast q k old n answer) (sym is) h
+
+moves_dropped : (b : Bool) (q : QueryData) (p : Known) (old r : MatcherState) (f : ℕ) → moves_by b q p old r → moves_by b q p old (record r { first = f })
+moves_dropped true q p old r f h = ap (λ (x : MatcherState). record x { first = f }) h
+moves_dropped false q p old r f h = record { before = h.before; comes = h.comes; counted = h.counted; within = h.within; ended = h.ended }
+
+pub along_dropped : (q : QueryData) (k : Known) (old r new : MatcherState) (f : ℕ) → new ≡ record r { first = f } → (r.over ≡ false → f ≤ first_read q r.at) → GoesAlong q k old r → GoesAlong q k old new
+along_dropped q k old r new f is needed h =
+    subst (λ n. GoesAlong q k old n) (sym is) (λ p are fits. (let a = h p are fits in (fits_dropped q r f p r.over needed a.0, moves_dropped old.over q p old r f a.1)))
+
+-- a record that stays moves along the walk by nothing
+stays_by : (b : Bool) (q : QueryData) (r : MatcherState) (p : Known) → r.over ≡ b → fits_by b q r p → moves_by b q p r r
+stays_by true q r p over h = refl
+stays_by false q r p going h = record { before = 0; comes = here; counted = omega arith; within = h.within; ended = subst (λ b. ended_by b q p r) (sym going) tt }
+
+pub stays_along : (q : QueryData) (k : Known) (r : MatcherState) → GoesAlong q k r r
+stays_along q k r p are fits = (fits, stays_by r.over q r p refl fits)
 
 -- ---- the walker over the rows that are left
 

@@ -8,7 +8,7 @@ use Rattle.rp_walker.specs.declared.record.MatcherState.{MatcherState}
 use Rattle.rp_walker.specs.declared.walker.Walker.{Walker}
 use Rattle.rp_walker.specs.Records.{horizon_of}
 use Rattle.rp_walker.specs.Walking.{record_of, Stands}
-use Rattle.rp_walker.specs.Polls.{left_in, entered_by, Answers, GivenBy, StopsAtLast, StillFits}
+use Rattle.rp_walker.specs.Polls.{left_in, entered_by, Answers, GivenBy, StopsAtLast}
 use Rattle.rp_answer.specs.declared.kept.Kept.{Kept}
 use Rattle.rp_answer.specs.Kept.{kept_rows}
 use Rattle.rp_answer.specs.MatcherData.{MatcherData}
@@ -37,8 +37,3 @@ pub record PollComesTo (q : QueryData) (k : Known) (old new : MatcherState) (ans
   pub answers : Answers q k old new answer
   pub given : GivenBy old.given new.given answer
   pub stops : StopsAtLast q k old new answer
-
--- What stands after a poll that was refused memory: the record fits what it fitted, and the same item is still to come.
-pub record StaysToCome (q : QueryData) (k : Known) (old new : MatcherState) : Type 0 where
-  pub fits : StillFits q k old new
-  pub given : new.given ≡ old.given

@@ -47,10 +47,10 @@ impl Model for Matcher {
 impl Matcher {
     ghost use Rattle.rp_pattern.specs.PatternForm.{form_of};
     ghost use Rattle.rp_pattern.specs.Turns.{all_turns};
-    ghost use Rattle.rp_walker.specs.Polls.{TurnsAreCounted, PollTakes, PollLowers};
+    ghost use Rattle.rp_walker.specs.Polls.{GoesAlong, StartsAgain, TurnsAreCounted, PollTakes, PollLowers};
     ghost use Rattle.rp_walker.specs.Records.{first_state, horizon_of};
     ghost use Rattle.rp_walker.specs.Walking.{CanGoOn};
-    ghost use Rattle.rp_answer.specs.Matching.{PollComesTo, StaysToCome};
+    ghost use Rattle.rp_answer.specs.Matching.{PollComesTo};
 
     /// A matcher of no row yet.
     pub fn new(alloc: Global, query: Query) -> Matcher
@@ -152,7 +152,9 @@ impl Matcher {
         ensures count { count self.new.known ≡ count self.old.known }
         ensures end { self.new.known.end ≡ self.old.known.end }
         ensures answers { IfOk result (PollComesTo self.old.query self.old.known self.old.state self.new.state) }
-        ensures refused { OnErr result (StaysToCome self.old.query self.old.known self.old.state self.new.state) }
+        ensures moves { GoesAlong self.old.query self.old.known self.old.state self.new.state }
+        ensures out_of_memory { OnErr result (StartsAgain self.old.query self.old.known
+            self.old.state.given self.new.state self.new.left) }
         ensures lowers { IfOk result (PollLowers budget self.old.left self.new.left) }
         ensures rows { (p : Known) → AgreesFrom self.old.state.first self.old.known p →
             AgreesFrom self.new.state.first self.new.known p }

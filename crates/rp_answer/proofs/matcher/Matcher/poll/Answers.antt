@@ -7,9 +7,12 @@ use Rattle.rp_walker.specs.FitLaws.{AgreesFrom}
 use Rattle.rp_walker.specs.Polls.{left_in, GivenBy, PollLowers}
 use Rattle.rp_walker.specs.Walking.{record_of, Stands}
 use Rattle.rp_answer.specs.Matching.{known_by, Ready}
-use Rattle.rp_answer.proofs.Dropping.{answers_dropped, stops_dropped, agrees_on, on_err_of}
+use Rattle.rp_answer.proofs.Dropping.{answers_dropped, along_dropped, stays_along, stops_dropped, agrees_on, on_err_of}
 use Rattle.rp_answer.proofs.Readiness.{needed_in}
 use Rattle.rp_answer.proofs.matcher.Matcher.poll.Goals as goal
+
+pub returns-then-budget-eq0-clause-moves : goal.returns-then-budget-eq0-clause-moves
+returns-then-budget-eq0-clause-moves g c = let m = c.args.self.now in stays_along m.query m.known m.state
 
 pub invariant_of-self : goal.invariant_of-self
 invariant_of-self g c =
@@ -21,9 +24,9 @@ pub returns-in_err-answer-clause-rows : goal.returns-in_err-answer-clause-rows
 returns-in_err-answer-clause-rows g c =
     rw (← c.self.view_is) (λ p are. subst (λ i. AgreesFrom i (known_by c.self.inside.rows) p) (sym c.poll.ensures.first) are)
 
-pub returns-in_err-answer-clause-refused : goal.returns-in_err-answer-clause-refused
-returns-in_err-answer-clause-refused g c =
-    rw (← c.self.view_is) (on_err_of _ c.from_residual.result (record { fits = c.in_err-answer.ensures.refused; given = c.in_err-answer.ensures.kept }))
+pub returns-in_err-answer-clause-out_of_memory : goal.returns-in_err-answer-clause-out_of_memory
+returns-in_err-answer-clause-out_of_memory g c =
+    rw (← c.self.view_is) (on_err_of _ c.from_residual.result c.in_err-answer.ensures.out_of_memory)
 
 pub drop_rows-requires : goal.drop_rows-requires
 drop_rows-requires g c =
@@ -50,6 +53,19 @@ returns-clause-answers g c =
       given = subst (λ i. GivenBy old.given i c.in_ok-answer.answer) (sym given) c.in_ok-answer.ensures.given;
       stops = stops_dropped q k old r (record_of w) n.first c.in_ok-answer.answer e.«record» c.in_ok-answer.ensures.stops;
     })
+
+pub returns-clause-moves : goal.returns-clause-moves
+returns-clause-moves g c =
+    let m = c.self.inside in
+    let q = data_of m.query in
+    let n = c.drop_rows.new.rows in
+    let w = c.drop_rows.new.walker in
+    let r : MatcherState = record_of c.poll.new.self in
+    let e = c.drop_rows.ensures in
+    let at = ap (λ (x : MatcherState). x.at) e.«record» in
+    let over = ap (λ (x : MatcherState). x.over) e.«record» in
+    rw (← c.self.view_is) (along_dropped q (known_by m.rows) (record_of m.walker) r (record_of w) n.first e.«record»
+    (λ going. subst (λ i. n.first ≤ first_read q i) at (e.ready.needed (over ∙ going))) c.poll.ensures.moves)
 
 pub returns-clause-rows : goal.returns-clause-rows
 returns-clause-rows g c =
