@@ -26,8 +26,11 @@ pub needed_of : (q : QueryData) (p : Known) (w : Walker) → Stands q p w → (r
 unfolding Stands record_of
 needed_of q p w h e = (subst (λ b. stands_by b q p w) e h).going.kept
 
-pub needed_in : (q : QueryData) (k : Kept) (w : Walker) → Stands q (known_by k) w → (record_of w).first ≡ k.first → (record_of w).over ≡ false → k.first ≤ first_read q (record_of w).at
-needed_in q k w h f e = subst (λ i. i ≤ first_read q (record_of w).at) f (needed_of q (known_by k) w h e)
+-- a walker that was polled over the kept rows is as ready as before
+pub ready_still : (q : QueryData) (k : Kept) (old new : Walker) → Stands q (known_by k) new → (record_of new).first ≡ (record_of old).first → Ready q k old → Ready q k new
+ready_still q k old new stands same ready =
+    let first = same ∙ ready.first in
+    record { stands = stands; first = first; needed = λ going. subst (λ i. i ≤ first_read q (record_of new).at) first (needed_of q (known_by k) new stands going) }
 
 -- a matcher can go on from the record of a walker that stands
 can_by : (b : Bool) (q : QueryData) (p : Known) (w : Walker) → w.state.over ≡ b → stands_by b q p w → CanGoOn q w.state

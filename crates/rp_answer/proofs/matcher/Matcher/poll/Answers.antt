@@ -7,8 +7,8 @@ use Rattle.rp_walker.specs.FitLaws.{AgreesFrom}
 use Rattle.rp_walker.specs.Polls.{left_in, GivenBy, PollLowers}
 use Rattle.rp_walker.specs.Walking.{record_of, Stands}
 use Rattle.rp_answer.specs.Matching.{known_by, Ready}
-use Rattle.rp_answer.proofs.Dropping.{answers_dropped, along_dropped, stays_along, stops_dropped, agrees_on, on_err_of}
-use Rattle.rp_answer.proofs.Readiness.{needed_in}
+use Rattle.rp_answer.proofs.Dropping.{along_dropped, comes_dropped, stays_along, still_agree, on_err_of}
+use Rattle.rp_answer.proofs.Readiness.{ready_still}
 use Rattle.rp_answer.proofs.matcher.Matcher.poll.Goals as goal
 
 pub returns-then-budget-eq0-clause-moves : goal.returns-then-budget-eq0-clause-moves
@@ -17,8 +17,7 @@ returns-then-budget-eq0-clause-moves g c = let m = c.args.self.now in stays_alon
 pub invariant_of-self : goal.invariant_of-self
 invariant_of-self g c =
     let m = c.self.inside in
-    let first = c.poll.ensures.first ∙ c.self.invariant.first in
-    record { stands = c.poll.ensures.stands; first = first; needed = needed_in (data_of m.query) m.rows c.poll.new.self c.poll.ensures.stands first }
+    ready_still (data_of m.query) m.rows m.walker c.poll.new.self c.poll.ensures.stands c.poll.ensures.first c.self.invariant
 
 pub returns-in_err-answer-clause-rows : goal.returns-in_err-answer-clause-rows
 returns-in_err-answer-clause-rows g c =
@@ -31,28 +30,18 @@ returns-in_err-answer-clause-out_of_memory g c =
 pub drop_rows-requires : goal.drop_rows-requires
 drop_rows-requires g c =
     let m = c.self.inside in
-    let first = c.poll.ensures.first ∙ c.self.invariant.first in
-    record { stands = c.poll.ensures.stands; first = first; needed = needed_in (data_of m.query) m.rows c.poll.new.self c.poll.ensures.stands first }
+    ready_still (data_of m.query) m.rows m.walker c.poll.new.self c.poll.ensures.stands c.poll.ensures.first c.self.invariant
 
 pub returns-clause-answers : goal.returns-clause-answers
 returns-clause-answers g c =
     let m = c.self.inside in
     let q = data_of m.query in
-    let k = known_by m.rows in
     let n = c.drop_rows.new.rows in
     let w = c.drop_rows.new.walker in
-    let old : MatcherState = record_of m.walker in
-    let r : MatcherState = record_of c.poll.new.self in
     let e = c.drop_rows.ensures in
-    let given = ap (λ (x : MatcherState). x.given) e.«record» in
-    let at = ap (λ (x : MatcherState). x.at) e.«record» in
-    let over = ap (λ (x : MatcherState). x.over) e.«record» in
-    rw (← c.self.view_is) (record {
-      answers = answers_dropped q k old r (record_of w) n.first c.in_ok-answer.answer e.«record»
-          (λ going. subst (λ i. n.first ≤ first_read q i) at (e.ready.needed (over ∙ going))) c.in_ok-answer.ensures.answers;
-      given = subst (λ i. GivenBy old.given i c.in_ok-answer.answer) (sym given) c.in_ok-answer.ensures.given;
-      stops = stops_dropped q k old r (record_of w) n.first c.in_ok-answer.answer e.«record» c.in_ok-answer.ensures.stops;
-    })
+    let a = c.in_ok-answer.ensures in
+    rw (← c.self.view_is) (comes_dropped q (known_by m.rows) (record_of m.walker) (record_of c.poll.new.self) (record_of w) n.first e.«record» e.ready.needed c.in_ok-answer.answer
+    (record { answers = a.answers; given = a.given; stops = a.stops }))
 
 pub returns-clause-moves : goal.returns-clause-moves
 returns-clause-moves g c =
@@ -60,22 +49,14 @@ returns-clause-moves g c =
     let q = data_of m.query in
     let n = c.drop_rows.new.rows in
     let w = c.drop_rows.new.walker in
-    let r : MatcherState = record_of c.poll.new.self in
     let e = c.drop_rows.ensures in
-    let at = ap (λ (x : MatcherState). x.at) e.«record» in
-    let over = ap (λ (x : MatcherState). x.over) e.«record» in
-    rw (← c.self.view_is) (along_dropped q (known_by m.rows) (record_of m.walker) r (record_of w) n.first e.«record»
-    (λ going. subst (λ i. n.first ≤ first_read q i) at (e.ready.needed (over ∙ going))) c.poll.ensures.moves)
+    rw (← c.self.view_is) (along_dropped q (known_by m.rows) (record_of m.walker) (record_of c.poll.new.self) (record_of w) n.first e.«record» e.ready.needed c.poll.ensures.moves)
 
 pub returns-clause-rows : goal.returns-clause-rows
 returns-clause-rows g c =
     let m = c.self.inside in
-    let n = c.drop_rows.new.rows in
     let e = c.drop_rows.ensures in
-    let was = c.self.invariant.first in
-    let now = ap (λ (x : MatcherState). x.first) e.«record» in
-    rw (← c.self.view_is) (λ p are.
-    subst (λ i. AgreesFrom i (known_by n) p) (sym now) (agrees_on m.rows.first n.first (known_by m.rows) (known_by n) p e.low e.agrees (subst (λ i. AgreesFrom i (known_by m.rows) p) was are)))
+    rw (← c.self.view_is) (still_agree m.rows c.drop_rows.new.rows (record_of m.walker) (record_of c.poll.new.self) (record_of c.drop_rows.new.walker) c.self.invariant.first e.«record» e.low e.agrees)
 
 pub returns-clause-lowers : goal.returns-clause-lowers
 returns-clause-lowers g c =
