@@ -1,9 +1,6 @@
 -- A matcher whose first rows are dropped.
-use Rattle.std.proofs.Common.{◌≡◌, ℕ, zero, suc, ◌+◌, ◌-◌, ◌<◌, ◌≤◌, max, List, [], ◌∷◌, length, drop, Bool, true, false, cond, refl, sym, ap, ◌∙◌, subst, inl, inr, ◌⊎◌, Result, Ok, Err, arith}
+use Rattle.std.proofs.Common.{◌≡◌, ℕ, zero, suc, ◌+◌, ◌-◌, ◌≤◌, max, [], ◌∷◌, length, drop, Bool, true, false, cond, refl, sym, ap, ◌∙◌, subst, inl, inr, ◌⊎◌, Result, Ok, Err, arith}
 use Rattle.std.specs.Prelude.{slice_get, OnErr}
-use Rattle.rp_value.specs.declared.value.Value.{Value}
-use Rattle.rp_pattern.specs.declared.word.End.{End}
-use Rattle.rp_pattern.specs.declared.word.End.TheVariants.{Closed as ClosedEnd}
 use Rattle.rp_eval.specs.Partition.{Rows, row_at}
 use Rattle.rp_check.specs.declared.query.QueryData.{QueryData}
 use Rattle.rp_known.specs.Known.{Known, count, GoesOnFrom}
@@ -16,9 +13,9 @@ use Rattle.rp_check.specs.Sound.{IsSound}
 use Rattle.rp_walker.specs.declared.walker.Walker.{Walker}
 use Rattle.rp_walker.specs.Walking.{record_of, Stands, stands_by, StandsStays}
 use Rattle.rp_known.specs.Walk.{here}
-use Rattle.rp_walker.specs.Polls.{Answers, AnswerIs, StopsAtLast, GoesAlong, moves_by}
+use Rattle.rp_walker.specs.Polls.{AnswerIs, GoesAlong, moves_by}
 use Rattle.rp_walker.specs.Steps.{ended_by}
-use Rattle.rp_walker.specs.Records.{Fits, fits_by, IsOnWalk, IsOver, horizon_of}
+use Rattle.rp_walker.specs.Records.{fits_by, horizon_of}
 use Rattle.rp_answer.specs.declared.kept.Kept.{Kept}
 use Rattle.rp_answer.specs.Kept.{kept_rows, kept_count}
 use Rattle.rp_answer.specs.Matching.{known_by, HoldsNoMore, PollComesTo}

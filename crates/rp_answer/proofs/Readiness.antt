@@ -1,5 +1,5 @@
 -- A matcher whose rows go on.
-use Rattle.std.proofs.Common.{◌≡◌, ℕ, ◌≤◌, ◌<◌, ◌-◌, max, Bool, true, false, refl, sym, ap, ◌∙◌, subst, arith}
+use Rattle.std.proofs.Common.{◌≡◌, ℕ, ◌≤◌, Bool, true, false, refl, sym, ◌∙◌, subst, arith}
 use Rattle.rp_check.specs.declared.query.QueryData.{QueryData}
 use Rattle.rp_check.specs.Sound.{IsSound}
 use Rattle.rp_known.specs.Known.{Known, Continues, GoesOnFrom}

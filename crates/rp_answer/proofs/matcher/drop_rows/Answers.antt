@@ -1,11 +1,9 @@
-use Rattle.std.proofs.Common.{◌≡◌, ◌≤◌, ℕ, false, max, sym, ap, ◌∙◌, subst, arith}
+use Rattle.std.proofs.Common.{◌≡◌, ◌≤◌, false, sym, ap, ◌∙◌, subst}
 use Rattle.rp_check.specs.QueryView.{data_of}
-use Rattle.rp_known.specs.Known.{GoesOnFrom}
 use Rattle.rp_known.specs.Plans.{first_read}
 use Rattle.rp_walker.specs.declared.record.MatcherState.{MatcherState}
-use Rattle.rp_walker.specs.Walking.{record_of, Stands}
-use Rattle.rp_answer.specs.Kept.{kept_rows}
-use Rattle.rp_answer.specs.Matching.{known_by, Ready}
+use Rattle.rp_walker.specs.Walking.{record_of}
+use Rattle.rp_answer.specs.Matching.{known_by}
 use Rattle.rp_answer.proofs.Dropping.{drops_agree, agrees_later, same_count, holds_no_more, forget_bound, stands_dropped}
 use Rattle.rp_answer.proofs.matcher.drop_rows.Goals as goal
 

@@ -1,8 +1,7 @@
-use Rattle.std.proofs.Common.{◌≡◌, sym, ap, ◌∙◌}
+use Rattle.std.proofs.Common.{◌≡◌, ap, ◌∙◌}
 use Rattle.rp_pattern.specs.declared.word.End.TheVariants.{Open}
 use Rattle.rp_check.specs.QueryView.{data_of}
 use Rattle.rp_answer.specs.MatcherData.{MatcherData}
-use Rattle.rp_answer.specs.Kept.{kept_rows}
 use Rattle.rp_answer.proofs.Keeping.{closed_on, same_rows}
 use Rattle.rp_answer.proofs.Readiness.{ready_on}
 use Rattle.rp_answer.proofs.matcher.Matcher.close.Goals as goal

@@ -1,4 +1,4 @@
-use Rattle.std.proofs.Common.{◌≡◌, ◌+◌, ◌-◌, List, length, ap, arith}
+use Rattle.std.proofs.Common.{List, length, ap, arith}
 use Rattle.rp_value.specs.declared.value.Value.{Value}
 use Rattle.rp_answer.specs.Kept.{kept_count}
 use Rattle.rp_answer.proofs.matcher.Matcher.new.Goals as goal

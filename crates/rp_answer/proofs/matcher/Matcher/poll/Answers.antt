@@ -1,12 +1,9 @@
-use Rattle.std.proofs.Common.{◌≡◌, ◌≤◌, ℕ, false, sym, ap, ◌∙◌, subst}
+use Rattle.std.proofs.Common.{sym, subst}
 use Rattle.rp_check.specs.QueryView.{data_of}
-use Rattle.rp_known.specs.Known.{Known}
-use Rattle.rp_known.specs.Plans.{first_read}
-use Rattle.rp_walker.specs.declared.record.MatcherState.{MatcherState}
 use Rattle.rp_walker.specs.FitLaws.{AgreesFrom}
-use Rattle.rp_walker.specs.Polls.{left_in, GivenBy, PollLowers}
-use Rattle.rp_walker.specs.Walking.{record_of, Stands}
-use Rattle.rp_answer.specs.Matching.{known_by, Ready}
+use Rattle.rp_walker.specs.Polls.{left_in, PollLowers}
+use Rattle.rp_walker.specs.Walking.{record_of}
+use Rattle.rp_answer.specs.Matching.{known_by}
 use Rattle.rp_answer.proofs.Dropping.{along_dropped, comes_dropped, stays_along, still_agree, on_err_of}
 use Rattle.rp_answer.proofs.Readiness.{ready_still}
 use Rattle.rp_answer.proofs.matcher.Matcher.poll.Goals as goal

@@ -1,5 +1,4 @@
-use Rattle.std.proofs.Common.{◌≡◌, ◌+◌, ◌-◌, ◌^◌, ◌<◌, List, length, ap, ◌∙◌, subst, sym, arith}
-use Rattle.rp_value.specs.declared.value.Value.{Value}
+use Rattle.std.proofs.Common.{◌≡◌, ◌-◌, ◌^◌, ◌<◌, length, ap, ◌∙◌, subst, sym, arith}
 use Rattle.rp_pattern.specs.declared.word.End.TheVariants.{Open}
 use Rattle.rp_check.specs.QueryView.{data_of}
 use Rattle.rp_answer.specs.MatcherData.{MatcherData}
