@@ -22,10 +22,15 @@ pub record MatcherData : Type 0 where
   -- how many calls of `enter` its searches have made, by the count of their tests
   pub entered : ℕ
 
+abbrev known_code : Coded Known
+known_code =
+    code_by (Rows × End) (coded× (coded_list (coded_list value_row.coded)) end_row.coded)
+    (λ k. (k.rows, k.end)) (λ t. record { rows = t.0; end = t.1 }) (λ _. refl)
+
 -- The logic stores it as its fields, in pairs: no code is found for a pattern, which holds itself.
 abbrev pub matcher_code : Coded MatcherData
 matcher_code =
-    code_by (QueryData × ((Rows × End) × (MatcherState × (ℕ × ℕ))))
-    (coded× query_row.coded (coded× (coded× (coded_list (coded_list value_row.coded)) end_row.coded) (coded× state_row.coded (coded× coded_ℕ coded_ℕ))))
-    (λ m. (m.query, ((m.known.rows, m.known.end), (m.state, (m.left, m.entered)))))
-    (λ t. record { query = t.0; known = record { rows = t.1.0.0; end = t.1.0.1 }; state = t.1.1.0; left = t.1.1.1.0; entered = t.1.1.1.1 }) (λ _. refl)
+    code_by (QueryData × (Known × (MatcherState × (ℕ × ℕ))))
+    (coded× query_row.coded (coded× known_code (coded× state_row.coded (coded× coded_ℕ coded_ℕ))))
+    (λ m. (m.query, (m.known, (m.state, (m.left, m.entered)))))
+    (λ t. record { query = t.0; known = t.1.0; state = t.1.1.0; left = t.1.1.1.0; entered = t.1.1.1.1 }) (λ _. refl)

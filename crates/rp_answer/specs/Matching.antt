@@ -19,7 +19,13 @@ known_by k = record { rows = kept_rows k; end = k.end }
 -- what contracts see of a matcher of this query, these kept rows and this walker
 abbrev pub matcher_by : QueryData → Kept → Walker → MatcherData
 matcher_by q k w =
-    record { query = q; known = known_by k; state = record_of w; left = left_in q (known_by k) w; entered = entered_by w }
+    record {
+      query = q;
+      known = known_by k;
+      state = record_of w;
+      left = left_in q (known_by k) w;
+      entered = entered_by w;
+    }
 
 -- The walker stands over the rows that are kept, and what it still reads is among them.
 pub record Ready (q : QueryData) (k : Kept) (w : Walker) : Type 0 where
@@ -31,8 +37,9 @@ pub record Ready (q : QueryData) (k : Kept) (w : Walker) : Type 0 where
 abbrev pub HoldsNoMore : QueryData → Known → MatcherState → Type 0
 HoldsNoMore q p r = horizon_of q p r ≤ r.first ⊎ count p < r.first
 
--- What a poll comes to by what is known: the next item with its place, or nothing. Only an item raises the number of given items,
--- and where a poll is idle and the answer isn't over, no start row that the walk comes to is greater than the record's.
+-- What a poll comes to by what is known: the next item with its place, or nothing. Only an item raises the number of
+-- given items, and where a poll is idle and the answer isn't over, no start row that the walk comes to is greater than
+-- the record's.
 pub record PollComesTo (q : QueryData) (k : Known) (old new : MatcherState) (answer : Poll) : Type 0 where
   pub answers : Answers q k old new answer
   pub given : GivenBy old.given new.given answer

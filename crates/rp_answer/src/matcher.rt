@@ -21,8 +21,8 @@ use std::sync::ledger::Ledger;
 
 /// A matcher over the rows of one partition.
 ///
-/// Contracts see it as its query, the rows that are known to it, its record, at most how many turns it has left, and how
-/// many rows its searches have entered (`MatcherData`).
+/// Contracts see it as its query, the rows that are known to it, its record, how many turns it has left at most, and
+/// how many rows its searches have entered (`MatcherData`).
 #[derive(Drop)]
 pub struct Matcher {
     query: Query,
@@ -145,8 +145,8 @@ impl Matcher {
 
     /// Takes at most `budget` turns, until an item comes or nothing is left to give. A turn is one choice taken up, one
     /// start row ended or one item looked at: `Paused` comes after just `budget` turns, and an item after one at least.
-    /// A budget of 0 answers `Paused`, changes nothing and takes no memory. After `AllocError` the same item is still to
-    /// come; after any other answer to a budget the rows below the horizon are dropped.
+    /// A budget of 0 answers `Paused`, changes nothing and takes no memory. After `AllocError` the same item is still
+    /// to come, and its search begins again; after any other answer to a budget the rows below the horizon are dropped.
     pub fn poll<L: Ledger>(&mut self, budget: u32, steps: &mut Steps<L>) -> Result<Poll, AllocError>
         ensures query { self.new.query ≡ self.old.query }
         ensures count { count self.new.known ≡ count self.old.known }
