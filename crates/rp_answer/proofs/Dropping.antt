@@ -1,9 +1,6 @@
 -- A matcher whose first rows are dropped.
-use Rattle.std.proofs.Common.{◌≡◌, ℕ, zero, suc, ◌+◌, ◌-◌, ◌<◌, ◌≤◌, max, List, [], ◌∷◌, length, drop, Bool, true, false, cond, refl, sym, ap, ◌∙◌, subst, inl, inr, ◌⊎◌, Result, Ok, Err, arith}
+use Rattle.std.proofs.Common.{◌≡◌, ℕ, zero, suc, ◌+◌, ◌-◌, ◌≤◌, max, [], ◌∷◌, length, drop, Bool, true, false, cond, refl, sym, ap, ◌∙◌, subst, inl, inr, ◌⊎◌, Result, Ok, Err, arith}
 use Rattle.std.specs.Prelude.{slice_get, OnErr}
-use Rattle.rp_value.specs.declared.value.Value.{Value}
-use Rattle.rp_pattern.specs.declared.word.End.{End}
-use Rattle.rp_pattern.specs.declared.word.End.TheVariants.{Closed as ClosedEnd}
 use Rattle.rp_eval.specs.Partition.{Rows, row_at}
 use Rattle.rp_check.specs.declared.query.QueryData.{QueryData}
 use Rattle.rp_known.specs.Known.{Known, count, GoesOnFrom}
@@ -15,11 +12,13 @@ use Rattle.rp_walker.specs.FitLaws.{AgreesFrom}
 use Rattle.rp_check.specs.Sound.{IsSound}
 use Rattle.rp_walker.specs.declared.walker.Walker.{Walker}
 use Rattle.rp_walker.specs.Walking.{record_of, Stands, stands_by, StandsStays}
-use Rattle.rp_walker.specs.Polls.{Answers, AnswerIs, StopsAtLast}
-use Rattle.rp_walker.specs.Records.{Fits, fits_by, IsOnWalk, IsOver, horizon_of}
+use Rattle.rp_known.specs.Walk.{here}
+use Rattle.rp_walker.specs.Polls.{AnswerIs, GoesAlong, moves_by}
+use Rattle.rp_walker.specs.Steps.{ended_by}
+use Rattle.rp_walker.specs.Records.{fits_by, horizon_of}
 use Rattle.rp_answer.specs.declared.kept.Kept.{Kept}
 use Rattle.rp_answer.specs.Kept.{kept_rows, kept_count}
-use Rattle.rp_answer.specs.Matching.{known_by, HoldsNoMore}
+use Rattle.rp_answer.specs.Matching.{known_by, HoldsNoMore, PollComesTo}
 use Rattle.rp_answer.proofs.Keeping.{kept_at}
 
 get_drop : (d i : ℕ) (xs : Rows) → slice_get (drop d xs) i ≡ slice_get xs (d + i)
@@ -59,9 +58,16 @@ goes_both first p p' p'' g h =
       same = λ row from known. h.same row from (omega (arith, x, known)) ∙ g.same row from known;
     }
 
-pub agrees_on : (first later : ℕ) (k n p : Known) → first ≤ later → AgreesFrom later k n → AgreesFrom first k p → AgreesFrom later n p
+agrees_on : (first later : ℕ) (k n p : Known) → first ≤ later → AgreesFrom later k n → AgreesFrom first k p → AgreesFrom later n p
 agrees_on first later k n p le a b =
     record { on = goes_both later n k p a.back (goes_from first later k p le b.on); back = goes_both later p k n (goes_from first later p k le b.back) a.on }
+
+-- rows that were dropped stay rows of the partition, from the record's first row on
+pub still_agree : (k n : Kept) (old r new : MatcherState) → old.first ≡ k.first → new ≡ record r { first = n.first } → k.first ≤ n.first → AgreesFrom n.first (known_by k) (known_by n) →
+    (p : Known) → AgreesFrom old.first (known_by k) p → AgreesFrom new.first (known_by n) p
+still_agree k n old r new was is le agrees p are =
+    let now : new.first ≡ n.first = ap (λ (x : MatcherState). x.first) is in
+    subst (λ i. AgreesFrom i (known_by n) p) (sym now) (agrees_on k.first n.first (known_by k) (known_by n) p le agrees (subst (λ i. AgreesFrom i (known_by k) p) was are))
 
 -- ---- what is answered
 
@@ -74,12 +80,40 @@ answer_dropped q p old r f (ItemPoll i x) h = h
 answer_dropped q p old r f IdlePoll h = h
 answer_dropped q p old r f PausedPoll h = h
 
-pub answers_dropped : (q : QueryData) (k : Known) (old r new : MatcherState) (f : ℕ) (answer : Poll) → new ≡ record r { first = f } → (r.over ≡ false → f ≤ first_read q r.at) → Answers q k old r answer → Answers q k old new answer
-answers_dropped q k old r new f answer is needed h =
-    subst (λ n. Answers q k old n answer) (sym is) (λ p are fits. (let a = h p are fits in (fits_dropped q r f p r.over needed a.0, answer_dropped q p old r f answer a.1)))
+ended_dropped : (b : Bool) (q : QueryData) (p : Known) (r : MatcherState) (f : ℕ) → ended_by b q p r → ended_by b q p (record r { first = f })
+ended_dropped true q p r f h = record { ends = h.ends; all = h.all }
+ended_dropped false q p r f h = tt
 
-pub stops_dropped : (q : QueryData) (k : Known) (old r new : MatcherState) (f : ℕ) (answer : Poll) → new ≡ record r { first = f } → StopsAtLast q k old r answer → StopsAtLast q k old new answer
-stops_dropped q k old r new f answer is h = subst (λ n. StopsAtLast q k old n answer) (sym is) h
+moves_dropped : (b : Bool) (q : QueryData) (p : Known) (old r : MatcherState) (f : ℕ) → moves_by b q p old r → moves_by b q p old (record r { first = f })
+moves_dropped true q p old r f h = ap (λ (x : MatcherState). record x { first = f }) h
+moves_dropped false q p old r f h =
+    record { before = h.before; comes = h.comes; counted = h.counted; within = h.within; ended = ended_dropped r.over q p r f h.ended }
+
+-- a record whose first row alone was changed, and what it still reads is above that
+module _ (q : QueryData) (k : Known) (old r new : MatcherState) (f : ℕ) (is : new ≡ record r { first = f }) (needed : new.over ≡ false → f ≤ first_read q new.at) where
+  needed_before : r.over ≡ false → f ≤ first_read q r.at
+  needed_before going =
+      subst (λ i. f ≤ first_read q i) (ap (λ (x : MatcherState). x.at) is) (needed (ap (λ (x : MatcherState). x.over) is ∙ going))
+
+  pub along_dropped : GoesAlong q k old r → GoesAlong q k old new
+  along_dropped h =
+      subst (λ n. GoesAlong q k old n) (sym is) (λ p are fits. (let a = h p are fits in (fits_dropped q r f p r.over needed_before a.0, moves_dropped old.over q p old r f a.1)))
+
+  pub comes_dropped : (answer : Poll) → PollComesTo q k old r answer → PollComesTo q k old new answer
+  comes_dropped answer h =
+      subst (λ n. PollComesTo q k old n answer) (sym is) (record {
+        answers = λ p are fits. (let a = h.answers p are fits in (fits_dropped q r f p r.over needed_before a.0, answer_dropped q p old r f answer a.1));
+        given = h.given;
+        stops = h.stops;
+      })
+
+-- a record that stays moves along the walk by nothing
+stays_by : (b : Bool) (q : QueryData) (r : MatcherState) (p : Known) → r.over ≡ b → fits_by b q r p → moves_by b q p r r
+stays_by true q r p over h = refl
+stays_by false q r p going h = record { before = 0; comes = here; counted = omega arith; within = h.within; ended = subst (λ b. ended_by b q p r) (sym going) tt }
+
+pub stays_along : (q : QueryData) (k : Known) (r : MatcherState) → GoesAlong q k r r
+stays_along q k r p are fits = (fits, stays_by r.over q r p refl fits)
 
 -- ---- the walker over the rows that are left
 

@@ -1,15 +1,19 @@
 -- The rows that are kept, when one comes, and when some are dropped.
-use Rattle.std.proofs.Common.{◌≡◌, ℕ, zero, suc, ◌+◌, ◌-◌, ◌<◌, ◌≤◌, max, List, [], ◌∷◌, ◌++◌, length, length-append, append_assoc, replicate, drop, get_or, Bool, true, false, cond, Option, Some, None, Result, Ok, Err, refl, sym, ap, ◌∙◌, subst, arith}
-use Rattle.std.specs.Prelude.{slice_get, OnOk, OnErr, nat_le, ◌==◌}
+use Rattle.std.proofs.Common.{◌≡◌, ℕ, zero, suc, ◌-◌, ◌<◌, ◌≤◌, List, [], ◌∷◌, ◌++◌, length, append_assoc, replicate, get_or, true, false, cond, Some, None, Result, Ok, Err, refl, sym, ap, ◌∙◌, arith}
+use Rattle.std.specs.Prelude.{slice_get, OnOk, OnErr, nat_le}
 use Rattle.std.proofs.lemmas.Bool.Decides.{nat_tests}
 use Rattle.rp_value.specs.declared.value.Value.{Value}
-use Rattle.rp_pattern.specs.declared.word.End.{End}
-use Rattle.rp_pattern.specs.declared.word.End.TheVariants.{Open as OpenEnd, Closed as ClosedEnd}
+use Rattle.rp_pattern.specs.declared.word.End.TheVariants.{Open as OpenEnd}
 use Rattle.rp_eval.specs.Partition.{Rows, row_at, row_from}
 use Rattle.rp_known.specs.Known.{Known, Continues}
+use Rattle.rp_check.specs.declared.query.QueryData.{QueryData}
+use Rattle.rp_walker.specs.declared.walker.Walker.{Walker}
+use Rattle.rp_walker.specs.Polls.{left_in, entered_by}
+use Rattle.rp_walker.specs.Walking.{record_of}
 use Rattle.rp_answer.specs.declared.kept.Kept.{Kept}
 use Rattle.rp_answer.specs.Kept.{kept_rows, row_known}
-use Rattle.rp_answer.specs.Matching.{known_by}
+use Rattle.rp_answer.specs.MatcherData.{MatcherData}
+use Rattle.rp_answer.specs.Matching.{known_by, matcher_by}
 
 behind : (n i : ℕ) (rest : Rows) → n ≤ i → slice_get (replicate n [] ++ rest) i ≡ slice_get rest (i - n)
 behind zero i rest h = ap (slice_get rest) (let z : i ≡ i - 0 = omega arith in z)
@@ -58,9 +62,18 @@ pub pushed_rows : {E : Type 0} (k n : Kept) (row : List Value) (r : Result (Unit
 pushed_rows k n row (Ok x) f h = row_added k n row f h
 pushed_rows k n row (Err x) f h = tt
 
-pub refused_rows : {E : Type 0} (k n : Kept) (r : Result (Unit {0}) E) → n.first ≡ k.first → OnErr r (n.rows.items ≡ k.rows.items) → OnErr r (kept_rows n ≡ kept_rows k)
-refused_rows k n (Ok x) f h = tt
-refused_rows k n (Err x) f h = same_rows k n f h
+-- where no row came, a matcher is as it was
+same_matcher : (q : QueryData) (k n : Kept) (w : Walker) → n.end ≡ k.end → kept_rows n ≡ kept_rows k → matcher_by q n w ≡ matcher_by q k w
+same_matcher q k n w e rows =
+    let seen = λ (p : Known). the_matcher p in
+    ap (λ rs. seen (record { rows = rs; end = n.end })) rows ∙ ap (λ e. seen (record { rows = kept_rows k; end = e })) e
+  where
+    the_matcher : Known → MatcherData
+    the_matcher p = record { query = q; known = p; state = record_of w; left = left_in q p w; entered = entered_by w }
+
+pub refused_matcher : {E : Type 0} (q : QueryData) (k n : Kept) (w : Walker) (r : Result (Unit {0}) E) → n.first ≡ k.first → n.end ≡ k.end → OnErr r (n.rows.items ≡ k.rows.items) → OnErr r (matcher_by q n w ≡ matcher_by q k w)
+refused_matcher q k n w (Ok x) f e h = tt
+refused_matcher q k n w (Err x) f e h = same_matcher q k n w e (same_rows k n f h)
 
 -- ---- a row by its place
 

@@ -1,9 +1,6 @@
--- What contracts see of a matcher.
-use Rattle.std.specs.Prelude.{◌≡◌, ℕ, ◌≤◌, ◌<◌, ◌⊎◌, false}
+-- How a matcher's parts stand to each other, and what a poll comes to.
+use Rattle.std.specs.Prelude.{◌≡◌, ◌≤◌, ◌<◌, ◌⊎◌, false}
 use Rattle.rp_check.specs.declared.query.QueryData.{QueryData}
-use Rattle.rp_pattern.specs.PatternForm.{form_of}
-use Rattle.rp_pattern.specs.Turns.{all_turns}
-use Rattle.rp_check.specs.QueryView.{data_of}
 use Rattle.rp_known.specs.Known.{Known, count}
 use Rattle.rp_known.specs.Plans.{first_read}
 use Rattle.rp_walker.specs.declared.poll.Poll.{Poll}
@@ -11,13 +8,24 @@ use Rattle.rp_walker.specs.declared.record.MatcherState.{MatcherState}
 use Rattle.rp_walker.specs.declared.walker.Walker.{Walker}
 use Rattle.rp_walker.specs.Records.{horizon_of}
 use Rattle.rp_walker.specs.Walking.{record_of, Stands}
-use Rattle.rp_walker.specs.Polls.{left_in, entered_by, Answers, GivenBy, StopsAtLast, StillFits}
+use Rattle.rp_walker.specs.Polls.{left_in, entered_by, Answers, GivenBy, StopsAtLast}
 use Rattle.rp_answer.specs.declared.kept.Kept.{Kept}
-use Rattle.rp_answer.specs.declared.matcher.Matcher.{Matcher}
 use Rattle.rp_answer.specs.Kept.{kept_rows}
+use Rattle.rp_answer.specs.MatcherData.{MatcherData}
 
 abbrev pub known_by : Kept → Known
 known_by k = record { rows = kept_rows k; end = k.end }
+
+-- what contracts see of a matcher of this query, these kept rows and this walker
+abbrev pub matcher_by : QueryData → Kept → Walker → MatcherData
+matcher_by q k w =
+    record {
+      query = q;
+      known = known_by k;
+      state = record_of w;
+      left = left_in q (known_by k) w;
+      entered = entered_by w;
+    }
 
 -- The walker stands over the rows that are kept, and what it still reads is among them.
 pub record Ready (q : QueryData) (k : Kept) (w : Walker) : Type 0 where
@@ -25,44 +33,14 @@ pub record Ready (q : QueryData) (k : Kept) (w : Walker) : Type 0 where
   pub first : (record_of w).first ≡ k.first
   pub needed : (record_of w).over ≡ false → k.first ≤ first_read q (record_of w).at
 
-unfoldable pub query_in : Matcher → QueryData
-query_in m = data_of m.query
-
--- the rows that are known to it, those that were dropped without their cells
-unfoldable pub known_to : Matcher → Known
-known_to m = known_by m.rows
-
-unfoldable pub record_in : Matcher → MatcherState
-record_in m = record_of m.walker
-
--- the turns that it has left over the known rows, at most
-unfoldable pub left_to : Matcher → ℕ
-left_to m = left_in (data_of m.query) (known_by m.rows) m.walker
-
--- how many calls of `enter` its searches have made, by the count of their tests
-unfoldable pub entered_in : Matcher → ℕ
-entered_in m = entered_by m.walker
-
-unfoldable pub IsReady : Matcher → Type 0
-IsReady m = Ready (data_of m.query) m.rows m.walker
-
 -- No row below the horizon is kept: the first that is kept is at least the horizon, or none is kept.
 abbrev pub HoldsNoMore : QueryData → Known → MatcherState → Type 0
 HoldsNoMore q p r = horizon_of q p r ≤ r.first ⊎ count p < r.first
 
--- What a poll comes to by what is known: the next item with its place, or nothing. Only an item raises the number of given items,
--- and where a poll is idle and the answer isn't over, no start row that the walk comes to is greater than the record's.
+-- What a poll comes to by what is known: the next item with its place, or nothing. Only an item raises the number of
+-- given items, and where a poll is idle and the answer isn't over, no start row that the walk comes to is greater than
+-- the record's.
 pub record PollComesTo (q : QueryData) (k : Known) (old new : MatcherState) (answer : Poll) : Type 0 where
   pub answers : Answers q k old new answer
   pub given : GivenBy old.given new.given answer
   pub stops : StopsAtLast q k old new answer
-
--- What stands after a poll that was refused memory: the record fits what it fitted, and the same item is still to come.
-pub record StaysToCome (q : QueryData) (k : Known) (old new : MatcherState) : Type 0 where
-  pub fits : StillFits q k old new
-  pub given : new.given ≡ old.given
-
--- A matcher never has more turns left than all starts of the known rows take.
-abbrev pub LeftIsBounded : Type 0
-LeftIsBounded = (m : Matcher) → IsReady m →
-    left_to m ≤ all_turns (count (known_to m)) (known_to m).end (form_of (query_in m).pattern)

@@ -77,7 +77,7 @@ impl Kept {
         ensures first { self.new.first ≡ self.old.first }
         ensures end { self.new.end ≡ self.old.end }
         ensures pushed { OnOk result (self.new.rows.items ≡ self.old.rows.items ++ row ∷ []) }
-        ensures refused { OnErr result (self.new.rows.items ≡ self.old.rows.items) }
+        ensures out_of_memory { OnErr result (self.new.rows.items ≡ self.old.rows.items) }
         ensures returned { IfErr result (λ back. back.value ≡ row) }
     {
         self.rows.push_back(row)

@@ -15,10 +15,8 @@
 #![tactic(auto)]
 
 mod kept;
-mod laws;
 mod matcher;
 
-pub use laws::law_left;
 pub use matcher::Matcher;
 pub use rp_known::{Item, SkipFault, law_earlier, law_known};
 pub use rp_walker::{MatcherState, Poll};

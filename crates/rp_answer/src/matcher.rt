@@ -2,9 +2,11 @@
 ghost use Rattle.std.specs.Prelude.{◌≡◌, ◌+◌, ◌-◌, ◌^◌, ◌<◌, ◌≤◌, length, ◌++◌, ◌∷◌, [], true, false, ◌↔◌, IsTrue, OnOk, OnErr, IfErr, IfOk};
 ghost use Rattle.rp_pattern.specs.declared.word.End.TheVariants.{Open, Closed};
 ghost use Rattle.rp_check.specs.QueryView.{data_of};
-ghost use Rattle.rp_known.specs.Known.{count};
-ghost use Rattle.rp_known.specs.Plans.{first_read};
-ghost use Rattle.rp_walker.specs.Records.{first_state, horizon_of};
+ghost use Rattle.rp_known.specs.Known.{Known, count};
+ghost use Rattle.rp_walker.specs.FitLaws.{AgreesFrom};
+ghost use Rattle.rp_walker.specs.Polls.{left_in, entered_by};
+ghost use Rattle.rp_walker.specs.Walking.{record_of};
+ghost use Rattle.rp_answer.specs.Matching.{known_by, Ready, HoldsNoMore};
 
 use crate::kept::Kept;
 use rp_check::Query;
@@ -14,9 +16,13 @@ use rp_search::Steps;
 use rp_value::Row;
 use rp_walker::{MatcherState, Poll, Walker, law_walkers};
 use std::alloc::{AllocError, AllocFailed, Global};
+use std::marker::Model;
 use std::sync::ledger::Ledger;
 
 /// A matcher over the rows of one partition.
+///
+/// Contracts see it as its query, the rows that are known to it, its record, how many turns it has left at most, and
+/// how many rows its searches have entered (`MatcherData`).
 #[derive(Drop)]
 pub struct Matcher {
     query: Query,
@@ -24,22 +30,35 @@ pub struct Matcher {
     walker: Walker,
 }
 
-#[tactic(auto, unfolding(crate::specs::Matching::query_in, crate::specs::Matching::known_to, crate::specs::Matching::record_in, crate::specs::Matching::left_to, crate::specs::Matching::entered_in, crate::specs::Matching::IsReady))]
+impl Model for Matcher {
+    ghost use Rattle.rp_check.specs.QueryView.{data_of};
+    ghost use Rattle.rp_answer.specs.MatcherData.{MatcherData, matcher_code};
+    ghost use Rattle.rp_answer.specs.Matching.{matcher_by, Ready};
+
+    ghost Value = { MatcherData };
+
+    ghost coded = { matcher_code };
+
+    ghost view = { λ m. matcher_by (data_of m.query) m.rows m.walker };
+
+    ghost invariant = { λ m. Ready (data_of m.query) m.rows m.walker };
+}
+
 impl Matcher {
-    ghost use Rattle.rp_known.specs.Known.{Known};
-    ghost use Rattle.rp_walker.specs.FitLaws.{AgreesFrom};
-    ghost use Rattle.rp_walker.specs.Polls.{left_in, entered_by, TurnsAreCounted, PollTakes, PollLowers};
-    ghost use Rattle.rp_walker.specs.Walking.{record_of, Stands, CanGoOn};
-    ghost use Rattle.rp_answer.specs.Matching.{query_in, known_to, record_in, left_to, entered_in, known_by, Ready, IsReady, HoldsNoMore, PollComesTo, StaysToCome};
+    ghost use Rattle.rp_pattern.specs.PatternForm.{form_of};
+    ghost use Rattle.rp_pattern.specs.Turns.{all_turns};
+    ghost use Rattle.rp_walker.specs.Polls.{GoesAlong, StartsAgain, TurnsAreCounted, PollTakes, PollLowers};
+    ghost use Rattle.rp_walker.specs.Records.{first_state, horizon_of};
+    ghost use Rattle.rp_walker.specs.Walking.{CanGoOn};
+    ghost use Rattle.rp_answer.specs.Matching.{PollComesTo};
 
     /// A matcher of no row yet.
     pub fn new(alloc: Global, query: Query) -> Matcher
-        ensures query { query_in result ≡ data_of query }
-        ensures record { record_in result ≡ first_state }
-        ensures entered { entered_in result ≡ 0 }
-        ensures count { count (known_to result) ≡ 0 }
-        ensures open { (known_to result).end ≡ Open }
-        ensures ready { IsReady result }
+        ensures query { result.query ≡ data_of query }
+        ensures state { result.state ≡ first_state }
+        ensures entered { result.entered ≡ 0 }
+        ensures count { count result.known ≡ 0 }
+        ensures open { result.known.end ≡ Open }
     {
         Matcher {
             query,
@@ -52,12 +71,11 @@ impl Matcher {
     pub fn resume(alloc: Global, query: Query, state: MatcherState) -> Matcher
         requires one { 1 ≤ state.first }
         requires can { CanGoOn (data_of query) state }
-        ensures query { query_in result ≡ data_of query }
-        ensures record { record_in result ≡ state }
-        ensures entered { entered_in result ≡ 0 }
-        ensures count { count (known_to result) ≡ state.first - 1 }
-        ensures open { (known_to result).end ≡ Open }
-        ensures ready { IsReady result }
+        ensures query { result.query ≡ data_of query }
+        ensures state { result.state ≡ state }
+        ensures entered { result.entered ≡ 0 }
+        ensures count { count result.known ≡ state.first - 1 }
+        ensures open { result.known.end ≡ Open }
     {
         Matcher {
             query,
@@ -66,39 +84,42 @@ impl Matcher {
         }
     }
 
-    /// The record.
+    /// The record, from which a matcher can go on. No more turns are left than all starts of the known rows take.
     pub fn state(&self) -> MatcherState
-        ensures { result ≡ record_in self.now }
+        ensures state { result ≡ self.now.state }
+        ensures one { 1 ≤ result.first }
+        ensures can { CanGoOn self.now.query result }
+        ensures bounded { self.now.left
+            ≤ all_turns (count self.now.known) self.now.known.end (form_of self.now.query.pattern) }
     {
+        rp_walker::law_left();
         self.walker.state()
     }
 
     /// Whether all rows are known.
     pub fn is_closed(&self) -> bool
-        ensures { IsTrue result ↔ ((known_to self.now).end ≡ Closed) }
+        ensures { IsTrue result ↔ (self.now.known.end ≡ Closed) }
     {
         self.rows.end() == End::Closed
     }
 
     /// The first row that is still read.
     pub fn horizon(&self) -> u64
-        ensures { result ≡ horizon_of (query_in self.now) (known_to self.now) (record_in self.now) }
+        ensures { result ≡ horizon_of self.now.query self.now.known self.now.state }
     {
         self.walker.horizon(&self.query, &self.rows)
     }
 
     /// The next row. Where memory is refused, it is handed back.
     pub fn push(&mut self, row: Row) -> Result<(), AllocFailed<Row>>
-        requires ready { IsReady self.old }
-        requires open { (known_to self.old).end ≡ Open }
-        requires room { length (known_to self.old).rows < 2 ^ 64 - 2 }
-        ensures ready { IsReady self.new }
-        ensures query { query_in self.new ≡ query_in self.old }
-        ensures record { record_in self.new ≡ record_in self.old }
-        ensures entered { entered_in self.new ≡ entered_in self.old }
-        ensures end { (known_to self.new).end ≡ Open }
-        ensures pushed { OnOk result ((known_to self.new).rows ≡ (known_to self.old).rows ++ row ∷ []) }
-        ensures refused { OnErr result ((known_to self.new).rows ≡ (known_to self.old).rows) }
+        requires open { self.old.known.end ≡ Open }
+        requires room { length self.old.known.rows < 2 ^ 64 - 2 }
+        ensures query { self.new.query ≡ self.old.query }
+        ensures state { self.new.state ≡ self.old.state }
+        ensures entered { self.new.entered ≡ self.old.entered }
+        ensures end { self.new.known.end ≡ Open }
+        ensures pushed { OnOk result (self.new.known.rows ≡ self.old.known.rows ++ row ∷ []) }
+        ensures out_of_memory { OnErr result (self.new ≡ self.old) }
         ensures returned { IfErr result (λ back. back.value ≡ row) }
     {
         rp_known::law_legs();
@@ -109,14 +130,12 @@ impl Matcher {
 
     /// No further row comes.
     pub fn close(&mut self)
-        requires ready { IsReady self.old }
-        requires open { (known_to self.old).end ≡ Open }
-        ensures ready { IsReady self.new }
-        ensures query { query_in self.new ≡ query_in self.old }
-        ensures record { record_in self.new ≡ record_in self.old }
-        ensures entered { entered_in self.new ≡ entered_in self.old }
-        ensures end { (known_to self.new).end ≡ Closed }
-        ensures rows { (known_to self.new).rows ≡ (known_to self.old).rows }
+        requires { self.old.known.end ≡ Open }
+        ensures query { self.new.query ≡ self.old.query }
+        ensures state { self.new.state ≡ self.old.state }
+        ensures entered { self.new.entered ≡ self.old.entered }
+        ensures end { self.new.known.end ≡ Closed }
+        ensures rows { self.new.known.rows ≡ self.old.known.rows }
     {
         rp_known::law_legs();
         law_walkers();
@@ -126,24 +145,21 @@ impl Matcher {
 
     /// Takes at most `budget` turns, until an item comes or nothing is left to give. A turn is one choice taken up, one
     /// start row ended or one item looked at: `Paused` comes after just `budget` turns, and an item after one at least.
-    /// A budget of 0 answers `Paused`, changes nothing and takes no memory. After `AllocError` the same item is still to
-    /// come; after any other answer to a budget the rows below the horizon are dropped.
+    /// A budget of 0 answers `Paused`, changes nothing and takes no memory. After `AllocError` the same item is still
+    /// to come, and its search begins again; after any other answer to a budget the rows below the horizon are dropped.
     pub fn poll<L: Ledger>(&mut self, budget: u32, steps: &mut Steps<L>) -> Result<Poll, AllocError>
-        requires ready { IsReady self.old }
-        ensures ready { IsReady self.new }
-        ensures query { query_in self.new ≡ query_in self.old }
-        ensures count { count (known_to self.new) ≡ count (known_to self.old) }
-        ensures end { (known_to self.new).end ≡ (known_to self.old).end }
-        ensures answers { IfOk result (PollComesTo (query_in self.old) (known_to self.old)
-            (record_in self.old) (record_in self.new)) }
-        ensures refused { OnErr result (StaysToCome (query_in self.old) (known_to self.old)
-            (record_in self.old) (record_in self.new)) }
-        ensures lowers { IfOk result (PollLowers budget (left_to self.old) (left_to self.new)) }
-        ensures rows { (p : Known) → AgreesFrom (record_in self.old).first (known_to self.old) p →
-            AgreesFrom (record_in self.new).first (known_to self.new) p }
-        ensures held { OnOk result (1 ≤ budget →
-            HoldsNoMore (query_in self.new) (known_to self.new) (record_in self.new)) }
-        ensures turns { TurnsAreCounted budget steps.old steps.new (entered_in self.old) (entered_in self.new) }
+        ensures query { self.new.query ≡ self.old.query }
+        ensures count { count self.new.known ≡ count self.old.known }
+        ensures end { self.new.known.end ≡ self.old.known.end }
+        ensures answers { IfOk result (PollComesTo self.old.query self.old.known self.old.state self.new.state) }
+        ensures moves { GoesAlong self.old.query self.old.known self.old.state self.new.state }
+        ensures out_of_memory { OnErr result (StartsAgain self.old.query self.old.known
+            self.old.state.given self.new.state self.new.left) }
+        ensures lowers { IfOk result (PollLowers budget self.old.left self.new.left) }
+        ensures rows { (p : Known) → AgreesFrom self.old.state.first self.old.known p →
+            AgreesFrom self.new.state.first self.new.known p }
+        ensures held { OnOk result (1 ≤ budget → HoldsNoMore self.new.query self.new.known self.new.state) }
+        ensures turns { TurnsAreCounted budget steps.old steps.new self.old.entered self.new.entered }
         ensures takes { IfOk result (PollTakes budget steps.old steps.new) }
         ensures nothing { budget ≡ 0 → (result ≡ Ok Poll.Paused) × (self.new ≡ self.old) × (steps.new ≡ steps.old) }
     {
@@ -151,34 +167,29 @@ impl Matcher {
             return Ok(Poll::Paused);
         }
         let answer = self.walker.poll(&self.query, &self.rows, budget, steps)?;
-        self.drop_rows();
+        drop_rows(&self.query, &mut self.rows, &mut self.walker);
         Ok(answer)
     }
+}
 
-    /// Drops the rows below the horizon.
-    fn drop_rows(&mut self)
-        requires stands { Stands (data_of self.old.query) (known_by self.old.rows) self.old.walker }
-        requires first { (record_of self.old.walker).first ≡ self.old.rows.first }
-        requires needed { (record_of self.old.walker).over ≡ false →
-            self.old.rows.first ≤ first_read (data_of self.old.query) (record_of self.old.walker).at }
-        ensures ready { Ready (data_of self.new.query) self.new.rows self.new.walker }
-        ensures query { self.new.query ≡ self.old.query }
-        ensures record { record_of self.new.walker
-            ≡ record (record_of self.old.walker) { first = self.new.rows.first } }
-        ensures count { count (known_by self.new.rows) ≡ count (known_by self.old.rows) }
-        ensures end { self.new.rows.end ≡ self.old.rows.end }
-        ensures agrees { AgreesFrom self.new.rows.first (known_by self.old.rows) (known_by self.new.rows) }
-        ensures held { HoldsNoMore (data_of self.new.query) (known_by self.new.rows) (record_of self.new.walker) }
-        ensures low { self.old.rows.first ≤ self.new.rows.first }
-        ensures entered { entered_by self.new.walker ≡ entered_by self.old.walker }
-        ensures left { left_in (data_of self.new.query) (known_by self.new.rows) self.new.walker
-            ≡ left_in (data_of self.old.query) (known_by self.old.rows) self.old.walker }
-    {
-        law_walkers();
-        rp_walker::law_left();
-        let _plan = self.query.plan();
-        let horizon = self.walker.horizon(&self.query, &self.rows);
-        self.rows.forget(horizon);
-        self.walker.dropped(self.rows.first());
-    }
+/// Drops the rows below the horizon.
+fn drop_rows(query: &Query, rows: &mut Kept, walker: &mut Walker)
+    requires { Ready (data_of query.now) rows.old walker.old }
+    ensures ready { Ready (data_of query.now) rows.new walker.new }
+    ensures record { record_of walker.new ≡ record (record_of walker.old) { first = rows.new.first } }
+    ensures count { count (known_by rows.new) ≡ count (known_by rows.old) }
+    ensures end { rows.new.end ≡ rows.old.end }
+    ensures agrees { AgreesFrom rows.new.first (known_by rows.old) (known_by rows.new) }
+    ensures held { HoldsNoMore (data_of query.now) (known_by rows.new) (record_of walker.new) }
+    ensures low { rows.old.first ≤ rows.new.first }
+    ensures entered { entered_by walker.new ≡ entered_by walker.old }
+    ensures left { left_in (data_of query.now) (known_by rows.new) walker.new
+        ≡ left_in (data_of query.now) (known_by rows.old) walker.old }
+{
+    law_walkers();
+    rp_walker::law_left();
+    let _plan = query.plan();
+    let horizon = walker.horizon(query, rows);
+    rows.forget(horizon);
+    walker.dropped(rows.first());
 }

@@ -1,10 +1,9 @@
 //! A matcher and its last row.
-ghost use Rattle.std.specs.Prelude.{◌≡◌, ◌^◌, ◌<◌, ◌≤◌, false, IsTrue, IfOk};
+ghost use Rattle.std.specs.Prelude.{◌≡◌, ◌^◌, ◌<◌, ◌≤◌, false, IsTrue};
 ghost use Rattle.rp_pattern.specs.declared.word.End.TheVariants.{Open};
 ghost use Rattle.rp_check.specs.QueryView.{data_of};
 ghost use Rattle.rp_known.specs.Known.{count};
 ghost use Rattle.rp_walker.specs.Walking.{CanGoOn};
-ghost use Rattle.rp_answer.specs.Matching.{known_to, IsReady};
 
 use crate::Matcher;
 use rp_check::Query;
@@ -27,14 +26,12 @@ pub struct Driven {
     is_closed: bool,
     /// Whether a call that is refused memory is made again.
     again: bool,
-    ghost counted: { count (known_to matcher) ≡ last },
-    ghost open: { is_closed ≡ false → (known_to matcher).end ≡ Open },
+    ghost counted: { count matcher.known ≡ last },
+    ghost open: { is_closed ≡ false → matcher.known.end ≡ Open },
 }
 
 impl Driven {
-    pub fn new(alloc: Global, query: Query, again: bool) -> Driven
-        ensures { IsReady result.matcher }
-    {
+    pub fn new(alloc: Global, query: Query, again: bool) -> Driven {
         Driven {
             matcher: Matcher::new(alloc, query),
             last: 0,
@@ -49,9 +46,7 @@ impl Driven {
         query: Query,
         state: MatcherState,
         again: bool,
-    ) -> Result<Driven, Fail>
-        ensures { IfOk result (λ driven. IsReady driven.matcher) }
-    {
+    ) -> Result<Driven, Fail> {
         if !can_go_on(&query, &state) {
             return Err(Fail::from("a record that can go on"));
         }
@@ -75,10 +70,7 @@ impl Driven {
         self.last
     }
 
-    pub fn push(&mut self, row: Row) -> Result<(), Fail>
-        requires { IsReady self.old.matcher }
-        ensures { IsReady self.new.matcher }
-    {
+    pub fn push(&mut self, row: Row) -> Result<(), Fail> {
         if self.is_closed {
             return Err(Fail::from("no row after the close"));
         }
@@ -96,10 +88,8 @@ impl Driven {
 
     /// A row that was handed back.
     fn push_again(&mut self, refused: AllocFailed<Row>) -> Result<(), Fail>
-        requires ready { IsReady self.old.matcher }
         requires open { self.old.is_closed ≡ false }
         requires room { self.old.last < 2 ^ 50 }
-        ensures { IsReady self.new.matcher }
     {
         if !self.again {
             return Err(Fail::from(refused));
@@ -109,10 +99,7 @@ impl Driven {
         Ok(())
     }
 
-    pub fn close(&mut self) -> Result<(), Fail>
-        requires { IsReady self.old.matcher }
-        ensures { IsReady self.new.matcher }
-    {
+    pub fn close(&mut self) -> Result<(), Fail> {
         if self.is_closed {
             return Err(Fail::from("one close"));
         }
@@ -124,10 +111,7 @@ impl Driven {
         Ok(())
     }
 
-    pub fn poll<L: Ledger>(&mut self, budget: u32, steps: &mut Steps<L>) -> Result<Poll, Fail>
-        requires { IsReady self.old.matcher }
-        ensures { IsReady self.new.matcher }
-    {
+    pub fn poll<L: Ledger>(&mut self, budget: u32, steps: &mut Steps<L>) -> Result<Poll, Fail> {
         match self.matcher.poll(budget, steps) {
             Ok(answer) => Ok(answer),
             Err(refused) => {

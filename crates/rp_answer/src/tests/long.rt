@@ -1,7 +1,6 @@
 //! A long match, and a stream of short ones. What an item or a row costs doesn't go up with their number, which `.ci/cost`
 //! shows.
 ghost use Rattle.std.specs.Prelude.{◌≡◌, ◌<◌};
-ghost use Rattle.rp_answer.specs.Matching.{IsReady};
 
 use super::driven::Driven;
 use rp_check::{Query, compile};
@@ -40,7 +39,7 @@ fn run<L: Ledger>(
     let mut driven = Driven::new(alloc, query, false);
     let mut steps = Steps::<L>::new(blank);
     let mut ran = Ran { items: 0, kept: 0 };
-    'rows: for number in 0..rows {
+    for number in 0..rows {
         let row = if number % 2 == 0 {
             odd.share()?
         } else {
@@ -66,11 +65,8 @@ fn row_of(alloc: Global, table: &Table, number: i64) -> Result<Row, Fail> {
 }
 
 /// Polls until it is idle.
-fn drain<L: Ledger>(driven: &mut Driven, steps: &mut Steps<L>, ran: &mut Ran) -> Result<(), Fail>
-    requires { IsReady driven.old.matcher }
-    ensures { IsReady driven.new.matcher }
-{
-    'polls: for _poll in 0..1_000_000 {
+fn drain<L: Ledger>(driven: &mut Driven, steps: &mut Steps<L>, ran: &mut Ran) -> Result<(), Fail> {
+    for _poll in 0..1_000_000 {
         match driven.poll(1_000, steps)? {
             Poll::Item(_place, _item) => ran.items = ran.items.saturating_add(1),
             Poll::Paused => {}

@@ -1,6 +1,5 @@
 //! Runs of a matcher, one event after another.
-ghost use Rattle.std.specs.Prelude.{◌≡◌, ◌<◌, IfOk};
-ghost use Rattle.rp_answer.specs.Matching.{IsReady};
+ghost use Rattle.std.specs.Prelude.{◌≡◌, ◌<◌};
 
 use super::driven::Driven;
 use super::listed::Listed;
@@ -71,7 +70,7 @@ fn played<L: Ledger>(
 {
     let mut steps = Steps::<L>::new(blank);
     let mut player = Player::new(alloc, query, again)?;
-    'events: for event in events {
+    for event in events {
         player.act(*event, &mut steps)?;
     }
     Ok(player.told)
@@ -92,9 +91,7 @@ struct Player {
 }
 
 impl Player {
-    fn new(alloc: Global, query: Query, again: bool) -> Result<Player, Fail>
-        ensures { IfOk result (λ player. IsReady player.driven.matcher) }
-    {
+    fn new(alloc: Global, query: Query, again: bool) -> Result<Player, Fail> {
         let driven = Driven::new(alloc, query.share()?, again);
         let saved = driven.state();
         Ok(Player {
@@ -108,10 +105,7 @@ impl Player {
         })
     }
 
-    fn act<L: Ledger>(&mut self, event: Event, steps: &mut Steps<L>) -> Result<(), Fail>
-        requires { IsReady self.old.driven.matcher }
-        ensures { IsReady self.new.driven.matcher }
-    {
+    fn act<L: Ledger>(&mut self, event: Event, steps: &mut Steps<L>) -> Result<(), Fail> {
         match event {
             Event::Row(number) => self.push(number),
             Event::Close => self.close(),
@@ -124,30 +118,21 @@ impl Player {
         }
     }
 
-    fn push(&mut self, number: i64) -> Result<(), Fail>
-        requires { IsReady self.old.driven.matcher }
-        ensures { IsReady self.new.driven.matcher }
-    {
+    fn push(&mut self, number: i64) -> Result<(), Fail> {
         let next = self.driven.last().saturating_add(1);
         let row = row_of(self.alloc, &self.query, next, number)?;
         self.rows.push(row.share()?)?;
         self.driven.push(row)
     }
 
-    fn close(&mut self) -> Result<(), Fail>
-        requires { IsReady self.old.driven.matcher }
-        ensures { IsReady self.new.driven.matcher }
-    {
+    fn close(&mut self) -> Result<(), Fail> {
         self.driven.close()?;
         self.rows.close();
         self.told.push('|')?;
         Ok(())
     }
 
-    fn poll_once<L: Ledger>(&mut self, budget: u32, steps: &mut Steps<L>) -> Result<(), Fail>
-        requires { IsReady self.old.driven.matcher }
-        ensures { IsReady self.new.driven.matcher }
-    {
+    fn poll_once<L: Ledger>(&mut self, budget: u32, steps: &mut Steps<L>) -> Result<(), Fail> {
         match self.driven.poll(budget, steps)? {
             Poll::Item(place, item) => self.tell(place, &item),
             Poll::Paused => Ok(self.told.push_str("paused ")?),
@@ -155,11 +140,8 @@ impl Player {
         }
     }
 
-    fn drain<L: Ledger>(&mut self, budget: u32, steps: &mut Steps<L>) -> Result<(), Fail>
-        requires { IsReady self.old.driven.matcher }
-        ensures { IsReady self.new.driven.matcher }
-    {
-        'polls: for _poll in 0..100_000 {
+    fn drain<L: Ledger>(&mut self, budget: u32, steps: &mut Steps<L>) -> Result<(), Fail> {
+        for _poll in 0..100_000 {
             match self.driven.poll(budget, steps)? {
                 Poll::Item(place, item) => self.tell(place, &item)?,
                 Poll::Paused => {}
@@ -169,20 +151,14 @@ impl Player {
         Err(Fail::from("idle after 100,000 polls"))
     }
 
-    fn tell(&mut self, place: u128, item: &Item) -> Result<(), Fail>
-        requires { IsReady self.old.driven.matcher }
-        ensures { IsReady self.new.driven.matcher }
-    {
+    fn tell(&mut self, place: u128, item: &Item) -> Result<(), Fail> {
         let text = item_text(self.alloc, place, item)?;
         self.told.push_str(text.as_str())?;
         self.items.push_str(text.as_str())?;
         Ok(())
     }
 
-    fn compare(&mut self) -> Result<(), Fail>
-        requires { IsReady self.old.driven.matcher }
-        ensures { IsReady self.new.driven.matcher }
-    {
+    fn compare(&mut self) -> Result<(), Fail> {
         let known = known_items(self.alloc, &self.query, &self.rows)?;
         if known.as_str() != self.items.as_str() {
             let text = self.query.text().as_str();
@@ -192,10 +168,7 @@ impl Player {
         Ok(())
     }
 
-    fn save(&mut self) -> Result<(), Fail>
-        requires { IsReady self.old.driven.matcher }
-        ensures { IsReady self.new.driven.matcher }
-    {
+    fn save(&mut self) -> Result<(), Fail> {
         self.saved = self.driven.state();
         let MatcherState {
             first,
@@ -214,10 +187,7 @@ impl Player {
         Ok(())
     }
 
-    fn resume(&mut self, state: MatcherState) -> Result<(), Fail>
-        requires { IsReady self.old.driven.matcher }
-        ensures { IsReady self.new.driven.matcher }
-    {
+    fn resume(&mut self, state: MatcherState) -> Result<(), Fail> {
         let query = self.query.share()?;
         self.driven = Driven::resume(self.alloc, query, state, false)?;
         Ok(())

@@ -1,4 +1,4 @@
-use Rattle.std.proofs.Common.{◌<◌, ◌≤◌, ◌-◌, arith}
+use Rattle.std.proofs.Common.{arith}
 use Rattle.rp_answer.proofs.Keeping.{there, not_there}
 use Rattle.rp_answer.proofs.kept.KeptRows.row.Goals as goal
 
