@@ -38,8 +38,8 @@ fn packets_of(alloc: Global, parts: Vec<(Cells, Vec<Row>)>) -> Result<Vec<Packet
 /// The partitions of rows by the query, by first appearance: the key of each, and its rows in the query's order, shared.
 /// Rows that tie stay as they came.
 ///
-/// Who keeps the rows as they came until the partitions are dropped gives their memory back from one end to the other,
-/// which takes a third of the time.
+/// Where the rows are kept as they came until the partitions are dropped, their memory is given back from one end to the
+/// other, and the allocator has no lone pieces to put together.
 pub fn ordered_parts(
     alloc: Global,
     query: &Query,
