@@ -21,7 +21,7 @@ use Rattle.rp_known.specs.Items.{unexcluded, item_rows}
 use Rattle.rp_known.specs.Walk.{Pauses, found_at, at_last, searched, leg, leg_items, known}
 use Rattle.rp_known.specs.WalkLaws.{AreKnown}
 use Rattle.rp_walker.specs.Records.{place_of, IsWithin}
-use Rattle.rp_walker.specs.Steps.{IsDone, IsStop, Moves}
+use Rattle.rp_walker.specs.Steps.{IsDone, IsStop, Moves, IsEnd}
 use Rattle.rp_walker.specs.declared.ahead.Ahead.{Ahead}
 use Rattle.rp_walker.specs.declared.record.MatcherState.{MatcherState}
 use Rattle.rp_walker.specs.declared.run.Run.{Run}
@@ -93,6 +93,7 @@ pub begins_giving : (q : QueryData) (p : Known) (w : Walker) (found : Ended) (a 
 begins_giving q p w found a run taken few g gives seen totals serves =
     record {
       given = refl;
+      over = tt;
       first = refl;
       stands = stands_going q p (record w { stage = Giving found a }) g (gives, omega (arith, seen), totals, serves);
       lowers = omega (arith, few, gives.low, gives.ordered, gives.high, left_going q p w.state (Giving found a) g.going gives.known, left_going q p w.state (Searching run) g.going gives.known);
@@ -106,6 +107,7 @@ pub searches_on : (q : QueryData) (p : Known) (w : Walker) (old new : Run) (take
 searches_on q p w old new taken g s fewer =
     record {
       given = refl;
+      over = tt;
       first = refl;
       stands = stands_going q p (record w { stage = Searching new }) g s;
       lowers = omega (arith, fewer, left_going q p w.state (Searching old) g.going s.known, left_going q p w.state (Searching new) g.going s.known);
@@ -116,7 +118,7 @@ stops_here : (q : QueryData) (p : Known) (r : MatcherState) → IsGoing q r → 
 stops_here q p r g none within =
     let no_item : r.here ≤ 0 = subst (λ t. r.here ≤ length (leg_items t)) none within in
     let zero_here : r.here ≡ 0 = omega (arith, no_item) in
-    (stays_put q p r g.going within, record { stops = subst IsStop (sym none) tt; all = zero_here ∙ sym (ap (λ t. length (leg_items t)) none) })
+    (stays_put q p r g.going within, record { stops = subst IsStop (sym none) tt; all = zero_here ∙ sym (ap (λ t. length (leg_items t)) none); over = λ ends. absurd (subst IsEnd none ends) })
 
 pub search_waits : (q : QueryData) (p : Known) (w : Walker) (old new : Run) (taken : ℕ) → IsGoing q w.state → Searches q p w.state.at new → found_at q p w.state.at ≡ Waits → left_by new.search.value (asked_by q p) ≤ left_by old.search.value (asked_by q p) →
     KeepsGoing taken q p w.state (Searching old) (record w { stage = Searching new }) Idle
@@ -124,6 +126,7 @@ search_waits q p w old new taken g s found fewer =
     let none : leg q p (place_of w.state) ≡ Pauses [] = leg_of q p (place_of w.state) Waits [] s.known found refl in
     record {
       given = refl;
+      over = tt;
       first = refl;
       stands = stands_going q p (record w { stage = Searching new }) g s;
       lowers = omega (arith, fewer, left_going q p w.state (Searching old) g.going s.known, left_going q p w.state (Searching new) g.going s.known);
@@ -134,7 +137,7 @@ search_waits q p w old new taken g s found fewer =
 
 pub from_more : (taken : ℕ) (q : QueryData) (p : Known) (r : MatcherState) (new : Walker) (stage more : Stage) (step : Step) → left_with q p r stage ≤ left_with q p r more →
     KeepsGoing taken q p r stage new step → KeepsGoing taken q p r more new step
-from_more taken q p r new stage more step h k = record { given = k.given; first = k.first; stands = k.stands; lowers = lower step k.lowers; follows = k.follows }
+from_more taken q p r new stage more step h k = record { given = k.given; over = k.over; first = k.first; stands = k.stands; lowers = lower step k.lowers; follows = k.follows }
   where
     lower : (s : Step) → Lowers taken s (left_with q p r stage) (left_with q p new.state new.stage) → Lowers taken s (left_with q p r more) (left_with q p new.state new.stage)
     lower Went l = omega (arith, h, l)
@@ -167,6 +170,7 @@ waits_past q p w g stands past is_open =
     let none : leg q p (place_of w.state) ≡ Pauses [] = leg_past q p (place_of w.state) past ∙ ap at_last is_open in
     record {
       given = refl;
+      over = tt;
       first = refl;
       stands = stands_going q p w g stands;
       lowers = omega arith;

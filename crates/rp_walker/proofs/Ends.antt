@@ -129,6 +129,7 @@ module _ (leads : SearchesLeadOn) (q : QueryData) (p : Known) (w : Walker) (foun
   goes_to =
       record {
         given = refl;
+        over = tt;
         first = refl;
         stands = stands_going q p (record w { state = moved_on; stage = Begin (Some (run_of found)) }) going_on serves;
         lowers = omega (arith, left_going q p w.state (Giving found a) g.going gives.known, left_later q p w.state moved_on (Some (run_of found)) g.going later);
@@ -164,6 +165,7 @@ module _ (q : QueryData) (p : Known) (w : Walker) (stage : Stage) (x : Item) (k 
   gives_last due =
       record {
         given = refl;
+        over = λ l. refl;
         first = refl;
         stands = omega (arith, due, g.enough);
         lowers = some;
@@ -182,6 +184,7 @@ module _ (q : QueryData) (p : Known) (w : Walker) (stage : Stage) (x : Item) (k 
   gave_last_before other =
       record {
         given = refl;
+        over = tt;
         first = refl;
         stands = g.enough;
         lowers = omega arith;
@@ -190,7 +193,7 @@ module _ (q : QueryData) (p : Known) (w : Walker) (stage : Stage) (x : Item) (k 
             let here_is : w.state.here ≡ k + 1 = omega (arith, other, not_past, ends.0, within_old) in
             record {
               moves = record { before = 0; comes = here; counted = omega arith; within = within_old; ended = record { ends = ends.1; all = here_is ∙ sym ends.0 } };
-              is = (refl, record { stops = ends.2; all = here_is ∙ sym ends.0 });
+              is = (refl, record { stops = ends.2; all = here_is ∙ sym ends.0; over = λ e. refl });
             };
       }
 

@@ -184,5 +184,6 @@ module _ (law : LegStays) (leads : LegsLeadOn) (q : QueryData) (reaches : IsSoun
               ap (slice_get (known q p)) place ∙ ap (λ z. slice_get z (length b.front + old.here)) b.is ∙ get_behind leads q p b.front (walk_from q p (place_of old)) old.here
               ∙ ap (λ z. slice_get z old.here) (sym (walk_agrees law leads q reaches p k old.first a (place_of old) fits.kept from_one)) ∙ h;
           last = λ d before place came. comes_no_further leads comes (subst IsStop same_leg d.stops) came;
+          ended = λ d ends. d.over (subst IsEnd (sym same_leg) ends);
           done = λ d. all_of (stop_walk q p (place_of new) (subst IsStop same_leg d.stops)) (d.all ∙ ap (λ t. length (leg_items t)) same_leg);
         }

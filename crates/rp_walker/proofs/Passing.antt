@@ -19,6 +19,7 @@ module _ (q : QueryData) (p : Known) (w : Walker) (found : Ended) (a : Ahead) (g
   went_to b next end more after enough =
       record {
         given = refl;
+        over = tt;
         first = refl;
         stands = stands_going q p (record w { stage = Giving found b }) g (after, enough, totals, serves);
         lowers = omega (arith, more, next, end, left_going q p w.state (Giving found a) g.going gives.known, left_going q p w.state (Giving found b) g.going gives.known);

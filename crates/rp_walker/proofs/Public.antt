@@ -11,7 +11,7 @@ use Rattle.rp_walker.specs.declared.poll.Poll.{Poll}
 use Rattle.rp_walker.specs.declared.poll.Poll.TheVariants.{Item as ItemPoll, Idle as IdlePoll, Paused as PausedPoll}
 use Rattle.rp_walker.specs.declared.record.MatcherState.{MatcherState}
 use Rattle.rp_walker.specs.Records.{place_of, IsWithin, IsOnWalk, IsOver, IsLastStart, Fits, fits_by}
-use Rattle.rp_walker.specs.Steps.{IsDone, Moves}
+use Rattle.rp_walker.specs.Steps.{IsDone, Moves, IsEnd}
 use Rattle.rp_walker.specs.FitLaws.{AgreesFrom, Meant, StepsMean}
 use Rattle.rp_walker.specs.Polls.{Polled, PollIs, AnswerIs, Answers, StopsAtLast, GoesAlong, moves_by}
 use Rattle.rp_walker.proofs.Moving.{comes_after}
@@ -57,15 +57,16 @@ module _ (means : StepsMean) (leads : LegsLeadOn) (short : KnownIsShort) (q : Qu
       let meant = h.1 a.moves in
       (meant.fits, answer_is p are answer meant a.is)
 
-  idle_last : (p : Known) → AgreesFrom old.first k p → Meant q old new k p → IsDone q k new ⊎ (new.given ≡ 2 ^ 128 - 1) → IsLastStart q p new.at
-  idle_last p are h (inl d) = h.last d
-  idle_last p are h (inr e) = absurd (omega (arith, e, short q p (subst (λ n. n < 2 ^ 64 - 1) (sym (same_count are)) few), given_known leads new.over q new p h.fits))
+  idle_last : (p : Known) → AgreesFrom old.first k p → Meant q old new k p → IsDone q k new ⊎ (new.given ≡ 2 ^ 128 - 1) → new.over ≡ false →
+      (IsEnd (leg q p (place_of new)) → ⊥) × IsLastStart q p new.at
+  idle_last p are h (inl d) over = (λ ends. let z : true ≡ false = sym (h.ended d ends) ∙ over in cc, h.last d)
+  idle_last p are h (inr e) over = absurd (omega (arith, e, short q p (subst (λ n. n < 2 ^ 64 - 1) (sym (same_count are)) few), given_known leads new.over q new p h.fits))
 
   pub stops_at_last : (answer : Poll) → (IsWithin q k old → Polled q k old new answer) → StopsAtLast q k old new answer
   stops_at_last answer polled p are fits idle over =
       let h = on_kept p are fits in
       let a = polled h.0 in
-      idle_last p are (h.1 a.moves) (subst (λ x. PollIs q k old new x) idle a.is).1
+      idle_last p are (h.1 a.moves) (subst (λ x. PollIs q k old new x) idle a.is).1 over
 
   pub goes_along : (IsWithin q k old → Moves q k old new) → GoesAlong q k old new
   goes_along moved p are fits =

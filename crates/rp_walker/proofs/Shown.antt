@@ -4,7 +4,7 @@ use Rattle.std.specs.Prelude.{slice_get}
 use Rattle.rp_known.specs.declared.item.Item.{Item}
 use Rattle.rp_known.specs.declared.place.Place.{Place}
 use Rattle.rp_known.specs.Walk.{Leg, Goes, Pauses, Ends, after_item, after_items, leg_items}
-use Rattle.rp_walker.specs.Steps.{IsStop}
+use Rattle.rp_walker.specs.Steps.{IsStop, IsEnd}
 
 item_counted : (x : Item) (t : Leg) → leg_items (after_item x t) ≡ x ∷ leg_items t
 item_counted x (Goes xs next) = refl
@@ -51,16 +51,17 @@ module _ (f : ℕ → Option Item) (t : Leg) where
   pub record StopsAt (u : Leg) (k : ℕ) : Type 0 where
     pub stops : IsStop u
     pub all : k ≡ length (leg_items u)
+    pub pauses : IsEnd u → ⊥
 
   stop_behind : (y : Item) (u : Leg) (k : ℕ) → StopsAt u k → StopsAt (after_item y u) (suc k)
   stop_behind y (Goes xs next) k h = absurd h.stops
-  stop_behind y (Pauses xs) k h = record { stops = tt; all = ap suc h.all }
-  stop_behind y (Ends xs) k h = record { stops = tt; all = ap suc h.all }
+  stop_behind y (Pauses xs) k h = record { stops = tt; all = ap suc h.all; pauses = λ e. e }
+  stop_behind y (Ends xs) k h = absurd (h.pauses tt)
 
   -- where it isn't ready, the leg stops there
   pub none_here : (passed rest : List ℕ) (row : ℕ) → f row ≡ None → length passed ≤ length (leg_items (after_items (map f (passed ++ row ∷ rest)) t)) →
       StopsAt (after_items (map f (passed ++ row ∷ rest)) t) (length passed)
-  none_here [] rest row e h = subst (λ o. StopsAt (after_items (o ∷ map f rest) t) 0) (sym e) (record { stops = tt; all = refl })
+  none_here [] rest row e h = subst (λ o. StopsAt (after_items (o ∷ map f rest) t) 0) (sym e) (record { stops = tt; all = refl; pauses = λ e. e })
   none_here (r ∷ rs) rest row e h = go (f r) h (λ k. none_here rs rest row e k)
     where
       later : Leg

@@ -1,11 +1,11 @@
 -- What one step over the rows ahead does.
-use Rattle.std.proofs.Common.{◌≡◌, ℕ, suc, ◌+◌, ◌-◌, ◌<◌, ◌≤◌, List, [], ◌∷◌, ◌++◌, length, length-append, append_assoc, map, Bool, true, false, cond, Some, None, sym, ap, ◌∙◌, subst, arith}
-use Rattle.std.specs.Prelude.{nat_le}
+use Rattle.std.proofs.Common.{◌≡◌, ℕ, suc, ◌+◌, ◌-◌, ◌<◌, ◌≤◌, List, [], ◌∷◌, ◌++◌, length, length-append, append_assoc, map, Bool, true, false, cond, Some, None, sym, ap, ◌∙◌, subst, arith, Option}
+use Rattle.std.specs.Prelude.{nat_le, option_map}
 use Rattle.std.proofs.lemmas.Bool.Decides.{nat_tests}
-use Rattle.rp_search.specs.Found.{Found}
+use Rattle.rp_search.specs.Found.{Found, Match, NoMatch, Waits}
 use Rattle.rp_known.specs.Walk.{after_items, after_found, found_at, at_last, searched, leg, leg_items, here}
-use Rattle.rp_walker.specs.Records.{place_of, IsWithin}
-use Rattle.rp_walker.specs.Steps.{IsDone, IsStop, ended_by, Moves}
+use Rattle.rp_walker.specs.Records.{place_of, IsWithin, IsLast}
+use Rattle.rp_walker.specs.Steps.{IsDone, IsStop, ended_by, Moves, IsEnd}
 use Rattle.rp_check.specs.declared.query.QueryData.{QueryData}
 use Rattle.rp_known.specs.Known.{Known, count}
 use Rattle.rp_known.specs.declared.item.Item.{Item}
@@ -14,11 +14,13 @@ use Rattle.rp_walker.specs.declared.walker.Walker.{Walker}
 use Rattle.rp_walker.specs.declared.record.MatcherState.{MatcherState}
 use Rattle.rp_walker.specs.declared.stage.Stage.{Stage}
 use Rattle.rp_known.specs.declared.place.Place.{Place}
-use Rattle.rp_known.specs.Items.{item_at, item_rows, items_of}
+use Rattle.rp_known.specs.Items.{item_at, item_rows, items_of, row_item}
 use Rattle.rp_walker.specs.Given.{is_hidden, shown_from}
 use Rattle.rp_walker.specs.Stages.{Gives, rows_ahead, IsGoing, StageStands, stage_left, starts_to, left_with}
 use Rattle.rp_walker.specs.Walking.{stands_by}
 use Rattle.rp_walker.proofs.Shown.{IsHere, item_here, none_here}
+use Rattle.rp_value.specs.declared.value.Value.{Value}
+use Rattle.rp_known.specs.Plans.{setting_of, values_of}
 
 -- ---- rows ahead
 
@@ -116,7 +118,23 @@ module _ (q : QueryData) (p : Known) (r : MatcherState) (result : Found) (a : Ah
       record {
         stops = subst (λ t. IsStop t) (sym leg_here) s.stops;
         all = sym passed_all ∙ s.all ∙ ap (λ t. length (leg_items t)) (sym leg_here);
+        over = λ ends. absurd (s.pauses (subst IsEnd leg_here ends));
       }
+
+-- ---- no item at a row is the last of an answer
+
+abbrev pub IsLastIn : Option Item → Type 0
+IsLastIn None = ⊥
+IsLastIn (Some x) = IsLast x
+
+pub never_last : (q : QueryData) (p : Known) (place : Place) (result : Found) (row : ℕ) → IsLastIn (item_at q p place result row) → ⊥
+never_last q p place Waits row h = h
+never_last q p place NoMatch row h = h
+never_last q p place (Match labels) row h = go (values_of (setting_of q p place.start labels (suc place.matches) row) q.plan.measures.items) h
+  where
+    go : (o : Option (List Value)) → IsLastIn (option_map (row_item q p row (Some (suc place.matches))) o) → ⊥
+    go None h = h
+    go (Some values) h = h
 
 -- ---- what is left
 

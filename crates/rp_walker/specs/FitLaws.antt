@@ -1,13 +1,13 @@
 -- What a matcher's steps mean for each partition that its record fits.
-use Rattle.std.specs.Prelude.{◌≡◌, ℕ, ◌≤◌, length, Some, slice_get}
+use Rattle.std.specs.Prelude.{◌≡◌, ℕ, ◌≤◌, length, Some, slice_get, true}
 use Rattle.rp_check.specs.declared.query.QueryData.{QueryData}
 use Rattle.rp_known.specs.declared.item.Item.{Item}
 use Rattle.rp_known.specs.Known.{Known, GoesOnFrom, Continues}
 use Rattle.rp_check.specs.Sound.{IsSound}
-use Rattle.rp_known.specs.Walk.{known, walk_from}
+use Rattle.rp_known.specs.Walk.{known, walk_from, leg}
 use Rattle.rp_walker.specs.declared.record.MatcherState.{MatcherState}
 use Rattle.rp_walker.specs.Records.{place_of, IsWithin, IsOnWalk, IsLastStart, Fits, first_state}
-use Rattle.rp_walker.specs.Steps.{IsDone, Moves}
+use Rattle.rp_walker.specs.Steps.{IsDone, Moves, IsEnd}
 
 -- The one is the other, as far as the rows from this one on are looked at.
 pub record AgreesFrom (first : ℕ) (p p' : Known) : Type 0 where
@@ -22,6 +22,7 @@ pub record Meant (q : QueryData) (old new : MatcherState) (k p : Known) : Type 0
       slice_get (walk_from q k (place_of old)) old.here ≡ Some x → slice_get (known q p) old.given ≡ Some x
   pub done : IsDone q k new → length (known q p) ≡ new.given
   pub last : IsDone q k new → IsLastStart q p new.at
+  pub ended : IsDone q k new → IsEnd (leg q p (place_of new)) → new.over ≡ true
 
 -- A step over the rows that are kept of a partition is one over the partition.
 abbrev pub StepsMean : Type 0

@@ -3,14 +3,14 @@ use Rattle.std.specs.Prelude.{◌≡◌, ℕ, ◌+◌, ◌-◌, ◌^◌, ◌<◌
 use Rattle.rp_check.specs.declared.query.QueryData.{QueryData}
 use Rattle.rp_known.specs.declared.item.Item.{Item}
 use Rattle.rp_known.specs.Known.{Known}
-use Rattle.rp_known.specs.Walk.{walk_from, known}
+use Rattle.rp_known.specs.Walk.{walk_from, known, leg}
 use Rattle.rp_walker.specs.declared.poll.Poll.{Poll}
 use Rattle.rp_walker.specs.declared.poll.Poll.TheVariants.{Item as ItemPoll, Idle as IdlePoll, Paused as PausedPoll}
 use Rattle.rp_walker.specs.declared.record.MatcherState.{MatcherState}
 use Rattle.rp_walker.specs.declared.walker.Walker.{Walker}
 use Rattle.rp_walker.specs.FitLaws.{AgreesFrom}
-use Rattle.rp_walker.specs.Records.{place_of, Fits, IsLastStart}
-use Rattle.rp_walker.specs.Steps.{IsDone, Moves}
+use Rattle.rp_walker.specs.Records.{place_of, Fits, IsLastStart, IsLast}
+use Rattle.rp_walker.specs.Steps.{IsDone, Moves, IsEnd}
 use Rattle.rp_walker.specs.Stages.{left_with, left_anew}
 
 -- the item comes next from the record's search on
@@ -49,11 +49,12 @@ PollLowers budget before after (ItemPoll k x) = after < before
 PollLowers budget before after IdlePoll = after ≤ before
 PollLowers budget before after PausedPoll = after + budget ≤ before
 
--- an item's place is the number of given items, which it raises by one; nothing else changes it
-abbrev pub GivenBy : ℕ → ℕ → Poll → Type 0
-GivenBy before after (ItemPoll k x) = (k ≡ after) × (after ≡ before + 1)
-GivenBy before after IdlePoll = after ≡ before
-GivenBy before after PausedPoll = after ≡ before
+-- An item's place is the number of given items, which it raises by one, and with the end or a fault the answer is over.
+-- Nothing else changes the number.
+abbrev pub GivenBy : MatcherState → MatcherState → Poll → Type 0
+GivenBy old new (ItemPoll k x) = (k ≡ new.given) × (new.given ≡ old.given + 1) × (IsLast x → new.over ≡ true)
+GivenBy old new IdlePoll = new.given ≡ old.given
+GivenBy old new PausedPoll = new.given ≡ old.given
 
 -- the walk's part of a poll, where the answer wasn't over
 pub record Polled (q : QueryData) (p : Known) (old new : MatcherState) (answer : Poll) : Type 0 where
@@ -75,10 +76,12 @@ ForEachThatFits q k old says = (p : Known) → AgreesFrom old.first k p → Fits
 abbrev pub Answers : QueryData → Known → MatcherState → MatcherState → Poll → Type 0
 Answers q k old new answer = ForEachThatFits q k old (λ p. Fits q new p × AnswerIs q p old new answer)
 
--- Where a poll comes to nothing and the answer isn't over, the walk comes to no later start row than the record's.
+-- Where a poll is idle and the answer isn't over, the walk doesn't end at the record's search, and comes to no later start
+-- row.
 abbrev pub StopsAtLast : QueryData → Known → MatcherState → MatcherState → Poll → Type 0
 StopsAtLast q k old new answer =
-    ForEachThatFits q k old (λ p. answer ≡ IdlePoll → new.over ≡ false → IsLastStart q p new.at)
+    ForEachThatFits q k old (λ p. answer ≡ IdlePoll → new.over ≡ false →
+    (IsEnd (leg q p (place_of new)) → ⊥) × IsLastStart q p new.at)
 
 -- while the answer goes on, a record moves along the walk; once it is over, nothing but its first row changes
 abbrev pub moves_by : Bool → QueryData → Known → MatcherState → MatcherState → Type 0

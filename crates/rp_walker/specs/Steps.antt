@@ -18,10 +18,11 @@ IsStop (Goes xs next) = ⊥
 IsStop (Pauses xs) = ⊤
 IsStop (Ends xs) = ⊤
 
--- all items of the record's search were given, and the walk stops there
+-- All items of the record's search were given, and the walk stops there; where it ends there, the answer is over.
 pub record IsDone (q : QueryData) (p : Known) (r : MatcherState) : Type 0 where
   pub stops : IsStop (leg q p (place_of r))
   pub all : r.here ≡ length (leg_items (leg q p (place_of r)))
+  pub over : IsEnd (leg q p (place_of r)) → r.over ≡ true
 
 -- where the answer is over, its last leg was given
 pub record HasEnded (q : QueryData) (p : Known) (r : MatcherState) : Type 0 where

@@ -1,5 +1,5 @@
 -- What a step of a walker keeps.
-use Rattle.std.specs.Prelude.{◌≡◌, ℕ, ◌+◌, ◌<◌, ◌≤◌, Bool, true, false}
+use Rattle.std.specs.Prelude.{◌≡◌, ℕ, ◌+◌, ◌<◌, ◌≤◌, Bool, true, false, ⊤}
 use Rattle.rp_check.specs.declared.query.QueryData.{QueryData}
 use Rattle.rp_check.specs.Sound.{IsSound}
 use Rattle.rp_known.specs.Known.{Known, GoesOnFrom}
@@ -9,7 +9,7 @@ use Rattle.rp_walker.specs.declared.stage.Stage.{Stage}
 use Rattle.rp_walker.specs.declared.stage.Step.{Step}
 use Rattle.rp_walker.specs.declared.stage.Step.TheVariants.{Went, Gave, Idle}
 use Rattle.rp_walker.specs.declared.walker.Walker.{Walker}
-use Rattle.rp_walker.specs.Records.{IsWithin}
+use Rattle.rp_walker.specs.Records.{IsWithin, IsLast}
 use Rattle.rp_walker.specs.Steps.{Moves}
 use Rattle.rp_walker.specs.Stages.{IsGoing, StageStands, left_with, StepIs, Lowers}
 
@@ -52,9 +52,16 @@ IsGivenBy Went before after = after ≡ before
 IsGivenBy (Gave x) before after = after ≡ before + 1
 IsGivenBy Idle before after = after ≡ before
 
+-- with the last item the answer is over
+abbrev pub EndsBy : Step → Bool → Type 0
+EndsBy Went over = ⊤
+EndsBy (Gave x) over = IsLast x → over ≡ true
+EndsBy Idle over = ⊤
+
 -- A step of so many turns from a stage on.
 pub record KeepsGoing (taken : ℕ) (q : QueryData) (p : Known) (old : MatcherState) (stage : Stage) (new : Walker) (step : Step) : Type 0 where
   pub given : IsGivenBy step old.given new.state.given
+  pub over : EndsBy step new.state.over
   pub first : new.state.first ≡ old.first
   pub stands : stands_by new.state.over q p new
   pub lowers : Lowers taken step (left_with q p old stage) (left_with q p new.state new.stage)

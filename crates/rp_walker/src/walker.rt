@@ -341,7 +341,7 @@ impl Walker {
         ensures stands { stands_by self.new.state.over
             (data_of query.now) (known_in R.known R.ending rows.now) self.new }
         ensures first { self.new.state.first ≡ self.old.state.first }
-        ensures given { IfOk result (GivenBy self.old.state.given self.new.state.given) }
+        ensures given { IfOk result (GivenBy self.old.state self.new.state) }
         ensures kept { OnErr result
             ((self.new.state.given ≡ self.old.state.given) × (self.new.stage ≡ BeginStage None)) }
         ensures lowers { IfOk result (PollLowers budget
@@ -461,7 +461,7 @@ impl Walker {
         ensures stops { IfOk result (StopsAtLast (data_of query.now) (known_in R.known R.ending rows.now)
             (record_of self.old) (record_of self.new)) }
         ensures first { (record_of self.new).first ≡ (record_of self.old).first }
-        ensures given { IfOk result (GivenBy (record_of self.old).given (record_of self.new).given) }
+        ensures given { IfOk result (GivenBy (record_of self.old) (record_of self.new)) }
         ensures out_of_memory { OnErr result (StartsAgain (data_of query.now) (known_in R.known R.ending rows.now)
             (record_of self.old).given (record_of self.new)
             (left_in (data_of query.now) (known_in R.known R.ending rows.now) self.new)) }

@@ -10,7 +10,7 @@ use Rattle.rp_walker.specs.Given.{result_of}
 use Rattle.rp_walker.specs.Records.{place_of}
 use Rattle.rp_walker.specs.Steps.{ended_by}
 use Rattle.rp_walker.specs.Stages.{IsGoing}
-use Rattle.rp_walker.proofs.Steps.{past_shown, gives_shown, gave, not_yet, left_going, stays_put, stands_going}
+use Rattle.rp_walker.proofs.Steps.{past_shown, gives_shown, gave, not_yet, left_going, stays_put, stands_going, IsLastIn, never_last}
 use Rattle.rp_walker.proofs.walker.Walker.give_item.Goals as goal
 
 pub returns-in-None-clause-keeps : goal.returns-in-None-clause-keeps
@@ -24,6 +24,7 @@ returns-in-None-clause-keeps g c =
     let none : item_at q p (place_of w.state) result a.next ≡ None = ap (λ (x : Place). item_at q p x result a.next) (sym c.place_of-place.ensures) ∙ sym c.in_ok-make_item.ensures ∙ c.in-None.is in
     record {
       given = refl;
+      over = tt;
       first = refl;
       stands = stands_going q p (record w { stage = GivingStage c.args.found a }) h (c.requires.gives, omega (arith, c.requires.due), c.requires.totals, c.requires.serves);
       lowers = omega arith;
@@ -43,6 +44,7 @@ returns-in-Some-clause-keeps g c =
     let some : item_at q p (place_of w.state) result a.next ≡ Some c.in-Some.item = ap (λ (x : Place). item_at q p x result a.next) (sym c.place_of-place.ensures) ∙ sym c.in_ok-make_item.ensures ∙ c.in-Some.is in
     record {
       given = refl;
+      over = λ l. absurd (never_last q p (place_of w.state) result a.next (subst IsLastIn (sym some) l));
       first = refl;
       stands = stands_going q p (record w { state = r; stage = GivingStage c.args.found (past_shown a) }) going (gives_shown q p (place_of w.state) result a c.requires.gives c.requires.more c.requires.shown, omega arith, c.requires.totals, c.requires.serves);
       lowers = omega (arith, c.requires.more, left_going q p w.state (GivingStage c.args.found a) h.going c.requires.gives.known, left_going q p r (GivingStage c.args.found (past_shown a)) h.going c.requires.gives.known);
