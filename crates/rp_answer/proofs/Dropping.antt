@@ -13,7 +13,7 @@ use Rattle.rp_check.specs.Sound.{IsSound}
 use Rattle.rp_walker.specs.declared.walker.Walker.{Walker}
 use Rattle.rp_walker.specs.Walking.{record_of, Stands, stands_by, StandsStays}
 use Rattle.rp_known.specs.Walk.{here}
-use Rattle.rp_walker.specs.Polls.{AnswerIs, GoesAlong, moves_by}
+use Rattle.rp_walker.specs.Polls.{AnswerIs, GoesAlong, moves_by, GivenBy}
 use Rattle.rp_walker.specs.Steps.{ended_by}
 use Rattle.rp_walker.specs.Records.{fits_by, horizon_of}
 use Rattle.rp_answer.specs.declared.kept.Kept.{Kept}
@@ -80,6 +80,11 @@ answer_dropped q p old r f (ItemPoll i x) h = h
 answer_dropped q p old r f IdlePoll h = h
 answer_dropped q p old r f PausedPoll h = h
 
+given_dropped : (old r : MatcherState) (f : ℕ) (answer : Poll) → GivenBy old r answer → GivenBy old (record r { first = f }) answer
+given_dropped old r f (ItemPoll i x) h = h
+given_dropped old r f IdlePoll h = h
+given_dropped old r f PausedPoll h = h
+
 ended_dropped : (b : Bool) (q : QueryData) (p : Known) (r : MatcherState) (f : ℕ) → ended_by b q p r → ended_by b q p (record r { first = f })
 ended_dropped true q p r f h = record { ends = h.ends; all = h.all }
 ended_dropped false q p r f h = tt
@@ -103,7 +108,7 @@ module _ (q : QueryData) (k : Known) (old r new : MatcherState) (f : ℕ) (is : 
   comes_dropped answer h =
       subst (λ n. PollComesTo q k old n answer) (sym is) (record {
         answers = λ p are fits. (let a = h.answers p are fits in (fits_dropped q r f p r.over needed_before a.0, answer_dropped q p old r f answer a.1));
-        given = h.given;
+        given = given_dropped old r f answer h.given;
         stops = h.stops;
       })
 

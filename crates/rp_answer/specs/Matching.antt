@@ -42,5 +42,5 @@ HoldsNoMore q p r = horizon_of q p r ≤ r.first ⊎ count p < r.first
 -- the record's.
 pub record PollComesTo (q : QueryData) (k : Known) (old new : MatcherState) (answer : Poll) : Type 0 where
   pub answers : Answers q k old new answer
-  pub given : GivenBy old.given new.given answer
+  pub given : GivenBy old new answer
   pub stops : StopsAtLast q k old new answer
