@@ -9,7 +9,7 @@
 //!     Poll::Item(place, Item::End) => .., // the answer has ended
 //!     Poll::Item(place, item) => .., // the next item of the answer, with its place
 //!     Poll::Paused => ..,            // the budget is used up: poll again
-//!     Poll::Idle => ..,              // nothing more is certain until a row comes or the close
+//!     Poll::Idle => ..,              // nothing more is certain until a row comes or the close, or at all
 //! }
 //! ```
 #![tactic(auto)]
@@ -19,7 +19,7 @@ mod matcher;
 
 pub use matcher::Matcher;
 pub use rp_known::{Item, SkipFault, law_earlier, law_known};
-pub use rp_walker::{MatcherState, Poll};
+pub use rp_walker::{MatcherState, Poll, law_records};
 
 #[cfg(test)]
 mod tests;

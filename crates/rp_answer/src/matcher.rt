@@ -144,9 +144,11 @@ impl Matcher {
     }
 
     /// Takes at most `budget` turns, until an item comes or nothing is left to give. A turn is one choice taken up, one
-    /// start row ended or one item looked at: `Paused` comes after just `budget` turns, and an item after one at least.
+    /// start row ended, one item looked at or one look past the last known row: `Paused` comes after just `budget`
+    /// turns, and an item after one at least.
     /// A budget of 0 answers `Paused`, changes nothing and takes no memory. After `AllocError` the same item is still
-    /// to come, and its search begins again; after any other answer to a budget the rows below the horizon are dropped.
+    /// to come, and the record's search begins again; after any other answer to a budget of 1 or more the rows below
+    /// the horizon are dropped.
     pub fn poll<L: Ledger>(&mut self, budget: u32, steps: &mut Steps<L>) -> Result<Poll, AllocError>
         ensures query { self.new.query ≡ self.old.query }
         ensures count { count self.new.known ≡ count self.old.known }

@@ -3,7 +3,8 @@ ghost use Rattle.rp_known.specs.Earlier.{EarlierBegins, EarlierWalkStays, Earlie
 ghost use Rattle.rp_known.specs.WalkLaws.{KnownGrows, WalkStays, LegStays, KnownIsShort, LegsLeadOn, SearchesLeadOn, MatchesAreKnown, FindingsStay, ContinuationsGoOn};
 
 /// The laws of the known answer. What is known of an open partition begins what is known of every continuation, its
-/// answer too; where a walk comes to, it comes to over every continuation; and what a start row finds and gives stays.
+/// answer too; where a walk comes to, it comes to over every continuation; what a start row finds and gives stays; and a
+/// known answer has fewer items than places can tell.
 pub fn law_known()
     ensures grows { KnownGrows }
     ensures walk { WalkStays }
@@ -17,7 +18,8 @@ pub fn law_known()
     rp_tester::law_tests();
 }
 
-/// The laws of one leg of the walk: it leads to a later row, if at all, and a match is of known rows.
+/// The laws of one leg of the walk: it leads to a later row, if at all, and a match is of known rows. Over a continuation
+/// all rows go on.
 pub fn law_legs()
     ensures lead { LegsLeadOn }
     ensures searches { SearchesLeadOn }

@@ -5,7 +5,7 @@ use Rattle.std.specs.declared.alloc.Global.{Global}
 use Rattle.rp_value.specs.declared.value.Value.{Value}
 use Rattle.rp_source.specs.Partitions.{Part, same_key}
 
--- the partitions that a map holds: keys with their rows, as plain lists
+-- partitions as plain lists: keys with their rows
 abbrev pub parts_of : List (List Value × Vec (List Value) Global) → List Part
 parts_of entries = map (λ entry. (entry.0, entry.1.items)) entries
 

@@ -34,6 +34,6 @@ StepsMean = (q : QueryData) (old new : MatcherState) (k p : Known) →
 abbrev pub FitsStay : Type 0
 FitsStay = (q : QueryData) (r : MatcherState) (p p' : Known) → IsSound q → Continues p p' → Fits q r p → Fits q r p'
 
--- A matcher that has known nothing fits every partition.
+-- The record of a matcher that has known nothing fits every partition.
 abbrev pub FirstFits : Type 0
 FirstFits = (q : QueryData) (p : Known) → Fits q first_state p

@@ -77,7 +77,8 @@ pub record Gives (q : QueryData) (p : Known) (place : Place) (result : Found) (a
   pub ordered : ahead.next ≤ ahead.end
   pub high : ahead.end ≤ suc (count p)
 
--- A record whose answer goes on and that can go on: from row 1, with fewer matches than its row, and what it reads is kept.
+-- A record whose answer goes on and that can go on: from row 1, with fewer matches than its row, what it reads is kept, and
+-- no more items were given of its search than in all.
 pub record IsGoing (q : QueryData) (r : MatcherState) : Type 0 where
   pub going : r.over ≡ false
   pub from_one : 1 ≤ r.at

@@ -44,6 +44,6 @@ pub enum Step {
     Went,
     /// An item.
     Gave(Item),
-    /// Only further rows can help.
+    /// Nothing is left to do, until a row comes or the close.
     Idle,
 }
