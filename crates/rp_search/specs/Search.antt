@@ -93,13 +93,14 @@ unfoldable pub turns_of_run : Search → ℕ
 turns_of_run s = s.taken
 
 -- A run counts at most its budget of turns: all of it where it is paused, and one at least where it has any and memory
--- isn't refused. It enters no more rows than it counts turns.
+-- isn't refused. It enters no more rows than it counts turns, and their count never falls.
 pub record TakesTurns (budget : ℕ) (outcome : Result Outcome AllocError) (steps steps' entries entries' : ℕ) : Type 0 where
   pub grows : steps ≤ steps'
   pub within : steps' ≤ steps + budget
   pub paused : outcome ≡ Ok PausedOutcome → steps' ≡ steps + budget
   pub some : 0 < budget → OnOk outcome (steps < steps')
   pub enters : entries' + steps ≤ entries + steps'
+  pub counts : entries ≤ entries'
 
 -- The number of turns left never rises. It falls by one at least with each turn taken, but for the last one of a run
 -- that isn't paused.

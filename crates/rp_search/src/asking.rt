@@ -28,6 +28,7 @@ pub fn enter_row<T: Tests>(choices: &Choices, tests: &mut T) -> Result<(), Alloc
     requires new { AddsLabel (T.entered tests.old (start_of choices.now)) (entered choices.now) }
     ensures subject { T.subject tests.new ≡ T.subject tests.old }
     ensures entries { T.entries tests.new ≤ T.entries tests.old + 1 }
+    ensures counts { T.entries tests.old ≤ T.entries tests.new }
     ensures entered { OnOk result (T.entered tests.new (start_of choices.now) (entered choices.now)) }
 {
     tests.cut(choices.labels().len() - 1);

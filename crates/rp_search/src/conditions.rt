@@ -62,6 +62,7 @@ pub trait Tests {
         ensures err { OnErr result ((before : List Label) →
             entered self.old start before → entered self.new start before) }
         ensures entries { entries self.new ≡ min (entries self.old + 1) (most_u64) }
+        ensures counts { entries self.old ≤ entries self.new }
         ensures subject { subject self.new ≡ subject self.old };
 
     /// The labels are cut back to the first `depth`. It takes no memory. After a cut to 0 none is entered, from

@@ -3,6 +3,7 @@ ghost use Rattle.std.specs.Prelude.{◌≡◌};
 ghost use Rattle.rp_check.specs.QueryView.{data_of};
 ghost use Rattle.rp_eval.specs.Entered.{plan_of, totals_in};
 
+use crate::entries::Entries;
 use rp_check::Query;
 use rp_eval::{Rows, Totals, View, condition};
 use rp_pattern::{End, Label, Seen};
@@ -15,7 +16,7 @@ pub struct Tester<'a, R: Rows> {
     rows: &'a R,
     query: &'a Query,
     totals: Totals,
-    entries: u64,
+    entries: Entries,
     ghost for_query: { plan_of totals ≡ totals_in (data_of query.now) },
 }
 
@@ -26,37 +27,31 @@ impl<'a, R: Rows> Tester<'a, R> {
     ghost use Rattle.rp_eval.specs.Entered.{AreTotals};
     ghost use Rattle.rp_tester.specs.Entered.{tested_by, HasEntered, entries_of};
 
-    /// Tests by totals of the query's plan. The labels of the totals are entered.
-    pub fn new(rows: &'a R, query: &'a Query, totals: Totals) -> Tester<'a, R>
+    /// Tests by totals of the query's plan. The labels of the totals are entered, and further ones are counted.
+    pub fn new(rows: &'a R, query: &'a Query, totals: Totals, entries: Entries) -> Tester<'a, R>
         requires totals { plan_of totals ≡ totals_in (data_of query.now) }
         ensures subject { tested_by result ≡
             record { rows = R.known rows.now; ending = R.ending rows.now; query = data_of query.now } }
         ensures entered { (start : ℕ) (labels : List Marked) →
             AreTotals totals (R.known rows.now) start labels → HasEntered result start labels }
-        ensures none { entries_of result ≡ 0 }
+        ensures counted { entries_of result ≡ entries }
     {
         Tester {
             rows,
             query,
             totals,
-            entries: 0,
+            entries,
         }
     }
 
-    /// How many calls of `enter` were made. It stays at 2^64 - 1.
-    pub fn entries(&self) -> u64
-        ensures { result ≡ entries_of self.now }
-    {
-        self.entries
-    }
-
-    /// The totals of the labels that are entered.
-    pub fn into_totals(self) -> Totals
-        ensures totals { plan_of result ≡ totals_in (tested_by self.entry).query }
+    /// The totals of the labels that are entered, and the count of the calls of `enter`.
+    pub fn into_parts(self) -> (Totals, Entries)
+        ensures totals { plan_of result.0 ≡ totals_in (tested_by self.entry).query }
         ensures entered { (start : ℕ) (labels : List Marked) →
-            HasEntered self.entry start labels → AreTotals result (tested_by self.entry).rows start labels }
+            HasEntered self.entry start labels → AreTotals result.0 (tested_by self.entry).rows start labels }
+        ensures counted { result.1 ≡ entries_of self.entry }
     {
-        self.totals
+        (self.totals, self.entries)
     }
 }
 
@@ -107,7 +102,7 @@ impl<'a, R: Rows> Tests for Tester<'a, R> {
     }
 
     fn enter(&mut self, start: u64, labels: &[Label]) -> Result<(), AllocError> {
-        self.entries = self.entries.saturating_add(1);
+        self.entries.raise();
         self.totals.enter(self.rows, start, labels)
     }
 

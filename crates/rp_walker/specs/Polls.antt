@@ -31,8 +31,8 @@ left_in q p w = left_with q p w.state w.stage
 unfoldable pub entered_by : Walker → ℕ
 entered_by w = w.entered
 
--- At most budget turns are counted, and the number of rows entered, as the walker keeps it, rises by no more than they do;
--- the count of the entered rows never falls.
+-- At most budget turns are counted, and no more rows are entered than turns are counted; the count of the rows entered
+-- never falls.
 abbrev pub TurnsAreCounted : ℕ → ℕ → ℕ → ℕ → ℕ → Type 0
 TurnsAreCounted budget steps steps' entered entered' =
     (steps' ≤ steps + budget) × (entered' + steps ≤ entered + steps') × (entered ≤ entered')

@@ -11,8 +11,9 @@ ghost use Rattle.rp_walker.specs.Runs.{Ran};
 use rp_check::Query;
 use rp_eval::{Rows, Totals};
 use rp_search::{Outcome, Search, Steps};
-use rp_tester::Tester;
+use rp_tester::{Entries, Tester};
 use std::alloc::{AllocError, Global};
+use std::mem;
 use std::sync::ledger::Ledger;
 
 /// A search, with the totals of the rows that it has mapped. The search stays where it is when the run is handed on.
@@ -65,7 +66,7 @@ pub(crate) fn run_on<R: Rows, L: Ledger>(
     start: u64,
     run: Run,
     budget: u32,
-    entered: &mut u64,
+    entered: &mut Entries,
     steps: &mut Steps<L>,
 ) -> Result<(Outcome, Run), AllocError>
     requires some { 0 < budget }
@@ -78,10 +79,15 @@ pub(crate) fn run_on<R: Rows, L: Ledger>(
     rp_search::law_search();
     let _plan = query.plan();
     let mut search = run.search;
-    let mut tester = Tester::new(rows, query, run.totals);
+    let mut tester = Tester::new(
+        rows,
+        query,
+        run.totals,
+        mem::replace(entered, Entries::new()),
+    );
     let ran = search.run(&mut tester, budget, steps);
-    *entered = entered.saturating_add(tester.entries());
+    let (totals, counted) = tester.into_parts();
+    *entered = counted;
     let outcome = ran?;
-    let totals = tester.into_totals();
     Ok((outcome, Run { search, totals }))
 }

@@ -26,6 +26,7 @@ use rp_eval::Rows;
 use rp_known::{Item, Place};
 use rp_pattern::End;
 use rp_search::{Outcome, Steps};
+use rp_tester::Entries;
 use std::alloc::{AllocError, Global};
 use std::mem;
 use std::sync::ledger::Ledger;
@@ -36,8 +37,8 @@ pub struct Walker {
     alloc: Global,
     state: MatcherState,
     stage: Stage,
-    /// How many rows its searches have entered. It stays at 2^64 - 1, and nothing is decided by it.
-    entered: u64,
+    /// How many rows its searches have entered. It is lent to each, and nothing is decided by it.
+    entered: Entries,
 }
 
 impl Walker {
@@ -224,7 +225,7 @@ impl Walker {
         rows: &R,
         run: Run,
         budget: u32,
-        entered: &mut u64,
+        entered: &mut Entries,
         steps: &mut Steps<L>,
     ) -> Result<(Step, u32), AllocError>
         requires some { 0 < budget }
@@ -276,7 +277,7 @@ impl Walker {
         rows: &R,
         spare: Option<Run>,
         budget: u32,
-        entered: &mut u64,
+        entered: &mut Entries,
         steps: &mut Steps<L>,
     ) -> Result<(Step, u32), AllocError>
         requires some { 0 < budget }
@@ -306,7 +307,7 @@ impl Walker {
         query: &Query,
         rows: &R,
         budget: u32,
-        entered: &mut u64,
+        entered: &mut Entries,
         steps: &mut Steps<L>,
     ) -> Result<(Step, u32), AllocError>
         requires some { 0 < budget }
@@ -334,7 +335,7 @@ impl Walker {
         query: &Query,
         rows: &R,
         budget: u32,
-        entered: &mut u64,
+        entered: &mut Entries,
         steps: &mut Steps<L>,
     ) -> Result<Poll, AllocError>
         requires stands { GoesOnWell (data_of query.now) (known_in R.known R.ending rows.now) self.old }
@@ -393,7 +394,7 @@ impl Walker {
                 over: false,
             },
             stage: Stage::Begin(None),
-            entered: 0,
+            entered: Entries::new(),
         }
     }
 
@@ -407,7 +408,7 @@ impl Walker {
             alloc,
             state,
             stage: Stage::Begin(None),
-            entered: 0,
+            entered: Entries::new(),
         }
     }
 
@@ -483,7 +484,7 @@ impl Walker {
         rp_known::law_legs();
         law_steps();
         let _plan = query.plan();
-        let mut entered = self.entered;
+        let mut entered = mem::replace(&mut self.entered, Entries::new());
         let answer = self.go_on(query, rows, budget, &mut entered, steps);
         self.entered = entered;
         answer

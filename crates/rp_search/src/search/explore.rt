@@ -33,6 +33,7 @@ impl Search {
         ensures same { IsSameSearch self.old self.new }
         ensures subject { T.subject tests.new ≡ T.subject tests.old }
         ensures entries { T.entries tests.new ≤ T.entries tests.old + 1 }
+        ensures counts { T.entries tests.old ≤ T.entries tests.new }
         ensures entered { OnOk result (T.entered tests.new (start_of_search self.new) (labels_of_search self.new)) }
         ensures searches { OnOk result (IsWithinRun self.new (T.asked (T.subject tests.old))) }
         ensures turned { IfOk result (Turned 1 self.old self.new

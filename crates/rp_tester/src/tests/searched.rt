@@ -84,10 +84,11 @@ fn run<L: Ledger>(
     ensures { IfOk result (λ totals. StandsOver (⟦<Growing as Rows>⟧.known rows.now)
         (⟦<Growing as Rows>⟧.ending rows.now) (data_of query.now) search.new totals) }
 {
-    let mut tester = Tester::new(rows, query, totals);
+    let mut tester = Tester::new(rows, query, totals, Entries::new());
     let outcome = search.run(&mut tester, 1_000, steps)?;
     tell(outcome, search.labels(), told)?;
-    Ok(tester.into_totals())
+    let (totals, _entries) = tester.into_parts();
+    Ok(totals)
 }
 
 fn tell(outcome: Outcome, labels: &[Label], told: &mut String) -> Result<(), AllocError> {

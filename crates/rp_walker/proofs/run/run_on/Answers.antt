@@ -41,13 +41,13 @@ returns-clause-ran g c =
     let p = known_in g.R.Rows.known g.R.Rows.ending c.args.rows.now in
     let s = c.run-ran.new.self in
     let is : c.deref_mut.result.now ≡ c.args.run.search.value = c.deref_mut.ensures.value in
-    let totals = c.into_totals-totals.result in
+    let totals = c.into_parts-totals.result.0 in
     let new : Run = record { search = with_value c.args.run.search s; totals = totals } in
     let same : tester_of c.run-ran.new.tests ≡ tested_by q p = c.run-ran.ensures.subject ∙ c.new-tester.ensures.subject in
     let same_start : start_of_search s ≡ c.args.start = c.run-ran.ensures.same.start ∙ ap start_of_search is ∙ c.requires.searches.begins in
-    let here = c.into_totals-totals.ensures.entered (start_of_search s) (labels_of_search s) c.run-ran.ensures.entered in
+    let here = c.into_parts-totals.ensures.entered (start_of_search s) (labels_of_search s) c.run-ran.ensures.entered in
     ran_of q p c.args.start c.args.run new c.deref_mut.result.now c.in_ok-outcome.outcome (asked_of (tester_of c.new-tester.result)) (c.run-ran.new.steps - c.args.steps.now) is
     (ap asked_of c.new-tester.ensures.subject) c.requires.searches c.run-ran.ensures.same c.run-ran.ensures.fits
     c.in_ok-outcome.ensures.answers c.in_ok-outcome.ensures.left (omega (arith, c.in_ok-outcome.ensures.taken c.requires.some))
-    (c.into_totals-totals.ensures.totals ∙ ap (λ (t : Tested). totals_in t.query) same)
+    (c.into_parts-totals.ensures.totals ∙ ap (λ (t : Tested). totals_in t.query) same)
     (subst (λ i. AreTotals totals p.rows i (labels_of_search s)) same_start (subst (λ (t : Tested). AreTotals totals t.rows (start_of_search s) (labels_of_search s)) same here))

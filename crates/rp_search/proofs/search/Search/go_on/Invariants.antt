@@ -9,4 +9,5 @@ invariant-loop-turn g l =
     × (g.T.Tests.subject l.tests ≡ g.T.Tests.subject l.fn.tests)
     × g.T.Tests.entered l.tests (start_of_search l.self) (labels_of_search l.self)
     × (g.T.Tests.entries l.tests ≤ g.T.Tests.entries l.fn.tests + l.turn)
+    × (g.T.Tests.entries l.fn.tests ≤ g.T.Tests.entries l.tests)
     × (l.steps ≡ l.fn.steps + l.turn)
