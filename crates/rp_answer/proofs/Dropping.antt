@@ -11,7 +11,7 @@ use Rattle.rp_walker.specs.declared.record.MatcherState.{MatcherState}
 use Rattle.rp_walker.specs.FitLaws.{AgreesFrom}
 use Rattle.rp_check.specs.Sound.{IsSound}
 use Rattle.rp_walker.specs.declared.walker.Walker.{Walker}
-use Rattle.rp_walker.specs.Walking.{record_of, Stands, stands_by, StandsStays}
+use Rattle.rp_walker.specs.Walking.{record_of, Stands, StandsStays}
 use Rattle.rp_known.specs.Walk.{here}
 use Rattle.rp_walker.specs.Polls.{AnswerIs, GoesAlong, moves_by, GivenBy}
 use Rattle.rp_walker.specs.Steps.{ended_by}
@@ -132,12 +132,8 @@ forget_bound q k n r horizon past is needed going =
 
 pub stands_dropped : StandsStays → (q : QueryData) (k n : Kept) (w : Walker) → IsSound q → AgreesFrom n.first (known_by k) (known_by n) → ((record_of w).over ≡ false → n.first ≤ first_read q (record_of w).at) →
     Stands q (known_by k) w → Stands q (known_by n) w
-unfolding Stands record_of
-stands_dropped stays q k n w sound a bound h = go w.state.over refl
-  where
-    go : (b : Bool) → w.state.over ≡ b → Stands q (known_by n) w
-    go true e = subst (λ b. stands_by b q (known_by n) w) (sym e) (subst (λ b. stands_by b q (known_by k) w) e h)
-    go false e = stays q (known_by k) (known_by n) w sound (goes_from n.first (first_read q w.state.at) (known_by k) (known_by n) (bound e) a.on) h
+stands_dropped stays q k n w sound a bound h =
+    stays q (known_by k) (known_by n) w sound (λ going. goes_from n.first (first_read q (record_of w).at) (known_by k) (known_by n) (bound going) a.on) h
 
 pub on_err_of : {A E : Type 0} (P : Type 0) (r : Result A E) → P → OnErr r P
 on_err_of P (Ok x) h = tt

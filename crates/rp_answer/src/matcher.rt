@@ -92,6 +92,7 @@ impl Matcher {
         ensures bounded { self.now.left
             ≤ all_turns (count self.now.known) self.now.known.end (form_of self.now.query.pattern) }
     {
+        law_walkers();
         rp_walker::law_left();
         self.walker.state()
     }
@@ -168,6 +169,7 @@ impl Matcher {
         if budget == 0 {
             return Ok(Poll::Paused);
         }
+        law_walkers();
         let answer = self.walker.poll(&self.query, &self.rows, budget, steps)?;
         drop_rows(&self.query, &mut self.rows, &mut self.walker);
         Ok(answer)

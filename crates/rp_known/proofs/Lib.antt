@@ -3,6 +3,7 @@ mod Prefixes
 mod Values
 mod Items
 mod Legs
+mod InRows
 mod Columns
 mod Growth
 mod Short

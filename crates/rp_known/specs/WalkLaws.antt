@@ -61,6 +61,15 @@ abbrev pub MatchesAreKnown : Type 0
 MatchesAreKnown = (q : QueryData) (p : Known) (start : ℕ) →
     start ≤ count p → AreKnown start (count p) (found_at q p start)
 
+-- a place in the rows of a partition: it starts one row past the last at most, and what earlier matches cover is known
+abbrev pub IsInRows : Known → Place → Type 0
+IsInRows p place = (place.start ≤ count p + 1) × (place.covered ≤ count p)
+
+-- From a place in the rows a walk comes to places in the rows.
+abbrev pub WalkIsInRows : Type 0
+WalkIsInRows = (q : QueryData) (p : Known) (d : ℕ) (from to : Place) →
+    IsInRows p from → ComesTo q p from d to → IsInRows p to
+
 -- What a search has found stays over rows that go on, unless it waits.
 abbrev pub FindingsStay : Type 0
 FindingsStay = (q : QueryData) (p p' : Known) (start : ℕ) →

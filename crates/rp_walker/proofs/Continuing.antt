@@ -18,7 +18,7 @@ use Rattle.rp_known.specs.Plans.{first_read, setting_of, values_of}
 use Rattle.rp_known.specs.Skips.{next_start}
 use Rattle.rp_known.specs.Items.{item_at, item_rows, row_item}
 use Rattle.rp_known.specs.Walk.{Leg, Goes, Pauses, Ends, after_item, after_items, after_match, after_found, found_at, at_last, searched, leg, leg_items, and_then, walk, first_place, known, here}
-use Rattle.rp_known.specs.WalkLaws.{IsPrefixOf, Stays, LegStays, WalkStays, LeadsOn, LegsLeadOn}
+use Rattle.rp_known.specs.WalkLaws.{IsPrefixOf, Stays, LegStays, WalkStays, LeadsOn, LegsLeadOn, IsInRows, WalkIsInRows}
 use Rattle.rp_walker.specs.declared.record.MatcherState.{MatcherState}
 use Rattle.rp_walker.specs.Records.{place_of, IsLast, IsOnWalk, IsOver, Fits, fits_by, first_state}
 use Rattle.rp_walker.proofs.Agreeing.{goes_on_later}
@@ -188,3 +188,9 @@ module _ (law : LegStays) (walks : WalkStays) (leads : LegsLeadOn) (q : QueryDat
 
 pub first_fits : (q : QueryData) (p : Known) → Fits q first_state p
 first_fits q p = record { before = 0; comes = here; counted = refl; within = omega arith; kept = grind arith }
+
+-- a record that fits stands in the rows
+pub fits_in_rows : WalkIsInRows → (q : QueryData) (r : MatcherState) (p : Known) → r.over ≡ false → Fits q r p → IsInRows p (place_of r)
+fits_in_rows walks q r p going h =
+    let fits : IsOnWalk q r p = subst (λ b. fits_by b q r p) going h in
+    walks q p fits.before first_place (place_of r) (omega arith, omega arith) fits.comes

@@ -1,5 +1,5 @@
 -- A walker over rows that go on.
-use Rattle.std.proofs.Common.{ℕ, suc, ◌+◌, ◌≤◌, length, Bool, true, false, sym, ◌∙◌, subst, arith}
+use Rattle.std.proofs.Common.{◌≡◌, ℕ, suc, ◌+◌, ◌≤◌, length, Bool, true, false, refl, sym, ◌∙◌, subst, arith}
 use Rattle.std.specs.Prelude.{◌≢◌}
 use Rattle.rp_search.specs.declared.search.Search.{Search}
 use Rattle.rp_search.specs.Asked.{Asked, AskedExtend, rows_from}
@@ -25,7 +25,7 @@ use Rattle.rp_walker.specs.declared.walker.Walker.{Walker}
 use Rattle.rp_walker.specs.Given.{result_of}
 use Rattle.rp_walker.specs.Records.{place_of}
 use Rattle.rp_walker.specs.Stages.{Searches, Gives, Totalled, MatchTotalled, StageStands, asked_by}
-use Rattle.rp_walker.specs.Walking.{stands_by, Stands, record_of}
+use Rattle.rp_walker.specs.Walking.{stands_by, Stands, record_of, CanGoOn}
 
 not_waits : (found : Ended) → result_of found ≢ Waits
 not_waits (EndedNoMatch run) = λ e. cc
@@ -87,10 +87,19 @@ module _ (found_stays : FindingsStay) (fits_stay : SearchFitsStays) (tests : Tes
   stage_later r (Searching run) one g h = searches_later r.at run one g h
   stage_later r (Giving found a) one g h = (gives_later (place_of r) found a one g h.0, h.1, match_later r.at found one g h.0.in_rows h.2, h.3)
 
-  by_later : (b : Bool) (w : Walker) → GoesOnFrom (first_read q w.state.at) p p' → stands_by b q p w → stands_by b q p' w
+  by_later : (b : Bool) (w : Walker) → (b ≡ false → GoesOnFrom (first_read q w.state.at) p p') → stands_by b q p w → stands_by b q p' w
   by_later true w g h = h
-  by_later false w g h = record { going = h.going; stands = stage_later w.state w.stage h.going.from_one g h.stands }
+  by_later false w g h = record { going = h.going; stands = stage_later w.state w.stage h.going.from_one (g refl) h.stands }
 
-  pub stands_later : (w : Walker) → GoesOnFrom (first_read q (record_of w).at) p p' → Stands q p w → Stands q p' w
+  pub stands_later : (w : Walker) → ((record_of w).over ≡ false → GoesOnFrom (first_read q (record_of w).at) p p') → Stands q p w → Stands q p' w
   unfolding Stands record_of
   stands_later w g h = by_later w.state.over w g h
+
+can_by : (b : Bool) (q : QueryData) (p : Known) (w : Walker) → w.state.over ≡ b → stands_by b q p w → CanGoOn q w.state
+can_by true q p w over h = record { here = h; going = λ going. absurd (let e : true ≡ false = sym over ∙ going in cc) }
+can_by false q p w going h = record { here = h.going.enough; going = λ _. (h.going.from_one, h.going.fewer, h.going.kept) }
+
+-- the record of a walker that stands is one to go on from
+pub stands_can : (q : QueryData) (p : Known) (w : Walker) → Stands q p w → CanGoOn q (record_of w)
+unfolding Stands record_of
+stands_can q p w h = can_by w.state.over q p w refl h

@@ -1,10 +1,11 @@
 -- What a matcher's steps mean for each partition that its record fits.
-use Rattle.std.specs.Prelude.{◌≡◌, ℕ, ◌≤◌, length, Some, slice_get, true}
+use Rattle.std.specs.Prelude.{◌≡◌, ℕ, ◌≤◌, length, Some, slice_get, true, false}
 use Rattle.rp_check.specs.declared.query.QueryData.{QueryData}
 use Rattle.rp_known.specs.declared.item.Item.{Item}
 use Rattle.rp_known.specs.Known.{Known, GoesOnFrom, Continues}
 use Rattle.rp_check.specs.Sound.{IsSound}
 use Rattle.rp_known.specs.Walk.{known, walk_from, leg}
+use Rattle.rp_known.specs.WalkLaws.{IsInRows}
 use Rattle.rp_walker.specs.declared.record.MatcherState.{MatcherState}
 use Rattle.rp_walker.specs.Records.{place_of, IsWithin, IsOnWalk, IsLastStart, Fits, first_state}
 use Rattle.rp_walker.specs.Steps.{IsDone, Moves, IsEnd}
@@ -37,3 +38,7 @@ FitsStay = (q : QueryData) (r : MatcherState) (p p' : Known) → IsSound q → C
 -- The record of a matcher that has known nothing fits every partition.
 abbrev pub FirstFits : Type 0
 FirstFits = (q : QueryData) (p : Known) → Fits q first_state p
+
+-- A record that fits stands in the rows while its answer goes on.
+abbrev pub FitsInRows : Type 0
+FitsInRows = (q : QueryData) (r : MatcherState) (p : Known) → r.over ≡ false → Fits q r p → IsInRows p (place_of r)

@@ -1,8 +1,8 @@
 //! Laws over the definitions alone. A call does nothing, and its caller may then use them.
 ghost use Rattle.rp_walker.specs.EarlierFits.{EarlierFits};
-ghost use Rattle.rp_walker.specs.FitLaws.{StepsMean, FitsStay, FirstFits};
+ghost use Rattle.rp_walker.specs.FitLaws.{StepsMean, FitsStay, FirstFits, FitsInRows};
 ghost use Rattle.rp_walker.specs.LeftLaw.{LeftIsBounded, LeftIsSame};
-ghost use Rattle.rp_walker.specs.Walking.{StandsStays};
+ghost use Rattle.rp_walker.specs.Walking.{StandsStays, StandsCanGoOn};
 
 /// What steps over the rows that are kept of a partition mean for the partition.
 pub fn law_steps()
@@ -12,11 +12,13 @@ pub fn law_steps()
     rp_known::law_legs();
 }
 
-/// A record that fits what is known of an open partition fits what is known of it later, and the first record fits
-/// every partition. One that fitted while an open side made every AND and OR open fits now.
+/// A record that fits what is known of an open partition fits what is known of it later, the first record fits every
+/// partition, and a record that fits stands in the rows while its answer goes on. One that fitted while an open side made
+/// every AND and OR open fits now.
 pub fn law_records()
     ensures stay { FitsStay }
     ensures first { FirstFits }
+    ensures in_rows { FitsInRows }
     ensures earlier { EarlierFits }
 {
     rp_known::law_known();
@@ -24,9 +26,10 @@ pub fn law_records()
     rp_known::law_earlier();
 }
 
-/// A walker stands over rows that go on as it stood before.
+/// A walker stands over rows that go on as it stood before, and one that stands has a record to go on from.
 pub fn law_walkers()
-    ensures { StandsStays }
+    ensures stay { StandsStays }
+    ensures can { StandsCanGoOn }
 {
     rp_known::law_known();
     rp_known::law_legs();

@@ -41,7 +41,7 @@ returns-clause-ready c =
     let is_bound : (record_of c.dropped.new.self).over ≡ false → n.first ≤ first_read q (record_of c.dropped.new.self).at =
     λ going. subst (λ i. n.first ≤ first_read q i) (sym at) (bound (sym over ∙ going)) in
     record {
-      stands = dropped.stands q (known_by n) (λ going. subst (λ f. f ≤ first_read q r.at) (sym c.first.ensures) (bound going)) (stands_dropped c.law_walkers.ensures q k n c.args.walker.now c.plan-plan.ensures.sound agree bound c.requires.stands);
+      stands = dropped.stands q (known_by n) (λ going. subst (λ f. f ≤ first_read q r.at) (sym c.first.ensures) (bound going)) (stands_dropped c.law_walkers.ensures.stay q k n c.args.walker.now c.plan-plan.ensures.sound agree bound c.requires.stands);
       first = first;
       needed = is_bound;
     }

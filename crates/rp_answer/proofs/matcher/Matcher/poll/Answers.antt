@@ -14,7 +14,7 @@ returns-then-budget-eq0-clause-moves g c = let m = c.args.self.now in stays_alon
 pub invariant_of-self : goal.invariant_of-self
 invariant_of-self g c =
     let m = c.self.inside in
-    ready_still (data_of m.query) m.rows m.walker c.poll.new.self c.poll.ensures.stands c.poll.ensures.first c.self.invariant
+    ready_still c.law_walkers.ensures.can (data_of m.query) m.rows m.walker c.poll.new.self c.poll.ensures.stands c.poll.ensures.first c.self.invariant
 
 pub returns-in_err-answer-clause-rows : goal.returns-in_err-answer-clause-rows
 returns-in_err-answer-clause-rows g c =
@@ -27,7 +27,7 @@ returns-in_err-answer-clause-out_of_memory g c =
 pub drop_rows-requires : goal.drop_rows-requires
 drop_rows-requires g c =
     let m = c.self.inside in
-    ready_still (data_of m.query) m.rows m.walker c.poll.new.self c.poll.ensures.stands c.poll.ensures.first c.self.invariant
+    ready_still c.law_walkers.ensures.can (data_of m.query) m.rows m.walker c.poll.new.self c.poll.ensures.stands c.poll.ensures.first c.self.invariant
 
 pub returns-clause-answers : goal.returns-clause-answers
 returns-clause-answers g c =

@@ -17,7 +17,7 @@ pub invariant_of-self : goal.invariant_of-self
 invariant_of-self c =
     let m = c.self.inside in
     let is_open : m.rows.end ≡ Open = ap (λ (d : MatcherData). d.known.end) c.self.view_is ∙ c.requires.open in
-    ready_on c.law_walkers.ensures c.law_legs.ensures.continuing (data_of m.query) m.rows c.push.new.self m.walker c.plan-plan.ensures.sound c.push.ensures.first
+    ready_on c.law_walkers.ensures.stay c.law_legs.ensures.continuing (data_of m.query) m.rows c.push.new.self m.walker c.plan-plan.ensures.sound c.push.ensures.first
     (pushed_on m.rows c.push.new.self c.args.row c.push.result is_open c.push.ensures.first c.push.ensures.pushed c.push.ensures.out_of_memory) c.self.invariant
 
 pub returns-clause-pushed : goal.returns-clause-pushed

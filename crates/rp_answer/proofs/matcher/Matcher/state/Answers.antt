@@ -3,7 +3,6 @@ use Rattle.rp_check.specs.QueryView.{data_of}
 use Rattle.rp_walker.specs.Walking.{CanGoOn}
 use Rattle.rp_walker.specs.declared.record.MatcherState.{MatcherState}
 use Rattle.rp_answer.specs.Matching.{known_by}
-use Rattle.rp_answer.proofs.Readiness.{can_go_on}
 use Rattle.rp_answer.proofs.matcher.Matcher.state.Goals as goal
 
 pub returns-clause-one : goal.returns-clause-one
@@ -15,7 +14,7 @@ returns-clause-one c =
 pub returns-clause-can : goal.returns-clause-can
 returns-clause-can c =
     let m = c.self.inside in
-    rw (← c.self.view_is) (subst (λ r. CanGoOn (data_of m.query) r) (sym c.state.ensures) (can_go_on (data_of m.query) (known_by m.rows) m.walker c.self.invariant.stands))
+    rw (← c.self.view_is) (subst (λ r. CanGoOn (data_of m.query) r) (sym c.state.ensures) (c.law_walkers.ensures.can (data_of m.query) (known_by m.rows) m.walker c.self.invariant.stands))
 
 pub returns-clause-bounded : goal.returns-clause-bounded
 returns-clause-bounded c =
