@@ -6,7 +6,7 @@ ghost use Rattle.rp_eval.specs.Partition.{Rows as Known};
 ghost use Rattle.rp_tester.specs.Searched.{StandsOver};
 
 use super::growing::Growing;
-use crate::{Tester, law_tests};
+use crate::{Entries, Tester, law_tests};
 use rp_check::{Query, compile};
 use rp_eval::{Rows, Totals, law_totals};
 use rp_pattern::Label;
