@@ -37,9 +37,9 @@ pub record Ready (q : QueryData) (k : Kept) (w : Walker) : Type 0 where
 abbrev pub HoldsNoMore : QueryData → Known → MatcherState → Type 0
 HoldsNoMore q p r = horizon_of q p r ≤ r.first ⊎ count p < r.first
 
--- What a poll comes to by what is known: the next item with its place, or nothing. Only an item raises the number of
--- given items, and where a poll is idle and the answer isn't over, no start row that the walk comes to is greater than
--- the record's.
+-- What a poll comes to, for each partition that the record fits: the next item with its place; idle only where all that
+-- is known was given; and the record fits afterwards. Only an item raises the number of given items. Where a poll is
+-- idle, the answer is over or the walk comes to no later start row.
 pub record PollComesTo (q : QueryData) (k : Known) (old new : MatcherState) (answer : Poll) : Type 0 where
   pub answers : Answers q k old new answer
   pub given : GivenBy old new answer

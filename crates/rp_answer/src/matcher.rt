@@ -145,8 +145,8 @@ impl Matcher {
     }
 
     /// Takes at most `budget` turns, until an item comes or nothing is left to give. A turn is one choice taken up, one
-    /// start row ended, one item looked at or one look past the last known row: `Paused` comes after just `budget`
-    /// turns, and an item after one at least.
+    /// start row ended, one row of a match looked at or one look past the last known row: `Paused` comes after just
+    /// `budget` turns, and an item after one at least.
     /// A budget of 0 answers `Paused`, changes nothing and takes no memory. After `AllocError` the same item is still
     /// to come, and the record's search begins again; after any other answer to a budget of 1 or more the rows below
     /// the horizon are dropped.

@@ -10,11 +10,12 @@ mod refused;
 mod text;
 
 use player::{Event, play};
-use std::alloc::Global;
+use std::alloc::{AllocError, Global};
 use std::test::Fail;
 
-/// The items over rows of these numbers: those that come while the partition is open, and after a bar those that come with
-/// its close. They are the same by polls of any budget and where each row is polled as it comes, and the plain program's.
+/// The items over rows of these numbers: those that come while the partition is open, and after a bar those that come
+/// with its close. They are the plain program's, and the same by polls of budget 1 and of 100,000, with polls after each
+/// row, after the last row and the close, and after the close alone.
 fn items(alloc: Global, text: &str, numbers: &[i64]) -> Result<String, Fail> {
     let told = drained(alloc, text, numbers, 100_000, false)?;
     for (budget, each) in [(1, false), (100_000, true), (1, true)] {
@@ -23,7 +24,37 @@ fn items(alloc: Global, text: &str, numbers: &[i64]) -> Result<String, Fail> {
             return Err(Fail::from("other items by another budget"));
         }
     }
+    let all = without_bar(alloc, told.as_str())?;
+    for budget in [1, 100_000] {
+        let closed = drained_closed(alloc, text, numbers, budget)?;
+        if without_bar(alloc, closed.as_str())?.as_str() != all.as_str() {
+            return Err(Fail::from("other items after the close alone"));
+        }
+    }
     Ok(told)
+}
+
+/// The items by polls of this budget after the close alone.
+fn drained_closed(alloc: Global, text: &str, numbers: &[i64], budget: u32) -> Result<String, Fail> {
+    let mut events = Vec::new(alloc);
+    for number in numbers {
+        events.push(Event::Row(*number))?;
+    }
+    for event in [Event::Close, Event::Drain(budget), Event::Compare] {
+        events.push(event)?;
+    }
+    play(alloc, text, &events)
+}
+
+/// All items that were told, whether before the close or after it.
+fn without_bar(alloc: Global, told: &str) -> Result<String, AllocError> {
+    let mut items = String::new(alloc);
+    for letter in told.chars() {
+        if letter != '|' {
+            items.push(letter)?;
+        }
+    }
+    Ok(items)
 }
 
 /// The items by polls of this budget, after each row or after the last alone.

@@ -18,8 +18,8 @@ pub fn law_known()
     rp_tester::law_tests();
 }
 
-/// The laws of one leg of the walk: it leads to a later row, if at all, and a match is of known rows, so that a walk stays in
-/// the rows. Over a continuation all rows go on.
+/// The laws of one leg of the walk: it leads to a later row, if at all, and a match is of known rows, so that a walk
+/// stays in the rows. Over a continuation all rows go on.
 pub fn law_legs()
     ensures lead { LegsLeadOn }
     ensures searches { SearchesLeadOn }

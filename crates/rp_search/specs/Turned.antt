@@ -36,6 +36,10 @@ pub record AddsLabel (Entered : List Label → Type 0) (labels : List Label) : T
   pub label : Label
   pub added : labels ≡ take depth before ++ label ∷ []
 
+-- the count of the rows entered never falls, and rises by so many at most
+abbrev pub EntersAtMost : ℕ → ℕ → ℕ → Type 0
+EntersAtMost most old new = (old ≤ new) × (new ≤ old + most)
+
 -- the choices went on by a turn: they fit, fewer turns are left, and their labels are tested true
 pub record Goes (old new : Choices) (n : ℕ) (e : End) (test : Test) : Type 0 where
   pub stands : ChoicesFit new n e test

@@ -4,7 +4,7 @@ ghost use Rattle.rp_pattern.specs.declared.word.Label.{Label};
 ghost use Rattle.rp_pattern.specs.Choices.{start_of, entered, IsSameWhole};
 ghost use Rattle.rp_search.specs.Asked.{AreBelow};
 ghost use Rattle.rp_search.specs.Fits.{StandsBy, StandsAtRowBy, test_from};
-ghost use Rattle.rp_search.specs.Turned.{AddsLabel, AreCutBack, Settled};
+ghost use Rattle.rp_search.specs.Turned.{AddsLabel, AreCutBack, EntersAtMost, Settled};
 
 use crate::conditions::Tests;
 use rp_pattern::{Choices, Seen};
@@ -27,8 +27,7 @@ pub fn enter_row<T: Tests>(choices: &Choices, tests: &mut T) -> Result<(), Alloc
     requires below { AreBelow (T.asked (T.subject tests.old)).variables (entered choices.now) }
     requires new { AddsLabel (T.entered tests.old (start_of choices.now)) (entered choices.now) }
     ensures subject { T.subject tests.new ≡ T.subject tests.old }
-    ensures entries { T.entries tests.new ≤ T.entries tests.old + 1 }
-    ensures counts { T.entries tests.old ≤ T.entries tests.new }
+    ensures entries { EntersAtMost 1 (T.entries tests.old) (T.entries tests.new) }
     ensures entered { OnOk result (T.entered tests.new (start_of choices.now) (entered choices.now)) }
 {
     tests.cut(choices.labels().len() - 1);

@@ -48,7 +48,7 @@ impl Search {
     ghost use Rattle.rp_search.specs.Asked.{AreBelow};
     ghost use Rattle.rp_search.specs.Fits.{SearchFits, left_by, StandsBy, StandsAtRowBy};
     ghost use Rattle.rp_search.specs.Search.{RunAnswers, CanRun, IsAtStart, IsSearchFor, IsForSamePattern, IsSameSearch, Lowers, TakesTurns, labels_of_search, start_of_search, turns_of_run};
-    ghost use Rattle.rp_search.specs.Turned.{AddsLabel, CountsTurns, Covers, IsWithinRun, Turned};
+    ghost use Rattle.rp_search.specs.Turned.{AddsLabel, CountsTurns, Covers, EntersAtMost, IsWithinRun, Turned};
 
     /// A search from the row `start`, which is at least 1.
     pub fn new(alloc: Global, pattern: &Pattern, start: u64) -> Result<Search, AllocError>
@@ -171,8 +171,8 @@ impl Search {
         ensures counted { IfOk result (λ r. CountsTurns budget r.0 r.1 steps.old steps.new) }
         ensures grows { steps.old ≤ steps.new }
         ensures within { steps.new ≤ steps.old + budget }
-        ensures entries { T.entries tests.new + steps.old ≤ T.entries tests.old + steps.new }
-        ensures counts { T.entries tests.old ≤ T.entries tests.new }
+        ensures entries { (T.entries tests.old ≤ T.entries tests.new)
+            × (T.entries tests.new + steps.old ≤ T.entries tests.old + steps.new) }
     {
         self.resume(tests)?;
         for turn in 0..budget {
@@ -215,8 +215,7 @@ impl Search {
 
         ensures same { IsSameSearch self.old self.new }
         ensures subject { T.subject tests.new ≡ T.subject tests.old }
-        ensures entries { T.entries tests.new ≤ T.entries tests.old + 1 }
-        ensures counts { T.entries tests.old ≤ T.entries tests.new }
+        ensures entries { EntersAtMost 1 (T.entries tests.old) (T.entries tests.new) }
         ensures entered { OnOk result (T.entered tests.new (start_of_search self.new) (labels_of_search self.new)) }
         ensures searches { OnOk result (IsWithinRun self.new (T.asked (T.subject tests.old))) }
         ensures turned { IfOk result (Turned 1 self.old self.new
@@ -242,8 +241,7 @@ impl Search {
 
         ensures same { IsSameSearch self.old self.new }
         ensures subject { T.subject tests.new ≡ T.subject tests.old }
-        ensures entries { T.entries tests.new ≤ T.entries tests.old + 1 }
-        ensures counts { T.entries tests.old ≤ T.entries tests.new }
+        ensures entries { EntersAtMost 1 (T.entries tests.old) (T.entries tests.new) }
         ensures entered { OnOk result (T.entered tests.new (start_of_search self.new) (labels_of_search self.new)) }
         ensures searches { OnOk result (IsWithinRun self.new (T.asked (T.subject tests.old))) }
         ensures turned { IfOk result (Turned 1 self.old self.new
@@ -285,8 +283,7 @@ impl Search {
 
         ensures same { IsSameSearch self.old self.new }
         ensures subject { T.subject tests.new ≡ T.subject tests.old }
-        ensures entries { T.entries tests.new ≤ T.entries tests.old + 1 }
-        ensures counts { T.entries tests.old ≤ T.entries tests.new }
+        ensures entries { EntersAtMost 1 (T.entries tests.old) (T.entries tests.new) }
         ensures entered { OnOk result (T.entered tests.new (start_of_search self.new) (labels_of_search self.new)) }
         ensures searches { OnOk result (IsWithinRun self.new (T.asked (T.subject tests.old))) }
         ensures left { OnOk result

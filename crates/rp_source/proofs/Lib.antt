@@ -5,6 +5,7 @@ mod Takes
 mod Taking
 mod Calls
 mod Orders
+mod Sinking
 mod Numbering
 mod Gathering
 mod Telling

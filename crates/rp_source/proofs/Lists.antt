@@ -1,15 +1,11 @@
 -- A record's fields beside the columns, from an index on.
-use Rattle.std.proofs.Common.{◌≡◌, ◌<◌, ◌≤◌, ◌+◌, ◌∙◌, ℕ, zero, suc, List, [], ◌∷◌, ◌++◌, drop, length, get_or, refl, sym, ap, arith, Bool, true, false, not, position, zip, ◌==◌, true≢false, Option, Some, None, inl, inr, append_assoc}
-use Rattle.std.proofs.lemmas.List.Quantifiers.{position-Some}
+use Rattle.std.proofs.Common.{◌≡◌, ◌<◌, ◌≤◌, ◌+◌, ◌∙◌, ℕ, zero, suc, List, [], ◌∷◌, ◌++◌, drop, length, get_or, refl, sym, ap, arith, Option, Some, None, inl, inr, append_assoc}
 use Rattle.std.proofs.lemmas.List.{append-nil, drop_all}
 use Rattle.csv.specs.Records.{field_at}
-use Rattle.rp_value.specs.Rows.{admits, row_fault}
 use Rattle.rp_value.specs.Tables.{kinds_of}
 use Rattle.rp_value.specs.declared.table.Column.{Column}
 use Rattle.rp_value.specs.declared.value.Kind.{Kind}
-use Rattle.rp_value.specs.declared.value.Kind.TheVariants as kind
 use Rattle.rp_value.specs.declared.value.Value.{Value}
-use Rattle.rp_value.specs.declared.value.Value.TheVariants.{Null}
 use Rattle.rp_source.specs.Fields.{HasNoField, IsField, IsNoField, IsRow}
 use Rattle.rp_source.specs.CsvRows.{AreRows}
 
@@ -66,40 +62,3 @@ pub continues-end : (kinds : List Kind) (fields : List (List ℕ)) (values : Lis
 continues-end kinds fields values i a b c =
     let none : IsRow (drop i kinds) (drop i fields) [] = rw (drop_all i kinds a, drop_all i fields b) tt in
     rw (append-nil values) at (c.are [] none)
-
--- a value of a field is of its column's kind
-admitted : (k : Kind) (f : List ℕ) (v : Value) → IsField k f v → admits k v ≡ true
-admitted kind.Int f v (inl h) = rw h.1 refl
-admitted kind.Int f v (inr h) = rw (h.2.1) refl
-admitted kind.Text f v (inl h) = rw h.1 refl
-admitted kind.Text f v (inr h) = rw h.2 refl
-
-row_length : (ks : List Kind) (fs : List (List ℕ)) (vs : List Value) → IsRow ks fs vs → length vs ≡ length ks
-row_length [] [] [] h = refl
-row_length [] [] (v ∷ vs) h = absurd h
-row_length [] (f ∷ fs) vs h = absurd h
-row_length (k ∷ ks) [] vs h = absurd h
-row_length (k ∷ ks) (f ∷ fs) [] h = absurd h
-row_length (k ∷ ks) (f ∷ fs) (v ∷ vs) h = ap suc (row_length ks fs vs h.1)
-
-no_misfit : (ks : List Kind) (fs : List (List ℕ)) (vs : List Value) → IsRow ks fs vs → (i : ℕ) (d : Kind × Value) → i < length (zip ks vs) → not (admits (get_or (zip ks vs) i d).0 (get_or (zip ks vs) i d).1) ≡ false
-no_misfit [] [] [] h i d lt = absurd (omega arith)
-no_misfit [] [] (v ∷ vs) h i d lt = absurd h
-no_misfit [] (f ∷ fs) vs h i d lt = absurd h
-no_misfit (k ∷ ks) [] vs h i d lt = absurd h
-no_misfit (k ∷ ks) (f ∷ fs) [] h i d lt = absurd h
-no_misfit (k ∷ ks) (f ∷ fs) (v ∷ vs) h zero d lt = rw (admitted k f v h.0) refl
-no_misfit (k ∷ ks) (f ∷ fs) (v ∷ vs) h (suc i) d lt = no_misfit ks fs vs h.1 i d (omega arith)
-
-none_at : {X : Type 0} (p : X → Bool) (xs : List X) → ((i : ℕ) (d : X) → i < length xs → p (get_or xs i d) ≡ false) → (x : X) (r : Option ℕ) → position p xs ≡ r → position p xs ≡ None
-none_at p xs all x None e = e
-none_at p xs all x (Some i) e = let at = position-Some p xs i x e in absurd (true≢false (sym at.1 ∙ all i x at.0))
-
-none_misfits : (ks : List Kind) (fs : List (List ℕ)) (vs : List Value) → IsRow ks fs vs → position (λ (p : Kind × Value). not (admits p.0 p.1)) (zip ks vs) ≡ None
-none_misfits ks fs vs h = none_at (λ (p : Kind × Value). not (admits p.0 p.1)) (zip ks vs) (no_misfit ks fs vs h) (kind.Int, Null) (position (λ (p : Kind × Value). not (admits p.0 p.1)) (zip ks vs)) refl
-
--- a row of a record fits the table
-pub row_fits : (ks : List Kind) (fs : List (List ℕ)) (vs : List Value) → IsRow ks fs vs → row_fault ks vs ≡ None
-row_fits ks fs vs h =
-    let same : (length vs == length ks) ≡ true = grind (arith, row_length ks fs vs h) in
-    rw (same, none_misfits ks fs vs h) refl

@@ -1,13 +1,16 @@
 -- The order of rows is an order.
 use Rattle.std.proofs.Common.{◌≡◌, ℕ, Bool, true, false, List, [], ◌∷◌, refl, subst}
 use Rattle.std.specs.Prelude.{if◌then◌else◌, Result, Ok, Err, OnOk}
+use Rattle.std.specs.Borrow.{Bor}
 use Rattle.std.specs.Cmp.{IsStrictWeakOrder, IsTotalOrder, on_total, back_total, then_total}
+use Rattle.std.specs.Fn.{ComparesAs, Mut}
+use Rattle.std.specs.List.Sorted.{IsSortedByClosure, IsStableByClosure}
 use Rattle.std.specs.declared.cmp.Ordering.{Ordering}
 use Rattle.std.specs.declared.cmp.Ordering.TheVariants.{Equal}
 use Rattle.std.proofs.lemmas.List.Sorted.{ranks_by}
 use Rattle.rp_value.specs.Order.{value_order}
 use Rattle.rp_value.specs.declared.value.Value.{Value}
-use Rattle.rp_source.specs.Orders.{column_order, is_before, rows_order, value_at}
+use Rattle.rp_source.specs.Orders.{IsOrdered, column_order, is_before, rows_order, value_at}
 use Rattle.rp_check.specs.declared.lists.OrderColumn.{OrderColumn}
 
 pub value_total : (cmp : Value → Value → Ordering) → IsTotalOrder cmp → ((a b : Value) → cmp a b ≡ value_order a b) → IsTotalOrder value_order
@@ -30,6 +33,8 @@ rows_total o (c ∷ os) = then_total (column_total o c) (rows_total o os)
 pub rows_weak : IsTotalOrder value_order → (os : List OrderColumn) → IsStrictWeakOrder (is_before os)
 rows_weak o os = ranks_by (rows_total o os) (λ x. x)
 
-pub on_ok : {A E : Type 0} (P Q : Type 0) (r : Result A E) → OnOk r P → (P → Q) → OnOk r Q
-on_ok P Q (Ok x) h f = f h
-on_ok P Q (Err e) h f = tt
+-- what a sort by a closure says that compares rows by the order
+pub sorted_by : {F E : Type 0} {g : Mut F (Bor (List Value) × (Bor (List Value) × Unit {0})) Ordering} {f : F} (r : Result (Unit {0}) E) (order : List OrderColumn) (rows ordered : List (List Value))
+    → IsStrictWeakOrder (is_before order) → ComparesAs g (is_before order) f → OnOk r (IsSortedByClosure g f ordered) → IsStableByClosure g f rows ordered → OnOk r (IsOrdered order rows ordered)
+sorted_by (Ok x) order rows ordered weak compares sorted stable = (sorted (is_before order) weak compares, stable (is_before order) weak compares)
+sorted_by (Err e) order rows ordered weak compares sorted stable = tt

@@ -32,3 +32,8 @@ is_before order a b = is_lt (rows_order order a b)
 -- Sorted; and of each row, those that tie with it are the same ones as before, in the order in which they came.
 abbrev pub IsOrdered : List OrderColumn → List (List Value) → List (List Value) → Type 0
 IsOrdered order rows ordered = IsSortedBy (is_before order) ordered × IsStableBy (is_before order) rows ordered
+
+-- Any rows can be put into any order.
+abbrev pub OrderExists : Type 0
+OrderExists =
+    (order : List OrderColumn) (rows : List (List Value)) → (ordered : List (List Value)) × IsOrdered order rows ordered

@@ -23,5 +23,7 @@ mod tests;
 mod texts;
 
 pub use input::read_rows;
-pub use number::{number_rows, ordered_parts};
+pub use number::number_rows;
+pub use order::{law_orders, order_rows};
+pub use partition::partitions;
 pub use rows::{CsvFault, MAX_RECORDS, rows_of};

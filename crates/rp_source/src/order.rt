@@ -1,20 +1,30 @@
 //! Rows in the order of some columns.
-ghost use Rattle.std.specs.Prelude.{◌≡◌, OnOk, option_copied, unwrap_or};
+ghost use Rattle.std.specs.Prelude.{◌≡◌, OnErr, OnOk, option_copied, unwrap_or};
 ghost use Rattle.rp_value.specs.Order.{value_order};
 ghost use Rattle.rp_value.specs.declared.value.Value.TheVariants.{Null};
-ghost use Rattle.rp_source.specs.Orders.{IsOrdered, column_order, rows_order};
+ghost use Rattle.rp_check.specs.QueryView.{data_of};
+ghost use Rattle.rp_source.specs.Orders.{IsOrdered, OrderExists, column_order, rows_order};
 
-use rp_check::OrderColumn;
+use rp_check::{OrderColumn, Query};
 use rp_value::{Row, Value, law_value_order};
 use std::alloc::AllocError;
 use std::cmp::Ordering;
 
-/// Puts rows into the order of these columns. Rows that tie stay as they came.
-pub(crate) fn order_rows(order: &[OrderColumn], rows: &mut Vec<Row>) -> Result<(), AllocError>
-    ensures { OnOk result (IsOrdered order.now rows.old.items rows.new.items) }
+/// Puts the rows of a partition into the query's order. Rows that tie stay as they came.
+pub fn order_rows(query: &Query, rows: &mut Vec<Row>) -> Result<(), AllocError>
+    ensures ok { OnOk result (IsOrdered (data_of query.now).order.items rows.old.items rows.new.items) }
+    ensures err { OnErr result (rows.new.items ≡ rows.old.items) }
 {
     law_value_order();
+    let order = query.order();
     rows.sort_by(|left, right| compare_rows(order, left, right))
+}
+
+/// Any rows can be put into any order. A call does nothing, and its caller may then use the law.
+pub fn law_orders()
+    ensures { OrderExists }
+{
+    law_value_order();
 }
 
 fn compare_rows(order: &[OrderColumn], left: &Row, right: &Row) -> Ordering

@@ -1,23 +1,37 @@
 //! The partitions of rows.
 ghost use Rattle.std.specs.Prelude.{◌≡◌, ◌++◌, ◌∷◌, [], None, IfOk, OnOk};
 ghost use Rattle.indexmap.specs.IndexMap.{get};
+ghost use Rattle.rp_check.specs.QueryView.{data_of};
 ghost use Rattle.rp_source.specs.Orders.{value_at as value_is};
 ghost use Rattle.rp_source.specs.Partitions.{key_of as key_is, partitions as partitions_are};
 ghost use Rattle.rp_source.specs.Gathering.{parts_of, with_row};
 
 use indexmap::IndexMap;
+use rp_check::Query;
 use rp_value::{Cells, Row, Value};
 use std::alloc::{AllocError, Global};
 
 /// The rows of each key, by the first appearance of the key.
-pub(crate) type Parts = IndexMap<Cells, Vec<Row>>;
+type Parts = IndexMap<Cells, Vec<Row>>;
+
+/// The partitions of rows by the query, by first appearance: the key of each, and its rows as they came, shared.
+///
+/// Where the rows are kept as they came until the partitions are dropped, their memory is given back from one end to
+/// the other, and the allocator has no lone pieces to put together.
+pub fn partitions(
+    alloc: Global,
+    query: &Query,
+    rows: &[Row],
+) -> Result<Vec<(Cells, Vec<Row>)>, AllocError>
+    ensures { IfOk result (λ parts. parts_of parts.items ≡
+        partitions_are (data_of query.now).partition.items rows.now) }
+{
+    let parts = gather(alloc, query.partition(), rows)?;
+    parts.into_iter().collect(alloc)
+}
 
 /// The partitions of rows by these columns, numbered from 1. The rows are shared.
-pub(crate) fn partitions(
-    alloc: Global,
-    columns: &[usize],
-    rows: &[Row],
-) -> Result<Parts, AllocError>
+fn gather(alloc: Global, columns: &[usize], rows: &[Row]) -> Result<Parts, AllocError>
     ensures { IfOk result (λ parts. parts_of parts.entries ≡ partitions_are columns.now rows.now) }
 {
     let mut parts = IndexMap::new(alloc);

@@ -1,7 +1,6 @@
 //! The rows of a CSV text.
-ghost use Rattle.std.specs.Prelude.{◌≡◌, None, IfOk, IfErr};
+ghost use Rattle.std.specs.Prelude.{◌≡◌, IfOk, IfErr};
 ghost use Rattle.csv.specs.Records.{fields_of};
-ghost use Rattle.rp_value.specs.Rows.{row_fault};
 ghost use Rattle.rp_value.specs.Tables.{kinds_of};
 ghost use Rattle.rp_source.specs.CsvRows.{AreRowsOf, IsRowFault, IsTextFault};
 ghost use Rattle.rp_source.specs.Fields.{IsRow};
@@ -12,7 +11,7 @@ use crate::header::names_columns;
 use crate::records::{reader_of, take_record};
 use crate::texts::Texts;
 use csv::ByteRecord;
-use rp_value::{Row, RowFault, Table, Value};
+use rp_value::{Row, Table};
 use std::alloc::{AllocError, AllocFailed, Global};
 use thiserror::Error;
 
@@ -112,18 +111,7 @@ fn row_of(
     let Some(values) = values_of(alloc, texts, columns, fields)? else {
         return Err(CsvFault::Field(number));
     };
-    let row = fitting_row(alloc, table, values)?;
+    // They fit the table: each is what a field of its column is.
+    let row = Row::new(alloc, values)?;
     Ok(row)
-}
-
-/// The row of values that fit the table.
-fn fitting_row(alloc: Global, table: &Table, values: Vec<Value>) -> Result<Row, AllocError>
-    requires { row_fault (kinds_of table.now) values.items ≡ None }
-    ensures { IfOk result (λ row. row ≡ values.items) }
-{
-    match table.row(alloc, values) {
-        Ok(row) => Ok(row),
-        Err(RowFault::OutOfMemory) => Err(AllocError),
-        Err(_) => unreachable!(),
-    }
 }

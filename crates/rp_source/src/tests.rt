@@ -1,11 +1,11 @@
 //! Rows of CSV texts, and the packets of rows, worked out by hand.
 ghost use Rattle.std.specs.Prelude.{Some};
 
-use crate::{CsvFault, number_rows, read_rows, rows_of};
+use crate::{CsvFault, law_orders, number_rows, order_rows, partitions, read_rows, rows_of};
 use rp_check::{Query, compile};
 use rp_codec::Packet;
 use rp_lines::{Intake, ReadFailed};
-use rp_value::{Kind, Row, Table, Value};
+use rp_value::{Cells, Kind, Row, Table, Value};
 use std::alloc::{AllocError, Global};
 use std::test::Fail;
 
@@ -68,6 +68,9 @@ fn ticks(alloc: Global) -> Result<Table, Fail> {
     Ok(Table::new(alloc, columns)?)
 }
 
+const BY_SYM: &str =
+    "PARTITION BY sym ORDER BY t MEASURES LAST(p) AS q PATTERN (A) DEFINE A AS p > 0";
+
 fn query(alloc: Global, clause: &str) -> Result<Query, Fail> {
     Ok(compile(alloc, clause, &ticks(alloc)?)?)
 }
@@ -90,6 +93,18 @@ fn show_rows(alloc: Global, rows: &[Row]) -> Result<String, AllocError> {
     for row in rows {
         show_cells(alloc, &mut shown, row.cells())?;
         shown.push_str(";")?;
+    }
+    Ok(shown)
+}
+
+/// The key of each partition, and after a colon its rows.
+fn show_parts(alloc: Global, parts: &[(Cells, Vec<Row>)]) -> Result<String, AllocError> {
+    let mut shown = String::new(alloc);
+    for (key, rows) in parts {
+        show_cells(alloc, &mut shown, key.as_slice())?;
+        shown.push_str(":")?;
+        let rows = show_rows(alloc, rows.as_slice())?;
+        shown.push_str(rows.as_str())?;
     }
     Ok(shown)
 }
@@ -130,6 +145,18 @@ fn numbered(alloc: Global, clause: &str, text: &str) -> Result<String, Fail> {
     let query = query(alloc, clause)?;
     let packets = packets_of(alloc, &query, text)?;
     Ok(show_packets(alloc, packets.as_slice())?)
+}
+
+/// A text of thirty rows, of which the later half comes first, and the rows as they are in order.
+fn later_half_first(alloc: Global) -> Result<(String, String), AllocError> {
+    let mut text = String::from_str(alloc, "sym,t,p\n")?;
+    let mut want = String::new(alloc);
+    for row in 0..30u64 {
+        let came = (row + 15) % 30;
+        text.push_str(format!(in alloc; "x,{came},1\n")?.as_str())?;
+        want.push_str(format!(in alloc; " 'x' {row} 1;")?.as_str())?;
+    }
+    Ok((text, want))
 }
 
 /// The fault of an input, if it has one. Want of memory says nothing of it.
@@ -249,12 +276,28 @@ fn too_few_turns(rt: HostRuntime) -> Result<(), Fail> {
 #[test]
 fn partitions_by_first_appearance(rt: HostRuntime) -> Result<(), Fail> {
     let alloc = rt.alloc();
-    let clause = "PARTITION BY sym ORDER BY t MEASURES LAST(p) AS q PATTERN (A) DEFINE A AS p > 0";
     let text = "sym,t,p\nx,2,8\n,1,1\ny,1,5\nx,1,10\n,0,2\nx,3,6\n";
     let want =
         "1 'x' 1 10;2 'x' 2 8;3 'x' 3 6;close 3 'x';1 - 0 2;2 - 1 1;close 2 -;1 'y' 1 5;close 1 'y';";
-    assert_eq!(rt; numbered(alloc, clause, text)?.as_str(), want);
-    assert_eq!(rt; numbered(alloc, clause, "sym,t,p\n")?.as_str(), "");
+    assert_eq!(rt; numbered(alloc, BY_SYM, text)?.as_str(), want);
+    assert_eq!(rt; numbered(alloc, BY_SYM, "sym,t,p\n")?.as_str(), "");
+    Ok(())
+}
+
+#[test]
+fn partitions_put_in_order(rt: HostRuntime) -> Result<(), Fail> {
+    let alloc = rt.alloc();
+    let query = query(alloc, BY_SYM)?;
+    let rows = rows_of(alloc, b"sym,t,p\nx,2,8\ny,1,5\nx,1,10\n", query.table())?;
+    let mut parts = partitions(alloc, &query, &rows)?;
+    let came = show_parts(alloc, parts.as_slice())?;
+    assert_eq!(rt; came.as_str(), " 'x': 'x' 2 8; 'x' 1 10; 'y': 'y' 1 5;");
+    for (_, rows) in &mut parts {
+        order_rows(&query, rows)?;
+    }
+    let ordered = show_parts(alloc, parts.as_slice())?;
+    assert_eq!(rt; ordered.as_str(), " 'x': 'x' 1 10; 'x' 2 8; 'y': 'y' 1 5;");
+    law_orders();
     Ok(())
 }
 
@@ -310,14 +353,41 @@ fn refused_rows(rt: HostRuntime) -> Result<(), Fail> {
 #[test]
 fn refused_packets(rt: HostRuntime) -> Result<(), Fail> {
     let alloc = rt.alloc();
-    let clause = "PARTITION BY sym ORDER BY t MEASURES LAST(p) AS q PATTERN (A) DEFINE A AS p > 0";
     let text = "sym,t,p\nx,2,8\ny,1,5\nx,1,10\n";
     let want = "1 'x' 1 10;2 'x' 2 8;close 2 'x';1 'y' 1 5;close 1 'y';";
-    let query = query(alloc, clause)?;
+    let query = query(alloc, BY_SYM)?;
     let packets = match packets_of(alloc, &query, text) {
         Err(CsvFault::OutOfMemory) => packets_of(alloc, &query, text)?,
         first => first?,
     };
     assert_eq!(rt; show_packets(alloc, packets.as_slice())?.as_str(), want);
+    Ok(())
+}
+
+#[test]
+fn refused_partitions(rt: HostRuntime) -> Result<(), Fail> {
+    let alloc = rt.alloc();
+    let query = query(alloc, BY_SYM)?;
+    let rows = rows_of(alloc, b"sym,t,p\nx,2,8\ny,1,5\nx,1,10\n", query.table())?;
+    let parts = match partitions(alloc, &query, &rows) {
+        Err(AllocError) => partitions(alloc, &query, &rows)?,
+        Ok(parts) => parts,
+    };
+    let came = show_parts(alloc, parts.as_slice())?;
+    assert_eq!(rt; came.as_str(), " 'x': 'x' 2 8; 'x' 1 10; 'y': 'y' 1 5;");
+    Ok(())
+}
+
+/// Twenty rows, or rows that rise or fall, could be put in order without memory.
+#[test]
+fn refused_order(rt: HostRuntime) -> Result<(), Fail> {
+    let alloc = rt.alloc();
+    let query = query(alloc, BY_SYM)?;
+    let (text, want) = later_half_first(alloc)?;
+    let mut rows = rows_of(alloc, text.as_str().as_bytes(), query.table())?;
+    if order_rows(&query, &mut rows).is_err() {
+        order_rows(&query, &mut rows)?;
+    }
+    assert_eq!(rt; show_rows(alloc, rows.as_slice())?.as_str(), want.as_str());
     Ok(())
 }

@@ -36,11 +36,12 @@ pub record CanGoOn (q : QueryData) (r : MatcherState) : Type 0 where
   pub here : r.here ≤ r.given
   pub going : r.over ≡ false → (1 ≤ r.at) × (r.matches < r.at) × (r.first ≤ first_read q r.at)
 
--- A walker stands over rows that go on, and over the same rows when those out of reach are dropped; once its answer is over,
--- it stands over any.
+-- A walker stands over rows that go on, and over the same rows when those out of reach are dropped; once its answer is
+-- over, it stands over any.
 abbrev pub StandsStays : Type 0
 StandsStays = (q : QueryData) (p p' : Known) (w : Walker) →
-    IsSound q → ((record_of w).over ≡ false → GoesOnFrom (first_read q (record_of w).at) p p') → Stands q p w → Stands q p' w
+    IsSound q → ((record_of w).over ≡ false → GoesOnFrom (first_read q (record_of w).at) p p') →
+    Stands q p w → Stands q p' w
 
 -- `resume` may go on from the record of a walker that stands.
 abbrev pub StandsCanGoOn : Type 0

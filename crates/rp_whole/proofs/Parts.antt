@@ -1,42 +1,78 @@
--- The lines of partitions that are written one after another.
-use Rattle.std.proofs.Common.{◌≡◌, ◌∙◌, ℕ, List, [], ◌∷◌, ◌++◌, Option, sym, ap, subst, append_assoc, append-nil}
+-- The lines of partitions that are put in order and written one after another.
+use Rattle.std.proofs.Common.{◌≡◌, ◌∙◌, ℕ, List, [], ◌∷◌, ◌++◌, Option, refl, sym, ap, subst, append_assoc, append-nil}
 use Rattle.std.proofs.lemmas.Grind.{flat_map-append}
-use Rattle.std.proofs.lemmas.List.{map-append}
+use Rattle.std.specs.Io.KnownBytes.{Appends}
 use Rattle.std.specs.List.{flat_map}
 use Rattle.std.specs.declared.vec.Vec.{Vec}
 use Rattle.std.specs.declared.alloc.Global.{Global}
 use Rattle.rp_value.specs.declared.value.Value.{Value}
+use Rattle.rp_check.specs.declared.lists.OrderColumn.{OrderColumn}
 use Rattle.rp_check.specs.declared.query.QueryData.{QueryData}
 use Rattle.rp_lines.specs.Devices.{AppendsFront, Moves}
-use Rattle.rp_source.specs.Gathering.{parts_of}
+use Rattle.rp_source.specs.Numbered.{AreOrdered}
+use Rattle.rp_source.specs.Orders.{IsOrdered, OrderExists}
 use Rattle.rp_source.specs.Partitions.{Part}
 use Rattle.rp_whole.specs.AnswerLines.{part_lines}
-use Rattle.rp_whole.proofs.Writes.{front_longer, moves_front, moves_more}
+use Rattle.rp_whole.specs.Writing.{WritesParts, WritesPartsFront}
+use Rattle.rp_whole.proofs.Writes.{front_longer, front_none, moves_end, moves_front, moves_more, moves_none, moves_part}
 
 abbrev pub Kept : Type 0
 Kept = List Value × Vec (List Value) Global
 
-abbrev pub kept_part : Kept → Part
-kept_part kept = (kept.0, kept.1.items)
+-- The lines of some partitions in order are written or gathered; with those that are left, in order, they are all.
+pub record HasWritten (q : QueryData) (all left : List Part) (old new : Option (List ℕ)) (gathered : List ℕ) : Type 0 where
+  pub done : List Part
+  pub follow : (later : List Part) → AreOrdered q.order.items left later → AreOrdered q.order.items all (done ++ later)
+  pub moves : Moves old (flat_map (part_lines q) done) new gathered
 
--- the lines of partitions
-abbrev pub lines_of : QueryData → List Kept → List ℕ
-lines_of q parts = flat_map (part_lines q) (parts_of parts)
+-- partitions can be put in order
+all_ordered : OrderExists → (order : List OrderColumn) (parts : List Part) → (ordered : List Part) × AreOrdered order parts ordered
+all_ordered law order [] = ([], tt)
+all_ordered law order (part ∷ parts) =
+    let rest = all_ordered law order parts in
+    ((part.0, (law order part.1).0) ∷ rest.0, (refl, (law order part.1).1, rest.1))
 
-both : (q : QueryData) (xs ys : List Kept) → lines_of q (xs ++ ys) ≡ lines_of q xs ++ lines_of q ys
-both q xs ys = ap (flat_map (part_lines q)) (map-append _ xs ys) ∙ flat_map-append (part_lines q) (parts_of xs) (parts_of ys)
+one_more : (q : QueryData) (done : List Part) (part : Part) → flat_map (part_lines q) (done ++ part ∷ []) ≡ flat_map (part_lines q) done ++ part_lines q part
+one_more q done part = flat_map-append (part_lines q) done (part ∷ []) ∙ ap (λ t. flat_map (part_lines q) done ++ t) (append-nil (part_lines q part))
 
-one_more : (q : QueryData) (xs : List Kept) (x : Kept) → lines_of q (xs ++ x ∷ []) ≡ lines_of q xs ++ part_lines q (kept_part x)
-one_more q xs x = both q xs (x ∷ []) ∙ ap (λ t. lines_of q xs ++ t) (append-nil (part_lines q (kept_part x)))
+pub none_written : (q : QueryData) (all : List Part) (a : Option (List ℕ)) → HasWritten q all all a a []
+none_written q all a = record { done = []; follow = λ later h. h; moves = moves_none a [] [] refl }
 
-pub part_written : (q : QueryData) (done : List Kept) (x : Kept) (a b c : Option (List ℕ)) (gathered rest : List ℕ)
-    → Moves a (lines_of q done) b gathered → Moves b (gathered ++ part_lines q (kept_part x)) c rest → Moves a (lines_of q (done ++ x ∷ [])) c rest
-part_written q done x a b c gathered rest first second =
-    subst (λ t. Moves a t c rest) (sym (one_more q done x)) (moves_more a b c (lines_of q done) gathered (part_lines q (kept_part x)) rest first second)
+module _ (q : QueryData) (all left : List Part) (key : List Value) (rows ordered : List (List Value)) (is : IsOrdered q.order.items rows ordered) (a b c : Option (List ℕ)) (gathered : List ℕ)
+    (before : HasWritten q all ((key, rows) ∷ left) a b gathered) where
+  follow_one : (later : List Part) → AreOrdered q.order.items left later → AreOrdered q.order.items all ((before.done ++ (key, ordered) ∷ []) ++ later)
+  follow_one later h = subst (AreOrdered q.order.items all) (sym (append_assoc before.done ((key, ordered) ∷ []) later)) (before.follow ((key, ordered) ∷ later) (refl, is, h))
 
-pub part_front : (q : QueryData) (done : List Kept) (x : Kept) (left all : List Kept) (a b c : Option (List ℕ)) (gathered : List ℕ) → done ++ x ∷ left ≡ all
-    → Moves a (lines_of q done) b gathered → AppendsFront b c (gathered ++ part_lines q (kept_part x)) → AppendsFront a c (lines_of q all)
-part_front q done x left all a b c gathered is first front =
-    let here = moves_front a b c (lines_of q done) gathered (part_lines q (kept_part x)) first front in
-    let longer = front_longer a c (lines_of q done ++ part_lines q (kept_part x)) (lines_of q left) here in
-    subst (AppendsFront a c) (append_assoc (lines_of q done) (part_lines q (kept_part x)) (lines_of q left) ∙ sym (both q done (x ∷ left)) ∙ ap (lines_of q) is) longer
+  pub part_written : (rest : List ℕ) → Moves b (gathered ++ part_lines q (key, ordered)) c rest → HasWritten q all left a c rest
+  part_written rest moves = record {
+    done = before.done ++ (key, ordered) ∷ [];
+    follow = follow_one;
+    moves = subst (λ t. Moves a t c rest) (sym (one_more q before.done (key, ordered)))
+        (moves_more a b c (flat_map (part_lines q) before.done) gathered (part_lines q (key, ordered)) rest before.moves moves);
+  }
+
+  pub part_front : OrderExists → AppendsFront b c (gathered ++ part_lines q (key, ordered)) → WritesPartsFront q all a c
+  part_front law front =
+      let later = all_ordered law q.order.items left in
+      let done = before.done ++ (key, ordered) ∷ [] in
+      let here = moves_front a b c (flat_map (part_lines q) before.done) gathered (part_lines q (key, ordered)) before.moves front in
+      let lines = front_longer a c (flat_map (part_lines q) done) (flat_map (part_lines q) later.0) (subst (AppendsFront a c) (sym (one_more q before.done (key, ordered))) here) in
+      (done ++ later.0, follow_one later.0 later.1, subst (AppendsFront a c) (sym (flat_map-append (part_lines q) done later.0)) lines)
+
+-- nothing more is written of what is gathered or left
+pub stopped_front : (q : QueryData) (all left : List Part) (a b : Option (List ℕ)) (gathered : List ℕ) → HasWritten q all left a b gathered → OrderExists → WritesPartsFront q all a b
+stopped_front q all left a b gathered before law =
+    let later = all_ordered law q.order.items left in
+    let here = moves_part a b b (flat_map (part_lines q) before.done) gathered before.moves (front_none b gathered) in
+    let lines = front_longer a b (flat_map (part_lines q) before.done) (flat_map (part_lines q) later.0) here in
+    (before.done ++ later.0, before.follow later.0 later.1, subst (AppendsFront a b) (sym (flat_map-append (part_lines q) before.done later.0)) lines)
+
+module _ (q : QueryData) (all : List Part) (a b c : Option (List ℕ)) (gathered : List ℕ) (before : HasWritten q all [] a b gathered) where
+  are : AreOrdered q.order.items all before.done
+  are = subst (AreOrdered q.order.items all) (append-nil before.done) (before.follow [] tt)
+
+  pub all_front : AppendsFront b c gathered → WritesPartsFront q all a c
+  all_front front = (before.done, are, moves_part a b c (flat_map (part_lines q) before.done) gathered before.moves front)
+
+  pub all_written : Appends b c gathered → WritesParts q all a c
+  all_written wrote = (before.done, are, moves_end a b c (flat_map (part_lines q) before.done) gathered before.moves wrote)

@@ -1,18 +1,17 @@
 -- What a fault of reading is told as, and what it says.
-use Rattle.std.proofs.Common.{◌≡◌, ℕ, List, Option, Some, None, IfErr, IfSome, OnErr, OnOk, Result, Ok, Err, refl, inl, inr}
+use Rattle.std.proofs.Common.{◌≡◌, ℕ, List, Option, Some, None, IfErr, IfSome, OnErr, OnOk, Result, Ok, Err, refl, subst, inl, inr}
 use Rattle.std.specs.List.{flat_map}
-use Rattle.std.specs.Io.KnownBytes.{Appends}
 use Rattle.rp_value.specs.declared.value.Value.{Value}
 use Rattle.rp_check.specs.declared.query.QueryData.{QueryData}
-use Rattle.rp_lines.specs.Devices.{AppendsFront}
 use Rattle.rp_source.specs.CsvRows.{AreRowsOf}
 use Rattle.rp_source.specs.Devices.{IsInputFault, TellsFailure}
-use Rattle.rp_source.specs.Numbered.{AreOrderedParts}
-use Rattle.rp_source.specs.Partitions.{Part}
+use Rattle.rp_source.specs.Numbered.{AreOrdered}
+use Rattle.rp_source.specs.Partitions.{Part, partitions}
 use Rattle.rp_source.specs.declared.rows.CsvFault.{CsvFault}
 use Rattle.rp_source.specs.declared.rows.CsvFault.TheVariants.{Header, Record, Field, Read, Turns, OutOfMemory}
 use Rattle.rp_whole.specs.AnswerLines.{AreLinesOf, WritesFront, WritesLines, part_lines}
 use Rattle.rp_whole.specs.Faults.{IsOfOutput, LeavesFront, TellsRead, TellsWrite, told_csv}
+use Rattle.rp_whole.specs.Writing.{WritesParts, WritesPartsFront}
 use Rattle.rp_whole.specs.declared.fault.WholeFault.{WholeFault}
 use Rattle.rp_whole.specs.declared.fault.WholeFault.TheVariants.{Csv, Write, OutOfMemory as WholeOutOfMemory}
 
@@ -63,18 +62,18 @@ told_turns Read is = cc
 told_turns Turns is = refl
 told_turns OutOfMemory is = cc
 
-module _ (q : QueryData) (rows : List (List Value)) (parts : List Part) (ordered : AreOrderedParts q.partition.items q.order.items rows parts) where
-  lines : (text : List ℕ) → AreRowsOf q.table text rows → AreLinesOf q text (flat_map (part_lines q) parts)
-  lines text read = record { rows = rows; read = read; parts = parts; ordered = ordered; are = refl }
+module _ (q : QueryData) (rows : List (List Value)) (parts : List Part) (are : parts ≡ partitions q.partition.items rows) where
+  lines : (text : List ℕ) (ordered : List Part) → AreRowsOf q.table text rows → AreOrdered q.order.items parts ordered → AreLinesOf q text (flat_map (part_lines q) ordered)
+  lines text ordered read is = record { rows = rows; read = read; parts = ordered; ordered = subst (λ all. AreOrdered q.order.items all ordered) are is; are = refl }
 
   pub wrote_lines : {Y : Type 0} (r : Result Y WholeFault) (input old new : Option (List ℕ)) → IfSome input (λ text. AreRowsOf q.table text rows)
-      → OnOk r (Appends old new (flat_map (part_lines q) parts)) → OnOk r (WritesLines q input old new)
+      → OnOk r (WritesParts q parts old new) → OnOk r (WritesLines q input old new)
   wrote_lines (Err fault) input old new read wrote = tt
   wrote_lines (Ok y) None old new read wrote = tt
-  wrote_lines (Ok y) (Some text) old new read wrote = (flat_map (part_lines q) parts, lines text read, wrote)
+  wrote_lines (Ok y) (Some text) old new read wrote = (flat_map (part_lines q) wrote.0, lines text wrote.0 read wrote.1, wrote.2)
 
   pub front_of_lines : {Y : Type 0} (r : Result Y WholeFault) (input old new : Option (List ℕ)) → IfSome input (λ text. AreRowsOf q.table text rows)
-      → OnErr r (AppendsFront old new (flat_map (part_lines q) parts)) → OnErr r (WritesFront q input old new)
+      → OnErr r (WritesPartsFront q parts old new) → OnErr r (WritesFront q input old new)
   front_of_lines (Ok y) input old new read wrote = tt
   front_of_lines (Err fault) None old new read wrote = tt
-  front_of_lines (Err fault) (Some text) old new read wrote = (flat_map (part_lines q) parts, lines text read, wrote)
+  front_of_lines (Err fault) (Some text) old new read wrote = (flat_map (part_lines q) wrote.0, lines text wrote.0 read wrote.1, wrote.2)

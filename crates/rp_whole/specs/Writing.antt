@@ -1,12 +1,26 @@
--- How the lines of a partition are written, an item at a time.
+-- How lines are written: those of partitions one after another, those of a partition an item at a time.
 use Rattle.std.specs.Prelude.{◌≡◌, ℕ, ◌+◌, List, ◌++◌, drop, Option}
+use Rattle.std.specs.Io.KnownBytes.{Appends}
+use Rattle.std.specs.List.{flat_map}
 use Rattle.rp_check.specs.declared.query.QueryData.{QueryData}
 use Rattle.rp_known.specs.Walk.{known}
-use Rattle.rp_lines.specs.Devices.{Moves}
+use Rattle.rp_lines.specs.Devices.{AppendsFront, Moves}
+use Rattle.rp_source.specs.Numbered.{AreOrdered}
 use Rattle.rp_source.specs.Partitions.{Part}
 use Rattle.rp_walker.specs.declared.record.MatcherState.{MatcherState}
 use Rattle.rp_whole.specs.declared.closed.Part.{Part as Closed}
-use Rattle.rp_whole.specs.AnswerLines.{closed, lines_from}
+use Rattle.rp_whole.specs.AnswerLines.{closed, lines_from, part_lines}
+
+-- Where the bytes written are known, they grow by the lines of these partitions, of which each is put in order.
+abbrev pub WritesParts : QueryData → List Part → Option (List ℕ) → Option (List ℕ) → Type 0
+WritesParts q parts old new =
+    (ordered : List Part) × AreOrdered q.order.items parts ordered × Appends old new (flat_map (part_lines q) ordered)
+
+-- Where the bytes written are known, they grow by a front of these lines.
+abbrev pub WritesPartsFront : QueryData → List Part → Option (List ℕ) → Option (List ℕ) → Type 0
+WritesPartsFront q parts old new =
+    (ordered : List Part) × AreOrdered q.order.items parts ordered
+    × AppendsFront old new (flat_map (part_lines q) ordered)
 
 -- the key of a partition, and its rows
 abbrev pub part_of : Closed → Part

@@ -1,13 +1,12 @@
 //! From a CSV input to the lines of its answers.
 ghost use Rattle.std.specs.Prelude.{◌≡◌, ◌<◌, ◌≤◌, length, IfSome, true, IfErr, OnErr, OnOk};
-ghost use Rattle.std.specs.Io.KnownBytes.{Appends};
-ghost use Rattle.std.specs.List.{flat_map};
 ghost use Rattle.rp_check.specs.QueryView.{data_of};
-ghost use Rattle.rp_lines.specs.Devices.{AppendsFront, MakesCalls, after_calls};
+ghost use Rattle.rp_lines.specs.Devices.{MakesCalls, after_calls};
 ghost use Rattle.rp_source.specs.Gathering.{parts_of};
 ghost use Rattle.rp_source.specs.declared.rows.CsvFault.TheVariants.{Turns};
-ghost use Rattle.rp_whole.specs.AnswerLines.{WritesLines, part_lines};
+ghost use Rattle.rp_whole.specs.AnswerLines.{WritesLines};
 ghost use Rattle.rp_whole.specs.Faults.{IsOfOutput, LeavesFront, TellsRead, TellsWrite};
+ghost use Rattle.rp_whole.specs.Writing.{WritesParts, WritesPartsFront};
 
 use crate::closed::Part;
 use crate::fault::WholeFault;
@@ -16,7 +15,7 @@ use crate::part::write_part;
 use rp_check::Query;
 use rp_lines::{Intake, Outlet, write_all};
 use rp_search::Steps;
-use rp_source::{ordered_parts, read_rows};
+use rp_source::{law_orders, order_rows, partitions, read_rows};
 use rp_value::{Cells, Row};
 use std::alloc::Global;
 use std::marker::Brand;
@@ -48,11 +47,13 @@ pub fn run_whole<R: Intake, W: Outlet>(
 {
     // The rows stay until all is written, so that they are given back in the order in which they lie.
     let rows = read_rows(alloc, reader, query.table(), reads)?;
-    let parts = ordered_parts(alloc, &query, &rows)?;
+    let parts = partitions(alloc, &query, &rows)?;
     write_parts::<W, Brand>(alloc, &query, parts, writer, Blank::new(1))
 }
 
 /// Writes the lines of partitions, one after another. Turns aren't counted.
+///
+/// The rows of each are put in order just before they are walked, so that the walk finds them in the cache.
 fn write_parts<W: Outlet, L: Ledger>(
     alloc: Global,
     query: &Query,
@@ -63,16 +64,19 @@ fn write_parts<W: Outlet, L: Ledger>(
     requires name { blank.name ≡ L.name }
     requires parts { blank.parts ≡ L.parts }
     requires counts { 0 < blank.parts }
-    ensures written { OnOk result (Appends (W.contents writer.old) (W.contents writer.new)
-        (flat_map (part_lines (data_of query.now)) (parts_of parts.items))) }
-    ensures front { OnErr result (AppendsFront (W.contents writer.old) (W.contents writer.new)
-        (flat_map (part_lines (data_of query.now)) (parts_of parts.items))) }
+    ensures written { OnOk result (WritesParts (data_of query.now) (parts_of parts.items)
+        (W.contents writer.old) (W.contents writer.new)) }
+    ensures front { OnErr result (WritesPartsFront (data_of query.now) (parts_of parts.items)
+        (W.contents writer.old) (W.contents writer.new)) }
     ensures fault { IfErr result IsOfOutput }
     ensures failures { TellsWrite result (W.failures writer.old) (W.failures writer.new) }
 {
+    law_orders();
     let mut steps = Steps::<L>::new(blank);
     let mut gathered = Gathered::new(alloc);
     for (key, rows) in parts {
+        let mut rows = rows;
+        order_rows(query, &mut rows)?;
         let part = Part { key, rows };
         write_part(alloc, query, &part, &mut gathered, writer, &mut steps)?;
     }

@@ -1,5 +1,5 @@
 //! Records, budgets, rows that are dropped and rows far up. What is expected is worked out by hand.
-use super::player::Event::{Close, Drain, Poll, Restart, Resume, Row, Save};
+use super::player::Event::{Close, Drain, Next, Poll, Restart, Resume, Row, Save};
 use super::player::{Event, play};
 use super::{V, items};
 use rp_walker::MatcherState;
@@ -72,6 +72,35 @@ fn exponential_pattern_pauses(rt: HostRuntime) -> Result<(), Fail> {
     Ok(())
 }
 
+/// A row that isn't shown takes a turn as another does: nine hundred of them outlast a poll of a hundred.
+#[test]
+fn hidden_rows_take_turns(rt: HostRuntime) -> Result<(), Fail> {
+    let alloc = rt.alloc();
+    let text =
+        "ORDER BY t MEASURES FINAL SUM(p) AS s ALL ROWS PER MATCH PATTERN (A {- B+ -} C) DEFINE B AS p < 5, C AS p >= 5";
+    let mut events = Vec::new(alloc);
+    events.push(Row(5))?;
+    for _row in 0..900 {
+        events.push(Row(1))?;
+    }
+    for event in [
+        Row(9),
+        Next(100_000),
+        Poll(100),
+        Drain(100_000),
+        Close,
+        Drain(100_000),
+    ] {
+        events.push(event)?;
+    }
+    let told = play(alloc, text, &events)?;
+    assert_eq!(rt;
+        told.as_str(),
+        "(1, 1, 1 914 x 5)paused (2, 1, 902 914 x 9)|(3, End)"
+    );
+    Ok(())
+}
+
 /// Three rows before the next start are still read.
 #[test]
 fn horizon_after_prev(rt: HostRuntime) -> Result<(), Fail> {
@@ -120,7 +149,7 @@ fn rows_kept_after_a_match(rt: HostRuntime) -> Result<(), Fail> {
 #[test]
 fn restart_in_a_match(rt: HostRuntime) -> Result<(), Fail> {
     let text = "MEASURES CLASSIFIER() AS c ALL ROWS PER MATCH PATTERN (A B C D) DEFINE A AS p > 0";
-    for budget in [100, 100_000] {
+    for budget in [1, 100_000] {
         let told = play(
             rt.alloc(),
             text,
@@ -130,18 +159,18 @@ fn restart_in_a_match(rt: HostRuntime) -> Result<(), Fail> {
                 Row(1),
                 Row(1),
                 Close,
-                Poll(budget),
-                Poll(budget),
+                Next(budget),
+                Next(budget),
                 Save,
-                Poll(budget),
-                Poll(budget),
+                Next(budget),
+                Next(budget),
                 Restart,
                 Row(1),
                 Row(1),
                 Row(1),
                 Row(1),
                 Close,
-                Drain(1),
+                Drain(budget),
             ],
         )?;
         assert_eq!(rt;

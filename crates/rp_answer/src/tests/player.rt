@@ -28,6 +28,8 @@ pub enum Event {
     Close,
     /// One poll of this budget. Its item is told, or `idle` or `paused`.
     Poll(u32),
+    /// Polls of this budget until an item comes, which is told.
+    Next(u32),
     /// Polls of this budget until it is idle, of which the items are told.
     Drain(u32),
     /// All items so far are those that the plain program knows.
@@ -110,6 +112,7 @@ impl Player {
             Event::Row(number) => self.push(number),
             Event::Close => self.close(),
             Event::Poll(budget) => self.poll_once(budget, steps),
+            Event::Next(budget) => self.next(budget, steps),
             Event::Drain(budget) => self.drain(budget, steps),
             Event::Compare => self.compare(),
             Event::Save => self.save(),
@@ -138,6 +141,17 @@ impl Player {
             Poll::Paused => Ok(self.told.push_str("paused ")?),
             Poll::Idle => Ok(self.told.push_str("idle ")?),
         }
+    }
+
+    fn next<L: Ledger>(&mut self, budget: u32, steps: &mut Steps<L>) -> Result<(), Fail> {
+        for _poll in 0..100_000 {
+            match self.driven.poll(budget, steps)? {
+                Poll::Item(place, item) => return self.tell(place, &item),
+                Poll::Paused => {}
+                Poll::Idle => return Err(Fail::from("idle before an item came")),
+            }
+        }
+        Err(Fail::from("no item after 100,000 polls"))
     }
 
     fn drain<L: Ledger>(&mut self, budget: u32, steps: &mut Steps<L>) -> Result<(), Fail> {

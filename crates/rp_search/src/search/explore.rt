@@ -15,7 +15,7 @@ use std::alloc::AllocError;
 impl Search {
     ghost use Rattle.rp_search.specs.Fits.{left_by};
     ghost use Rattle.rp_search.specs.Search.{IsSameSearch, labels_of_search, start_of_search};
-    ghost use Rattle.rp_search.specs.Turned.{Covers, IsWithinRun, Turned, exploring};
+    ghost use Rattle.rp_search.specs.Turned.{Covers, EntersAtMost, IsWithinRun, Turned, exploring};
 
     /// Takes up what would follow a row whose test is open. There each row is taken without a test. Where nothing would
     /// follow it, the choice that maps it is given up, and the next one is taken up.
@@ -32,8 +32,7 @@ impl Search {
 
         ensures same { IsSameSearch self.old self.new }
         ensures subject { T.subject tests.new ≡ T.subject tests.old }
-        ensures entries { T.entries tests.new ≤ T.entries tests.old + 1 }
-        ensures counts { T.entries tests.old ≤ T.entries tests.new }
+        ensures entries { EntersAtMost 1 (T.entries tests.old) (T.entries tests.new) }
         ensures entered { OnOk result (T.entered tests.new (start_of_search self.new) (labels_of_search self.new)) }
         ensures searches { OnOk result (IsWithinRun self.new (T.asked (T.subject tests.old))) }
         ensures turned { IfOk result (Turned 1 self.old self.new

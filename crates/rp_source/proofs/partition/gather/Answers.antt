@@ -5,7 +5,7 @@ use Rattle.rp_value.specs.contracts.cells.CellsEq.TheImpl.Laws.{laws-law}
 use Rattle.rp_source.specs.Gathering.{parts_of, with_row}
 use Rattle.rp_source.specs.Partitions.{partitions, same_key}
 use Rattle.rp_source.proofs.Gathering.{partitions_more}
-use Rattle.rp_source.proofs.partition.partitions.Goals as goal
+use Rattle.rp_source.proofs.partition.gather.Goals as goal
 
 pub loop-row-preserved : goal.loop-row-preserved
 loop-row-preserved c =
