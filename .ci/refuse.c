@@ -1,5 +1,4 @@
-/* Loaded before a program, refuses its REFUSE-th call for memory, and leaves a byte in the file REFUSED for that call and
-   for each of the first calls after it. */
+/* Loaded before a program, refuses its REFUSE-th call for memory, and then leaves a byte in the file REFUSED. */
 #include <fcntl.h>
 #include <stddef.h>
 #include <stdlib.h>
@@ -10,7 +9,6 @@ extern void *__libc_calloc(size_t count, size_t size);
 extern void *__libc_realloc(void *old, size_t size);
 
 static unsigned long calls, refused_call;
-static const unsigned long told_after = 100;
 
 static int is_refused(void)
 {
@@ -18,13 +16,13 @@ static int is_refused(void)
         const char *text = getenv("REFUSE");
         refused_call = text ? strtoul(text, NULL, 10) : 0;
     }
-    if (refused_call == 0 || calls < refused_call || calls > refused_call + told_after)
+    if (calls != refused_call)
         return 0;
-    int mark = open(getenv("REFUSED"), O_WRONLY | O_CREAT | O_APPEND, 0600);
+    int mark = open(getenv("REFUSED"), O_WRONLY | O_CREAT | O_TRUNC, 0600);
     if (mark < 0 || write(mark, "!", 1) != 1)
         abort();
     close(mark);
-    return calls == refused_call;
+    return 1;
 }
 
 void *malloc(size_t size)
