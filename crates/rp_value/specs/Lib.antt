@@ -1,6 +1,8 @@
 pub mod Arithmetic
+pub mod Blocks
 pub mod Compared
 pub mod Order
+pub mod RowLists
 pub mod Rows
 pub mod Sums
 pub mod Tables

@@ -7,6 +7,13 @@
 //!     let table = Table::new(alloc, vec![in alloc; price]?)?;
 //!     let row = table.row(alloc, vec![in alloc; Value::Int(17)]?)?;
 //!
+//! Many rows that are made one after another lie in common blocks, so that a row costs no allocation of its own:
+//!
+//!     let mut rows = RowList::new(alloc);
+//!     let mut cells = vec![in alloc; Value::Int(17)]?;
+//!     rows.push(&mut cells)?;                                               // `cells` is empty again
+//!     let rows = rows.into_rows()?;
+//!
 //! A comparison has one of three truth values, since with null nothing can be told; a condition over rows of which some
 //! haven't come yet is `Judged`, told or open:
 //!
@@ -19,6 +26,7 @@
 mod cells;
 mod comparison;
 mod row;
+mod row_list;
 mod sum;
 mod table;
 mod text;
@@ -28,6 +36,7 @@ mod value;
 pub use cells::{Cells, same_values};
 pub use comparison::Comparison;
 pub use row::{Row, RowFault, check_cells};
+pub use row_list::RowList;
 pub use sum::{RunningSum, law_sum, total};
 pub use table::{Column, MAX_NAME_LEN, Table, TableFault};
 pub use text::Text;

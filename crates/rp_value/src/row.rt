@@ -1,6 +1,7 @@
 //! Rows of a table.
-ghost use Rattle.std.specs.Prelude.{◌≡◌, ◌↔◌, IsTrue, IfOk, IfErr, OnOk, IfSome, None, Some, not, option_copied, position, zip, length, ◌<◌};
+ghost use Rattle.std.specs.Prelude.{◌≡◌, ◌↔◌, IsTrue, IfOk, IfErr, OnOk, IfSome, None, Some, not, option_copied, position, zip, length, ◌<◌, ◌≤◌, ◌+◌, ◌*◌, ◌++◌};
 ghost use Rattle.std.specs.Cmp.Lexicographic.{pointwise, lists_per, lists_equiv};
+ghost use Rattle.rp_value.specs.Blocks.{cut_apart};
 ghost use Rattle.rp_value.specs.Rows.{admits, cell_at, row_fault};
 ghost use Rattle.rp_value.specs.declared.row.RowFault.TheVariants.{OutOfMemory};
 ghost use Rattle.rp_value.specs.contracts.value.ValuePartialEq.TheImpl.Laws.{laws-law as value_per};
@@ -9,25 +10,42 @@ ghost use Rattle.rp_value.specs.contracts.value.ValueEq.TheImpl.Laws.{laws-law a
 use crate::cells::same_values;
 use crate::{Kind, Value};
 use std::alloc::{AllocError, AllocFailed, Global};
+use std::fmt::{self, Debug};
 use std::marker::Model;
 use std::rc::Rc;
 use thiserror::Error;
 
+/// Rows of one width, whose cells lie one after another.
+#[derive(Drop)]
+struct Block {
+    width: usize,
+    cells: Vec<Value>,
+}
+
 /// A row, whose cells further owners share. Contracts see it as the list of its cells.
 ///
-/// `Table::row` makes one that fits its table.
-#[derive(Debug, Drop)]
+/// `Table::row` makes one that fits its table; `RowList` makes many, whose cells lie in common blocks.
+#[derive(Drop)]
 pub struct Row {
-    cells: Rc<Vec<Value>>,
+    block: Rc<Block>,
+    /// Where its cells begin in the block.
+    from: usize,
+    ghost within: { from + block.value.width ≤ length block.value.cells.items },
 }
 
 impl Model for Row {
-    ghost use Rattle.std.specs.Prelude.{List};
+    ghost use Rattle.std.specs.Prelude.{List, drop, take};
     ghost use Rattle.rp_value.specs.declared.value.Value.{Value as Cell};
 
     ghost Value = { List Cell };
 
-    ghost view = { λ r. r.cells.value.items };
+    ghost view = { λ r. take r.block.value.width (drop r.from r.block.value.cells.items) };
+}
+
+impl fmt::Debug for Row {
+    fn fmt<W: fmt::Write>(&self, f: &mut fmt::Formatter<W>) -> Result<(), fmt::Error> {
+        self.cells().fmt(f)
+    }
 }
 
 impl PartialEq for Row {
@@ -49,15 +67,16 @@ impl Row {
     pub fn new(alloc: Global, cells: Vec<Value>) -> Result<Row, AllocError>
         ensures { IfOk result (λ row. row ≡ cells.items) }
     {
-        let cells = Rc::new(alloc, cells)?;
-        Ok(Row { cells })
+        let width = cells.len();
+        let block = Rc::new(alloc, Block { width, cells })?;
+        Ok(Row { block, from: 0 })
     }
 
     /// All cells, in the order of the columns.
     pub fn cells(&self) -> &[Value]
         ensures { result.now ≡ self.now }
     {
-        self.cells.as_slice()
+        &self.block.cells[self.from..self.from + self.block.width]
     }
 
     /// The cell in a column, from 1. None for 0 and beyond the last column.
@@ -82,9 +101,37 @@ impl Row {
     pub fn share(&self) -> Result<Row, AllocError>
         ensures { IfOk result (λ row. row ≡ self.now) }
     {
-        let cells = self.cells.clone()?;
-        Ok(Row { cells })
+        let block = self.block.clone()?;
+        Ok(Row {
+            block,
+            from: self.from,
+        })
     }
+}
+
+#[tactic(auto, using(crate::proofs::Blocks::one_row_more))]
+/// Adds the rows of a block to a list: so many of this width as `cells` were cut apart into.
+pub(crate) fn add_rows(
+    alloc: Global,
+    rows: &mut Vec<Row>,
+    width: usize,
+    count: usize,
+    cells: Vec<Value>,
+) -> Result<(), AllocError>
+    requires { length cells.items ≡ count * width }
+    ensures { OnOk result (rows.new.items ≡ rows.old.items ++ cut_apart width count cells.items) }
+{
+    let block = Rc::new(alloc, Block { width, cells })?;
+    for index in 0..count {
+        let row = Row {
+            block: block.clone()?,
+            from: index * width,
+        };
+        if rows.push(row).is_err() {
+            return Err(AllocError);
+        }
+    }
+    Ok(())
 }
 
 /// Whether these cells may stand in columns of these kinds, as the cells of a row and the values of a key must: as many
