@@ -2,11 +2,13 @@
 ghost use Rattle.std.specs.Prelude.{◌≡◌};
 ghost use Rattle.rp_pattern.specs.Movement.{always_moves};
 
+use crate::form::Form;
 use crate::machine::continuation::{Continuation, before};
 use crate::machine::link::{Part, Tail, linked, reach_shared, share};
 use crate::machine::node::Node;
 use crate::machine::split::Split;
 use std::alloc::{AllocError, Global};
+use std::rc::Rc;
 
 /// Iterations of a part. So many may follow the required ones, or any number.
 #[derive(Drop)]
@@ -22,11 +24,11 @@ pub(crate) struct Iterations {
 }
 
 impl Iterations {
-    ghost use Rattle.std.specs.Prelude.{◌≡◌, ℕ, ◌∷◌, ◌+◌, IfOk, OnOk, List, Option};
+    ghost use Rattle.std.specs.Prelude.{◌≡◌, ℕ, ◌∷◌, ◌+◌, IfOk, OnOk, List, Option, Some, None};
     ghost use Rattle.rp_pattern.specs.declared.word.End.{End};
     ghost use Rattle.rp_pattern.specs.Words.{further};
     ghost use Rattle.rp_pattern.specs.Turns.{WordsAndTurns};
-    ghost use Rattle.rp_pattern.specs.Continuations.{AreIterationsOf, IsOneLess, iterations_part, tail_parts, still};
+    ghost use Rattle.rp_pattern.specs.Continuations.{AreIterationsOf, IsNodeOf, IsOneLess, iterations_part, tail_parts, still};
     ghost use Rattle.rp_pattern.specs.Splits.{AlwaysSplits, SplitsAt, StandsFor, ComesAgain};
 
     /// The same iterations, of which another number may follow.
@@ -111,10 +113,33 @@ impl Iterations {
         ensures { OnOk result ((row : ℕ) →
             AlwaysSplits row (λ n e. iterations_part n e (lower + 1) self.now ∷ tail_parts n e then.now) split.new) }
     {
-        let iterations = self.with_further(self.further)?;
-        let later = linked(alloc, None, Part::Times { lower, iterations }, share(then)?)?;
-        *split = Split::one(Some(before(&self.body.form, self.body.excluded, later)?));
+        let copy = self.with_further(self.further)?;
+        let first = copy.into_first(alloc, &self.body.form, self.body.excluded, lower, then)?;
+        *split = Split::one(Some(first));
         Ok(())
+    }
+
+    /// An iteration of `body`, which is theirs, and then `lower` required ones. They are moved behind it, not shared.
+    #[inline(always)]
+    pub(crate) fn into_first(
+        self,
+        alloc: Global,
+        body: &Rc<Form>,
+        excluded: bool,
+        lower: u32,
+        then: &Tail,
+    ) -> Result<Continuation, AllocError>
+        requires { IsNodeOf body.now.value excluded self.body }
+        ensures { IfOk result (λ first. (row : ℕ) →
+            AlwaysSplits row (λ n e. iterations_part n e (lower + 1) self ∷ tail_parts n e then.now)
+            (record { preferred = None; other = Some first })) }
+    {
+        let part = Part::Times {
+            lower,
+            iterations: self,
+        };
+        let later = linked(alloc, None, part, share(then)?)?;
+        before(body, excluded, later)
     }
 
     /// An iteration that takes a row, before `further` others, or to stop.

@@ -22,7 +22,7 @@ pub(crate) struct Node {
 }
 
 impl Node {
-    ghost use Rattle.std.specs.Prelude.{◌≡◌, ◌≢◌, ℕ, ◌∷◌, ◌<◌, ◌≤◌, ◌++◌, IfOk, OnOk, IsTrue, List, Option, map, length};
+    ghost use Rattle.std.specs.Prelude.{◌≡◌, ◌≢◌, ℕ, ◌∷◌, ◌<◌, ◌≤◌, ◌++◌, IfOk, OnOk, IsTrue, List, Option, Some, None, map, length};
     ghost use Rattle.std.specs.List.{AllByRecursion};
     ghost use Rattle.std.specs.declared.vec.Vec.{Vec};
     ghost use Rattle.std.specs.declared.rc.Rc.{Rc};
@@ -79,6 +79,16 @@ impl Node {
             }
             Form::Alternation(first, second) => {
                 self.take_alternation(first, second, then, split)?;
+                Ok(Expansion::Split)
+            }
+            Form::Quantified {
+                body,
+                lower,
+                upper,
+                reluctant,
+            } if *lower > 0 => {
+                let first = self.first_of(alloc, body, *lower, *upper, *reluctant, then)?;
+                *split = Split::one(Some(first));
                 Ok(Expansion::Split)
             }
             _ => self.take_other(alloc, form, then, row, n, end, split),
@@ -267,6 +277,27 @@ impl Node {
         Ok(Split::one(Some(before(body, true, share(then)?)?)))
     }
 
+    /// The first iteration of a quantified part that requires one, before the others. It has a call of its own.
+    #[inline(never)]
+    fn first_of(
+        &self,
+        alloc: Global,
+        body: &Rc<Form>,
+        lower: u32,
+        upper: Option<u32>,
+        reluctant: bool,
+        then: &Tail,
+    ) -> Result<Continuation, AllocError>
+        requires some { 0 < lower }
+        requires form { self.now.form.value ≡ Form.Quantified body.now lower upper reluctant }
+        ensures { IfOk result (λ first. (row : ℕ) →
+            AlwaysSplits row (λ n e. node_part n e self.now ∷ tail_parts n e then.now)
+            (record { preferred = None; other = Some first })) }
+    {
+        let iterations = self.iterations(body, lower, upper, reluctant)?;
+        iterations.into_first(alloc, body, self.excluded, lower - 1, then)
+    }
+
     /// The iterations of a quantified part.
     #[inline(always)]
     fn iterations(
@@ -277,8 +308,9 @@ impl Node {
         reluctant: bool,
     ) -> Result<Iterations, AllocError>
         requires { self.now.form.value ≡ Form.Quantified body.now lower upper reluctant }
-        ensures { IfOk result (λ it. (n : ℕ) (e : End) →
+        ensures part { IfOk result (λ it. (n : ℕ) (e : End) →
             IsSamePart (iterations_part n e lower it) (node_part n e self.now)) }
+        ensures body { IfOk result (λ it. IsNodeOf body.now.value self.now.excluded it.body) }
     {
         Ok(Iterations {
             body: Node::of(body, self.excluded)?,

@@ -6,8 +6,8 @@ use Rattle.rp_pattern.proofs.Expansions.{quantified_words, quantified_turns}
 use Rattle.rp_pattern.proofs.Steps.{node_as}
 use Rattle.rp_pattern.proofs.machine.node.Node.iterations.Goals as goal
 
-pub returns : goal.returns
-returns c = λ n e i.
+pub returns-clause-part : goal.returns-clause-part
+returns-clause-part c = λ n e i.
     let a = c.args in
     let x = a.self.now.excluded in
     let body = node_as n e c.in_ok-of.field-0 a.body.now.value x c.in_ok-of.ensures in

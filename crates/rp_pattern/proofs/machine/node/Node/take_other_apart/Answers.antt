@@ -20,5 +20,5 @@ returns-in_ok-split-in-Quantified c =
     let s = c.in_ok-split-in-Quantified.split in
     let it = c.in_ok-iterations-in-Quantified.iterations in
     always_splits a.n a.end a.row (λ n e. node_part n e a.self.now ∷ tail_parts n e a.then.now) s (λ n e.
-    let same = c.in_ok-iterations-in-Quantified.ensures n e a.row in
+    let same = c.in_ok-iterations-in-Quantified.ensures.part n e a.row in
     same_splits n e a.row (iterations_part n e c.in-Quantified.lower it) (node_part n e a.self.now) (tail_parts n e a.then.now) s same.0 same.1 (c.in_ok-split-in-Quantified.ensures n e))
