@@ -1,6 +1,8 @@
 -- What is kept of a total, depth by depth.
 use Rattle.std.proofs.Common.{◌≡◌, ℕ, zero, suc, ◌+◌, ◌-◌, ◌≤◌, ◌<◌, ◌==◌, Bool, true, false, cond, List, [], ◌∷◌, ◌++◌, map, length, take, drop, get_or, set, Result, Ok, Err, Option, None, Some, refl, sym, ap, ◌∙◌, subst, arith, append-nil}
 use Rattle.std.specs.Prelude.{slice_get, option_map, OnOk}
+use Rattle.std.specs.List.{AllByRecursion}
+use Rattle.std.specs.List.Sorted.{IsNonDecreasing}
 use Rattle.std.proofs.lemmas.List.{take-append-le, take_all, take-take, length-append, length-take-le, get_or-append-add, get_or_append_left}
 use Rattle.std.proofs.lemmas.Option.{slice_get-map}
 use Rattle.std.proofs.lemmas.Bool.Decides.{nat_tests}
@@ -14,10 +16,12 @@ use Rattle.rp_check.specs.Scopes.{includes}
 use Rattle.rp_eval.specs.declared.tally.Tally.{Tally}
 use Rattle.rp_eval.specs.Partition.{Rows}
 use Rattle.rp_eval.specs.Mapped.{rows_of, listed}
-use Rattle.rp_eval.specs.Tallies.{no_tally, with_row, tally_of}
-use Rattle.rp_eval.specs.Kept.{Kept, tally_over, tallies_to, kept_of, tally_at, cut_back}
-use Rattle.rp_eval.proofs.MappedRows.{one_if, rows_of-last, rows_of-take, rows_few}
-use Rattle.rp_eval.proofs.Tallied.{IsWithin, tally_within, list_counted}
+use Rattle.rp_eval.specs.Aggregated.{aggregate}
+use Rattle.rp_eval.specs.Tallies.{no_tally, with_row, tally_of, tally_value}
+use Rattle.rp_eval.specs.Kept.{Kept, tally_over, tallies_to, tallied, kept_of, tally_at, places_to, cut_back}
+use Rattle.rp_eval.proofs.MappedRows.{one_if, rows_of-last, rows_few, rows_each, listed_each}
+use Rattle.rp_eval.proofs.Below.{left_of_none, none_left, rows_left, rows_ascend, rows_from}
+use Rattle.rp_eval.proofs.Tallied.{IsWithin, tally_within, tally_is}
 
 -- ---- the tallies of all depths
 
@@ -77,6 +81,25 @@ tally_at_depth p t start ls n (suc d) le =
     ∙ ap (λ z. get_or (tallies_to p t start ls n) z no_tally) e
     ∙ got p t start ls (n - suc d) d n (omega arith)
 
+-- ---- by function
+
+-- a total that lists no rows keeps its tallies
+pub tallied_all : (f : Function) → ¬ (f ≡ Listed) → (ts : List Tally) → tallied f ts ≡ ts
+tallied_all Listed h ts = absurd (h refl)
+tallied_all RowCount h ts = refl
+tallied_all (Count c) h ts = refl
+tallied_all (Sum c) h ts = refl
+tallied_all (Min c) h ts = refl
+tallied_all (Max c) h ts = refl
+
+tallied_front : (f : Function) (d : ℕ) (ts : List Tally) → take d (tallied f ts) ≡ tallied f (take d ts)
+tallied_front Listed d ts = take_all d [] (omega arith)
+tallied_front RowCount d ts = refl
+tallied_front (Count c) d ts = refl
+tallied_front (Sum c) d ts = refl
+tallied_front (Min c) d ts = refl
+tallied_front (Max c) d ts = refl
+
 -- ---- one more label
 
 one_more : (p : Rows) (f : Function) (rows : List ℕ) (row : ℕ) (b : Bool) → tally_of p f (rows ++ one_if b row) ≡ cond b (with_row p f (tally_of p f rows) row) (tally_of p f rows)
@@ -108,58 +131,31 @@ tallies_last p t start ls before l is =
     ∙ ap (tallies_to p t start ls) (sym size)
 
 -- the last tally is that of the labels before
-last_tally : (p : Rows) (t : Total) (start : ℕ) (ls before : List Label) (l : Label) (k : Kept) (old : Tally) → ls ≡ before ++ l ∷ [] → k ≡ kept_of p start before t → old ≡ tally_at k.tallies (length ls - 1) → old ≡ tally_over p t start before
-last_tally p t start ls before l k old is kept old_is =
+last_tally : (p : Rows) (t : Total) (start : ℕ) (ls before : List Label) (l : Label) (k : Kept) (old : Tally) → ls ≡ before ++ l ∷ [] → ¬ (t.function ≡ Listed) → k ≡ kept_of p start before t → old ≡ tally_at k.tallies (length ls - 1) → old ≡ tally_over p t start before
+last_tally p t start ls before l k old is keeps kept old_is =
     let n : length ls - 1 ≡ length before = omega (arith, ap length is, length-append before (l ∷ [])) in
-    old_is ∙ ap (λ (z : Kept). tally_at z.tallies (length ls - 1)) kept ∙ ap (tally_at (tallies_to p t start before (length before))) n
+    old_is ∙ ap (λ (z : Kept). tally_at z.tallies (length ls - 1)) kept ∙ ap (λ z. tally_at z (length ls - 1)) (tallied_all t.function keeps (tallies_to p t start before (length before)))
+    ∙ ap (tally_at (tallies_to p t start before (length before))) n
     ∙ tally_at_depth p t start before (length before) (length before) (omega arith) ∙ ap (tally_over p t start) (take_all (length before) before (omega arith))
 
-pub last_few : (p : Rows) (t : Total) (start : ℕ) (ls before : List Label) (l : Label) (k : Kept) (old : Tally) → ls ≡ before ++ l ∷ [] → k ≡ kept_of p start before t → old ≡ tally_at k.tallies (length ls - 1) → IsWithin (length before) old
-last_few p t start ls before l k old is kept old_is = subst (IsWithin (length before)) (sym (last_tally p t start ls before l k old is kept old_is)) (tally_few p t start before)
-
-listed_in : (f : Function) (xs ys : List ℕ) → listed f (xs ++ ys) ≡ listed f xs ++ listed f ys
-listed_in Listed xs ys = refl
-listed_in RowCount xs ys = refl
-listed_in (Count c) xs ys = refl
-listed_in (Sum c) xs ys = refl
-listed_in (Min c) xs ys = refl
-listed_in (Max c) xs ys = refl
-
-pub listed_last : (t : Total) (start : ℕ) (before : List Label) (l : Label) →
-    listed t.function (rows_of t.variables start (before ++ l ∷ [])) ≡ listed t.function (rows_of t.variables start before) ++ listed t.function (one_if (includes t.variables l.var) (start + length before))
-listed_last t start before l =
-    ap (listed t.function) (rows_of-last t.variables start before l) ∙ listed_in t.function (rows_of t.variables start before) (one_if (includes t.variables l.var) (start + length before))
+pub last_few : (p : Rows) (t : Total) (start : ℕ) (ls before : List Label) (l : Label) (k : Kept) (old : Tally) → ls ≡ before ++ l ∷ [] → ¬ (t.function ≡ Listed) → k ≡ kept_of p start before t → old ≡ tally_at k.tallies (length ls - 1) → IsWithin (length before) old
+last_few p t start ls before l k old is keeps kept old_is = subst (IsWithin (length before)) (sym (last_tally p t start ls before l k old is keeps kept old_is)) (tally_few p t start before)
 
 -- ---- cut back
 
--- the rows that are listed at a depth are the first, as many as its tally counts
-counted : (p : Rows) (f : Function) (vs : Variables) (start d : ℕ) (ls : List Label) → take (tally_of p f (rows_of vs start (take d ls))).count (listed f (rows_of vs start ls)) ≡ listed f (rows_of vs start (take d ls))
-counted p Listed vs start d ls = rows_of-take vs start d _ ls (list_counted p (rows_of vs start (take d ls)))
-counted p RowCount vs start d ls = take_all _ [] (omega arith)
-counted p (Count c) vs start d ls = take_all _ [] (omega arith)
-counted p (Sum c) vs start d ls = take_all _ [] (omega arith)
-counted p (Min c) vs start d ls = take_all _ [] (omega arith)
-counted p (Max c) vs start d ls = take_all _ [] (omega arith)
-
--- the rows that are listed at a depth, by what is kept
-pub listed_at : (p : Rows) (t : Total) (start d : ℕ) (ls : List Label) → d ≤ length ls →
-    take (tally_at (tallies_to p t start ls (length ls)) d).count (listed t.function (rows_of t.variables start ls)) ≡ listed t.function (rows_of t.variables start (take d ls))
-listed_at p t start d ls le =
-    ap (λ (z : Tally). take z.count (listed t.function (rows_of t.variables start ls))) (tally_at_depth p t start ls (length ls) d le)
-    ∙ counted p t.function t.variables start d ls
+listed_left : (f : Function) (vs : Variables) (d : ℕ) (ls : List Label) → d ≤ length ls → places_to d (listed f (rows_of vs 0 ls)) ≡ listed f (rows_of vs 0 (take d ls))
+listed_left Listed vs d ls le = rows_left vs d ls le
+listed_left RowCount vs d ls le = left_of_none d
+listed_left (Count c) vs d ls le = left_of_none d
+listed_left (Sum c) vs d ls le = left_of_none d
+listed_left (Min c) vs d ls le = left_of_none d
+listed_left (Max c) vs d ls le = left_of_none d
 
 pub kept_cut : (p : Rows) (t : Total) (start d : ℕ) (ls : List Label) → d ≤ length ls → cut_back d (kept_of p start ls t) ≡ kept_of p start (take d ls) t
 kept_cut p t start d ls le =
-    let ts = tallies_to p t start ls (length ls) in
-    let e = tallies_front p t start ls d le in
-    let all = listed t.function (rows_of t.variables start ls) in
-    let n = length (take d ls) in
-    let size : length (take d ts) ≡ n = ap length e ∙ length-tallies p t start (take d ls) n in
-    let last : tally_at (take d ts) (length (take d ts)) ≡ tally_over p t start (take d ls) =
-    ap (tally_at (take d ts)) size ∙ ap (λ z. tally_at z n) e ∙ tally_at_depth p t start (take d ls) n n (omega arith) ∙ ap (tally_over p t start) (take_all n (take d ls) (omega arith)) in
-    let rows : take (tally_at (take d ts) (length (take d ts))).count all ≡ listed t.function (rows_of t.variables start (take d ls)) =
-    ap (λ (z : Tally). take z.count all) last ∙ counted p t.function t.variables start d ls in
-    cc (e, rows)
+    let tallies = tallied_front t.function d (tallies_to p t start ls (length ls)) ∙ ap (tallied t.function) (tallies_front p t start ls d le) in
+    let places = listed_left t.function t.variables d ls le in
+    cc (tallies, places)
 
 -- those of fewer labels aren't cut
 pub kept_uncut : (p : Rows) (t : Total) (start d : ℕ) (ls : List Label) → d ≡ length ls → cut_back d (kept_of p start ls t) ≡ kept_of p start ls t
@@ -200,7 +196,7 @@ partly_cut p start before ls l plan n d is at = go plan n
 
 -- of no label
 abbrev pub nothing : Kept
-nothing = record { tallies = []; rows = [] }
+nothing = record { tallies = []; places = [] }
 
 lists_none : (f : Function) → listed f [] ≡ []
 lists_none Listed = refl
@@ -210,14 +206,25 @@ lists_none (Sum c) = refl
 lists_none (Min c) = refl
 lists_none (Max c) = refl
 
+none_tallied : (f : Function) → tallied f [] ≡ []
+none_tallied Listed = refl
+none_tallied RowCount = refl
+none_tallied (Count c) = refl
+none_tallied (Sum c) = refl
+none_tallied (Min c) = refl
+none_tallied (Max c) = refl
+
 none_of : (p : Rows) (start : ℕ) (t : Total) → nothing ≡ kept_of p start [] t
-none_of p start t = ap (λ rows. record { tallies = []; rows = rows }) (sym (lists_none t.function))
+none_of p start t = let tallies = none_tallied t.function in let places = lists_none t.function in cc (tallies, places)
+
+none_kept : (k : Kept) → cut_back 0 k ≡ nothing
+none_kept k = ap (λ places. record { tallies = []; places = places }) (none_left k.places)
 
 pub all_none : (p : Rows) (start : ℕ) (plan : List Total) (ks : List Kept) → length ks ≡ length plan → map (cut_back 0) ks ≡ map (kept_of p start []) plan
 all_none p start [] [] is = refl
 all_none p start (t ∷ plan) [] is = absurd (omega arith)
 all_none p start [] (k ∷ ks) is = absurd (omega arith)
-all_none p start (t ∷ plan) (k ∷ ks) is = let one = none_of p start t in let more = all_none p start plan ks (omega arith) in cc (one, more)
+all_none p start (t ∷ plan) (k ∷ ks) is = let one = none_kept k ∙ none_of p start t in let more = all_none p start plan ks (omega arith) in cc (one, more)
 
 pub all_nothing : (p : Rows) (start : ℕ) (plan : List Total) → map (λ (t : Total). nothing) plan ≡ map (kept_of p start []) plan
 all_nothing p start [] = refl
@@ -230,54 +237,102 @@ last_label ls before l d is =
     let at : length ls - 1 ≡ length before + 0 = omega (arith, ap length is, length-append before (l ∷ [])) in
     ap (λ z. get_or z (length ls - 1) d) is ∙ ap (λ z. get_or (before ++ l ∷ []) z d) at ∙ get_or-append-add before (l ∷ []) 0 d
 
-pub unlisted : (f : Function) → ¬ (f ≡ Listed) → (rows : List ℕ) → [] ≡ listed f rows
-unlisted Listed h rows = absurd (h refl)
-unlisted RowCount h rows = refl
-unlisted (Count c) h rows = refl
-unlisted (Sum c) h rows = refl
-unlisted (Min c) h rows = refl
-unlisted (Max c) h rows = refl
+unlisted : (f : Function) → ¬ (f ≡ Listed) → (rows more : List ℕ) → listed f rows ≡ listed f more
+unlisted Listed h rows more = absurd (h refl)
+unlisted RowCount h rows more = refl
+unlisted (Count c) h rows more = refl
+unlisted (Sum c) h rows more = refl
+unlisted (Min c) h rows more = refl
+unlisted (Max c) h rows more = refl
 
--- a label's row is one of the total's
-pub entered_mapped : (p : Rows) (t : Total) (start row : ℕ) (ls before : List Label) (l : Label) (k : Kept) (old new : Tally) (more all_rows : List ℕ) → ls ≡ before ++ l ∷ [] → includes t.variables l.var ≡ true →
-    k ≡ kept_of p start before t → old ≡ tally_at k.tallies (length ls - 1) → row ≡ start + (length ls - 1) → new ≡ with_row p t.function old row → more ≡ listed t.function (row ∷ []) → all_rows ≡ k.rows ++ more →
-    record { tallies = k.tallies ++ new ∷ []; rows = all_rows } ≡ kept_of p start ls t
-entered_mapped p t start row ls before l k old new more all_rows is b kept old_is row_is new_is more_is rows_are =
+-- a total that lists no rows has one more tally
+pub entered_tally : (p : Rows) (t : Total) (start row : ℕ) (ls before : List Label) (l : Label) (k : Kept) (old new : Tally) (b : Bool) → ls ≡ before ++ l ∷ [] → ¬ (t.function ≡ Listed) → includes t.variables l.var ≡ b →
+    k ≡ kept_of p start before t → old ≡ tally_at k.tallies (length ls - 1) → row ≡ start + (length ls - 1) → new ≡ cond b (with_row p t.function old row) old →
+    record { tallies = k.tallies ++ new ∷ []; places = k.places } ≡ kept_of p start ls t
+entered_tally p t start row ls before l k old new b is keeps mapped kept old_is row_is new_is =
     let f = t.function in
-    let rows = rows_of t.variables start before in
-    let last = last_tally p t start ls before l k old is kept old_is in
+    let last = last_tally p t start ls before l k old is keeps kept old_is in
     let at : row ≡ start + length before = omega (arith, ap length is, length-append before (l ∷ [])) in
     let tally : new ≡ tally_over p t start ls =
-    new_is ∙ ap (λ z. with_row p f z row) last ∙ ap (with_row p f (tally_over p t start before)) at
-    ∙ sym (ap (λ z. cond z (with_row p f (tally_over p t start before) (start + length before)) (tally_over p t start before)) b)
+    new_is ∙ ap (λ z. cond b (with_row p f z row) z) last ∙ ap (λ z. cond b (with_row p f (tally_over p t start before) z) (tally_over p t start before)) at
+    ∙ sym (ap (λ z. cond z (with_row p f (tally_over p t start before) (start + length before)) (tally_over p t start before)) mapped)
     ∙ sym (tally_last p t start before l) ∙ ap (tally_over p t start) (sym is) in
-    let all : k.tallies ++ new ∷ [] ≡ tallies_to p t start ls (length ls) =
-    ap (λ (z : Kept). z.tallies ++ new ∷ []) kept ∙ ap (λ z. tallies_to p t start before (length before) ++ z ∷ []) tally ∙ tallies_last p t start ls before l is in
-    let listed_rows : all_rows ≡ listed f (rows_of t.variables start ls) =
-    rows_are ∙ ap (λ z. k.rows ++ z) more_is
-    ∙ ap (λ (z : Kept). z.rows ++ listed f (row ∷ [])) kept ∙ ap (λ z. listed f rows ++ listed f (z ∷ [])) at
-    ∙ sym (ap (λ z. listed f rows ++ listed f (one_if z (start + length before))) b)
-    ∙ sym (listed_last t start before l) ∙ ap (λ z. listed f (rows_of t.variables start z)) (sym is) in
-    cc (all, listed_rows)
+    let all : k.tallies ++ new ∷ [] ≡ tallied f (tallies_to p t start ls (length ls)) =
+    ap (λ (z : Kept). z.tallies ++ new ∷ []) kept ∙ ap (λ z. z ++ new ∷ []) (tallied_all f keeps (tallies_to p t start before (length before)))
+    ∙ ap (λ z. tallies_to p t start before (length before) ++ z ∷ []) tally ∙ tallies_last p t start ls before l is
+    ∙ sym (tallied_all f keeps (tallies_to p t start ls (length ls))) in
+    let places : k.places ≡ listed f (rows_of t.variables 0 ls) = ap (λ (z : Kept). z.places) kept ∙ unlisted f keeps (rows_of t.variables 0 before) (rows_of t.variables 0 ls) in
+    cc (all, places)
 
--- it isn't
-pub entered_other : (p : Rows) (t : Total) (start : ℕ) (ls before : List Label) (l : Label) (k : Kept) (old : Tally) → ls ≡ before ++ l ∷ [] → includes t.variables l.var ≡ false →
-    k ≡ kept_of p start before t → old ≡ tally_at k.tallies (length ls - 1) →
-    record { tallies = k.tallies ++ old ∷ []; rows = k.rows } ≡ kept_of p start ls t
-entered_other p t start ls before l k old is b kept old_is =
-    let f = t.function in
-    let rows = rows_of t.variables start before in
-    let last = last_tally p t start ls before l k old is kept old_is in
-    let tally : old ≡ tally_over p t start ls =
-    last ∙ sym (ap (λ z. cond z (with_row p f (tally_over p t start before) (start + length before)) (tally_over p t start before)) b)
-    ∙ sym (tally_last p t start before l) ∙ ap (tally_over p t start) (sym is) in
-    let all : k.tallies ++ old ∷ [] ≡ tallies_to p t start ls (length ls) =
-    ap (λ (z : Kept). z.tallies ++ old ∷ []) kept ∙ ap (λ z. tallies_to p t start before (length before) ++ z ∷ []) tally ∙ tallies_last p t start ls before l is in
-    let listed_rows : k.rows ≡ listed f (rows_of t.variables start ls) =
-    ap (λ (z : Kept). z.rows) kept ∙ sym (append-nil (listed f rows)) ∙ ap (λ z. listed f rows ++ z) (sym (lists_none f))
-    ∙ sym (ap (λ z. listed f rows ++ listed f (one_if z (start + length before))) b)
-    ∙ sym (listed_last t start before l) ∙ ap (λ z. listed f (rows_of t.variables start z)) (sym is) in
-    cc (all, listed_rows)
+-- one that lists rows has one more place, if the label is its own
+pub entered_place : (p : Rows) (t : Total) (start place : ℕ) (ls before : List Label) (l : Label) (k : Kept) (all_places : List ℕ) (b : Bool) → ls ≡ before ++ l ∷ [] → t.function ≡ Listed → includes t.variables l.var ≡ b →
+    k ≡ kept_of p start before t → place ≡ length ls - 1 → all_places ≡ k.places ++ one_if b place →
+    record { tallies = k.tallies; places = all_places } ≡ kept_of p start ls t
+entered_place p t start place ls before l k all_places b is lists mapped kept place_is places_are =
+    let at : place ≡ 0 + length before = omega (arith, ap length is, length-append before (l ∷ [])) in
+    let none : k.tallies ≡ tallied t.function (tallies_to p t start ls (length ls)) =
+    ap (λ (z : Kept). z.tallies) kept ∙ ap (λ f. tallied f (tallies_to p t start before (length before))) lists
+    ∙ sym (ap (λ f. tallied f (tallies_to p t start ls (length ls))) lists) in
+    let places : all_places ≡ listed t.function (rows_of t.variables 0 ls) =
+    places_are ∙ ap (λ (z : Kept). z.places ++ one_if b place) kept ∙ ap (λ f. listed f (rows_of t.variables 0 before) ++ one_if b place) lists
+    ∙ ap (λ z. rows_of t.variables 0 before ++ one_if b z) at
+    ∙ sym (ap (λ z. rows_of t.variables 0 before ++ one_if z (0 + length before)) mapped)
+    ∙ sym (rows_of-last t.variables 0 before l) ∙ ap (rows_of t.variables 0) (sym is)
+    ∙ sym (ap (λ f. listed f (rows_of t.variables 0 ls)) lists) in
+    cc (none, places)
+
+-- ---- what is listed
+
+listed_ascends : (f : Function) (vs : Variables) (ls : List Label) → IsNonDecreasing (listed f (rows_of vs 0 ls))
+listed_ascends Listed vs ls = rows_ascend vs 0 ls
+listed_ascends RowCount vs ls = rows_ascend vs 0 []
+listed_ascends (Count c) vs ls = rows_ascend vs 0 []
+listed_ascends (Sum c) vs ls = rows_ascend vs 0 []
+listed_ascends (Min c) vs ls = rows_ascend vs 0 []
+listed_ascends (Max c) vs ls = rows_ascend vs 0 []
+
+pub places_ascend : (p : Rows) (t : Total) (start : ℕ) (ls : List Label) (k : Kept) → k ≡ kept_of p start ls t → IsNonDecreasing k.places
+places_ascend p t start ls k is = subst (λ (z : Kept). IsNonDecreasing z.places) (sym is) (listed_ascends t.function t.variables ls)
+
+each_listed : (P : ℕ → Type 0) (f : Function) (vs : Variables) (ls : List Label) → ((n : ℕ) → n < length ls → P n) → AllByRecursion P (listed f (rows_of vs 0 ls))
+each_listed P f vs ls h = listed_each P f (rows_of vs 0 ls) (rows_each P vs 0 ls (λ n le lt. h n (omega arith)))
+
+-- each place is one of the labels'
+pub places_each : (P : ℕ → Type 0) (p : Rows) (t : Total) (start : ℕ) (ls : List Label) (k : Kept) → k ≡ kept_of p start ls t → ((n : ℕ) → n < length ls → P n) → AllByRecursion P k.places
+places_each P p t start ls k is h = subst (λ (z : Kept). AllByRecursion P z.places) (sym is) (each_listed P t.function t.variables ls h)
+
+-- the rows that are listed at a depth, by what is kept
+listed_from : (f : Function) (vs : Variables) (start d : ℕ) (ls : List Label) → d ≤ length ls →
+    map (λ place. start + place) (places_to d (listed f (rows_of vs 0 ls))) ≡ listed f (rows_of vs start (take d ls))
+listed_from Listed vs start d ls le = ap (map (λ place. start + place)) (rows_left vs d ls le) ∙ rows_from vs start (take d ls)
+listed_from RowCount vs start d ls le = refl
+listed_from (Count c) vs start d ls le = refl
+listed_from (Sum c) vs start d ls le = refl
+listed_from (Min c) vs start d ls le = refl
+listed_from (Max c) vs start d ls le = refl
+
+pub listed_at : (p : Rows) (t : Total) (start d : ℕ) (ls : List Label) (k : Kept) → d ≤ length ls → k ≡ kept_of p start ls t →
+    map (λ place. start + place) (places_to d k.places) ≡ listed t.function (rows_of t.variables start (take d ls))
+listed_at p t start d ls k le is =
+    ap (λ (z : Kept). map (λ place. start + place) (places_to d z.places)) is ∙ listed_from t.function t.variables start d ls le
+
+-- ---- the value of an aggregate, by what is kept
+
+value_kept : (p : Rows) (f : Function) (t : Total) (start d : ℕ) (ls : List Label) → f ≡ t.function → d ≤ length ls →
+    tally_value p f (tally_at (tallied f (tallies_to p t start ls (length ls))) d) ≡ tally_value p f (tally_over p t start (take d ls))
+value_kept p Listed t start d ls is le = refl
+value_kept p RowCount t start d ls is le = ap (tally_value p RowCount) (tally_at_depth p t start ls (length ls) d le)
+value_kept p (Count c) t start d ls is le = ap (tally_value p (Count c)) (tally_at_depth p t start ls (length ls) d le)
+value_kept p (Sum c) t start d ls is le = ap (tally_value p (Sum c)) (tally_at_depth p t start ls (length ls) d le)
+value_kept p (Min c) t start d ls is le = ap (tally_value p (Min c)) (tally_at_depth p t start ls (length ls) d le)
+value_kept p (Max c) t start d ls is le = ap (tally_value p (Max c)) (tally_at_depth p t start ls (length ls) d le)
+
+pub value_at : (p : Rows) (t : Total) (start d : ℕ) (ls : List Label) (k : Kept) → d ≤ length ls → k ≡ kept_of p start ls t →
+    tally_value p t.function (tally_at k.tallies d) ≡ aggregate p t.function (rows_of t.variables start (take d ls))
+value_at p t start d ls k le is =
+    ap (λ (z : Kept). tally_value p t.function (tally_at z.tallies d)) is
+    ∙ value_kept p t.function t start d ls refl le
+    ∙ tally_is p t.function (rows_of t.variables start (take d ls))
 
 -- ---- by number
 

@@ -1,5 +1,5 @@
 -- Places among the rows that a total lists.
-use Rattle.std.proofs.Common.{◌≡◌, ℕ, ◌≤◌, Bool, [], length, take, None, Some, refl, sym, ap, ◌∙◌, subst}
+use Rattle.std.proofs.Common.{◌≡◌, ℕ, ◌≤◌, ◌+◌, Bool, [], map, length, take, None, Some, refl, sym, ap, ◌∙◌, subst}
 use Rattle.std.specs.Prelude.{slice_get, IfSome}
 use Rattle.rp_check.specs.declared.plan.Edge.{Edge}
 use Rattle.rp_check.specs.declared.plan.Edge.TheVariants.{First, Last}
@@ -7,7 +7,7 @@ use Rattle.rp_check.specs.declared.plan.RowsOf.{RowsOf}
 use Rattle.rp_check.specs.declared.plan.RowsOf.TheVariants.{Listed as ListedBy}
 use Rattle.rp_eval.specs.Mapped.{rows_of, place_in, listed}
 use Rattle.rp_eval.specs.ValueOf.{Setting, seen_labels, rows_listed, rows_among}
-use Rattle.rp_eval.specs.Kept.{Kept, tally_at}
+use Rattle.rp_eval.specs.Kept.{Kept, places_to}
 use Rattle.rp_eval.specs.Laws.{LiesOnRows}
 use Rattle.rp_eval.proofs.MappedRows.{place_each}
 use Rattle.rp_eval.proofs.Growing.{reaches_among}
@@ -24,11 +24,10 @@ none_among s is_final edge k number rows is none =
 
 -- the rows at a depth are those that the total lists
 pub kept_among : (s : Setting) (is_final : Bool) (depth number : ℕ) (rows : RowsOf) (k : Kept) → rows ≡ ListedBy number → SeriesOf s.rows s.totals s.start s.labels number k → depth ≤ length s.labels → take depth s.labels ≡ seen_labels s is_final →
-    take (tally_at k.tallies depth).count k.rows ≡ rows_among s is_final rows
+    map (λ place. s.start + place) (places_to depth k.places) ≡ rows_among s is_final rows
 kept_among s is_final depth number rows k is here le labels =
     let t = here.total in
-    ap (λ (z : Kept). take (tally_at z.tallies depth).count z.rows) here.is
-    ∙ listed_at s.rows t s.start depth s.labels le
+    listed_at s.rows t s.start depth s.labels k le here.is
     ∙ ap (λ z. listed t.function (rows_of t.variables s.start z)) labels
     ∙ ap (rows_listed s is_final) here.there
     ∙ ap (rows_among s is_final) (sym is)

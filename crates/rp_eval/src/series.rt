@@ -1,6 +1,8 @@
 //! What is kept of one total of a plan, by depth of the label list.
-ghost use Rattle.std.specs.Prelude.{◌≡◌};
+ghost use Rattle.std.specs.Prelude.{◌≡◌, ◌≤◌, length, take};
+ghost use Rattle.std.specs.List.Sorted.{IsNonDecreasing};
 ghost use Rattle.rp_eval.specs.Mapped.{place_in};
+ghost use Rattle.rp_eval.specs.Kept.{places_to};
 
 use crate::Rows;
 use crate::tally::Tally;
@@ -9,13 +11,13 @@ use rp_pattern::Label;
 use std::alloc::{AllocError, Global};
 use std::marker::Model;
 
-/// For each depth of a list of labels the tally of one total, and the rows themselves where the total lists them.
+/// What one total keeps of a list of labels: the places of its labels where it lists rows, and else a tally for each depth.
 #[derive(Drop)]
 pub struct Series {
     /// That of the first label, that of the first two, and so on.
     tallies: Vec<Tally>,
-    /// The rows of all labels. Those of a lower depth are the first of them, as many as its tally counts.
-    rows: Vec<u64>,
+    /// Ascending, from 0 on. The row of a label lies as far after the start row.
+    places: Vec<usize>,
 }
 
 impl Model for Series {
@@ -23,47 +25,44 @@ impl Model for Series {
 
     ghost Value = { Kept };
 
-    ghost view = { λ s. record { tallies = s.tallies.items; rows = s.rows.items } };
+    ghost view = { λ s. record { tallies = s.tallies.items; places = s.places.items } };
 }
 
 impl Series {
-    ghost use Rattle.std.specs.Prelude.{ℕ, ◌+◌, ◌-◌, ◌^◌, ◌<◌, ◌≤◌, List, [], ◌∷◌, ◌++◌, length, take, OnOk, OnErr};
+    ghost use Rattle.std.specs.Prelude.{ℕ, ◌+◌, ◌-◌, ◌^◌, ◌<◌, List, [], ◌∷◌, ◌++◌, map, OnOk, OnErr};
+    ghost use Rattle.std.specs.List.{AllByRecursion};
     ghost use Rattle.rp_eval.specs.Kept.{kept_of, tally_at, cut_back, NextOf};
 
     /// That of no label.
     pub fn new(alloc: Global) -> Series
-        ensures { result ≡ record { tallies = []; rows = [] } }
+        ensures { result ≡ record { tallies = []; places = [] } }
     {
         Series {
             tallies: Vec::new(alloc),
-            rows: Vec::new(alloc),
+            places: Vec::new(alloc),
         }
     }
 
-    /// The tally over the first `depth` labels.
+    /// The tally over the first `depth` labels. A total that lists rows has none.
     pub fn tally(&self, depth: usize) -> Tally
-        requires { depth ≤ length self.now.tallies }
         ensures { result ≡ tally_at self.now.tallies depth }
     {
-        if depth == 0 {
+        if depth == 0 || depth > self.tallies.len() {
             Tally::new()
         } else {
             self.tallies[depth - 1]
         }
     }
 
-    /// The row so many places from an end of those that are listed for the first `depth` labels.
-    pub fn place(&self, depth: usize, edge: Edge, places: u64) -> Option<u64>
-        requires { depth ≤ length self.now.tallies }
-        ensures { result ≡ place_in edge places (take (tally_at self.now.tallies depth).count self.now.rows) }
+    /// The row at an offset from an end of those that are listed for the first `depth` labels, from a start row on.
+    pub fn place(&self, start: u64, depth: usize, edge: Edge, offset: u64) -> Option<u64>
+        requires ascend { IsNonDecreasing self.now.places }
+        requires room { AllByRecursion (λ place. start + place < 2 ^ 64) self.now.places }
+        ensures { result ≡ place_in edge offset (map (λ place. start + place) (places_to depth self.now.places)) }
     {
-        let all = self.rows.as_slice();
-        let count = self.tally(depth).count;
-        if count < all.len() as u64 {
-            place_among(&all[..count as usize], edge, places)
-        } else {
-            place_among(all, edge, places)
-        }
+        let all = self.places.as_slice();
+        let place = place_among(&all[..places_below(all, depth)], edge, offset)?;
+        Some(start + place as u64)
     }
 
     /// The last of the labels is new.
@@ -81,15 +80,18 @@ impl Series {
         ensures err { OnErr result (self.new ≡ self.old) }
     {
         let last = labels.len() - 1;
-        let row = start + last as u64;
-        let old = self.tally(last);
-        if !total.variables.includes(labels[last].var) {
-            return self.push(old);
-        }
-        let new = old.with_row(total.function, rows, row);
+        let is_mapped = total.variables.includes(labels[last].var);
         match total.function {
-            Function::Listed => self.push_listed(new, row),
-            _ => self.push(new),
+            Function::Listed if is_mapped => self.list(last),
+            Function::Listed => Ok(()),
+            function => {
+                let old = self.tally(last);
+                if is_mapped {
+                    self.push(old.with_row(function, rows, start + last as u64))
+                } else {
+                    self.push(old)
+                }
+            }
         }
     }
 
@@ -97,25 +99,16 @@ impl Series {
         ensures pushed { OnOk result (self.new ≡ record self.old { tallies = self.old.tallies ++ tally ∷ [] }) }
         ensures err { OnErr result (self.new ≡ self.old) }
     {
-        match self.tallies.push(tally) {
-            Ok(()) => Ok(()),
-            Err(error) => Err(error.into()),
-        }
+        self.tallies.push(tally)?;
+        Ok(())
     }
 
-    fn push_listed(&mut self, tally: Tally, row: u64) -> Result<(), AllocError>
-        ensures pushed { OnOk result (self.new ≡
-            record { tallies = self.old.tallies ++ tally ∷ []; rows = self.old.rows ++ row ∷ [] }) }
+    fn list(&mut self, place: usize) -> Result<(), AllocError>
+        ensures listed { OnOk result (self.new ≡ record self.old { places = self.old.places ++ place ∷ [] }) }
         ensures err { OnErr result (self.new ≡ self.old) }
     {
-        self.push(tally)?;
-        match self.rows.push(row) {
-            Ok(()) => Ok(()),
-            Err(error) => {
-                self.tallies.pop();
-                Err(error.into())
-            }
-        }
+        self.places.push(place)?;
+        Ok(())
     }
 
     /// The labels are cut back to the first `depth`, where there are more.
@@ -123,24 +116,47 @@ impl Series {
         ensures { self.new ≡ cut_back depth self.old }
     {
         self.tallies.truncate(depth);
-        let count = self.tally(self.tallies.len()).count;
-        self.rows.truncate(count as usize);
+        let left = places_left(self.places.as_slice(), depth);
+        self.places.truncate(left);
     }
 }
 
-/// The row so many places from an end of these.
-fn place_among(rows: &[u64], edge: Edge, places: u64) -> Option<u64>
-    ensures { result ≡ place_in edge places rows.now }
+/// How many of these places, which ascend, are below a depth.
+fn places_below(places: &[usize], depth: usize) -> usize
+    requires { IsNonDecreasing places.now }
+    ensures within { result ≤ length places.now }
+    ensures below { take result places.now ≡ places_to depth places.now }
 {
-    let row = match edge {
-        Edge::First => rows.get(places as usize),
+    match places.last() {
+        Some(last) if *last >= depth => places.partition_point(|place| *place < depth),
+        _ => places.len(),
+    }
+}
+
+/// How many places are left without the last ones that aren't below a depth: a cut mostly goes back by few labels.
+fn places_left(places: &[usize], depth: usize) -> usize
+    ensures { take result places.now ≡ places_to depth places.now }
+{
+    let mut left = places.len();
+    while left > 0 && places[left - 1] >= depth {
+        left -= 1;
+    }
+    left
+}
+
+/// The place at an offset from an end of these.
+fn place_among(places: &[usize], edge: Edge, offset: u64) -> Option<usize>
+    ensures { result ≡ place_in edge offset places.now }
+{
+    let place = match edge {
+        Edge::First => places.get(offset as usize),
         Edge::Last => {
-            if places < rows.len() as u64 {
-                rows.get(rows.len() - 1 - places as usize)
+            if offset < places.len() as u64 {
+                places.get(places.len() - 1 - offset as usize)
             } else {
                 None
             }
         }
     };
-    row.copied()
+    place.copied()
 }
