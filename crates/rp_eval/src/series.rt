@@ -127,10 +127,18 @@ fn places_below(places: &[usize], depth: usize) -> usize
     ensures within { result ≤ length places.now }
     ensures below { take result places.now ≡ places_to depth places.now }
 {
-    match places.last() {
-        Some(last) if *last >= depth => places.partition_point(|place| *place < depth),
-        _ => places.len(),
+    let Some(last) = places.last() else {
+        return 0;
+    };
+    if *last < depth {
+        return places.len();
     }
+    // Where a variable's labels are one run, so many of them are beyond the depth as it lies before the last.
+    let at = (places.len() - 1).saturating_sub(*last - depth);
+    if places[at] >= depth && (at == 0 || places[at - 1] < depth) {
+        return at;
+    }
+    places.partition_point(|place| *place < depth)
 }
 
 /// How many places are left without the last ones that aren't below a depth: a cut mostly goes back by few labels.
