@@ -2,10 +2,11 @@ mod Lists
 mod Headers
 mod CsvRecords
 mod Takes
-mod Taking
+mod TakenRecords
 mod Calls
 mod Orders
 mod Sinking
+mod NotText
 mod Numbering
 mod Gathering
 mod Telling

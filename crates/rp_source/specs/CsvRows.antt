@@ -72,3 +72,7 @@ IsRowFault kinds fields number (Record n) = (n ≡ number) × (length fields ≢
 IsRowFault kinds fields number (Field n) = (n ≡ number) × (length fields ≡ length kinds) × HasNoField kinds fields
 IsRowFault kinds fields number OutOfMemory = ⊤
 IsRowFault kinds fields number _ = ⊥
+
+-- one more record was taken, as the next of these rows
+abbrev pub TakesOne : List Kind → List (List ℕ) → List (List Value) → List (List Value) → Type 0
+TakesOne kinds fields old new = (row : List Value) × IsRow kinds fields row × (new ≡ old ++ row ∷ [])

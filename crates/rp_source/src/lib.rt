@@ -18,6 +18,7 @@ mod order;
 mod partition;
 mod records;
 mod rows;
+mod taking;
 #[cfg(test)]
 mod tests;
 mod texts;

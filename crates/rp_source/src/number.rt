@@ -19,7 +19,7 @@ pub fn number_rows(alloc: Global, query: &Query, rows: Vec<Row>) -> Result<Vec<P
         rows.items packets.items) }
 {
     let mut packets = Vec::new(alloc);
-    for (key, rows) in partitions(alloc, query, &rows)? {
+    for (key, rows) in partitions(alloc, query, rows)? {
         let mut rows = rows;
         order_rows(query, &mut rows)?;
         push_part(&mut packets, key, rows)?;

@@ -14,31 +14,28 @@ use std::alloc::{AllocError, Global};
 /// The rows of each key, by the first appearance of the key.
 type Parts = IndexMap<Cells, Vec<Row>>;
 
-/// The partitions of rows by the query, by first appearance: the key of each, and its rows as they came, shared.
-///
-/// Where the rows are kept as they came until the partitions are dropped, their memory is given back from one end to
-/// the other, and the allocator has no lone pieces to put together.
+/// The partitions of rows by the query, by first appearance: the key of each, and its rows as they came.
 pub fn partitions(
     alloc: Global,
     query: &Query,
-    rows: &[Row],
+    rows: Vec<Row>,
 ) -> Result<Vec<(Cells, Vec<Row>)>, AllocError>
     ensures { IfOk result (λ parts. parts_of parts.items ≡
-        partitions_are (data_of query.now).partition.items rows.now) }
+        partitions_are (data_of query.now).partition.items rows.items) }
 {
     let parts = gather(alloc, query.partition(), rows)?;
     parts.into_iter().collect(alloc)
 }
 
-/// The partitions of rows by these columns, numbered from 1. The rows are shared.
-fn gather(alloc: Global, columns: &[usize], rows: &[Row]) -> Result<Parts, AllocError>
-    ensures { IfOk result (λ parts. parts_of parts.entries ≡ partitions_are columns.now rows.now) }
+/// The partitions of rows by these columns, numbered from 1.
+fn gather(alloc: Global, columns: &[usize], rows: Vec<Row>) -> Result<Parts, AllocError>
+    ensures { IfOk result (λ parts. parts_of parts.entries ≡ partitions_are columns.now rows.items) }
 {
     let mut parts = IndexMap::new(alloc);
     let mut room = Vec::new(alloc);
     for row in rows {
-        let key = key_of(room, columns, row)?;
-        room = add_row(alloc, &mut parts, key, row.share()?)?;
+        let key = key_of(room, columns, &row)?;
+        room = add_row(alloc, &mut parts, key, row)?;
     }
     Ok(parts)
 }

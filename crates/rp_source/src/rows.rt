@@ -1,15 +1,11 @@
 //! The rows of a CSV text.
 ghost use Rattle.std.specs.Prelude.{◌≡◌, IfOk, IfErr};
-ghost use Rattle.csv.specs.Records.{fields_of};
-ghost use Rattle.rp_value.specs.Tables.{kinds_of};
-ghost use Rattle.rp_source.specs.CsvRows.{AreRowsOf, IsRowFault, IsTextFault};
-ghost use Rattle.rp_source.specs.Fields.{IsRow};
+ghost use Rattle.rp_source.specs.CsvRows.{AreRowsOf, IsTextFault};
 ghost use Rattle.rp_source.specs.declared.rows.CsvFault.TheVariants.{OutOfMemory};
 
-use crate::fields::values_of;
 use crate::header::names_columns;
 use crate::records::{reader_of, take_record};
-use crate::texts::Texts;
+use crate::taking::Taking;
 use csv::ByteRecord;
 use rp_value::{Row, Table};
 use std::alloc::{AllocError, AllocFailed, Global};
@@ -76,42 +72,15 @@ pub fn rows_of(alloc: Global, text: &[u8], table: &Table) -> Result<Vec<Row>, Cs
     if !names_columns(alloc, table.columns(), &fields)? {
         return Err(CsvFault::Header);
     }
-    let mut texts = Texts::new(alloc)?;
-    let mut rows = Vec::new(alloc);
+    let mut taking = Taking::new(alloc)?;
     for number in 1..MAX_RECORDS + 1 {
         if !take_record(&mut reader, &mut fields)? {
-            return Ok(rows);
+            return Ok(taking.into_rows()?);
         }
-        let row = row_of(alloc, &mut texts, table, &fields, number)?;
-        if rows.push(row).is_err() {
-            return Err(CsvFault::OutOfMemory);
-        }
+        fields = taking.take(alloc, table, fields, number)?;
     }
     if take_record(&mut reader, &mut fields)? {
         return Err(CsvFault::Record(MAX_RECORDS + 1));
     }
-    Ok(rows)
-}
-
-/// The row of a record, by its number.
-fn row_of(
-    alloc: Global,
-    texts: &mut Texts,
-    table: &Table,
-    fields: &ByteRecord,
-    number: u64,
-) -> Result<Row, CsvFault>
-    ensures ok { IfOk result (λ row. IsRow (kinds_of table.now) (fields_of fields.now) row) }
-    ensures err { IfErr result (λ fault. IsRowFault (kinds_of table.now) (fields_of fields.now) number fault) }
-{
-    let columns = table.columns();
-    if fields.len() != columns.len() {
-        return Err(CsvFault::Record(number));
-    }
-    let Some(values) = values_of(alloc, texts, columns, fields)? else {
-        return Err(CsvFault::Field(number));
-    };
-    // They fit the table: each is what a field of its column is.
-    let row = Row::new(alloc, values)?;
-    Ok(row)
+    Ok(taking.into_rows()?)
 }

@@ -289,7 +289,7 @@ fn partitions_put_in_order(rt: HostRuntime) -> Result<(), Fail> {
     let alloc = rt.alloc();
     let query = query(alloc, BY_SYM)?;
     let rows = rows_of(alloc, b"sym,t,p\nx,2,8\ny,1,5\nx,1,10\n", query.table())?;
-    let mut parts = partitions(alloc, &query, &rows)?;
+    let mut parts = partitions(alloc, &query, rows)?;
     let came = show_parts(alloc, parts.as_slice())?;
     assert_eq!(rt; came.as_str(), " 'x': 'x' 2 8; 'x' 1 10; 'y': 'y' 1 5;");
     for (_, rows) in &mut parts {
@@ -368,9 +368,10 @@ fn refused_packets(rt: HostRuntime) -> Result<(), Fail> {
 fn refused_partitions(rt: HostRuntime) -> Result<(), Fail> {
     let alloc = rt.alloc();
     let query = query(alloc, BY_SYM)?;
-    let rows = rows_of(alloc, b"sym,t,p\nx,2,8\ny,1,5\nx,1,10\n", query.table())?;
-    let parts = match partitions(alloc, &query, &rows) {
-        Err(AllocError) => partitions(alloc, &query, &rows)?,
+    let text = b"sym,t,p\nx,2,8\ny,1,5\nx,1,10\n";
+    let rows = rows_of(alloc, text, query.table())?;
+    let parts = match partitions(alloc, &query, rows) {
+        Err(AllocError) => partitions(alloc, &query, rows_of(alloc, text, query.table())?)?,
         Ok(parts) => parts,
     };
     let came = show_parts(alloc, parts.as_slice())?;

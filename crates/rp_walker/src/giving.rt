@@ -24,6 +24,7 @@ use rp_syntax::RowsPerMatch;
 use std::alloc::{AllocError, Global};
 
 /// Where the walk stands.
+#[inline(always)]
 pub(crate) fn place_of(state: &MatcherState) -> Place
     ensures { result ≡ place_of state.now }
 {
@@ -35,6 +36,7 @@ pub(crate) fn place_of(state: &MatcherState) -> Place
 }
 
 /// Whether a row is one that isn't shown.
+#[inline(always)]
 pub(crate) fn is_hidden(query: &Query, start: u64, found: &Ended, row: u64) -> bool
     requires { start ≤ row }
     ensures { result ≡ is_hidden (data_of query.now).plan.rows start (result_of found.now) row }
@@ -93,6 +95,7 @@ pub(crate) fn make_item<R: Rows>(
 }
 
 /// The rows at which what was found is shown.
+#[inline(always)]
 pub(crate) fn ahead_of(query: &Query, place: Place, last: u64, found: &Ended) -> Ahead
     requires few { last < 2 ^ 64 - 1 }
     requires known { place.start ≤ last }
@@ -140,6 +143,7 @@ fn ahead_in(query: &Query, place: Place, labels: &[Label]) -> Ahead
 }
 
 /// So many rows from one on.
+#[inline(always)]
 fn rows_from(next: u64, rows: u64) -> Ahead
     requires { next + rows < 2 ^ 64 }
     ensures { result ≡ record { next = next; end = next + rows; seen = 0 } }
@@ -152,6 +156,7 @@ fn rows_from(next: u64, rows: u64) -> Ahead
 }
 
 /// Where the walk goes on after a search that has ended.
+#[inline(always)]
 pub(crate) fn next_of(
     query: &Query,
     place: Place,

@@ -24,6 +24,7 @@ pub struct Run {
 }
 
 /// A search for the query's pattern from a row, by the run of an earlier row where there is one.
+#[inline(always)]
 pub(crate) fn begin<R: Rows>(
     alloc: Global,
     query: &Query,
@@ -48,6 +49,7 @@ pub(crate) fn begin<R: Rows>(
 }
 
 /// A run that goes to another row. It takes no memory and keeps the room that it has.
+#[inline(always)]
 fn begin_again(run: Run, start: u64) -> Run
     requires { 1 ≤ start }
     ensures { (q : QueryData) (p : Known) → start ≤ count p → Serves q run → Searches q p start result }
@@ -60,6 +62,7 @@ fn begin_again(run: Run, start: u64) -> Run
 }
 
 /// Takes at most `budget` turns of a search, and adds the rows that it enters to their count.
+#[inline(always)]
 pub(crate) fn run_on<R: Rows, L: Ledger>(
     query: &Query,
     rows: &R,

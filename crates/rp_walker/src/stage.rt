@@ -28,6 +28,7 @@ pub enum Ended {
 
 impl Ended {
     /// The run, to be begun again.
+    #[inline(always)]
     pub(crate) fn into_run(self) -> Run
         ensures { result ≡ run_of self }
     {

@@ -43,6 +43,7 @@ pub struct Walker {
 
 impl Walker {
     /// The next row gives no item: it isn't shown, or its item was given before.
+    #[inline(always)]
     fn pass(&mut self, found: Ended, ahead: Ahead, seen: u64) -> Step
         requires { ahead.next < 2 ^ 64 - 1 }
         ensures went { result ≡ Step.Went }
@@ -109,6 +110,7 @@ impl Walker {
     }
 
     /// The present start row has ended.
+    #[inline(always)]
     fn end_row<R: Rows>(&mut self, query: &Query, rows: &R, found: Ended, ahead: Ahead) -> Step
         requires going { IsGoing (data_of query.now) self.old.state }
         requires gives { Gives (data_of query.now) (known_in R.known R.ending rows.now)
@@ -129,6 +131,7 @@ impl Walker {
     }
 
     /// The search from another row is next. It takes up this run.
+    #[inline(always)]
     fn go_to(&mut self, next: Place, run: Run) -> Step
         ensures went { result ≡ Step.Went }
         ensures now { self.new ≡
@@ -162,6 +165,7 @@ impl Walker {
     }
 
     /// Takes up the next row of a search that has ended.
+    #[inline(always)]
     fn give<R: Rows, L: Ledger>(
         &mut self,
         query: &Query,
@@ -198,6 +202,7 @@ impl Walker {
     }
 
     /// The search has ended.
+    #[inline(always)]
     fn begin_giving<R: Rows>(&mut self, query: &Query, rows: &R, found: Ended) -> Step
         requires going { IsGoing (data_of query.now) self.old.state }
         requires known { self.old.state.at ≤ length (R.known rows.now) }
@@ -219,6 +224,7 @@ impl Walker {
     }
 
     /// Takes at most `budget` turns of the search, and tells how many.
+    #[inline(always)]
     fn search<R: Rows, L: Ledger>(
         &mut self,
         query: &Query,
@@ -271,6 +277,7 @@ impl Walker {
     }
 
     /// Begins at a start row, with at most `budget` turns, and tells how many.
+    #[inline(always)]
     fn begin_row<R: Rows, L: Ledger>(
         &mut self,
         query: &Query,
@@ -302,6 +309,7 @@ impl Walker {
     }
 
     /// Takes at most `budget` turns, those of a search at once, and tells how many.
+    #[inline(always)]
     fn advance<R: Rows, L: Ledger>(
         &mut self,
         query: &Query,

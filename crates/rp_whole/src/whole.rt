@@ -45,9 +45,8 @@ pub fn run_whole<R: Intake, W: Outlet>(
     ensures gave { result ≡ Err (WholeFault.Csv Turns) → IfSome (R.remaining reader.old) (λ text. reads ≤ length text) }
     ensures within { MakesCalls 0 reads (R.calls reader.old) (R.calls reader.new) }
 {
-    // The rows stay until all is written, so that they are given back in the order in which they lie.
     let rows = read_rows(alloc, reader, query.table(), reads)?;
-    let parts = partitions(alloc, &query, &rows)?;
+    let parts = partitions(alloc, &query, rows)?;
     write_parts::<W, Brand>(alloc, &query, parts, writer, Blank::new(1))
 }
 

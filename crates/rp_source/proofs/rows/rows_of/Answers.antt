@@ -1,10 +1,10 @@
 use Rattle.std.proofs.Common.{◌≡◌, ◌≤◌, ◌+◌, ◌∷◌, [], true, false, rules, arith}
-use Rattle.std.specs.Result.{is_ok}
 use Rattle.csv.specs.Records.{fields_of}
+use Rattle.rp_value.specs.RowLists.{gathered}
 use Rattle.rp_source.specs.CsvRows.{IsTextFault}
 use Rattle.rp_source.specs.Headers.{NamesColumns}
 use Rattle.rp_source.specs.declared.rows.TheConstants.{MAX_RECORDS}
-use Rattle.rp_source.proofs.Taking.{all_taken, fault_taken, first_taken, limit_taken, no_header, other_header, taken_more}
+use Rattle.rp_source.proofs.TakenRecords.{all_taken, fault_taken, first_taken, limit_taken, no_header, other_header, taken_more}
 use Rattle.rp_source.proofs.rows.rows_of.Goals as goal
 
 pub returns-then-not-branch-clause-err : goal.returns-then-not-branch-clause-err
@@ -26,7 +26,7 @@ loop-number-init c =
     let at = rw found at (c.in_ok-take_record.ensures c.args.text.now [] c.reader_of-reader.ensures) in
     let told : c.in_ok-names_columns.field-0 ≡ true = search rules in
     let named : NamesColumns c.args.table.now (fields_of c.take_record.new.fields) = rw (told, c.columns.ensures.columns) at c.in_ok-names_columns.ensures in
-    rw c.new-rows.ensures.items (first_taken c.args.table.now c.args.text.now c.take_record.new.reader (fields_of c.take_record.new.fields) at named)
+    rw c.in_ok-taking.ensures (first_taken c.args.table.now c.args.text.now c.take_record.new.reader (fields_of c.take_record.new.fields) at named)
 
 pub returns-then-not-branch-3-clause-ok : goal.returns-then-not-branch-3-clause-ok
 returns-then-not-branch-3-clause-ok c =
@@ -34,15 +34,15 @@ returns-then-not-branch-3-clause-ok c =
     let found : c.in_ok-take_record-2.field-0 ≡ false = search rules in
     let all = rw found at (c.in_ok-take_record-2.ensures c.args.text.now (t.header ∷ t.records) t.stands) in
     let small : c.loop-number.number ≤ MAX_RECORDS + 1 = omega arith in
-    all_taken c.args.table.now c.args.text.now c.loop-number.rows.items c.loop-number.number c.loop-number.reader t small all
+    rw c.in_ok-into_rows.ensures (all_taken c.args.table.now c.args.text.now (gathered c.loop-number.taking.rows) c.loop-number.number c.loop-number.reader t small all)
 
-pub returns-in_err-row-clause-err : goal.returns-in_err-row-clause-err
-returns-in_err-row-clause-err c =
+pub returns-in_err-fields-clause-err : goal.returns-in_err-fields-clause-err
+returns-in_err-fields-clause-err c =
     let t = c.loop-number.invariant in
     let found : c.in_ok-take_record-2.field-0 ≡ true = search rules in
     let at = rw found at (c.in_ok-take_record-2.ensures c.args.text.now (t.header ∷ t.records) t.stands) in
     let small : c.loop-number.number ≤ MAX_RECORDS = omega arith in
-    let is : IsTextFault c.args.table.now c.args.text.now c.in_err-row.field-0.0 = fault_taken c.args.table.now c.args.text.now c.loop-number.rows.items c.loop-number.number c.loop-number.reader t c.take_record-in-loop-number.new.reader (fields_of c.take_record-in-loop-number.new.fields) c.in_err-row.field-0.0 small at c.in_err-row.ensures.err in
+    let is : IsTextFault c.args.table.now c.args.text.now c.in_err-fields.field-0.0 = fault_taken c.args.table.now c.args.text.now (gathered c.loop-number.taking.rows) c.loop-number.number c.loop-number.reader t c.take_record-in-loop-number.new.reader (fields_of c.take_record-in-loop-number.new.fields) c.in_err-fields.field-0.0 small at c.in_err-fields.ensures.err in
     search (rules, is)
 
 pub loop-number-preserved : goal.loop-number-preserved
@@ -50,9 +50,8 @@ loop-number-preserved c =
     let t = c.loop-number.invariant in
     let found : c.in_ok-take_record-2.field-0 ≡ true = search rules in
     let at = rw found at (c.in_ok-take_record-2.ensures c.args.text.now (t.header ∷ t.records) t.stands) in
-    let good : is_ok c.push.result ≡ true = search rules in
-    let items = rw good at c.push.ensures.items in
-    rw items (taken_more c.args.table.now c.args.text.now c.loop-number.rows.items c.loop-number.number c.loop-number.reader t c.take_record-in-loop-number.new.reader (fields_of c.take_record-in-loop-number.new.fields) c.in_ok-row.row at c.in_ok-row.ensures.ok)
+    let one = c.in_ok-fields.ensures.ok in
+    rw one.2 (taken_more c.args.table.now c.args.text.now (gathered c.loop-number.taking.rows) c.loop-number.number c.loop-number.reader t c.take_record-in-loop-number.new.reader (fields_of c.take_record-in-loop-number.new.fields) one.0 at one.1)
 
 pub returns-then-branch-clause-err : goal.returns-then-branch-clause-err
 returns-then-branch-clause-err c =
@@ -60,7 +59,7 @@ returns-then-branch-clause-err c =
     let found : c.in_ok-take_record-3.field-0 ≡ true = search rules in
     let at = rw found at (c.in_ok-take_record-3.ensures c.args.text.now (t.header ∷ t.records) t.stands) in
     let last : c.loop-number.number ≡ MAX_RECORDS + 1 = omega arith in
-    limit_taken c.args.table.now c.args.text.now c.loop-number.rows.items c.loop-number.number c.loop-number.reader t c.take_record-2.new.reader (fields_of c.take_record-2.new.fields) at last
+    limit_taken c.args.table.now c.args.text.now (gathered c.loop-number.taking.rows) c.loop-number.number c.loop-number.reader t c.take_record-2.new.reader (fields_of c.take_record-2.new.fields) at last
 
 pub returns-clause-ok : goal.returns-clause-ok
 returns-clause-ok c =
@@ -68,4 +67,4 @@ returns-clause-ok c =
     let found : c.in_ok-take_record-3.field-0 ≡ false = search rules in
     let all = rw found at (c.in_ok-take_record-3.ensures c.args.text.now (t.header ∷ t.records) t.stands) in
     let small : c.loop-number.number ≤ MAX_RECORDS + 1 = omega arith in
-    all_taken c.args.table.now c.args.text.now c.loop-number.rows.items c.loop-number.number c.loop-number.reader t small all
+    rw c.in_ok-into_rows-2.ensures (all_taken c.args.table.now c.args.text.now (gathered c.loop-number.taking.rows) c.loop-number.number c.loop-number.reader t small all)

@@ -11,8 +11,7 @@ returns-clause-written g c =
     let q = data_of c.args.query in
     let input = g.R.Intake.remaining c.args.reader.now in
     let read : IfSome input (λ text. AreRowsOf q.table text c.in_ok-rows.rows.items) = subst (λ table. IfSome input (λ text. AreRowsOf table text c.in_ok-rows.rows.items)) c.table.ensures c.in_ok-rows.ensures.ok in
-    let are : parts_of c.in_ok-parts.parts.items ≡ partitions q.partition.items c.in_ok-rows.rows.items =
-    subst (λ rows. parts_of c.in_ok-parts.parts.items ≡ partitions q.partition.items rows) c.deref.ensures.value c.in_ok-parts.ensures in
+    let are : parts_of c.in_ok-parts.parts.items ≡ partitions q.partition.items c.in_ok-rows.rows.items = c.in_ok-parts.ensures in
     wrote_lines q c.in_ok-rows.rows.items (parts_of c.in_ok-parts.parts.items) are c.write_parts.result input
     (g.W.Outlet.contents c.args.writer.now) (g.W.Outlet.contents c.write_parts.new.writer) read c.write_parts.ensures.written
 
@@ -23,7 +22,6 @@ returns-clause-front g c =
     let old = g.W.Outlet.contents c.args.writer.now in
     let new = g.W.Outlet.contents c.write_parts.new.writer in
     let read : IfSome input (λ text. AreRowsOf q.table text c.in_ok-rows.rows.items) = subst (λ table. IfSome input (λ text. AreRowsOf table text c.in_ok-rows.rows.items)) c.table.ensures c.in_ok-rows.ensures.ok in
-    let are : parts_of c.in_ok-parts.parts.items ≡ partitions q.partition.items c.in_ok-rows.rows.items =
-    subst (λ rows. parts_of c.in_ok-parts.parts.items ≡ partitions q.partition.items rows) c.deref.ensures.value c.in_ok-parts.ensures in
+    let are : parts_of c.in_ok-parts.parts.items ≡ partitions q.partition.items c.in_ok-rows.rows.items = c.in_ok-parts.ensures in
     wrote_front q input old c.write_parts.result new c.write_parts.ensures.fault
     (front_of_lines q c.in_ok-rows.rows.items (parts_of c.in_ok-parts.parts.items) are c.write_parts.result input old new read c.write_parts.ensures.front)
