@@ -26,9 +26,6 @@ left_is depth n xs le beyond last =
     let same : n ≡ length xs - suffix_len (nat_le depth) xs = omega (arith, size) in
     ap (λ k. take k xs) same
 
-pub left_of_none : (depth : ℕ) → places_to depth [] ≡ []
-left_of_none depth = refl
-
 -- at depth 0 none is left
 pub none_left : (xs : List ℕ) → places_to 0 xs ≡ []
 none_left xs = sym (left_is 0 0 xs (omega arith) (λ k from lt. omega arith) (λ some. absurd (omega arith)))

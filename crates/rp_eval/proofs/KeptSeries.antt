@@ -20,7 +20,7 @@ use Rattle.rp_eval.specs.Aggregated.{aggregate}
 use Rattle.rp_eval.specs.Tallies.{no_tally, with_row, tally_of, tally_value}
 use Rattle.rp_eval.specs.Kept.{Kept, tally_over, tallies_to, tallied, kept_of, tally_at, places_to, cut_back}
 use Rattle.rp_eval.proofs.MappedRows.{one_if, rows_of-last, rows_few, rows_each, listed_each}
-use Rattle.rp_eval.proofs.Below.{left_of_none, none_left, rows_left, rows_ascend, rows_from}
+use Rattle.rp_eval.proofs.Below.{none_left, rows_left, rows_ascend, rows_from}
 use Rattle.rp_eval.proofs.Tallied.{IsWithin, tally_within, tally_is}
 
 -- ---- the tallies of all depths
@@ -145,11 +145,11 @@ last_few p t start ls before l k old is keeps kept old_is = subst (IsWithin (len
 
 listed_left : (f : Function) (vs : Variables) (d : ℕ) (ls : List Label) → d ≤ length ls → places_to d (listed f (rows_of vs 0 ls)) ≡ listed f (rows_of vs 0 (take d ls))
 listed_left Listed vs d ls le = rows_left vs d ls le
-listed_left RowCount vs d ls le = left_of_none d
-listed_left (Count c) vs d ls le = left_of_none d
-listed_left (Sum c) vs d ls le = left_of_none d
-listed_left (Min c) vs d ls le = left_of_none d
-listed_left (Max c) vs d ls le = left_of_none d
+listed_left RowCount vs d ls le = refl
+listed_left (Count c) vs d ls le = refl
+listed_left (Sum c) vs d ls le = refl
+listed_left (Min c) vs d ls le = refl
+listed_left (Max c) vs d ls le = refl
 
 pub kept_cut : (p : Rows) (t : Total) (start d : ℕ) (ls : List Label) → d ≤ length ls → cut_back d (kept_of p start ls t) ≡ kept_of p start (take d ls) t
 kept_cut p t start d ls le =
@@ -318,20 +318,20 @@ listed_at p t start d ls k le is =
 
 -- ---- the value of an aggregate, by what is kept
 
-value_kept : (p : Rows) (f : Function) (t : Total) (start d : ℕ) (ls : List Label) → f ≡ t.function → d ≤ length ls →
+value_kept : (p : Rows) (f : Function) (t : Total) (start d : ℕ) (ls : List Label) → d ≤ length ls →
     tally_value p f (tally_at (tallied f (tallies_to p t start ls (length ls))) d) ≡ tally_value p f (tally_over p t start (take d ls))
-value_kept p Listed t start d ls is le = refl
-value_kept p RowCount t start d ls is le = ap (tally_value p RowCount) (tally_at_depth p t start ls (length ls) d le)
-value_kept p (Count c) t start d ls is le = ap (tally_value p (Count c)) (tally_at_depth p t start ls (length ls) d le)
-value_kept p (Sum c) t start d ls is le = ap (tally_value p (Sum c)) (tally_at_depth p t start ls (length ls) d le)
-value_kept p (Min c) t start d ls is le = ap (tally_value p (Min c)) (tally_at_depth p t start ls (length ls) d le)
-value_kept p (Max c) t start d ls is le = ap (tally_value p (Max c)) (tally_at_depth p t start ls (length ls) d le)
+value_kept p Listed t start d ls le = refl
+value_kept p RowCount t start d ls le = ap (tally_value p RowCount) (tally_at_depth p t start ls (length ls) d le)
+value_kept p (Count c) t start d ls le = ap (tally_value p (Count c)) (tally_at_depth p t start ls (length ls) d le)
+value_kept p (Sum c) t start d ls le = ap (tally_value p (Sum c)) (tally_at_depth p t start ls (length ls) d le)
+value_kept p (Min c) t start d ls le = ap (tally_value p (Min c)) (tally_at_depth p t start ls (length ls) d le)
+value_kept p (Max c) t start d ls le = ap (tally_value p (Max c)) (tally_at_depth p t start ls (length ls) d le)
 
 pub value_at : (p : Rows) (t : Total) (start d : ℕ) (ls : List Label) (k : Kept) → d ≤ length ls → k ≡ kept_of p start ls t →
     tally_value p t.function (tally_at k.tallies d) ≡ aggregate p t.function (rows_of t.variables start (take d ls))
 value_at p t start d ls k le is =
     ap (λ (z : Kept). tally_value p t.function (tally_at z.tallies d)) is
-    ∙ value_kept p t.function t start d ls refl le
+    ∙ value_kept p t.function t start d ls le
     ∙ tally_is p t.function (rows_of t.variables start (take d ls))
 
 -- ---- by number
