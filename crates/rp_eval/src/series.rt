@@ -133,7 +133,7 @@ fn places_below(places: &[usize], depth: usize) -> usize
     if *last < depth {
         return places.len();
     }
-    // Where a variable's labels are one run, so many of them are beyond the depth as it lies before the last.
+    // In one run of labels the place at the depth stands as far before the last one as it is less.
     let at = (places.len() - 1).saturating_sub(*last - depth);
     if places[at] >= depth && (at == 0 || places[at - 1] < depth) {
         return at;
