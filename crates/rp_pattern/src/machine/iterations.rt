@@ -119,7 +119,7 @@ impl Iterations {
         Ok(())
     }
 
-    /// An iteration of `body`, which is theirs, and then `lower` required ones. They are moved behind it, not shared.
+    /// An iteration, and then `lower` required ones, for which these iterations are moved, not shared. `body` is their own.
     #[inline(always)]
     pub(crate) fn into_first(
         self,

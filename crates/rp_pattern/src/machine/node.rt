@@ -74,21 +74,11 @@ impl Node {
     {
         match form {
             Form::Concatenation(first, second) => {
-                self.take_concatenation(alloc, first, second, then, split)?;
+                *split = Split::one(Some(self.first_part(alloc, first, second, then)?));
                 Ok(Expansion::Split)
             }
             Form::Alternation(first, second) => {
                 self.take_alternation(first, second, then, split)?;
-                Ok(Expansion::Split)
-            }
-            Form::Quantified {
-                body,
-                lower,
-                upper,
-                reluctant,
-            } if *lower > 0 => {
-                let first = self.first_of(alloc, body, *lower, *upper, *reluctant, then)?;
-                *split = Split::one(Some(first));
                 Ok(Expansion::Split)
             }
             _ => self.take_other(alloc, form, then, row, n, end, split),
@@ -112,7 +102,8 @@ impl Node {
         Ok((expansion, split))
     }
 
-    /// The same where it isn't two parts: few choices begin so.
+    /// The same where it isn't two parts. A required iteration comes up more often than the rest, and is one choice, so no
+    /// pair is moved. `split` is set in one place: each drops what it held, and with one more the whole isn't inlined.
     #[inline(always)]
     fn take_other(
         &self,
@@ -130,7 +121,18 @@ impl Node {
         ensures { IfOk result (TakenUp n end row (λ n e. node_part n e self.now
             ∷ tail_parts n e then.now) split.new) }
     {
-        let (expansion, other) = self.take_other_apart(alloc, form, then, row, n, end)?;
+        let (expansion, other) = match form {
+            Form::Quantified {
+                body,
+                lower,
+                upper,
+                reluctant,
+            } if *lower > 0 => {
+                let first = self.first_iteration(alloc, body, *lower, *upper, *reluctant, then)?;
+                (Expansion::Split, Split::one(Some(first)))
+            }
+            _ => self.take_other_apart(alloc, form, then, row, n, end)?,
+        };
         *split = other;
         Ok(expansion)
     }
@@ -177,33 +179,52 @@ impl Node {
         }
     }
 
-    /// The two parts, one after the other.
+    /// The first of two parts, before the second one.
     #[inline(always)]
-    fn take_concatenation(
+    fn first_part(
         &self,
         alloc: Global,
         first: &Rc<Form>,
         second: &Rc<Form>,
         then: &Tail,
-        split: &mut Split,
-    ) -> Result<(), AllocError>
+    ) -> Result<Continuation, AllocError>
         requires { self.now.form.value ≡ Form.Concatenation first.now second.now }
-        ensures { OnOk result ((row : ℕ) →
-            AlwaysSplits row (λ n e. node_part n e self.now ∷ tail_parts n e then.now) split.new) }
+        ensures { IfOk result (λ first. (row : ℕ) →
+            AlwaysSplits row (λ n e. node_part n e self.now ∷ tail_parts n e then.now)
+            (record { preferred = None; other = Some first })) }
     {
         let next = Node::of(second, self.excluded)?;
         let then = share(then)?;
         if let Form::Variable(var) = &**first {
-            *split = Split::one(Some(Continuation::Row {
+            return Ok(Continuation::Row {
                 var: *var,
                 next,
                 then,
-            }));
-            return Ok(());
+            });
         }
         let later = linked(alloc, None, Part::Whole(next), then)?;
-        *split = Split::one(Some(before(first, self.excluded, later)?));
-        Ok(())
+        before(first, self.excluded, later)
+    }
+
+    /// The first iteration of a quantified part that requires one, before the others, in a call of its own.
+    #[inline(never)]
+    fn first_iteration(
+        &self,
+        alloc: Global,
+        body: &Rc<Form>,
+        lower: u32,
+        upper: Option<u32>,
+        reluctant: bool,
+        then: &Tail,
+    ) -> Result<Continuation, AllocError>
+        requires some { 0 < lower }
+        requires form { self.now.form.value ≡ Form.Quantified body.now lower upper reluctant }
+        ensures { IfOk result (λ first. (row : ℕ) →
+            AlwaysSplits row (λ n e. node_part n e self.now ∷ tail_parts n e then.now)
+            (record { preferred = None; other = Some first })) }
+    {
+        let iterations = self.iterations(body, lower, upper, reluctant)?;
+        iterations.into_first(alloc, body, self.excluded, lower - 1, then)
     }
 
     /// Either part.
@@ -275,27 +296,6 @@ impl Node {
             AlwaysSplits row (λ n e. node_part n e self.now ∷ tail_parts n e then.now) split) }
     {
         Ok(Split::one(Some(before(body, true, share(then)?)?)))
-    }
-
-    /// The first iteration of a quantified part that requires one, before the others. It has a call of its own.
-    #[inline(never)]
-    fn first_of(
-        &self,
-        alloc: Global,
-        body: &Rc<Form>,
-        lower: u32,
-        upper: Option<u32>,
-        reluctant: bool,
-        then: &Tail,
-    ) -> Result<Continuation, AllocError>
-        requires some { 0 < lower }
-        requires form { self.now.form.value ≡ Form.Quantified body.now lower upper reluctant }
-        ensures { IfOk result (λ first. (row : ℕ) →
-            AlwaysSplits row (λ n e. node_part n e self.now ∷ tail_parts n e then.now)
-            (record { preferred = None; other = Some first })) }
-    {
-        let iterations = self.iterations(body, lower, upper, reluctant)?;
-        iterations.into_first(alloc, body, self.excluded, lower - 1, then)
     }
 
     /// The iterations of a quantified part.

@@ -3,7 +3,7 @@ use Rattle.rp_pattern.specs.Continuations.{iterations_part, node_part, tail_part
 use Rattle.rp_pattern.specs.Splits.{AlwaysSplits, SplitsAt}
 use Rattle.rp_pattern.proofs.OrderRests.{IfOk-map}
 use Rattle.rp_pattern.proofs.Steps.{same_splits}
-use Rattle.rp_pattern.proofs.machine.node.Node.first_of.Goals as goal
+use Rattle.rp_pattern.proofs.machine.node.Node.first_iteration.Goals as goal
 
 pub returns : goal.returns
 returns c =
