@@ -16,7 +16,7 @@ use std::marker::Model;
 pub struct Series {
     /// That of the first label, that of the first two, and so on.
     tallies: Vec<Tally>,
-    /// Ascending, from 0 on. The row of a label lies as far after the start row.
+    /// How many labels stand before each label of the total's variables, ascending: its row lies as far after the start row.
     places: Vec<usize>,
 }
 
@@ -133,7 +133,8 @@ fn places_below(places: &[usize], depth: usize) -> usize
     if *last < depth {
         return places.len();
     }
-    // In one run of labels the place at the depth stands as far before the last one as it is less.
+    // Where all labels from the depth on are the total's, the first place that isn't below it stands as far before the last
+    // one as the depth is less than that.
     let at = (places.len() - 1).saturating_sub(*last - depth);
     if places[at] >= depth && (at == 0 || places[at - 1] < depth) {
         return at;

@@ -15,8 +15,8 @@ use std::marker::Model;
 /// Contracts see it as the rows that it holds with their numbers, the number below which all were taken and dropped,
 /// and the count of its close (`Fed`).
 ///
-/// A feed takes 72 bytes where it stands, and no other memory before its first row; with one row 64 bytes more, four
-/// places of 16. A number that is missing below the greatest one takes a place too. Places grow by doubling and are used
+/// A feed takes 72 bytes where it stands, and no other memory before its first row; with one row 96 bytes more, four
+/// places of 24. A number that is missing below the greatest one takes a place too. Places grow by doubling and are used
 /// again, and none is given back before the feed is dropped.
 #[derive(Debug, Drop)]
 pub struct Feed {

@@ -14,7 +14,8 @@ use std::alloc::{AllocError, Global};
 /// The rows of each key, by the first appearance of the key.
 type Parts = IndexMap<Cells, Vec<Row>>;
 
-/// The partitions of rows by the query, by first appearance: the key of each, and its rows as they came.
+/// The partitions of rows by the query, by first appearance: the key of each, and its rows as they came. After want of
+/// memory the rows are dropped.
 pub fn partitions(
     alloc: Global,
     query: &Query,

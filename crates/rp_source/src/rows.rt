@@ -60,6 +60,9 @@ impl<T: Drop> From<AllocFailed<T>> for CsvFault {
 /// Of the records after it an empty field is null, any other UTF-8; that of a column of whole numbers is a sign or none
 /// and digits, within 64 bits. The error is the first of the text: the header's, then the records' in order, where the
 /// number of fields is looked at before what they are.
+///
+/// Rows that were read one after another share blocks of memory (`RowList`): who keeps a few of many rows for long keeps the
+/// blocks in which they lie.
 pub fn rows_of(alloc: Global, text: &[u8], table: &Table) -> Result<Vec<Row>, CsvFault>
     ensures ok { IfOk result (λ rows. AreRowsOf table.now text.now rows.items) }
     ensures err { IfErr result (λ fault. IsTextFault table.now text.now fault) }

@@ -1,7 +1,7 @@
 //! Records taken as rows, one after another.
 ghost use Rattle.std.specs.Prelude.{◌≡◌, [], IfErr, IfOk, OnOk};
 ghost use Rattle.csv.specs.Records.{fields_of};
-ghost use Rattle.rp_value.specs.RowLists.{gathered};
+ghost use Rattle.rp_value.specs.RowLists.{rows_added};
 ghost use Rattle.rp_value.specs.Tables.{kinds_of};
 
 use crate::fields::take_values;
@@ -11,7 +11,8 @@ use csv::{ByteRecord, StringRecord};
 use rp_value::{Row, RowList, Table, Value};
 use std::alloc::{AllocError, Global};
 
-/// The rows of the records so far, and what the next one finds: the texts that rows share, and room for its cells.
+/// The rows of the records so far, and what is used again for the next one: the texts that rows share, and the room of its
+/// cells.
 #[derive(Drop)]
 pub(crate) struct Taking {
     texts: Texts,
@@ -24,7 +25,7 @@ impl Taking {
 
     /// No record was taken yet.
     pub(crate) fn new(alloc: Global) -> Result<Taking, AllocError>
-        ensures { IfOk result (λ taking. gathered taking.rows ≡ []) }
+        ensures { IfOk result (λ taking. rows_added taking.rows ≡ []) }
     {
         Ok(Taking {
             texts: Texts::new(alloc)?,
@@ -42,7 +43,7 @@ impl Taking {
         number: u64,
     ) -> Result<ByteRecord, CsvFault>
         ensures ok { OnOk result
-            (TakesOne (kinds_of table.now) (fields_of fields) (gathered self.old.rows) (gathered self.new.rows)) }
+            (TakesOne (kinds_of table.now) (fields_of fields) (rows_added self.old.rows) (rows_added self.new.rows)) }
         ensures err { IfErr result (λ fault. IsRowFault (kinds_of table.now) (fields_of fields) number fault) }
     {
         let columns = table.columns();
@@ -59,9 +60,9 @@ impl Taking {
         Ok(fields.into_byte_record())
     }
 
-    /// The rows of all records.
+    /// The rows of all records. After want of memory they are dropped.
     pub(crate) fn into_rows(self) -> Result<Vec<Row>, AllocError>
-        ensures { IfOk result (λ rows. rows.items ≡ gathered self.rows) }
+        ensures { IfOk result (λ rows. rows.items ≡ rows_added self.rows) }
     {
         self.rows.into_rows()
     }

@@ -110,7 +110,7 @@ impl Row {
 }
 
 #[tactic(auto, using(crate::proofs::Blocks::one_row_more))]
-/// Adds the rows of a block to a list: so many of this width as `cells` were cut apart into.
+/// Adds `count` rows of `width` cells each, which lie one after another in `cells`.
 pub(crate) fn add_rows(
     alloc: Global,
     rows: &mut Vec<Row>,
@@ -121,15 +121,16 @@ pub(crate) fn add_rows(
     requires { length cells.items ≡ count * width }
     ensures { OnOk result (rows.new.items ≡ rows.old.items ++ cut_apart width count cells.items) }
 {
+    if count == 0 {
+        return Ok(());
+    }
     let block = Rc::new(alloc, Block { width, cells })?;
     for index in 0..count {
         let row = Row {
             block: block.clone()?,
             from: index * width,
         };
-        if rows.push(row).is_err() {
-            return Err(AllocError);
-        }
+        rows.push(row)?;
     }
     Ok(())
 }

@@ -388,6 +388,56 @@ fn rows_of_several_widths(rt: HostRuntime) -> Result<(), Fail> {
     Ok(())
 }
 
+/// Adds a row, once more where memory was refused.
+fn push_row(list: &mut RowList, cells: &mut Vec<Value>) -> Result<(), AllocError> {
+    match list.push(cells) {
+        Err(AllocError) => list.push(cells),
+        Ok(()) => Ok(()),
+    }
+}
+
+#[test]
+fn refused_rows(rt: HostRuntime) -> Result<(), Fail> {
+    let alloc = rt.alloc();
+    let mut list = RowList::new(alloc);
+    let mut cells = vec![in alloc; Value::Int(1)]?;
+    push_row(&mut list, &mut cells)?;
+    cells.push(Value::Int(2))?;
+    cells.push(Value::Int(3))?;
+    push_row(&mut list, &mut cells)?;
+    cells.push(Value::Int(4))?;
+    push_row(&mut list, &mut cells)?;
+    let rows = list.into_rows()?;
+    let widths: Vec<usize> = rows.iter().map(|row| row.cells().len()).collect(alloc)?;
+    assert_eq!(rt; widths.as_slice(), [1, 2, 1].as_slice());
+    assert_eq!(rt;
+        rows.first().and_then(|row| row.cell(1)),
+        Some(&Value::Int(1))
+    );
+    assert_eq!(rt;
+        rows.last().and_then(|row| row.cell(1)),
+        Some(&Value::Int(4))
+    );
+    Ok(())
+}
+
+#[test]
+fn rows_of_many_columns(rt: HostRuntime) -> Result<(), Fail> {
+    let alloc = rt.alloc();
+    let mut list = RowList::new(alloc);
+    for _ in 0..20 {
+        let mut cells: Vec<Value> = (1..1001).map(Value::Int).collect(alloc)?;
+        list.push(&mut cells)?;
+    }
+    let rows = list.into_rows()?;
+    assert_eq!(rt; rows.len(), 20);
+    assert_eq!(rt;
+        rows.last().and_then(|row| row.cell(1000)),
+        Some(&Value::Int(1000))
+    );
+    Ok(())
+}
+
 /// The cells of a row of the table SYM text, P int.
 fn sale(alloc: Global) -> Result<Vec<Value>, AllocError> {
     Ok(vec![in alloc; text(alloc, "x")?, Value::Int(2)]?)

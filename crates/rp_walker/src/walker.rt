@@ -308,7 +308,8 @@ impl Walker {
         self.search(query, rows, run, budget, entered, steps)
     }
 
-    /// Takes at most `budget` turns, those of a search at once, and tells how many.
+    /// Takes at most `budget` turns, those of a search at once, and tells how many. What a turn does is inlined, since its
+    /// stage and the run would else be moved from call to call.
     #[inline(always)]
     fn advance<R: Rows, L: Ledger>(
         &mut self,

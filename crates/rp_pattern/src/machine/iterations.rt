@@ -119,7 +119,8 @@ impl Iterations {
         Ok(())
     }
 
-    /// An iteration, and then `lower` required ones, for which these iterations are moved, not shared. `body` is their own.
+    /// An iteration of `body`, and then `lower` required ones. `body` and `excluded` are those of these iterations, which move
+    /// into what comes after.
     #[inline(always)]
     pub(crate) fn into_first(
         self,

@@ -102,8 +102,8 @@ impl Node {
         Ok((expansion, split))
     }
 
-    /// The same where it isn't two parts. A required iteration comes up more often than the rest, and is one choice, so no
-    /// pair is moved. `split` is set in one place: each drops what it held, and with one more the whole isn't inlined.
+    /// The same where it isn't two parts. A required iteration comes up more often than the rest, so it has a call that gives
+    /// its one choice. `split` is set once, since that drops what it held, and twice would be too large to be inlined.
     #[inline(always)]
     fn take_other(
         &self,

@@ -1,6 +1,6 @@
 use Rattle.std.proofs.Common.{◌≡◌, ◌≤◌, ◌+◌, ◌∷◌, [], true, false, rules, arith}
 use Rattle.csv.specs.Records.{fields_of}
-use Rattle.rp_value.specs.RowLists.{gathered}
+use Rattle.rp_value.specs.RowLists.{rows_added}
 use Rattle.rp_source.specs.CsvRows.{IsTextFault}
 use Rattle.rp_source.specs.Headers.{NamesColumns}
 use Rattle.rp_source.specs.declared.rows.TheConstants.{MAX_RECORDS}
@@ -34,7 +34,7 @@ returns-then-not-branch-3-clause-ok c =
     let found : c.in_ok-take_record-2.field-0 ≡ false = search rules in
     let all = rw found at (c.in_ok-take_record-2.ensures c.args.text.now (t.header ∷ t.records) t.stands) in
     let small : c.loop-number.number ≤ MAX_RECORDS + 1 = omega arith in
-    rw c.in_ok-into_rows.ensures (all_taken c.args.table.now c.args.text.now (gathered c.loop-number.taking.rows) c.loop-number.number c.loop-number.reader t small all)
+    rw c.in_ok-into_rows.ensures (all_taken c.args.table.now c.args.text.now (rows_added c.loop-number.taking.rows) c.loop-number.number c.loop-number.reader t small all)
 
 pub returns-in_err-fields-clause-err : goal.returns-in_err-fields-clause-err
 returns-in_err-fields-clause-err c =
@@ -42,7 +42,7 @@ returns-in_err-fields-clause-err c =
     let found : c.in_ok-take_record-2.field-0 ≡ true = search rules in
     let at = rw found at (c.in_ok-take_record-2.ensures c.args.text.now (t.header ∷ t.records) t.stands) in
     let small : c.loop-number.number ≤ MAX_RECORDS = omega arith in
-    let is : IsTextFault c.args.table.now c.args.text.now c.in_err-fields.field-0.0 = fault_taken c.args.table.now c.args.text.now (gathered c.loop-number.taking.rows) c.loop-number.number c.loop-number.reader t c.take_record-in-loop-number.new.reader (fields_of c.take_record-in-loop-number.new.fields) c.in_err-fields.field-0.0 small at c.in_err-fields.ensures.err in
+    let is : IsTextFault c.args.table.now c.args.text.now c.in_err-fields.field-0.0 = fault_taken c.args.table.now c.args.text.now (rows_added c.loop-number.taking.rows) c.loop-number.number c.loop-number.reader t c.take_record-in-loop-number.new.reader (fields_of c.take_record-in-loop-number.new.fields) c.in_err-fields.field-0.0 small at c.in_err-fields.ensures.err in
     search (rules, is)
 
 pub loop-number-preserved : goal.loop-number-preserved
@@ -51,7 +51,7 @@ loop-number-preserved c =
     let found : c.in_ok-take_record-2.field-0 ≡ true = search rules in
     let at = rw found at (c.in_ok-take_record-2.ensures c.args.text.now (t.header ∷ t.records) t.stands) in
     let one = c.in_ok-fields.ensures.ok in
-    rw one.2 (taken_more c.args.table.now c.args.text.now (gathered c.loop-number.taking.rows) c.loop-number.number c.loop-number.reader t c.take_record-in-loop-number.new.reader (fields_of c.take_record-in-loop-number.new.fields) one.0 at one.1)
+    rw one.2 (taken_more c.args.table.now c.args.text.now (rows_added c.loop-number.taking.rows) c.loop-number.number c.loop-number.reader t c.take_record-in-loop-number.new.reader (fields_of c.take_record-in-loop-number.new.fields) one.0 at one.1)
 
 pub returns-then-branch-clause-err : goal.returns-then-branch-clause-err
 returns-then-branch-clause-err c =
@@ -59,7 +59,7 @@ returns-then-branch-clause-err c =
     let found : c.in_ok-take_record-3.field-0 ≡ true = search rules in
     let at = rw found at (c.in_ok-take_record-3.ensures c.args.text.now (t.header ∷ t.records) t.stands) in
     let last : c.loop-number.number ≡ MAX_RECORDS + 1 = omega arith in
-    limit_taken c.args.table.now c.args.text.now (gathered c.loop-number.taking.rows) c.loop-number.number c.loop-number.reader t c.take_record-2.new.reader (fields_of c.take_record-2.new.fields) at last
+    limit_taken c.args.table.now c.args.text.now (rows_added c.loop-number.taking.rows) c.loop-number.number c.loop-number.reader t c.take_record-2.new.reader (fields_of c.take_record-2.new.fields) at last
 
 pub returns-clause-ok : goal.returns-clause-ok
 returns-clause-ok c =
@@ -67,4 +67,4 @@ returns-clause-ok c =
     let found : c.in_ok-take_record-3.field-0 ≡ false = search rules in
     let all = rw found at (c.in_ok-take_record-3.ensures c.args.text.now (t.header ∷ t.records) t.stands) in
     let small : c.loop-number.number ≤ MAX_RECORDS + 1 = omega arith in
-    rw c.in_ok-into_rows-2.ensures (all_taken c.args.table.now c.args.text.now (gathered c.loop-number.taking.rows) c.loop-number.number c.loop-number.reader t small all)
+    rw c.in_ok-into_rows-2.ensures (all_taken c.args.table.now c.args.text.now (rows_added c.loop-number.taking.rows) c.loop-number.number c.loop-number.reader t small all)

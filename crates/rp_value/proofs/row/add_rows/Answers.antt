@@ -4,6 +4,12 @@ use Rattle.rp_value.specs.Blocks.{cut_apart}
 use Rattle.rp_value.proofs.Blocks.{one_row_more}
 use Rattle.rp_value.proofs.row.add_rows.Goals as goal
 
+pub returns-then-count-eq0 : goal.returns-then-count-eq0
+unfolding cut_apart
+returns-then-count-eq0 c =
+    let none : c.args.count ≡ 0 = search rules in
+    sym (append-nil c.args.rows.now.items) ∙ ap (λ count. c.args.rows.now.items ++ cut_apart c.args.width count c.args.cells.items) (sym none)
+
 pub loop-index-init : goal.loop-index-init
 unfolding cut_apart
 loop-index-init c = record { block = search rules; rows = sym (append-nil _) }
