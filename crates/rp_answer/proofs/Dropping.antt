@@ -2,14 +2,15 @@
 use Rattle.std.proofs.Common.{◌≡◌, ℕ, zero, suc, ◌+◌, ◌-◌, ◌≤◌, max, [], ◌∷◌, length, drop, Bool, true, false, cond, refl, sym, ap, ◌∙◌, subst, inl, inr, ◌⊎◌, Result, Ok, Err, arith}
 use Rattle.std.specs.Prelude.{slice_get, OnErr}
 use Rattle.rp_eval.specs.Partition.{Rows, row_at}
-use Rattle.rp_check.specs.declared.query.QueryData.{QueryData}
-use Rattle.rp_known.specs.Known.{Known, count, GoesOnFrom}
+use Rattle.rp_query.specs.declared.query.QueryData.{QueryData}
+use Rattle.rp_known.specs.Known.{Known, count}
+use Rattle.rp_known.specs.WalkLaws.{GoesOnFrom}
 use Rattle.rp_known.specs.Plans.{first_read}
 use Rattle.rp_walker.specs.declared.poll.Poll.{Poll}
 use Rattle.rp_walker.specs.declared.poll.Poll.TheVariants.{Item as ItemPoll, Idle as IdlePoll, Paused as PausedPoll}
 use Rattle.rp_walker.specs.declared.record.MatcherState.{MatcherState}
 use Rattle.rp_walker.specs.FitLaws.{AgreesFrom}
-use Rattle.rp_check.specs.Sound.{IsSound}
+use Rattle.rp_query.specs.Sound.{IsSound}
 use Rattle.rp_walker.specs.declared.walker.Walker.{Walker}
 use Rattle.rp_walker.specs.Walking.{record_of, Stands, StandsStays}
 use Rattle.rp_known.specs.Walk.{here}

@@ -3,10 +3,11 @@ use Rattle.std.proofs.Common.{◌≡◌, ℕ, zero, suc, ◌-◌, ◌<◌, ◌�
 use Rattle.std.specs.Prelude.{slice_get, OnOk, OnErr, nat_le}
 use Rattle.std.proofs.lemmas.Bool.Decides.{nat_tests}
 use Rattle.rp_value.specs.declared.value.Value.{Value}
-use Rattle.rp_pattern.specs.declared.word.End.TheVariants.{Open as OpenEnd}
+use Rattle.rp_words.specs.declared.word.End.TheVariants.{Open as OpenEnd}
 use Rattle.rp_eval.specs.Partition.{Rows, row_at, row_from}
-use Rattle.rp_known.specs.Known.{Known, Continues}
-use Rattle.rp_check.specs.declared.query.QueryData.{QueryData}
+use Rattle.rp_known.specs.Known.{Known}
+use Rattle.rp_known.specs.WalkLaws.{Continues}
+use Rattle.rp_query.specs.declared.query.QueryData.{QueryData}
 use Rattle.rp_walker.specs.declared.walker.Walker.{Walker}
 use Rattle.rp_walker.specs.Polls.{left_in, entered_by}
 use Rattle.rp_walker.specs.Walking.{record_of}

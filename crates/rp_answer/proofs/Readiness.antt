@@ -1,8 +1,9 @@
 -- A matcher whose rows go on.
 use Rattle.std.proofs.Common.{◌≡◌, ℕ, ◌≤◌, sym, ◌∙◌, subst, arith}
-use Rattle.rp_check.specs.declared.query.QueryData.{QueryData}
-use Rattle.rp_check.specs.Sound.{IsSound}
-use Rattle.rp_known.specs.Known.{Known, Continues, GoesOnFrom}
+use Rattle.rp_query.specs.declared.query.QueryData.{QueryData}
+use Rattle.rp_query.specs.Sound.{IsSound}
+use Rattle.rp_known.specs.Known.{Known}
+use Rattle.rp_known.specs.WalkLaws.{Continues, GoesOnFrom}
 use Rattle.rp_known.specs.Plans.{first_read}
 use Rattle.rp_known.specs.WalkLaws.{ContinuationsGoOn}
 use Rattle.rp_walker.specs.declared.walker.Walker.{Walker}

@@ -2,11 +2,11 @@
 use Rattle.std.specs.Prelude.{ℕ, refl}
 use Rattle.std.specs.Coded.{Coded, code_by, coded×, coded_list, coded_ℕ}
 use Rattle.rp_value.specs.contracts.value.Value.{the_row as value_row}
-use Rattle.rp_pattern.specs.declared.word.End.{End}
-use Rattle.rp_pattern.specs.contracts.word.End.{the_row as end_row}
+use Rattle.rp_words.specs.declared.word.End.{End}
+use Rattle.rp_words.specs.contracts.word.End.{the_row as end_row}
 use Rattle.rp_eval.specs.Partition.{Rows}
-use Rattle.rp_check.specs.declared.query.QueryData.{QueryData}
-use Rattle.rp_check.specs.contracts.query.QueryData.{the_row as query_row}
+use Rattle.rp_query.specs.declared.query.QueryData.{QueryData}
+use Rattle.rp_query.specs.contracts.query.QueryData.{the_row as query_row}
 use Rattle.rp_known.specs.Known.{Known}
 use Rattle.rp_walker.specs.declared.record.MatcherState.{MatcherState}
 use Rattle.rp_walker.specs.contracts.record.MatcherState.{the_row as state_row}

@@ -1,10 +1,10 @@
 //! The rows that are kept of a partition.
 ghost use Rattle.std.specs.Prelude.{◌≡◌, ◌+◌, ◌-◌, ◌^◌, ◌<◌, ◌≤◌, [], ◌∷◌, ◌++◌, length, drop, max, ◌⊎◌, OnOk, OnErr, IfErr};
-ghost use Rattle.rp_pattern.specs.declared.word.End.TheVariants.{Open as OpenEnd, Closed as ClosedEnd};
+ghost use Rattle.rp_words.specs.declared.word.End.TheVariants.{Open as OpenEnd, Closed as ClosedEnd};
 
 use rp_eval::Rows;
-use rp_pattern::End;
 use rp_value::Row;
+use rp_words::End;
 use std::alloc::{AllocFailed, Global};
 use std::collections::VecDeque;
 

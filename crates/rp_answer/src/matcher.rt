@@ -1,7 +1,7 @@
 //! A matcher over the rows of one partition.
 ghost use Rattle.std.specs.Prelude.{◌≡◌, ◌+◌, ◌-◌, ◌^◌, ◌<◌, ◌≤◌, length, ◌++◌, ◌∷◌, [], true, false, ◌↔◌, IsTrue, OnOk, OnErr, IfErr, IfOk};
-ghost use Rattle.rp_pattern.specs.declared.word.End.TheVariants.{Open, Closed};
-ghost use Rattle.rp_check.specs.QueryView.{data_of};
+ghost use Rattle.rp_words.specs.declared.word.End.TheVariants.{Open, Closed};
+ghost use Rattle.rp_query.specs.QueryView.{data_of};
 ghost use Rattle.rp_known.specs.Known.{Known, count};
 ghost use Rattle.rp_walker.specs.FitLaws.{AgreesFrom};
 ghost use Rattle.rp_walker.specs.Polls.{left_in, entered_by};
@@ -9,12 +9,12 @@ ghost use Rattle.rp_walker.specs.Walking.{record_of};
 ghost use Rattle.rp_answer.specs.Matching.{known_by, Ready, HoldsNoMore};
 
 use crate::kept::Kept;
-use rp_check::Query;
 use rp_eval::Rows;
-use rp_pattern::End;
+use rp_query::Query;
 use rp_search::Steps;
 use rp_value::Row;
 use rp_walker::{MatcherState, Poll, Walker, law_walkers};
+use rp_words::End;
 use std::alloc::{AllocError, AllocFailed, Global};
 use std::marker::Model;
 use std::sync::ledger::Ledger;
@@ -31,7 +31,7 @@ pub struct Matcher {
 }
 
 impl Model for Matcher {
-    ghost use Rattle.rp_check.specs.QueryView.{data_of};
+    ghost use Rattle.rp_query.specs.QueryView.{data_of};
     ghost use Rattle.rp_answer.specs.MatcherData.{MatcherData, matcher_code};
     ghost use Rattle.rp_answer.specs.Matching.{matcher_by, Ready};
 
@@ -45,8 +45,8 @@ impl Model for Matcher {
 }
 
 impl Matcher {
-    ghost use Rattle.rp_pattern.specs.PatternForm.{form_of};
-    ghost use Rattle.rp_pattern.specs.Turns.{all_turns};
+    ghost use Rattle.rp_words.specs.PatternForm.{form_of};
+    ghost use Rattle.rp_words.specs.Turns.{all_turns};
     ghost use Rattle.rp_walker.specs.Polls.{GoesAlong, StartsAgain, TurnsAreCounted, PollTakes, PollLowers};
     ghost use Rattle.rp_walker.specs.Records.{first_state, horizon_of};
     ghost use Rattle.rp_walker.specs.Walking.{CanGoOn};

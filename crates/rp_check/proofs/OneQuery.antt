@@ -3,29 +3,29 @@ use Rattle.std.proofs.Common.{◌≡◌, ◌∙◌, ℕ, List, [], ◌∷◌, ma
 use Rattle.std.specs.Prelude.{max}
 use Rattle.rp_value.specs.declared.table.Column.{Column}
 use Rattle.rp_lexer.specs.Laws.{OneTokenList, NoTokensWithFault}
-use Rattle.rp_pattern.specs.PatternForm.{form_of}
+use Rattle.rp_words.specs.PatternForm.{form_of}
 use Rattle.rp_syntax.specs.Clauses.{ClauseTree}
 use Rattle.rp_syntax.specs.ClauseGrammar.{Derives}
 use Rattle.rp_check.specs.declared.compiling.CompileFault.{CompileFault}
 use Rattle.rp_check.specs.declared.compiling.CompileFault.TheVariants as fault
 use Rattle.rp_check.specs.declared.fault.Fault.{Fault}
-use Rattle.rp_check.specs.declared.query.QueryData.{QueryData}
-use Rattle.rp_check.specs.declared.plan.Expr.{Expr}
-use Rattle.rp_check.specs.declared.plan.Expr.TheOpen.{Expr-F, Literal, Navigation, Aggregate, MatchNumber, Classifier, Arithmetic}
-use Rattle.rp_check.specs.declared.plan.Expr.TheViews.{roll-Expr}
-use Rattle.rp_check.specs.declared.plan.Expr.TheFolds.{map-Expr, fold-roll-Expr, ind-Expr}
-use Rattle.rp_check.specs.declared.plan.Condition.{Condition}
-use Rattle.rp_check.specs.declared.plan.Condition.TheOpen.{Condition-F, Compare, IsNull, Not, And, Or}
-use Rattle.rp_check.specs.declared.plan.Condition.TheViews.{roll-Condition}
-use Rattle.rp_check.specs.declared.plan.Condition.TheFolds.{map-Condition, fold-roll-Condition, ind-Condition}
+use Rattle.rp_query.specs.declared.query.QueryData.{QueryData}
+use Rattle.rp_query.specs.declared.plan.Expr.{Expr}
+use Rattle.rp_query.specs.declared.plan.Expr.TheOpen.{Expr-F, Literal, Navigation, Aggregate, MatchNumber, Classifier, Arithmetic}
+use Rattle.rp_query.specs.declared.plan.Expr.TheViews.{roll-Expr}
+use Rattle.rp_query.specs.declared.plan.Expr.TheFolds.{map-Expr, fold-roll-Expr, ind-Expr}
+use Rattle.rp_query.specs.declared.plan.Condition.{Condition}
+use Rattle.rp_query.specs.declared.plan.Condition.TheOpen.{Condition-F, Compare, IsNull, Not, And, Or}
+use Rattle.rp_query.specs.declared.plan.Condition.TheViews.{roll-Condition}
+use Rattle.rp_query.specs.declared.plan.Condition.TheFolds.{map-Condition, fold-roll-Condition, ind-Condition}
 use Rattle.rp_check.specs.ClauseFaults.{faults}
 use Rattle.rp_check.specs.Compiled.{IsClauseOf, IsCompiled, IsCompileFault}
-use Rattle.rp_check.specs.Formulas as F
-use Rattle.rp_check.specs.Formulas.{Formula, value_formula, value_step, condition_formula, condition_step}
+use Rattle.rp_query.specs.Formulas as F
+use Rattle.rp_query.specs.Formulas.{Formula, value_formula, value_step, condition_formula, condition_step}
 use Rattle.rp_check.specs.OneQuery.{AreAlike, OneQuery, NoQueryWithFault}
 use Rattle.rp_check.specs.Queries.{greatest}
 use Rattle.rp_check.specs.QueryOf.{IsQueryOf}
-use Rattle.rp_check.specs.Reach.{rows_back, reach, reach_step, condition_reach, condition_reach_step}
+use Rattle.rp_query.specs.Reach.{rows_back, reach, reach_step, condition_reach, condition_reach_step}
 use Rattle.rp_check.specs.Shapes.{shape_of}
 
 -- how far back a formula looks

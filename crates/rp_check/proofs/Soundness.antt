@@ -6,24 +6,25 @@ use Rattle.std.proofs.lemmas.List.{length-map, append-nil}
 use Rattle.std.proofs.lemmas.List.Elements.{All-from_recursion, All-get_or}
 use Rattle.std.proofs.lemmas.Option.{slice_get-map, slice_get_within, get_or_from_slice_get, same_Some}
 use Rattle.rp_value.specs.declared.table.Column.{Column}
-use Rattle.rp_pattern.specs.Bounds.{is_allowed}
-use Rattle.rp_pattern.specs.Variables.{are_below}
-use Rattle.rp_pattern.specs.PatternForm.{form_of}
+use Rattle.rp_words.specs.Bounds.{is_allowed}
+use Rattle.rp_words.specs.Variables.{are_below}
+use Rattle.rp_words.specs.PatternForm.{form_of}
 use Rattle.rp_syntax.specs.Terms.{Term}
 use Rattle.rp_syntax.specs.Clauses.{ClauseTree, DefinitionTree}
-use Rattle.rp_check.specs.declared.plan.Condition.{Condition}
-use Rattle.rp_check.specs.declared.query.QueryData.{QueryData}
+use Rattle.rp_query.specs.declared.plan.Condition.{Condition}
+use Rattle.rp_query.specs.declared.query.QueryData.{QueryData}
 use Rattle.rp_check.specs.QueryOf.{IsQueryOf, measured_totals, measuring, defining}
 use Rattle.rp_check.specs.ClauseFaults.{faults, each, name_faults, listing_faults, expression_faults, pattern_faults, union_faults, partition_faults, order_faults, measure_faults, definition_faults, skip_faults}
-use Rattle.rp_check.specs.Allowed.{each_leaf, goes_near, runs, asks_rows_alone, is_running, is_of_rows, is_near, is_of_variables, skips_to_variables}
-use Rattle.rp_check.specs.Kinds.{is_value, is_truth}
+use Rattle.rp_query.specs.Allowed.{each_leaf, goes_near, runs, asks_rows_alone, is_running, is_of_rows, is_near, is_of_variables, skips_to_variables}
+use Rattle.rp_query.specs.Kinds.{is_value, is_truth}
 use Rattle.rp_check.specs.Context.{Context, column_named, is_name}
-use Rattle.rp_check.specs.Definitions.{condition_at}
-use Rattle.rp_check.specs.Formulas.{Formula, PlainTotal, plain_total, value_formula, condition_formula}
-use Rattle.rp_check.specs.Queries.{rule_of, formulas, totals_of, terms_of_measures, terms_of_definitions, definition_place, order_column, greatest}
-use Rattle.rp_check.specs.Reach.{reach, condition_reach}
+use Rattle.rp_query.specs.Definitions.{condition_at}
+use Rattle.rp_query.specs.Formulas.{Formula, PlainTotal, plain_total, value_formula, condition_formula}
+use Rattle.rp_check.specs.Queries.{formulas, totals_of, terms_of_measures, terms_of_definitions, definition_place, order_column, greatest}
+use Rattle.rp_query.specs.SkipRules.{rule_of}
+use Rattle.rp_query.specs.Reach.{reach, condition_reach}
 use Rattle.rp_check.specs.Resolved.{number_at, totals}
-use Rattle.rp_check.specs.Sound.{IsSound, IsColumn}
+use Rattle.rp_query.specs.Sound.{IsSound, IsColumn}
 use Rattle.rp_check.specs.Variables.{variables_of}
 use Rattle.rp_check.proofs.Clean.{none_left, none_right, holds, each_clean, found_within}
 use Rattle.rp_check.proofs.KindsAgree.{measures_well, definitions_well}

@@ -1,24 +1,24 @@
 -- What was found of a clause is its query.
 use Rattle.std.proofs.Common.{◌≡◌, ◌∙◌, ℕ, Bool, true, false, List, [], ◌++◌, map, refl, ap}
 use Rattle.std.proofs.lemmas.List.{append-nil}
-use Rattle.rp_pattern.specs.declared.form.Form.{Form}
+use Rattle.rp_words.specs.declared.form.Form.{Form}
 use Rattle.rp_value.specs.declared.value.Value.TheVariants as value
 use Rattle.rp_value.specs.declared.table.Column.{Column}
-use Rattle.rp_pattern.specs.Bounds.{is_allowed}
-use Rattle.rp_pattern.specs.PatternForm.{form_of}
+use Rattle.rp_words.specs.Bounds.{is_allowed}
+use Rattle.rp_words.specs.PatternForm.{form_of}
 use Rattle.rp_syntax.specs.Clauses.{ClauseTree}
 use Rattle.rp_check.specs.declared.checking.Named.{Named}
 use Rattle.rp_check.specs.declared.checking.Places.{Places}
 use Rattle.rp_check.specs.declared.checking.Planned.{Planned}
 use Rattle.rp_check.specs.declared.fault.CheckFault.{CheckFault}
-use Rattle.rp_check.specs.declared.query.QueryData.{QueryData}
+use Rattle.rp_query.specs.declared.query.QueryData.{QueryData}
 use Rattle.rp_check.specs.QueryOf.{IsQueryOf, measuring, defining}
 use Rattle.rp_check.specs.Checked.{Tells}
 use Rattle.rp_check.specs.Checking.{IsNamed, ArePlaces, IsPlanned, IsMadeOf, spoken}
 use Rattle.rp_check.specs.ClauseFaults.{faults, name_faults, listing_faults, expression_faults, shown_faults}
 use Rattle.rp_check.specs.Context.{naming_of}
-use Rattle.rp_check.specs.Formulas.{value_formula, condition_formula, plain_total}
-use Rattle.rp_check.specs.Queries.{rule_of}
+use Rattle.rp_query.specs.Formulas.{value_formula, condition_formula, plain_total}
+use Rattle.rp_query.specs.SkipRules.{rule_of}
 use Rattle.rp_check.specs.Reading.{Reads}
 use Rattle.rp_check.specs.Shapes.{shape_of, shaped}
 use Rattle.rp_check.specs.Variables.{variables_of, context, numbered, union_of}

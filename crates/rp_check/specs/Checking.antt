@@ -6,18 +6,19 @@ use Rattle.std.specs.declared.alloc.Global.{Global}
 use Rattle.rp_value.specs.declared.table.Column.{Column}
 use Rattle.rp_value.specs.declared.value.Value.{Value}
 use Rattle.rp_value.specs.declared.value.Value.TheVariants as value
-use Rattle.rp_pattern.specs.Bounds.{is_allowed}
-use Rattle.rp_pattern.specs.PatternForm.{form_of}
+use Rattle.rp_words.specs.Bounds.{is_allowed}
+use Rattle.rp_words.specs.PatternForm.{form_of}
 use Rattle.rp_syntax.specs.Clauses.{ClauseTree}
 use Rattle.rp_check.specs.declared.checking.Named.{Named}
 use Rattle.rp_check.specs.declared.checking.Places.{Places}
 use Rattle.rp_check.specs.declared.checking.Planned.{Planned}
-use Rattle.rp_check.specs.declared.query.QueryData.{QueryData}
+use Rattle.rp_query.specs.declared.query.QueryData.{QueryData}
 use Rattle.rp_check.specs.declared.names.NamedSet.{NamedSet}
 use Rattle.rp_check.specs.Context.{Context, naming_of, column_named}
-use Rattle.rp_check.specs.Formulas.{value_formula, condition_formula, plain_total}
-use Rattle.rp_check.specs.Queries.{formulas, totals_of, terms_of_measures, terms_of_definitions, rule_of, rule_meant, definition_place, output_of, order_column, greatest}
-use Rattle.rp_check.specs.Reach.{reach, condition_reach}
+use Rattle.rp_query.specs.Formulas.{value_formula, condition_formula, plain_total}
+use Rattle.rp_check.specs.Queries.{formulas, totals_of, terms_of_measures, terms_of_definitions, rule_meant, rows_shown, definition_place, output_of, order_column, greatest}
+use Rattle.rp_query.specs.SkipRules.{rule_of}
+use Rattle.rp_query.specs.Reach.{reach, condition_reach}
 use Rattle.rp_check.specs.Resolved.{number_at}
 use Rattle.rp_check.specs.Shapes.{shaped, shape_of}
 use Rattle.rp_check.specs.Variables.{variables_of, numbered, union_of}
@@ -59,7 +60,7 @@ pub record IsMadeOf (c : ClauseTree) (written : List ℕ) (columns : List Column
   pub partition : d.partition ≡ l.partition
   pub order : d.order ≡ l.order
   pub measures : d.plan.measures ≡ p.measures
-  pub rows : d.plan.rows ≡ c.rows
+  pub rows : d.plan.rows ≡ rows_shown c.rows
   pub skip : d.plan.skip ≡ p.skip
   pub conditions : d.plan.conditions ≡ p.conditions
   pub definitions : d.plan.definitions ≡ l.definitions

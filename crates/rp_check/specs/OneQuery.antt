@@ -1,17 +1,17 @@
 -- That the text of a clause has one query over a table, wherever the parts of this are kept, or a fault, and not both.
 use Rattle.std.specs.Prelude.{◌≡◌, ℕ, true, List, map}
 use Rattle.rp_value.specs.declared.table.Column.{Column}
-use Rattle.rp_pattern.specs.declared.form.Form.{Form}
-use Rattle.rp_pattern.specs.declared.word.End.{End}
-use Rattle.rp_pattern.specs.Bounds.{is_allowed}
-use Rattle.rp_pattern.specs.PatternForm.{form_of}
-use Rattle.rp_pattern.specs.Words.{words}
+use Rattle.rp_words.specs.declared.form.Form.{Form}
+use Rattle.rp_words.specs.declared.word.End.{End}
+use Rattle.rp_words.specs.Bounds.{is_allowed}
+use Rattle.rp_words.specs.PatternForm.{form_of}
+use Rattle.rp_words.specs.Words.{words}
 use Rattle.rp_check.specs.declared.compiling.CompileFault.{CompileFault}
 use Rattle.rp_check.specs.declared.compiling.CompileFault.TheVariants.{OutOfMemory}
-use Rattle.rp_check.specs.declared.query.QueryData.{QueryData}
+use Rattle.rp_query.specs.declared.query.QueryData.{QueryData}
 use Rattle.rp_check.specs.Compiled.{IsCompiled, IsCompileFault}
-use Rattle.rp_check.specs.Formulas.{value_formula, condition_formula, plain_total}
-use Rattle.rp_check.specs.Queries.{rule_of}
+use Rattle.rp_query.specs.Formulas.{value_formula, condition_formula, plain_total}
+use Rattle.rp_query.specs.SkipRules.{rule_of}
 use Rattle.rp_check.specs.Shapes.{shape_of}
 
 -- two queries are made of the same

@@ -1,13 +1,14 @@
 -- Whether data is that of the query of a clause.
 use Rattle.std.specs.Prelude.{◌≡◌, ℕ, max, List, [], ◌++◌, map, true, false}
 use Rattle.rp_value.specs.declared.table.Column.{Column}
-use Rattle.rp_pattern.specs.PatternForm.{form_of}
+use Rattle.rp_words.specs.PatternForm.{form_of}
 use Rattle.rp_syntax.specs.Clauses.{ClauseTree}
-use Rattle.rp_check.specs.declared.query.QueryData.{QueryData}
+use Rattle.rp_query.specs.declared.query.QueryData.{QueryData}
 use Rattle.rp_check.specs.Context.{Context, column_named}
-use Rattle.rp_check.specs.Formulas.{PlainTotal, value_formula, condition_formula, plain_total}
-use Rattle.rp_check.specs.Queries.{formulas, totals_of, terms_of_measures, terms_of_definitions, rule_of, rule_meant, definition_place, output_of, greatest, order_column}
-use Rattle.rp_check.specs.Reach.{reach, condition_reach}
+use Rattle.rp_query.specs.Formulas.{PlainTotal, value_formula, condition_formula, plain_total}
+use Rattle.rp_check.specs.Queries.{formulas, totals_of, terms_of_measures, terms_of_definitions, rule_meant, rows_shown, definition_place, output_of, greatest, order_column}
+use Rattle.rp_query.specs.SkipRules.{rule_of}
+use Rattle.rp_query.specs.Reach.{reach, condition_reach}
 use Rattle.rp_check.specs.Resolved.{number_at}
 use Rattle.rp_check.specs.Shapes.{shaped, shape_of}
 use Rattle.rp_check.specs.Variables.{variables_of, context}
@@ -35,7 +36,7 @@ pub record IsQueryOf (c : ClauseTree) (written : List ℕ) (columns : List Colum
   pub order : d.order.items ≡ map (order_column columns) c.order
   pub measures : map value_formula d.plan.measures.items
       ≡ formulas (measuring c columns) [] (terms_of_measures c.measures)
-  pub rows : d.plan.rows ≡ c.rows
+  pub rows : d.plan.rows ≡ rows_shown c.rows
   pub skip : rule_of d.plan.skip ≡ rule_meant (measuring c columns) c.skip
   pub conditions : map condition_formula d.plan.conditions.items
       ≡ formulas (defining c columns) (measured_totals c columns) (terms_of_definitions c.definitions)

@@ -5,25 +5,26 @@ ghost use Rattle.rp_syntax.specs.Clauses.{clause_tree};
 ghost use Rattle.rp_check.specs.Checked.{FirstFaultOr, Tells};
 ghost use Rattle.rp_check.specs.ClauseFaults.{faults, name_faults, listing_faults, expression_faults, shown_faults, unmatched_faults};
 ghost use Rattle.rp_check.specs.QueryOf.{IsQueryOf};
-ghost use Rattle.rp_check.specs.QueryView.{data_of};
+ghost use Rattle.rp_query.specs.QueryView.{data_of};
+ghost use Rattle.rp_check.specs.Queries.{rows_shown};
 ghost use Rattle.rp_check.specs.Checking.{IsNamed, ArePlaces, IsPlanned, IsMadeOf, spoken};
 ghost use Rattle.rp_syntax.specs.Tree.{tree_of};
 
 use crate::expressions::{conditions, measures, skip_to};
 use crate::fault::{CheckFault, CheckKind};
 use crate::lists::{
-    OrderColumn, add_unions, allow_definitions, allow_measures, order_columns, partition_columns,
-    variable_sets,
+    add_unions, allow_definitions, allow_measures, order_columns, partition_columns, variable_sets,
 };
 use crate::names::{NamedSet, Names};
 use crate::pattern::{first_exclusion, read};
 use crate::place::fault;
-use crate::plan::{Condition, Expr, Total};
-use crate::query::{Plan, Query, QueryData, SkipTo};
 use crate::shown::{classes, definition_places, output_names, whole_reach};
-use rp_pattern::Pattern;
+use rp_query::{
+    Condition, Expr, OrderColumn, Plan, Query, QueryData, RowsPerMatch as RowsShown, SkipTo, Total,
+};
 use rp_syntax::{Clause, Pattern as Written, RowsPerMatch};
 use rp_value::{Column, Table, Text, Value};
+use rp_words::Pattern;
 use std::alloc::{AllocError, Global};
 use std::rc::Rc;
 
@@ -192,6 +193,18 @@ pub fn check(alloc: Global, clause: Clause, table: &Table) -> Result<Query, Chec
     Ok(query)
 }
 
+/// Which rows a match gives.
+fn rows_shown(rows: RowsPerMatch) -> RowsShown
+    ensures { result ≡ rows_shown rows }
+{
+    match rows {
+        RowsPerMatch::One => RowsShown::One,
+        RowsPerMatch::AllShowEmpty => RowsShown::AllShowEmpty,
+        RowsPerMatch::AllOmitEmpty => RowsShown::AllOmitEmpty,
+        RowsPerMatch::AllWithUnmatched => RowsShown::AllWithUnmatched,
+    }
+}
+
 /// The data of the query, of what was found.
 fn assembled(
     alloc: Global,
@@ -216,7 +229,7 @@ fn assembled(
     let totals = Rc::new(alloc, planned.totals)?;
     let plan = Plan {
         measures: planned.measures,
-        rows: clause.rows,
+        rows: rows_shown(clause.rows),
         skip: planned.skip,
         conditions: planned.conditions,
         definitions: places.definitions,

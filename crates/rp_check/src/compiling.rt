@@ -6,12 +6,12 @@ ghost use Rattle.rp_lexer.specs.Lexes.{IsToken, Lexes};
 ghost use Rattle.rp_syntax.specs.Clauses.{clause_tree};
 ghost use Rattle.rp_syntax.specs.ClauseGrammar.{Derives};
 ghost use Rattle.rp_check.specs.Compiled.{IsCompiled, IsCompileFault, told_check, told_lex, told_parse};
-ghost use Rattle.rp_check.specs.QueryView.{data_of};
+ghost use Rattle.rp_query.specs.QueryView.{data_of};
 
 use crate::checking::check;
 use crate::fault::{CheckFault, Fault};
-use crate::query::Query;
 use rp_lexer::{LexFault, Token, lex};
+use rp_query::Query;
 use rp_syntax::{Clause, ParseFault, parse};
 use rp_value::Table;
 use std::alloc::{AllocError, AllocFailed, Global};

@@ -3,10 +3,11 @@
 ghost use Rattle.std.specs.Prelude.{◌≡◌, map};
 ghost use Rattle.rp_syntax.specs.Terms.{term_of};
 ghost use Rattle.rp_syntax.specs.Clauses.{measure_tree, definition_tree};
-ghost use Rattle.rp_check.specs.Formulas.{plain_total, value_formula, condition_formula};
+ghost use Rattle.rp_query.specs.Formulas.{plain_total, value_formula, condition_formula};
 ghost use Rattle.rp_check.specs.Context.{context_of};
 ghost use Rattle.rp_check.specs.ClauseFaults.{each, value_faults, condition_faults, measure_faults, definition_faults, skip_faults};
-ghost use Rattle.rp_check.specs.Queries.{IsResolved, AreResolved, terms_of_measures, terms_of_definitions, rule_of, rule_meant};
+ghost use Rattle.rp_check.specs.Queries.{IsResolved, AreResolved, terms_of_measures, terms_of_definitions, rule_meant};
+ghost use Rattle.rp_query.specs.SkipRules.{rule_of};
 ghost use Rattle.rp_check.specs.Checked.{FirstFaultOr};
 
 use crate::expr::resolve;
@@ -14,8 +15,7 @@ use crate::fault::{CheckFault, CheckKind};
 use crate::names::Names;
 use crate::operand::{condition, value};
 use crate::place::{fault, variables};
-use crate::plan::{Condition, Expr, Total};
-use crate::query::SkipTo;
+use rp_query::{Condition, Expr, SkipTo, Total};
 use rp_syntax::{Definition, Expr as Written, Measure, Skip};
 use std::alloc::Global;
 

@@ -3,19 +3,19 @@
 ghost use Rattle.std.specs.Prelude.{◌≡◌, true, false, IfOk, MatchOption, pos};
 ghost use Rattle.rp_value.specs.declared.value.Value.TheVariants as value;
 ghost use Rattle.rp_value.specs.declared.value.Kind.TheVariants as kind_as;
-ghost use Rattle.rp_check.specs.Formulas.{value_formula, condition_formula};
-ghost use Rattle.rp_check.specs.Formulas as formula;
+ghost use Rattle.rp_query.specs.Formulas.{value_formula, condition_formula};
+ghost use Rattle.rp_query.specs.Formulas as formula;
 ghost use Rattle.rp_check.specs.Sorts.{Valued, Truth, may_be_number, may_be_text, may_be_value, may_be_condition, numbers, conditions, comparable, takes, operator_sort};
 ghost use Rattle.rp_check.specs.ExprFaults.{unless};
 ghost use Rattle.rp_check.specs.Resolved.{operated, nullness};
 ghost use Rattle.rp_check.specs.Checked.{FirstFaultOr, Is, formula_in, sort_known};
 ghost use Rattle.rp_check.specs.declared.fault.CheckKind.TheVariants.{KindMismatch};
-ghost use Rattle.rp_check.specs.declared.plan.Operation.TheVariants.{Minus};
+ghost use Rattle.rp_query.specs.declared.plan.Operation.TheVariants.{Minus};
 
 use crate::fault::{CheckFault, CheckKind};
 use crate::place::{fault, require};
-use crate::plan::{Condition, Expr, Operation};
 use crate::resolved::Resolved;
+use rp_query::{Condition, Expr, Operation};
 use rp_syntax::{Operation as Sign, Operator};
 use rp_value::{Comparison, Kind, Value};
 use std::alloc::{AllocError, Global};

@@ -5,11 +5,11 @@ use Rattle.serde_json.specs.Data.{Data, depth, items_depth}
 use Rattle.serde_json.specs.Find.{as_object}
 use Rattle.serde_json.specs.Written.{has_float}
 use Rattle.rp_checkpoint.specs.Checkpoints.{column_data, node_data, partition_data, row_data}
-use Rattle.rp_fields.specs.Forms.{list_items, optional_data}
+use Rattle.rp_json.specs.Forms.{list_items, optional_data}
 use Rattle.rp_checkpoint.specs.declared.node_data.HeldRow.{HeldRow}
 use Rattle.rp_checkpoint.specs.declared.node_data.PartitionData.{PartitionData}
 use Rattle.rp_checkpoint.specs.declared.node_data.NodeData.{NodeData}
-use Rattle.rp_fields.proofs.Steps.{flat, list_has_no_float, no_float}
+use Rattle.rp_json.proofs.Steps.{flat, list_has_no_float, no_float}
 
 list_depth : {A : Type 0} (write : A → Data) (n : ℕ) (each : (a : A) → depth (write a) ≤ n) (xs : List A) → items_depth (list_items write xs) ≤ n
 list_depth write n each [] = omega arith

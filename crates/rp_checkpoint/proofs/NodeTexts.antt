@@ -10,7 +10,7 @@ use Rattle.rp_value.specs.declared.table.Column.{Column}
 use Rattle.rp_value.specs.declared.value.Kind.{Kind}
 use Rattle.rp_value.specs.declared.value.Kind.TheVariants as kind
 use Rattle.rp_value.specs.declared.value.Value.{Value}
-use Rattle.rp_fields.specs.Forms.{cell_data, cells_data, list_items, optional_data}
+use Rattle.rp_json.specs.Forms.{cell_data, cells_data, list_items, optional_data}
 use Rattle.rp_checkpoint.specs.Checkpoints.{column_data, node_data, partition_data, row_data}
 use Rattle.rp_checkpoint.specs.ObjectTexts.{cells_text, column_text, flag_text, kind_text, list_text, more_text, node_text, optional_text, partition_text, row_text}
 use Rattle.rp_checkpoint.specs.declared.node_data.HeldRow.{HeldRow}

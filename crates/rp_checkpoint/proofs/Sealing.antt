@@ -14,7 +14,7 @@ use Rattle.hex.proofs.HexLemmas.{length-encode_with}
 use Rattle.rp_checkpoint.specs.Checkpoints.{restored, restored_object}
 use Rattle.rp_checkpoint.specs.Sealed.{opened, sealed}
 use Rattle.rp_checkpoint.specs.declared.node_data.NodeData.{NodeData}
-use Rattle.rp_fields.proofs.Reading.{object_read}
+use Rattle.rp_json.proofs.Reading.{object_read}
 
 length-digits : (object : List ℕ) → length (encode_lower (sha256 object)) ≡ 64
 length-digits object = let a = length-encode_with lower_digits (sha256 object) in let b = length-sha256 object in omega (arith, a, b)

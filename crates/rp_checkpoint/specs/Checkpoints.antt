@@ -6,9 +6,9 @@ use Rattle.rp_value.specs.declared.table.Column.{Column}
 use Rattle.rp_value.specs.declared.value.Kind.{Kind}
 use Rattle.rp_value.specs.declared.value.Kind.TheVariants as kind
 use Rattle.rp_value.specs.declared.value.Value.{Value}
-use Rattle.rp_fields.specs.Digits.{digits_of}
-use Rattle.rp_fields.specs.Forms.{cells_data, cells_of, list_items, list_of, named, optional_data, optional_of, place_data, whole_data, whole_of}
-use Rattle.rp_fields.specs.Objects.{field, object_of, only}
+use Rattle.rp_json.specs.Digits.{digits_of}
+use Rattle.rp_json.specs.Forms.{cells_data, cells_of, list_items, list_of, named, optional_data, optional_of, place_data, whole_data, whole_of}
+use Rattle.rp_json.specs.Objects.{field, object_of, only}
 use Rattle.rp_checkpoint.specs.HeldRows.{ascend}
 use Rattle.rp_checkpoint.specs.ObjectTexts.{kind_text, node_text}
 use Rattle.rp_checkpoint.specs.Sealed.{opened, sealed}

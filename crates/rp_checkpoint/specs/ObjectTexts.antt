@@ -6,7 +6,7 @@ use Rattle.rp_value.specs.declared.table.Column.{Column}
 use Rattle.rp_value.specs.declared.value.Kind.{Kind}
 use Rattle.rp_value.specs.declared.value.Kind.TheVariants as kind
 use Rattle.rp_value.specs.declared.value.Value.{Value}
-use Rattle.rp_fields.specs.Forms.{cell_data}
+use Rattle.rp_json.specs.Forms.{cell_data}
 use Rattle.rp_checkpoint.specs.declared.node_data.HeldRow.{HeldRow}
 use Rattle.rp_checkpoint.specs.declared.node_data.PartitionData.{PartitionData}
 use Rattle.rp_checkpoint.specs.declared.node_data.NodeData.{NodeData}

@@ -2,15 +2,15 @@
 ghost use Rattle.std.specs.Prelude.{◌≡◌, ◌⊎◌, Ok, Err, IfOk, IfErr, codes, option_map};
 ghost use Rattle.serde_json.specs.Find.{as_bool, as_str};
 ghost use Rattle.serde_json.specs.View.{view, items_view};
-ghost use Rattle.rp_fields.specs.Forms.{list_in, list_of};
-ghost use Rattle.rp_fields.specs.Objects.{field};
+ghost use Rattle.rp_json.specs.Forms.{list_in, list_of};
+ghost use Rattle.rp_json.specs.Objects.{field};
 ghost use Rattle.rp_checkpoint.specs.Checkpoints.{column_of, given_of, if_ascending, kind_of, need, node_of, pair_of, partition_of, partition_with, restored, restored_object, row_of, rows_of, version_of};
 
 use crate::node_data::{
     CheckpointFault, Columns, HeldRow, HeldRows, NodeData, PartitionData, Partitions, ascend,
 };
 use crate::seal::open;
-use rp_fields::{cells, cells_of, digits_of, has_fields, object_of, optional, whole};
+use rp_json::{cells, cells_of, digits_of, has_fields, object_of, optional, whole};
 use rp_value::{Cells, Column, Kind, Row, Text};
 use serde_json::Value as Json;
 use std::alloc::{AllocError, Global};

@@ -11,10 +11,10 @@ use Rattle.rp_value.specs.declared.value.Value.{Value}
 use Rattle.rp_value.specs.declared.value.Value.TheVariants.{Null, Int, Text}
 use Rattle.rp_codec.specs.ReplyLines.{reply_text, item_text, key_text, place_text, more_values, values_text, value_text, number_text, name_of_fault}
 use Rattle.rp_codec.specs.Tokens.{reply_tokens, list_tokens, item_tokens, key_tokens, number_token, place_tokens, value_token, values_tokens}
-use Rattle.rp_known.specs.declared.item.Item.{Item as Given}
-use Rattle.rp_known.specs.declared.item.Item.TheVariants.{Row, Fault, End}
-use Rattle.rp_known.specs.declared.item.SkipFault.{SkipFault}
-use Rattle.rp_known.specs.declared.item.SkipFault.TheVariants.{SkipNoRow, SkipSame}
+use Rattle.rp_query.specs.declared.item.Item.{Item as Given}
+use Rattle.rp_query.specs.declared.item.Item.TheVariants.{Row, Fault, End}
+use Rattle.rp_query.specs.declared.item.SkipFault.{SkipFault}
+use Rattle.rp_query.specs.declared.item.SkipFault.TheVariants.{SkipNoRow, SkipSame}
 use Rattle.rp_feed.specs.declared.answer.Taken.{Taken as Became}
 use Rattle.rp_feed.specs.declared.answer.Taken.TheVariants.{New, Repeat, Old}
 use Rattle.rp_codec.specs.Within.{IsRefusal, IsWithin}

@@ -4,15 +4,15 @@ use Rattle.std.specs.Fmt.{signed_decimal}
 use Rattle.json.specs.Print.{quoted}
 use Rattle.rp_value.specs.declared.value.Value.{Value}
 use Rattle.rp_value.specs.declared.value.Value.TheVariants.{Null, Int, Text}
-use Rattle.rp_known.specs.declared.item.Item.{Item as Given}
-use Rattle.rp_known.specs.declared.item.Item.TheVariants.{Row, Fault, End}
+use Rattle.rp_query.specs.declared.item.Item.{Item as Given}
+use Rattle.rp_query.specs.declared.item.Item.TheVariants.{Row, Fault, End}
 use Rattle.rp_codec.specs.declared.reply.Reply.{Reply}
 use Rattle.rp_codec.specs.declared.reply.Reply.TheVariants.{Taken, Item, Idle, Paused, Refused}
 use Rattle.rp_codec.specs.Refusals.{refusal_text}
 use Rattle.rp_feed.specs.declared.answer.Taken.{Taken as Became}
 use Rattle.rp_feed.specs.declared.answer.Taken.TheVariants.{New, Repeat, Old}
-use Rattle.rp_known.specs.declared.item.SkipFault.{SkipFault}
-use Rattle.rp_known.specs.declared.item.SkipFault.TheVariants.{SkipNoRow, SkipSame}
+use Rattle.rp_query.specs.declared.item.SkipFault.{SkipFault}
+use Rattle.rp_query.specs.declared.item.SkipFault.TheVariants.{SkipNoRow, SkipSame}
 
 -- the text of a value
 abbrev pub value_text : Value → List ℕ

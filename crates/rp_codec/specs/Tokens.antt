@@ -9,8 +9,8 @@ use Rattle.rp_codec.specs.ReplyLines.{name_of_fault, name_of_taken}
 use Rattle.rp_codec.specs.Refusals.{refusal_text}
 use Rattle.rp_codec.specs.declared.reply.Reply.{Reply}
 use Rattle.rp_codec.specs.declared.reply.Reply.TheVariants.{Taken, Item, Idle, Paused, Refused}
-use Rattle.rp_known.specs.declared.item.Item.{Item as Given}
-use Rattle.rp_known.specs.declared.item.Item.TheVariants.{Row, Fault, End}
+use Rattle.rp_query.specs.declared.item.Item.{Item as Given}
+use Rattle.rp_query.specs.declared.item.Item.TheVariants.{Row, Fault, End}
 
 abbrev pub value_token : Value → Token
 value_token Null = null

@@ -3,8 +3,8 @@ use Rattle.std.specs.Prelude.{ℕ, ◌<◌, ◌^◌, List, Option, Some, None, A
 use Rattle.std.specs.Int.Signed.{mag}
 use Rattle.rp_value.specs.declared.value.Value.{Value}
 use Rattle.rp_value.specs.declared.value.Value.TheVariants.{Null, Int, Text}
-use Rattle.rp_known.specs.declared.item.Item.{Item as Given}
-use Rattle.rp_known.specs.declared.item.Item.TheVariants.{Row, Fault, End}
+use Rattle.rp_query.specs.declared.item.Item.{Item as Given}
+use Rattle.rp_query.specs.declared.item.Item.TheVariants.{Row, Fault, End}
 use Rattle.rp_codec.specs.declared.refusal.Refusal.{Refusal}
 use Rattle.rp_codec.specs.declared.refusal.Refusal.TheVariants.{BadRowKind}
 use Rattle.rp_codec.specs.declared.reply.Reply.{Reply}

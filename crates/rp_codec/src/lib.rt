@@ -11,15 +11,13 @@
 #![tactic(auto)]
 
 mod line;
-mod packet;
 mod refusal;
 mod reply;
 #[cfg(test)]
 mod tests;
 
 pub use line::{push_item_line, push_reply_line, reply_line};
-pub use packet::Packet;
 pub use refusal::{Field, Refusal};
 pub use reply::Reply;
-pub use rp_feed::Taken;
-pub use rp_known::{Item, SkipFault};
+pub use rp_feed::{Packet, Taken};
+pub use rp_query::{Item, SkipFault};

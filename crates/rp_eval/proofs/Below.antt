@@ -7,11 +7,11 @@ use Rattle.std.proofs.lemmas.Bool.{le-leb, lt-leb}
 use Rattle.std.proofs.lemmas.List.{reverse-append, take-append-le, take-append-drop, take_all, length-append, length-take-le}
 use Rattle.std.proofs.lemmas.List.Sums.{suffix_len_is}
 use Rattle.std.proofs.lemmas.Option.{slice_get-map}
-use Rattle.rp_pattern.specs.declared.word.Label.{Label}
-use Rattle.rp_check.specs.declared.plan.Edge.{Edge}
-use Rattle.rp_check.specs.declared.plan.Edge.TheVariants.{First, Last}
-use Rattle.rp_check.specs.declared.plan.Variables.{Variables}
-use Rattle.rp_check.specs.Scopes.{includes}
+use Rattle.rp_words.specs.declared.word.Label.{Label}
+use Rattle.rp_query.specs.declared.plan.Edge.{Edge}
+use Rattle.rp_query.specs.declared.plan.Edge.TheVariants.{First, Last}
+use Rattle.rp_query.specs.declared.plan.Variables.{Variables}
+use Rattle.rp_query.specs.Scopes.{includes}
 use Rattle.rp_eval.specs.Mapped.{rows_of, place_in}
 use Rattle.rp_eval.specs.Kept.{places_to}
 use Rattle.rp_eval.proofs.MappedRows.{rows_of-append, rows_each, place_each}

@@ -10,22 +10,22 @@ use Rattle.rp_value.specs.declared.value.Value.{Value}
 use Rattle.rp_value.specs.declared.value.Value.TheVariants.{Null}
 use Rattle.rp_value.specs.declared.truth.Judged.{Judged}
 use Rattle.rp_value.specs.declared.truth.Judged.TheVariants.{Open as OpenJudgement}
-use Rattle.rp_pattern.specs.declared.word.Label.{Label}
-use Rattle.rp_check.specs.declared.plan.Variables.{Variables}
-use Rattle.rp_check.specs.declared.plan.Variables.TheVariants.{Universal, Among}
-use Rattle.rp_check.specs.declared.plan.RowsOf.{RowsOf}
-use Rattle.rp_check.specs.declared.plan.RowsOf.TheVariants.{Universal as EveryRow, Listed as ListedBy}
-use Rattle.rp_check.specs.declared.plan.Total.{Total}
-use Rattle.rp_check.specs.declared.plan.Expr.{Expr}
-use Rattle.rp_check.specs.declared.plan.Expr.TheOpen.{Expr-F, Literal, Navigation, Aggregate, MatchNumber, Classifier, Arithmetic}
-use Rattle.rp_check.specs.declared.plan.Expr.TheViews.{roll-Expr}
-use Rattle.rp_check.specs.declared.plan.Expr.TheFolds.{map-Expr, fold-roll-Expr, ind-Expr}
-use Rattle.rp_check.specs.declared.plan.Condition.{Condition}
-use Rattle.rp_check.specs.declared.plan.Condition.TheOpen.{Condition-F, Compare, IsNull, Not, And, Or}
-use Rattle.rp_check.specs.declared.plan.Condition.TheViews.{roll-Condition}
-use Rattle.rp_check.specs.declared.plan.Condition.TheFolds.{map-Condition, fold-roll-Condition, ind-Condition}
-use Rattle.rp_check.specs.Formulas as F
-use Rattle.rp_check.specs.Formulas.{Formula, PlainTotal, plain_total, members_of, value_formula, condition_formula}
+use Rattle.rp_words.specs.declared.word.Label.{Label}
+use Rattle.rp_query.specs.declared.plan.Variables.{Variables}
+use Rattle.rp_query.specs.declared.plan.Variables.TheVariants.{Universal, Among}
+use Rattle.rp_query.specs.declared.plan.RowsOf.{RowsOf}
+use Rattle.rp_query.specs.declared.plan.RowsOf.TheVariants.{Universal as EveryRow, Listed as ListedBy}
+use Rattle.rp_query.specs.declared.plan.Total.{Total}
+use Rattle.rp_query.specs.declared.plan.Expr.{Expr}
+use Rattle.rp_query.specs.declared.plan.Expr.TheOpen.{Expr-F, Literal, Navigation, Aggregate, MatchNumber, Classifier, Arithmetic}
+use Rattle.rp_query.specs.declared.plan.Expr.TheViews.{roll-Expr}
+use Rattle.rp_query.specs.declared.plan.Expr.TheFolds.{map-Expr, fold-roll-Expr, ind-Expr}
+use Rattle.rp_query.specs.declared.plan.Condition.{Condition}
+use Rattle.rp_query.specs.declared.plan.Condition.TheOpen.{Condition-F, Compare, IsNull, Not, And, Or}
+use Rattle.rp_query.specs.declared.plan.Condition.TheViews.{roll-Condition}
+use Rattle.rp_query.specs.declared.plan.Condition.TheFolds.{map-Condition, fold-roll-Condition, ind-Condition}
+use Rattle.rp_query.specs.Formulas as F
+use Rattle.rp_query.specs.Formulas.{Formula, PlainTotal, plain_total, members_of, value_formula, condition_formula}
 use Rattle.rp_eval.specs.declared.cell.Cell.{Cell}
 use Rattle.rp_eval.specs.declared.cell.Cell.TheVariants.{Ready, Open}
 use Rattle.rp_eval.specs.Mapped.{rows_of, place_in, listed}

@@ -7,12 +7,12 @@ use Rattle.std.proofs.lemmas.List.{take-append-le, take_all, take-take, length-a
 use Rattle.std.proofs.lemmas.Option.{slice_get-map}
 use Rattle.std.proofs.lemmas.Bool.Decides.{nat_tests}
 use Rattle.std.proofs.lemmas.List.Sums.{fold-append}
-use Rattle.rp_pattern.specs.declared.word.Label.{Label}
-use Rattle.rp_check.specs.declared.plan.Function.{Function}
-use Rattle.rp_check.specs.declared.plan.Function.TheVariants.{Listed, Rows as RowCount, Count, Sum, Least as Min, Greatest as Max}
-use Rattle.rp_check.specs.declared.plan.Total.{Total}
-use Rattle.rp_check.specs.declared.plan.Variables.{Variables}
-use Rattle.rp_check.specs.Scopes.{includes}
+use Rattle.rp_words.specs.declared.word.Label.{Label}
+use Rattle.rp_query.specs.declared.plan.Function.{Function}
+use Rattle.rp_query.specs.declared.plan.Function.TheVariants.{Listed, Rows as RowCount, Count, Sum, Least as Min, Greatest as Max}
+use Rattle.rp_query.specs.declared.plan.Total.{Total}
+use Rattle.rp_query.specs.declared.plan.Variables.{Variables}
+use Rattle.rp_query.specs.Scopes.{includes}
 use Rattle.rp_eval.specs.declared.tally.Tally.{Tally}
 use Rattle.rp_eval.specs.Partition.{Rows}
 use Rattle.rp_eval.specs.Mapped.{rows_of, listed}

@@ -1,15 +1,10 @@
 -- The totals of labels.
 use Rattle.std.specs.Prelude.{◌≡◌, ℕ, List, [], ◌∷◌, ◌++◌, map}
-use Rattle.rp_pattern.specs.declared.word.Label.{Label}
-use Rattle.rp_check.specs.declared.plan.Total.{Total}
-use Rattle.rp_check.specs.declared.query.QueryData.{QueryData}
+use Rattle.rp_words.specs.declared.word.Label.{Label}
+use Rattle.rp_query.specs.declared.plan.Total.{Total}
 use Rattle.rp_eval.specs.declared.totals.Totals.{Totals}
 use Rattle.rp_eval.specs.Partition.{Rows}
 use Rattle.rp_eval.specs.Kept.{Kept, kept_of}
-
--- the totals of a query's plan
-abbrev pub totals_in : QueryData → List Total
-totals_in q = q.plan.totals.value.items
 
 -- what totals are kept of: the totals of a plan
 unfoldable pub plan_of : Totals → List Total

@@ -6,8 +6,8 @@ ghost use Rattle.rp_eval.specs.Kept.{places_to};
 
 use crate::Rows;
 use crate::tally::Tally;
-use rp_check::{Edge, Function, Total};
-use rp_pattern::Label;
+use rp_query::{Edge, Function, Total};
+use rp_words::Label;
 use std::alloc::{AllocError, Global};
 use std::marker::Model;
 

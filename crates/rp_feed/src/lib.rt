@@ -15,11 +15,13 @@
 mod answer;
 mod feed;
 mod laws;
+mod packet;
 mod slots;
 
 pub use answer::{FeedFault, MAX_BEYOND, MAX_NUMBER, Taken};
 pub use feed::Feed;
 pub use laws::{law_front, law_new, law_rows, law_same_rows};
+pub use packet::Packet;
 
 #[cfg(test)]
 mod tests;

@@ -5,18 +5,19 @@ use Rattle.rp_value.specs.declared.truth.Tri.TheVariants.{True as T, False as F,
 use Rattle.rp_value.specs.declared.truth.Judged.{Judged}
 use Rattle.rp_value.specs.declared.truth.Judged.TheVariants.{Told, Open as OpenJudgement}
 use Rattle.rp_value.specs.TruthLaws.{KeepsTold}
-use Rattle.rp_pattern.specs.declared.word.Label.{Label}
-use Rattle.rp_pattern.specs.PatternForm.{form_of}
-use Rattle.rp_pattern.specs.Words.{words}
-use Rattle.rp_pattern.specs.WordLaws.{WordsExtend, WordsEnd}
-use Rattle.rp_search.specs.Found.{Found, Match, NoMatch, Waits, SeenStays, TestsStay, FoundStays}
-use Rattle.rp_check.specs.declared.plan.Condition.{Condition}
-use Rattle.rp_check.specs.declared.query.QueryData.{QueryData}
-use Rattle.rp_check.specs.Definitions.{definition_of}
+use Rattle.rp_words.specs.declared.word.Label.{Label}
+use Rattle.rp_words.specs.PatternForm.{form_of}
+use Rattle.rp_words.specs.Words.{words}
+use Rattle.rp_words.specs.WordLaws.{WordsExtend, WordsEnd}
+use Rattle.rp_search.specs.Found.{Found, Match, NoMatch, Waits}
+use Rattle.rp_search.specs.FoundLaws.{SeenStays, TestsStay, FoundStays}
+use Rattle.rp_query.specs.declared.plan.Condition.{Condition}
+use Rattle.rp_query.specs.declared.query.QueryData.{QueryData}
+use Rattle.rp_query.specs.Definitions.{definition_of}
 use Rattle.rp_eval.specs.Early.{early_judged, EarlierStays}
 use Rattle.rp_eval.specs.ValueOf.{Setting, judged, seen_as}
-use Rattle.rp_tester.specs.Tested.{Tested, seen_by, seen_at, last_row, outcome_of}
-use Rattle.rp_known.specs.declared.item.Item.{Item}
+use Rattle.rp_conditions.specs.Tested.{Tested, seen_by, seen_at, last_row, outcome_of}
+use Rattle.rp_query.specs.declared.item.Item.{Item}
 use Rattle.rp_known.specs.declared.place.Place.{Place}
 use Rattle.rp_known.specs.Known.{Known, count}
 use Rattle.rp_known.specs.Plans.{tested_by}

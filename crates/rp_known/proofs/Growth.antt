@@ -2,13 +2,14 @@
 use Rattle.std.proofs.Common.{◌≡◌, ℕ, zero, suc, ◌+◌, ◌-◌, ◌<◌, ◌≤◌, List, [], Bool, true, false, cond, refl, subst, arith}
 use Rattle.std.specs.Prelude.{nat_le}
 use Rattle.std.proofs.lemmas.Bool.Decides.{nat_tests}
-use Rattle.rp_pattern.specs.declared.word.End.{End}
-use Rattle.rp_pattern.specs.declared.word.End.TheVariants.{Open as OpenEnd, Closed as ClosedEnd}
-use Rattle.rp_check.specs.declared.query.QueryData.{QueryData}
-use Rattle.rp_check.specs.Sound.{IsSound}
-use Rattle.rp_known.specs.declared.item.Item.{Item}
+use Rattle.rp_words.specs.declared.word.End.{End}
+use Rattle.rp_words.specs.declared.word.End.TheVariants.{Open as OpenEnd, Closed as ClosedEnd}
+use Rattle.rp_query.specs.declared.query.QueryData.{QueryData}
+use Rattle.rp_query.specs.Sound.{IsSound}
+use Rattle.rp_query.specs.declared.item.Item.{Item}
 use Rattle.rp_known.specs.declared.place.Place.{Place}
-use Rattle.rp_known.specs.Known.{Known, count, Continues, GoesOnFrom}
+use Rattle.rp_known.specs.Known.{Known, count}
+use Rattle.rp_known.specs.WalkLaws.{Continues, GoesOnFrom}
 use Rattle.rp_known.specs.Plans.{first_read}
 use Rattle.rp_known.specs.Walk.{Leg, Goes, Pauses, Ends, found_at, at_last, searched, leg, leg_items, and_then, walk, first_place, known, ComesTo, here, on}
 use Rattle.rp_known.specs.WalkLaws.{IsPrefixOf, Stays, LegStays, LeadsOn}

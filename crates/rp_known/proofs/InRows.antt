@@ -2,14 +2,14 @@
 use Rattle.std.proofs.Common.{◌≡◌, ℕ, zero, suc, ◌+◌, ◌≤◌, List, [], ◌∷◌, length, Bool, true, false, cond, Option, Some, None, refl, subst, arith}
 use Rattle.std.specs.Prelude.{nat_le, option_map, ⊤}
 use Rattle.std.proofs.lemmas.Bool.Decides.{nat_tests}
-use Rattle.rp_pattern.specs.declared.word.Label.{Label}
-use Rattle.rp_pattern.specs.declared.word.End.{End}
-use Rattle.rp_pattern.specs.declared.word.End.TheVariants.{Open as OpenEnd, Closed as ClosedEnd}
+use Rattle.rp_words.specs.declared.word.Label.{Label}
+use Rattle.rp_words.specs.declared.word.End.{End}
+use Rattle.rp_words.specs.declared.word.End.TheVariants.{Open as OpenEnd, Closed as ClosedEnd}
 use Rattle.rp_search.specs.Found.{Found, Match, NoMatch, Waits}
-use Rattle.rp_check.specs.declared.query.QueryData.{QueryData}
-use Rattle.rp_check.specs.declared.query.SkipTo.{SkipTo}
-use Rattle.rp_check.specs.declared.query.SkipTo.TheVariants.{PastLastRow, NextRow, First, Last}
-use Rattle.rp_known.specs.declared.item.Item.{Item}
+use Rattle.rp_query.specs.declared.query.QueryData.{QueryData}
+use Rattle.rp_query.specs.declared.query.SkipTo.{SkipTo}
+use Rattle.rp_query.specs.declared.query.SkipTo.TheVariants.{PastLastRow, NextRow, First, Last}
+use Rattle.rp_query.specs.declared.item.Item.{Item}
 use Rattle.rp_known.specs.declared.place.Place.{Place}
 use Rattle.rp_known.specs.Known.{Known, count}
 use Rattle.rp_known.specs.Skips.{is_of, first_place, last_place, or_here, skipped, start_after}

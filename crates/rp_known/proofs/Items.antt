@@ -3,16 +3,17 @@ use Rattle.std.proofs.Common.{◌≡◌, ℕ, suc, ◌+◌, ◌≤◌, List, [],
 use Rattle.std.specs.Prelude.{option_map}
 use Rattle.std.specs.List.{AllByRecursion}
 use Rattle.rp_value.specs.declared.value.Value.{Value}
-use Rattle.rp_syntax.specs.declared.tree.RowsPerMatch.{RowsPerMatch}
-use Rattle.rp_syntax.specs.declared.tree.RowsPerMatch.TheVariants.{One, AllShowEmpty, AllOmitEmpty, AllWithUnmatched}
-use Rattle.rp_pattern.specs.declared.word.Label.{Label}
+use Rattle.rp_query.specs.declared.query.RowsPerMatch.{RowsPerMatch}
+use Rattle.rp_query.specs.declared.query.RowsPerMatch.TheVariants.{One, AllShowEmpty, AllOmitEmpty, AllWithUnmatched}
+use Rattle.rp_words.specs.declared.word.Label.{Label}
 use Rattle.rp_search.specs.Found.{Found, Match, NoMatch, Waits}
-use Rattle.rp_check.specs.declared.query.QueryData.{QueryData}
+use Rattle.rp_query.specs.declared.query.QueryData.{QueryData}
 use Rattle.rp_eval.specs.Laws.{ValuesStay}
-use Rattle.rp_check.specs.Sound.{IsSound}
-use Rattle.rp_known.specs.declared.item.Item.{Item}
+use Rattle.rp_query.specs.Sound.{IsSound}
+use Rattle.rp_query.specs.declared.item.Item.{Item}
 use Rattle.rp_known.specs.declared.place.Place.{Place}
-use Rattle.rp_known.specs.Known.{Known, count, GoesOnFrom}
+use Rattle.rp_known.specs.Known.{Known, count}
+use Rattle.rp_known.specs.WalkLaws.{GoesOnFrom}
 use Rattle.rp_known.specs.Plans.{first_read, no_measures}
 use Rattle.rp_known.specs.WalkLaws.{AreKnown}
 use Rattle.rp_known.specs.Items.{unexcluded, match_rows, item_rows, row_item, item_at}

@@ -3,24 +3,27 @@ use Rattle.std.proofs.Common.{◌≡◌, ℕ, zero, suc, ◌-◌, ◌<◌, ◌�
 use Rattle.std.specs.Prelude.{◌≢◌, nat_le}
 use Rattle.std.specs.List.{AllByRecursion}
 use Rattle.std.proofs.lemmas.Bool.Decides.{nat_tests}
-use Rattle.rp_pattern.specs.declared.word.Label.{Label}
-use Rattle.rp_pattern.specs.declared.word.End.{End}
-use Rattle.rp_pattern.specs.declared.word.End.TheVariants.{Open as OpenEnd, Closed as ClosedEnd}
-use Rattle.rp_pattern.specs.declared.word.Seen.{Seen}
-use Rattle.rp_pattern.specs.declared.word.Seen.TheVariants.{True, NotTrue, Open as OpenTest}
-use Rattle.rp_pattern.specs.Mapping.{Mapping, Full, Open, labels_of}
-use Rattle.rp_pattern.specs.PatternForm.{form_of}
-use Rattle.rp_pattern.specs.Words.{words}
-use Rattle.rp_pattern.specs.WordLaws.{WordsExtend, WordsEnd, IsLater}
-use Rattle.rp_search.specs.Found.{Test, Found, Match, NoMatch, Waits, tested, status_from, unless_refused, found, AreShort, FoundStays}
-use Rattle.rp_check.specs.declared.query.QueryData.{QueryData}
+use Rattle.rp_words.specs.declared.word.Label.{Label}
+use Rattle.rp_words.specs.declared.word.End.{End}
+use Rattle.rp_words.specs.declared.word.End.TheVariants.{Open as OpenEnd, Closed as ClosedEnd}
+use Rattle.rp_words.specs.declared.word.Seen.{Seen}
+use Rattle.rp_words.specs.declared.word.Seen.TheVariants.{True, NotTrue, Open as OpenTest}
+use Rattle.rp_words.specs.Mapping.{Mapping, Full, Open, labels_of}
+use Rattle.rp_words.specs.PatternForm.{form_of}
+use Rattle.rp_words.specs.Words.{words}
+use Rattle.rp_words.specs.WordLaws.{WordsExtend, WordsEnd}
+use Rattle.rp_words.specs.Later.{IsLater}
+use Rattle.rp_search.specs.Found.{Test, Found, Match, NoMatch, Waits, tested, status_from, unless_refused, found}
+use Rattle.rp_search.specs.FoundLaws.{AreShort, FoundStays}
+use Rattle.rp_query.specs.declared.query.QueryData.{QueryData}
 use Rattle.rp_eval.specs.Laws.{ValuesStay}
-use Rattle.rp_tester.specs.Tested.{outcome_of}
-use Rattle.rp_tester.specs.Outlives.{TestsGoOn}
-use Rattle.rp_check.specs.Sound.{IsSound}
-use Rattle.rp_known.specs.declared.item.Item.{Item}
+use Rattle.rp_conditions.specs.Tested.{outcome_of}
+use Rattle.rp_conditions.specs.Outlives.{TestsGoOn}
+use Rattle.rp_query.specs.Sound.{IsSound}
+use Rattle.rp_query.specs.declared.item.Item.{Item}
 use Rattle.rp_known.specs.declared.place.Place.{Place}
-use Rattle.rp_known.specs.Known.{Known, count, GoesOnFrom}
+use Rattle.rp_known.specs.Known.{Known, count}
+use Rattle.rp_known.specs.WalkLaws.{GoesOnFrom}
 use Rattle.rp_known.specs.Plans.{first_read, tested_by}
 use Rattle.rp_known.specs.Skips.{start_after, skipped}
 use Rattle.rp_known.specs.Items.{item_at, item_rows, items_of}

@@ -1,7 +1,7 @@
 -- The place of the first label that passes.
 use Rattle.std.proofs.Common.{◌≡◌, ℕ, zero, suc, ◌<◌, Bool, true, false, cond, List, [], ◌∷◌, length, take, get_or, Option, Some, None, refl, ap, arith}
 use Rattle.std.specs.Prelude.{option_map}
-use Rattle.rp_pattern.specs.declared.word.Label.{Label}
+use Rattle.rp_words.specs.declared.word.Label.{Label}
 use Rattle.rp_known.specs.Skips.{first_place}
 
 none_before : (o : Option ℕ) → option_map suc o ≡ None → o ≡ None

@@ -1,6 +1,6 @@
 -- Lists of items that begin others.
 use Rattle.std.proofs.Common.{◌≡◌, ◌≤◌, List, [], ◌∷◌, ◌++◌, length, length-append, refl, sym, ap, ◌∙◌, append_assoc, arith}
-use Rattle.rp_known.specs.declared.item.Item.{Item}
+use Rattle.rp_query.specs.declared.item.Item.{Item}
 use Rattle.rp_known.specs.WalkLaws.{IsPrefixOf}
 
 pub append_nil : (xs : List Item) → xs ++ [] ≡ xs

@@ -4,19 +4,21 @@ use Rattle.std.specs.Prelude.{slice_get, ◌==◌, All}
 use Rattle.std.proofs.lemmas.List.Elements.{All-head, All-tail}
 use Rattle.std.proofs.lemmas.Bool.Decides.{nat_tests}
 use Rattle.rp_value.specs.declared.value.Value.{Value}
-use Rattle.rp_pattern.specs.declared.word.End.{End}
-use Rattle.rp_pattern.specs.declared.word.End.TheVariants.{Open as OpenEnd, Closed as ClosedEnd}
-use Rattle.rp_pattern.specs.declared.word.Label.{Label}
-use Rattle.rp_check.specs.declared.plan.Expr.{Expr}
-use Rattle.rp_check.specs.declared.query.QueryData.{QueryData}
-use Rattle.rp_check.specs.Reach.{reach}
-use Rattle.rp_check.specs.Sound.{IsSound}
+use Rattle.rp_words.specs.declared.word.End.{End}
+use Rattle.rp_words.specs.declared.word.End.TheVariants.{Open as OpenEnd, Closed as ClosedEnd}
+use Rattle.rp_words.specs.declared.word.Label.{Label}
+use Rattle.rp_query.specs.declared.plan.Expr.{Expr}
+use Rattle.rp_query.specs.declared.query.QueryData.{QueryData}
+use Rattle.rp_query.specs.Reach.{reach}
+use Rattle.rp_query.specs.Sound.{IsSound}
 use Rattle.rp_eval.specs.declared.cell.Cell.{Cell}
 use Rattle.rp_eval.specs.declared.cell.Cell.TheVariants.{Ready, Open}
 use Rattle.rp_eval.specs.Partition.{Rows, row_at, cell_in, or_null}
 use Rattle.rp_eval.specs.ValueOf.{Setting, value_of}
-use Rattle.rp_eval.specs.Laws.{GoesOn, LiesOnRows, over, CellStays, ValuesStay}
-use Rattle.rp_known.specs.Known.{Known, count, Continues, GoesOnFrom}
+use Rattle.rp_eval.specs.Laws.{LiesOnRows, over, CellStays, ValuesStay}
+use Rattle.rp_eval.specs.GoesOn.{GoesOn}
+use Rattle.rp_known.specs.Known.{Known, count}
+use Rattle.rp_known.specs.WalkLaws.{Continues, GoesOnFrom}
 use Rattle.rp_known.specs.Plans.{first_read, setting_of, before_ready, values_of, leading, trailing, cells_of}
 
 -- fewer rows are looked at

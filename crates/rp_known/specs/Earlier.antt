@@ -1,19 +1,19 @@
 -- The known answer by the older rule, under which AND and OR were open where either side was. It stands for the law alone that it
 -- begins the present one.
 use Rattle.std.specs.Prelude.{◌≡◌, ℕ, zero, suc, ◌+◌, ◌-◌, List, [], length, nat_le, Option, Some, None, slice_get, if◌then◌else◌}
-use Rattle.rp_pattern.specs.declared.word.Label.{Label}
-use Rattle.rp_pattern.specs.declared.word.Seen.{Seen}
-use Rattle.rp_pattern.specs.declared.word.Seen.TheVariants.{True, NotTrue}
-use Rattle.rp_pattern.specs.PatternForm.{form_of}
-use Rattle.rp_pattern.specs.Words.{words}
+use Rattle.rp_words.specs.declared.word.Label.{Label}
+use Rattle.rp_words.specs.declared.word.Seen.{Seen}
+use Rattle.rp_words.specs.declared.word.Seen.TheVariants.{True, NotTrue}
+use Rattle.rp_words.specs.PatternForm.{form_of}
+use Rattle.rp_words.specs.Words.{words}
 use Rattle.rp_search.specs.Found.{Found, found}
-use Rattle.rp_check.specs.declared.plan.Condition.{Condition}
-use Rattle.rp_check.specs.declared.query.QueryData.{QueryData}
-use Rattle.rp_check.specs.Definitions.{definition_of}
+use Rattle.rp_query.specs.declared.plan.Condition.{Condition}
+use Rattle.rp_query.specs.declared.query.QueryData.{QueryData}
+use Rattle.rp_query.specs.Definitions.{definition_of}
 use Rattle.rp_eval.specs.Early.{early_judged}
 use Rattle.rp_eval.specs.ValueOf.{Setting, seen_as}
-use Rattle.rp_tester.specs.Tested.{Tested, last_row}
-use Rattle.rp_known.specs.declared.item.Item.{Item}
+use Rattle.rp_conditions.specs.Tested.{Tested, last_row}
+use Rattle.rp_query.specs.declared.item.Item.{Item}
 use Rattle.rp_known.specs.declared.place.Place.{Place}
 use Rattle.rp_known.specs.Known.{Known, count}
 use Rattle.rp_known.specs.Plans.{tested_by}

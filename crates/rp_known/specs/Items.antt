@@ -1,13 +1,13 @@
 -- The items of a search.
 use Rattle.std.specs.Prelude.{ℕ, suc, ◌+◌, ◌&&◌, Bool, true, false, List, [], ◌∷◌, length, map, nat_lt, Option, Some, None, option_map, if◌then◌else◌}
 use Rattle.rp_value.specs.declared.value.Value.{Value}
-use Rattle.rp_syntax.specs.declared.tree.RowsPerMatch.{RowsPerMatch}
-use Rattle.rp_syntax.specs.declared.tree.RowsPerMatch.TheVariants.{One, AllShowEmpty, AllOmitEmpty, AllWithUnmatched}
-use Rattle.rp_pattern.specs.declared.word.Label.{Label}
+use Rattle.rp_query.specs.declared.query.RowsPerMatch.{RowsPerMatch}
+use Rattle.rp_query.specs.declared.query.RowsPerMatch.TheVariants.{One, AllShowEmpty, AllOmitEmpty, AllWithUnmatched}
+use Rattle.rp_words.specs.declared.word.Label.{Label}
 use Rattle.rp_search.specs.Found.{Found, Match, NoMatch, Waits}
-use Rattle.rp_check.specs.declared.query.QueryData.{QueryData}
-use Rattle.rp_known.specs.declared.item.Item.{Item}
-use Rattle.rp_known.specs.declared.item.Item.TheVariants.{Row as RowItem}
+use Rattle.rp_query.specs.declared.query.QueryData.{QueryData}
+use Rattle.rp_query.specs.declared.item.Item.{Item}
+use Rattle.rp_query.specs.declared.item.Item.TheVariants.{Row as RowItem}
 use Rattle.rp_known.specs.declared.place.Place.{Place}
 use Rattle.rp_known.specs.Known.{Known}
 use Rattle.rp_known.specs.Plans.{setting_of, values_of, cells_of, no_measures}

@@ -4,17 +4,17 @@ use Rattle.std.specs.List.{list_any}
 use Rattle.rp_value.specs.declared.value.Value.{Value}
 use Rattle.rp_value.specs.declared.value.Value.TheVariants.{Null}
 use Rattle.rp_value.specs.declared.table.Column.{Column}
-use Rattle.rp_syntax.specs.declared.tree.RowsPerMatch.{RowsPerMatch}
-use Rattle.rp_syntax.specs.declared.tree.RowsPerMatch.TheVariants.{One, AllShowEmpty, AllOmitEmpty, AllWithUnmatched}
-use Rattle.rp_pattern.specs.declared.word.Label.{Label}
-use Rattle.rp_check.specs.declared.plan.Expr.{Expr}
-use Rattle.rp_check.specs.declared.query.QueryData.{QueryData}
+use Rattle.rp_query.specs.declared.query.RowsPerMatch.{RowsPerMatch}
+use Rattle.rp_query.specs.declared.query.RowsPerMatch.TheVariants.{One, AllShowEmpty, AllOmitEmpty, AllWithUnmatched}
+use Rattle.rp_words.specs.declared.word.Label.{Label}
+use Rattle.rp_query.specs.declared.plan.Expr.{Expr}
+use Rattle.rp_query.specs.declared.query.QueryData.{QueryData}
 use Rattle.rp_eval.specs.declared.cell.Cell.{Cell}
 use Rattle.rp_eval.specs.declared.cell.Cell.TheVariants.{Ready, Open}
-use Rattle.rp_eval.specs.Entered.{totals_in}
+use Rattle.rp_query.specs.QueryView.{totals_in}
 use Rattle.rp_eval.specs.Partition.{Rows, cell}
 use Rattle.rp_eval.specs.ValueOf.{Setting, value_of}
-use Rattle.rp_tester.specs.Tested.{Tested}
+use Rattle.rp_conditions.specs.Tested.{Tested}
 use Rattle.rp_known.specs.Known.{Known}
 
 -- ---- conditions

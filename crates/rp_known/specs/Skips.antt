@@ -1,12 +1,12 @@
 -- Where the next search starts, after AFTER MATCH SKIP.
 use Rattle.std.specs.Prelude.{ℕ, zero, suc, ◌+◌, Bool, true, false, List, [], ◌∷◌, length, Option, Some, None, option_map, Result, Ok, Err, if◌then◌else◌}
-use Rattle.rp_pattern.specs.declared.word.Label.{Label}
-use Rattle.rp_check.specs.declared.plan.Variables.{Variables}
-use Rattle.rp_check.specs.declared.query.SkipTo.{SkipTo}
-use Rattle.rp_check.specs.declared.query.SkipTo.TheVariants.{PastLastRow, NextRow, First, Last}
-use Rattle.rp_check.specs.Scopes.{includes}
-use Rattle.rp_known.specs.declared.item.SkipFault.{SkipFault}
-use Rattle.rp_known.specs.declared.item.SkipFault.TheVariants.{SkipNoRow, SkipSame}
+use Rattle.rp_words.specs.declared.word.Label.{Label}
+use Rattle.rp_query.specs.declared.plan.Variables.{Variables}
+use Rattle.rp_query.specs.declared.query.SkipTo.{SkipTo}
+use Rattle.rp_query.specs.declared.query.SkipTo.TheVariants.{PastLastRow, NextRow, First, Last}
+use Rattle.rp_query.specs.Scopes.{includes}
+use Rattle.rp_query.specs.declared.item.SkipFault.{SkipFault}
+use Rattle.rp_query.specs.declared.item.SkipFault.TheVariants.{SkipNoRow, SkipSame}
 
 -- the row is mapped to one of the variables
 abbrev pub is_of : Variables → Label → Bool

@@ -1,13 +1,26 @@
 -- What is known only grows.
 use Rattle.std.specs.Prelude.{◌≡◌, ◌≢◌, ℕ, ◌-◌, ◌^◌, ◌<◌, ◌≤◌, List, ◌++◌, length, suc, ⊤, ◌+◌}
-use Rattle.rp_check.specs.declared.query.QueryData.{QueryData}
+use Rattle.rp_words.specs.declared.word.End.TheVariants.{Open as OpenEnd}
+use Rattle.rp_query.specs.declared.query.QueryData.{QueryData}
 use Rattle.rp_search.specs.Found.{Found, Match, NoMatch, Waits}
-use Rattle.rp_check.specs.Sound.{IsSound}
-use Rattle.rp_known.specs.declared.item.Item.{Item}
+use Rattle.rp_query.specs.Sound.{IsSound}
+use Rattle.rp_query.specs.declared.item.Item.{Item}
+use Rattle.rp_eval.specs.GoesOn.{GoesOn}
+use Rattle.rp_eval.specs.Partition.{Rows}
 use Rattle.rp_known.specs.declared.place.Place.{Place}
-use Rattle.rp_known.specs.Known.{Known, count, Continues, GoesOnFrom}
+use Rattle.rp_known.specs.Known.{Known, count}
 use Rattle.rp_known.specs.Plans.{first_read}
 use Rattle.rp_known.specs.Walk.{Leg, Goes, Pauses, Ends, after_found, found_at, leg, leg_items, known, ComesTo}
+
+-- A continuation of an open partition: no rows or more come, and it may be closed.
+pub record Continues (old new : Known) : Type 0 where
+  pub open_before : old.end ≡ OpenEnd
+  pub more : Rows
+  pub rows : new.rows ≡ old.rows ++ more
+
+-- The one goes on as the other, as far as the rows from this one on are looked at.
+abbrev pub GoesOnFrom : ℕ → Known → Known → Type 0
+GoesOnFrom first old new = GoesOn first old.rows old.end new.rows new.end
 
 pub record IsPrefixOf (xs ys : List Item) : Type 0 where
   pub rest : List Item

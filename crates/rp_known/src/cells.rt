@@ -2,13 +2,12 @@
 ghost use Rattle.std.specs.Prelude.{◌≡◌, ◌++◌, length, map, nat_eq, IfOk, OnOk};
 ghost use Rattle.std.specs.List.{list_any};
 ghost use Rattle.rp_value.specs.declared.value.Value.TheVariants.{Null};
-ghost use Rattle.rp_check.specs.QueryView.{data_of};
+ghost use Rattle.rp_query.specs.QueryView.{data_of};
 ghost use Rattle.rp_eval.specs.Partition.{cell};
 ghost use Rattle.rp_known.specs.Plans.{other_columns, is_key, shows_all, row_cells};
 
-use rp_check::{Expr, OrderColumn, Query};
 use rp_eval::Rows;
-use rp_syntax::RowsPerMatch;
+use rp_query::{Expr, OrderColumn, Query, RowsPerMatch};
 use rp_value::{Column, Value};
 use std::alloc::AllocError;
 

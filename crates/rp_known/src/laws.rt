@@ -12,10 +12,10 @@ pub fn law_known()
     ensures found { FindingsStay }
     ensures short { KnownIsShort }
 {
-    rp_pattern::law_words();
+    rp_words::law_words();
     rp_search::law_found();
     rp_eval::law_values();
-    rp_tester::law_tests();
+    rp_conditions::law_tests();
 }
 
 /// The laws of one leg of the walk: it leads to a later row, if at all, and a match is of known rows, so that a walk
@@ -27,7 +27,7 @@ pub fn law_legs()
     ensures in_rows { WalkIsInRows }
     ensures continuing { ContinuationsGoOn }
 {
-    rp_pattern::law_words();
+    rp_words::law_words();
 }
 
 /// What was known while an open side made every AND and OR open begins what is known now of the same rows. So the items
@@ -38,7 +38,7 @@ pub fn law_earlier()
     ensures walk { EarlierWalkStays }
     ensures leg { EarlierLegStays }
 {
-    rp_pattern::law_words();
+    rp_words::law_words();
     rp_search::law_found();
     rp_eval::law_early_conditions();
 }

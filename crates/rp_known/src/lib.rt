@@ -5,16 +5,15 @@
 #![tactic(auto)]
 
 mod cells;
-mod item;
 mod laws;
 mod making;
 mod place;
 mod skips;
 
-pub use item::{Item, SkipFault};
 pub use laws::{law_earlier, law_known, law_legs};
 pub use making::{match_item, unmatched_item};
 pub use place::Place;
+pub use rp_query::{Item, SkipFault};
 pub use skips::next_start;
 
 #[cfg(test)]

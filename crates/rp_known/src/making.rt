@@ -1,20 +1,20 @@
 //! Items are made one at a time.
 ghost use Rattle.std.specs.Prelude.{◌≡◌, ◌+◌, ◌-◌, ◌^◌, ◌≤◌, ◌<◌, ◌++◌, length, option_map, IfOk, OnOk, Some, None, if◌then◌else◌};
-ghost use Rattle.rp_check.specs.QueryView.{data_of};
+ghost use Rattle.rp_query.specs.QueryView.{data_of};
 ghost use Rattle.rp_search.specs.Found.{Match, NoMatch};
-ghost use Rattle.rp_eval.specs.Entered.{AreTotals, plan_of, totals_in};
+ghost use Rattle.rp_eval.specs.Entered.{AreTotals, plan_of};
+ghost use Rattle.rp_query.specs.QueryView.{totals_in};
 ghost use Rattle.rp_eval.specs.Looks.{setting_of, Looks};
 ghost use Rattle.rp_known.specs.Items.{item_at};
 ghost use Rattle.rp_known.specs.Known.{known_in};
 ghost use Rattle.rp_known.specs.Plans.{leading, trailing, row_cells, values_of};
 
 use crate::cells::{add_columns, add_nulls, add_order, add_others, shows_all};
-use crate::item::Item;
 use crate::place::Place;
-use rp_check::{Expr, Query};
 use rp_eval::{Cell, Rows, Totals, View, measure};
-use rp_pattern::Label;
+use rp_query::{Expr, Query};
 use rp_value::{Cells, Value};
+use rp_words::Label;
 use std::alloc::{AllocError, Global};
 
 /// Adds the cells of a row that come before the measures.

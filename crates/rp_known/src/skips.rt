@@ -1,11 +1,10 @@
 //! Where the next search starts.
 ghost use Rattle.std.specs.Prelude.{◌≡◌, ◌+◌, ◌-◌, ◌^◌, ◌≤◌, ◌<◌, length, IfSome};
-ghost use Rattle.rp_check.specs.Scopes.{includes};
+ghost use Rattle.rp_query.specs.Scopes.{includes};
 ghost use Rattle.rp_known.specs.Skips.{is_of, first_place, last_place, skipped, next_start};
 
-use crate::item::SkipFault;
-use rp_check::{SkipTo, Variables};
-use rp_pattern::Label;
+use rp_query::{SkipTo, Variables};
+use rp_words::Label;
 
 /// The row at which the next search starts, after a match from the row `start` with these labels.
 pub fn next_start(skip: &SkipTo, start: u64, labels: &[Label]) -> Result<u64, SkipFault>

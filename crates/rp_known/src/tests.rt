@@ -2,11 +2,12 @@
 ghost use Rattle.std.specs.Prelude.{◌^◌, ◌-◌, ◌<◌, length};
 
 use crate::{Item, Place, SkipFault, next_start, unmatched_item};
-use rp_check::{Query, compile};
+use rp_check::compile;
 use rp_eval::Rows;
-use rp_pattern::{End, Label};
+use rp_query::Query;
 use rp_syntax::read_table;
 use rp_value::{Cells, Row, Text, Value};
+use rp_words::{End, Label};
 use std::alloc::Global;
 use std::test::Fail;
 
@@ -19,7 +20,7 @@ struct Known {
 
 impl Rows for Known {
     ghost use Rattle.rp_eval.specs.Dropped.{none_below_one};
-    ghost use Rattle.rp_pattern.specs.declared.word.End.TheVariants.{Open};
+    ghost use Rattle.rp_words.specs.declared.word.End.TheVariants.{Open};
 
     ghost known = { λ k. k.rows.items };
 

@@ -16,9 +16,6 @@ line_feed = slice_index (codes "\n") 0
 abbrev pub minus_sign : ℕ
 minus_sign = slice_index (codes "-") 0
 
-abbrev pub underscore : ℕ
-underscore = slice_index (codes "_") 0
-
 abbrev pub single_quote : ℕ
 single_quote = slice_index (codes "'") 0
 

@@ -1,25 +1,12 @@
 -- Which bytes have the form of a token of each kind. Letters and digits are those of ASCII.
 use Rattle.std.specs.Prelude.{◌≡◌, ◌≢◌, ℕ, ◌<◌, Bool, true, ◌||◌, ◌==◌, if◌then◌else◌, List, [], ◌∷◌, ◌++◌, length, map, slice_index, All}
-use Rattle.std.specs.Char.{is_ascii_alphabetic, is_ascii_alphanumeric, is_ascii_digit, to_ascii_lowercase}
-use Rattle.rp_lexer.specs.Bytes.{underscore}
+use Rattle.std.specs.Char.{is_ascii_digit, to_ascii_lowercase}
+pub use Rattle.rp_value.specs.Names.{is_name_start, is_name_byte, IsIdentifier}
 pub use Rattle.rp_lexer.specs.Bytes.{single_quote, double_quote}
 use Rattle.rp_lexer.specs.Spelling.{keyword_spelling, mark_spelling}
 use Rattle.rp_lexer.specs.declared.kind.Keyword.{Keyword}
 use Rattle.rp_lexer.specs.declared.kind.TokenKind.{TokenKind}
 use Rattle.rp_lexer.specs.declared.kind.TokenKind.TheVariants as kinds
-
--- a letter or `_`
-abbrev pub is_name_start : ℕ → Bool
-is_name_start b = is_ascii_alphabetic b || b == underscore
-
--- a letter, a digit or `_`
-abbrev pub is_name_byte : ℕ → Bool
-is_name_byte b = is_ascii_alphanumeric b || b == underscore
-
--- A letter or `_`, and then letters, digits and `_`. That a name may begin with `_` is this project's own.
-pub record IsIdentifier (bytes : List ℕ) : Type 0 where
-  pub start : is_name_start (slice_index bytes 0) ≡ true
-  pub each : All (λ b. is_name_byte b ≡ true) bytes
 
 -- the same word, but for the case of its ASCII letters
 abbrev pub SpellsAlike : List ℕ → List ℕ → Type 0

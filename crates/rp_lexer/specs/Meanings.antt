@@ -2,7 +2,7 @@
 use Rattle.std.specs.Prelude.{◌≡◌, ℕ, List, map, slice_range}
 use Rattle.std.specs.Char.{to_ascii_uppercase}
 use Rattle.std.specs.Str.Parse.{digits_value}
-use Rattle.rp_lexer.specs.Forms.{IsIdentifier, enclosed, single_quote, double_quote}
+use Rattle.rp_lexer.specs.Forms.{enclosed, single_quote, double_quote}
 use Rattle.rp_lexer.specs.declared.kind.TokenKind.{TokenKind}
 use Rattle.rp_lexer.specs.declared.kind.TokenKind.TheVariants as kinds
 use Rattle.rp_lexer.specs.declared.token.Token.{Token}
@@ -33,7 +33,3 @@ IsTextOf text token inside = MeansText (bytes_of text token) inside
 -- the value of a token that is a number
 abbrev pub number_of : List ℕ → Token → ℕ
 number_of text token = digits_value 10 (bytes_of text token)
-
--- the text has the form of a name, be it a reserved word or not, and this is its upper-case form
-abbrev pub IsUpperCaseName : List ℕ → List ℕ → Type 0
-IsUpperCaseName text name = IsIdentifier text × (name ≡ map to_ascii_uppercase text)

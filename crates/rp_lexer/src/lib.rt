@@ -31,5 +31,5 @@ pub use fault::LexFault;
 pub use kind::{Keyword, Mark, TokenKind};
 pub use laws::law_lexes;
 pub use lexer::lex;
-pub use meaning::{name_of, number_of, text_of, upper_case_name};
+pub use meaning::{name_of, number_of, text_of};
 pub use token::Token;

@@ -1,10 +1,10 @@
 //! What names, texts and numbers mean.
 
-ghost use Rattle.std.specs.Prelude.{◌≡◌, ℕ, ◌<◌, ◌^◌, ◌⊎◌, List, IfOk, IfSome, IfNone};
+ghost use Rattle.std.specs.Prelude.{◌≡◌, ℕ, ◌<◌, ◌^◌, ◌⊎◌, List, IfOk};
 ghost use Rattle.std.specs.String.{string_bytes};
-ghost use Rattle.rp_lexer.specs.Forms.{IsIdentifier, doubled, enclosed};
+ghost use Rattle.rp_lexer.specs.Forms.{doubled, enclosed};
 ghost use Rattle.rp_lexer.specs.Lexes.{IsToken};
-ghost use Rattle.rp_lexer.specs.Meanings.{bytes_of, IsNameOf, IsTextOf, IsUpperCaseName, number_of};
+ghost use Rattle.rp_lexer.specs.Meanings.{bytes_of, IsNameOf, IsTextOf, number_of};
 
 use crate::kind::TokenKind;
 use crate::scan;
@@ -42,21 +42,6 @@ pub fn number_of(text: &str, token: Token) -> u64
 {
     let digits = &text.as_bytes()[token.start..token.end];
     scan::value_of(digits).unwrap()
-}
-
-/// The upper-case form of a text that has the form of a name: an ASCII letter or `_`, and then such letters, digits and `_`. None for
-/// any other text. Reserved words have that form, so `order` gives ORDER: it is for names that stand alone, as in the header
-/// of a file, where nothing could be taken for a word of a clause.
-pub fn upper_case_name(alloc: Global, text: &str) -> Result<Option<String>, AllocError>
-    ensures name { IfOk result (λ found. IfSome found (λ name. IsUpperCaseName text.now (string_bytes name))) }
-    ensures no_name { IfOk result (λ found. IfNone found (IsIdentifier text.now → ⊥)) }
-{
-    if !scan::is_identifier(text.as_bytes()) {
-        return Ok(None);
-    }
-    let mut form = String::from_str(alloc, text)?;
-    form.make_ascii_uppercase();
-    Ok(Some(form))
 }
 
 /// The upper-case form of a name.

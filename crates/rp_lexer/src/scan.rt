@@ -13,30 +13,7 @@ ghost use Rattle.rp_lexer.specs.Scan.{Stops, IsRun, entries, word_in, begins_wit
 use crate::fault::LexFault;
 use crate::kind::{KEYWORDS, Keyword, MARKS, Mark, TokenKind};
 use crate::token::Token;
-
-/// Whether the byte may stand in a name.
-fn is_name_byte(byte: u8) -> bool
-    ensures { result ≡ is_name_byte byte }
-{
-    byte.is_ascii_alphanumeric() || byte == b'_'
-}
-
-/// Whether a name may begin with the byte.
-fn is_name_start(byte: u8) -> bool
-    ensures { result ≡ is_name_start byte }
-{
-    byte.is_ascii_alphabetic() || byte == b'_'
-}
-
-/// Whether the bytes have the form of a name.
-pub(crate) fn is_identifier(bytes: &[u8]) -> bool
-    ensures { IsTrue result ↔ IsIdentifier bytes.now }
-{
-    match bytes.first() {
-        Some(first) => is_name_start(*first) && bytes.iter().all(|byte| is_name_byte(*byte)),
-        None => false,
-    }
-}
+use rp_value::is_name_byte;
 
 /// How many letters, digits and `_` the bytes begin with.
 fn name_len(rest: &[u8]) -> usize

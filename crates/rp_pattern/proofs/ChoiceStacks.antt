@@ -2,28 +2,28 @@
 use Rattle.std.proofs.Common.{◌≡◌, ℕ, ◌+◌, ◌≤◌, List, [], ◌∷◌, ◌++◌, map, length, take, drop, reverse, Bool, true, false, cond, ◌&&◌, Option, Some, None, IsTrue, refl, sym, ap, ◌∙◌, arith, subst, append_assoc, length-append}
 use Rattle.std.specs.Prelude.{nat_le, sum_by}
 use Rattle.std.proofs.lemmas.List.Sums.{sum_by-cons}
-use Rattle.rp_pattern.specs.declared.form.Form.{Form}
+use Rattle.rp_words.specs.declared.form.Form.{Form}
 use Rattle.rp_pattern.specs.declared.machine.node.Node.{Node}
 use Rattle.rp_pattern.specs.declared.machine.link.Part.{Part}
 use Rattle.rp_pattern.specs.declared.machine.link.Part.TheVariants.{Whole}
 use Rattle.std.proofs.lemmas.Bool.Decides.{nat_tests}
 use Rattle.std.proofs.lemmas.List.{take-append-drop, take-append-le, length-take-le, map-append, length-map, reverse-append}
-use Rattle.rp_pattern.specs.declared.word.End.{End}
-use Rattle.rp_pattern.specs.declared.word.Label.{Label}
+use Rattle.rp_words.specs.declared.word.End.{End}
+use Rattle.rp_words.specs.declared.word.Label.{Label}
 use Rattle.rp_pattern.specs.declared.machine.continuation.Continuation.{Continuation}
 use Rattle.rp_pattern.specs.declared.machine.continuation.Continuation.TheVariants.{Done, Then, Row, Reached}
 use Rattle.rp_pattern.specs.declared.machine.continuation.Choice.{Choice}
 use Rattle.rp_pattern.specs.declared.machine.split.Split.{Split}
 use Rattle.rp_pattern.specs.declared.choices.Choices.{Choices}
-use Rattle.rp_pattern.specs.Mapping.{Mapping, Full, Open, preceded}
-use Rattle.rp_pattern.specs.Words.{words}
-use Rattle.rp_pattern.specs.Turns.{turns, turns_after, chain_turns, within}
-use Rattle.rp_pattern.specs.WordLaws.{IsLater}
+use Rattle.rp_words.specs.Mapping.{Mapping, Full, Open, preceded}
+use Rattle.rp_words.specs.Words.{words}
+use Rattle.rp_words.specs.Turns.{turns, turns_after, chain_turns, within}
+use Rattle.rp_words.specs.Later.{IsLater}
 use Rattle.rp_pattern.specs.Continuations.{links_from, reached_parts, tail_links, links_parts, tail_parts, continuation_parts, later_parts, chain_words, chain_left, choice_words, stack_words, stack_left, rises, pushed}
 use Rattle.rp_pattern.specs.Splits.{StandsFor, option_words, option_turns, Splits, TakesRow, Waits}
 use Rattle.rp_pattern.specs.Choices.{start_of, entered, whole, whole_turns, whole_from, whole_turns_from, remaining, turns_left, below, turns_left_below, after, turns_left_after, first_later, OfFirst, HasTop, AtRow, AreFirstOf, AreStrictlyFirstOf, IsSamePattern, IsSameWhole, IsSameRemaining, IsSplit, IsMappedRow, IsFullWord, IsOpenWord, IsNothing}
-use Rattle.rp_pattern.proofs.Lists.{map-map}
-use Rattle.rp_pattern.proofs.Algebra.{append_nil, concatenation_nothing_last, map_same, preceded_twice, map_preceded_nothing}
+use Rattle.rp_words.proofs.Lists.{map-map}
+use Rattle.rp_words.proofs.Algebra.{append_nil, concatenation_nothing_last, map_same, preceded_twice, map_preceded_nothing}
 
 -- ---- depths that rise
 

@@ -6,24 +6,24 @@ use Rattle.std.proofs.lemmas.Grind.{flat_map-append}
 use Rattle.std.proofs.lemmas.Bool.Decides.{nat_tests}
 use Rattle.std.specs.declared.rc.Rc.{Rc}
 use Rattle.std.specs.declared.alloc.Global.{Global}
-use Rattle.rp_pattern.specs.declared.form.Form.{Form}
-use Rattle.rp_pattern.specs.declared.form.Form.TheVariants as V
-use Rattle.rp_pattern.specs.declared.word.End.{End}
-use Rattle.rp_pattern.specs.declared.word.End.TheVariants.{Open as OpenEnd, Closed as ClosedEnd}
-use Rattle.rp_pattern.specs.declared.word.Label.{Label}
-use Rattle.rp_pattern.specs.Mapping.{Mapping, Full, Open, preceded, excluded_label, excluded_mapping}
-use Rattle.rp_pattern.specs.Words.{Mappings, may_go_on, may_end, nothing_mapped, followed, concatenation, alternation, exclusion, within_exclusion, moving, only_past, optional, further, words}
-use Rattle.rp_pattern.specs.Turns.{WordsAndTurns, turns, one_turn, concatenation_turns, chain_turns, within, iterations}
+use Rattle.rp_words.specs.declared.form.Form.{Form}
+use Rattle.rp_words.specs.declared.form.Form.TheVariants as V
+use Rattle.rp_words.specs.declared.word.End.{End}
+use Rattle.rp_words.specs.declared.word.End.TheVariants.{Open as OpenEnd, Closed as ClosedEnd}
+use Rattle.rp_words.specs.declared.word.Label.{Label}
+use Rattle.rp_words.specs.Mapping.{Mapping, Full, Open, preceded, excluded_label, excluded_mapping}
+use Rattle.rp_words.specs.Words.{Mappings, may_go_on, may_end, nothing_mapped, followed, concatenation, alternation, exclusion, within_exclusion, moving, only_past, optional, further, words}
+use Rattle.rp_words.specs.Turns.{WordsAndTurns, turns, one_turn, concatenation_turns, chain_turns, within, iterations}
 use Rattle.rp_pattern.specs.Continuations.{chain_words, form_part}
 use Rattle.rp_pattern.specs.Splits.{repeated}
-use Rattle.rp_pattern.proofs.Lists.{map-map}
-use Rattle.rp_pattern.proofs.Algebra.{append_nil, concatenation_assoc, concatenation_alternation, concatenation_nothing_first, moving_is}
-use Rattle.rp_pattern.proofs.Bounds.{AreWithin, unbounded}
-use Rattle.rp_pattern.proofs.Excluded.{exclusion_concatenation, exclusion_alternation}
-use Rattle.rp_pattern.proofs.Within.{words_within, exclusion_within}
-use Rattle.rp_pattern.proofs.FormEquations.{words_variable, words_empty, words_start, words_end, words_concatenation, words_alternation, words_exclusion, words_quantified}
-use Rattle.rp_pattern.proofs.TurnEquations.{whole_part, turns_variable, turns_empty, turns_start, turns_end, turns_concatenation, turns_alternation, turns_exclusion, turns_quantified}
-use Rattle.rp_pattern.proofs.TurnsTaken.{same_first, within_concatenation_taken, within_alternation_taken, within_exclusion_taken, required_taken, optional_taken, unbounded_taken, within_iterations_words, within_iterations_turns}
+use Rattle.rp_words.proofs.Lists.{map-map}
+use Rattle.rp_words.proofs.Algebra.{append_nil, concatenation_assoc, concatenation_alternation, concatenation_nothing_first, moving_is}
+use Rattle.rp_words.proofs.Bounds.{AreWithin, unbounded}
+use Rattle.rp_words.proofs.Excluded.{exclusion_concatenation, exclusion_alternation}
+use Rattle.rp_words.proofs.Within.{words_within, exclusion_within}
+use Rattle.rp_words.proofs.FormEquations.{words_variable, words_empty, words_start, words_end, words_concatenation, words_alternation, words_exclusion, words_quantified}
+use Rattle.rp_words.proofs.TurnEquations.{whole_part, turns_variable, turns_empty, turns_start, turns_end, turns_concatenation, turns_alternation, turns_exclusion, turns_quantified}
+use Rattle.rp_words.proofs.TurnsTaken.{same_first, within_concatenation_taken, within_alternation_taken, within_exclusion_taken, required_taken, optional_taken, unbounded_taken, within_iterations_words, within_iterations_turns}
 
 -- The words of parts are those of others, which take a turn less.
 pub record Leaves (i : ℕ) (ps qs : List WordsAndTurns) : Type 0 where

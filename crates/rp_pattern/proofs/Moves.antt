@@ -4,21 +4,21 @@ use Rattle.std.specs.Prelude.{nat_le, nat_lt, sum_by}
 use Rattle.std.specs.List.{flat_map, filter, AllByRecursion}
 use Rattle.std.proofs.lemmas.List.Sums.{sum_by-cons}
 use Rattle.std.proofs.lemmas.Bool.Decides.{nat_tests}
-use Rattle.rp_pattern.specs.Mapping.{Mapping, Full, Open, preceded, excluded_mapping}
-use Rattle.rp_pattern.specs.declared.form.Form.{Form}
-use Rattle.rp_pattern.specs.declared.form.Form.TheOpen.{Form-F, Variable, Empty, Concatenation, Alternation, PartitionStart, PartitionEnd, Permute, Exclusion, Quantified}
-use Rattle.rp_pattern.specs.declared.form.Form.TheViews.{roll-Form}
-use Rattle.rp_pattern.specs.declared.form.Form.TheFolds.{map-Form, fold-roll-Form, ind-Form}
-use Rattle.rp_pattern.specs.declared.word.End.{End}
-use Rattle.rp_pattern.specs.declared.word.End.TheVariants.{Open as OpenEnd, Closed as ClosedEnd}
-use Rattle.rp_pattern.specs.declared.word.Label.{Label}
-use Rattle.rp_pattern.specs.Words.{Mappings, words, words_step, one_row, followed, concatenation, exclusion, moves, only_past, optional, required, further, may_go_on}
-use Rattle.rp_pattern.specs.Turns.{WordsAndTurns, turns_after, chain_turns, past}
-use Rattle.rp_pattern.specs.Movement.{always_moves, movement_step}
+use Rattle.rp_words.specs.Mapping.{Mapping, Full, Open, preceded, excluded_mapping}
+use Rattle.rp_words.specs.declared.form.Form.{Form}
+use Rattle.rp_words.specs.declared.form.Form.TheOpen.{Form-F, Variable, Empty, Concatenation, Alternation, PartitionStart, PartitionEnd, Permute, Exclusion, Quantified}
+use Rattle.rp_words.specs.declared.form.Form.TheViews.{roll-Form}
+use Rattle.rp_words.specs.declared.form.Form.TheFolds.{map-Form, fold-roll-Form, ind-Form}
+use Rattle.rp_words.specs.declared.word.End.{End}
+use Rattle.rp_words.specs.declared.word.End.TheVariants.{Open as OpenEnd, Closed as ClosedEnd}
+use Rattle.rp_words.specs.declared.word.Label.{Label}
+use Rattle.rp_words.specs.Words.{Mappings, words, words_step, one_row, followed, concatenation, exclusion, moves, only_past, optional, required, further, may_go_on}
+use Rattle.rp_words.specs.Turns.{WordsAndTurns, turns_after, chain_turns, past}
+use Rattle.rp_words.specs.Movement.{always_moves, movement_step}
 use Rattle.rp_pattern.specs.Continuations.{chain_words, form_part}
-use Rattle.rp_pattern.proofs.Lists.{All-append, All-map, All-flat_map}
-use Rattle.rp_pattern.proofs.Algebra.{preceded_nothing, concatenation_assoc, concatenation_same, moving_is}
-use Rattle.rp_pattern.proofs.TurnsTaken.{past_reached}
+use Rattle.rp_words.proofs.Lists.{All-append, All-map, All-flat_map}
+use Rattle.rp_words.proofs.Algebra.{preceded_nothing, concatenation_assoc, concatenation_same, moving_is}
+use Rattle.rp_words.proofs.TurnsTaken.{past_reached}
 
 abbrev pub Moves : Mapping → Type 0
 Moves w = IsTrue (moves w)

@@ -5,28 +5,28 @@ use Rattle.std.proofs.lemmas.List.{length-map, map-append, get_or-map}
 use Rattle.std.specs.declared.vec.Vec.{Vec}
 use Rattle.std.specs.declared.rc.Rc.{Rc}
 use Rattle.std.specs.declared.alloc.Global.{Global}
-use Rattle.rp_pattern.specs.declared.form.Form.{Form}
-use Rattle.rp_pattern.specs.declared.form.Form.TheOpen as F
-use Rattle.rp_pattern.specs.declared.form.Form.TheVariants as V
-use Rattle.rp_pattern.specs.declared.form.Form.TheViews.{out-roll-Form}
-use Rattle.rp_pattern.specs.declared.word.End.{End}
+use Rattle.rp_words.specs.declared.form.Form.{Form}
+use Rattle.rp_words.specs.declared.form.Form.TheOpen as F
+use Rattle.rp_words.specs.declared.form.Form.TheVariants as V
+use Rattle.rp_words.specs.declared.form.Form.TheViews.{out-roll-Form}
+use Rattle.rp_words.specs.declared.word.End.{End}
 use Rattle.rp_pattern.specs.declared.machine.split.Split.{Split}
 use Rattle.rp_pattern.specs.declared.machine.node.Node.{Node}
 use Rattle.rp_pattern.specs.declared.machine.link.Link.{Link}
 use Rattle.rp_pattern.specs.declared.machine.link.Part.TheVariants.{Whole}
-use Rattle.rp_pattern.specs.Bounds.{is_allowed}
-use Rattle.rp_pattern.specs.Variables.{all_true}
-use Rattle.rp_pattern.specs.Permutations.{upto, factorial}
+use Rattle.rp_words.specs.Bounds.{is_allowed}
+use Rattle.rp_words.specs.Variables.{all_true}
+use Rattle.rp_words.specs.Permutations.{upto, factorial}
 use Rattle.rp_pattern.specs.PermutedParts.{layer_parts, permuted_parts}
-use Rattle.rp_pattern.specs.Words.{nothing_mapped, followed, concatenation, sequence, orders, picks, led, arrangements, permuted, words}
-use Rattle.rp_pattern.specs.Turns.{WordsAndTurns, one_turn, turns, words_of, orders_from, within, permuted_turns}
+use Rattle.rp_words.specs.Words.{nothing_mapped, followed, concatenation, sequence, orders, picks, led, arrangements, permuted, words}
+use Rattle.rp_words.specs.Turns.{WordsAndTurns, one_turn, turns, words_of, orders_from, within, permuted_turns}
 use Rattle.rp_pattern.specs.Continuations.{form_part, chain_words, in_order, permuted_form_parts, IsNodeOf, tail_links, tail_parts, links_parts}
 use Rattle.rp_pattern.specs.Splits.{StandsFor, SplitsAt}
-use Rattle.rp_pattern.proofs.Lists.{All-map, All-flat_map, map-map}
-use Rattle.rp_pattern.proofs.FormEquations.{words_permute}
-use Rattle.rp_pattern.proofs.TurnEquations.{whole_part, turns_permute}
-use Rattle.rp_pattern.proofs.OrdersAt.{length-orders, orders_at}
-use Rattle.rp_pattern.proofs.TurnsPermuted.{sequence-append, order_words, no_order_words, permuted_words, order_taken, no_order_taken, permuted_taken}
+use Rattle.rp_words.proofs.Lists.{All-map, All-flat_map, map-map}
+use Rattle.rp_words.proofs.FormEquations.{words_permute}
+use Rattle.rp_words.proofs.TurnEquations.{whole_part, turns_permute}
+use Rattle.rp_words.proofs.OrdersAt.{length-orders, orders_at}
+use Rattle.rp_words.proofs.TurnsPermuted.{sequence-append, order_words, no_order_words, permuted_words, order_taken, no_order_taken, permuted_taken}
 use Rattle.rp_pattern.proofs.Expansions.{LeavesTwo}
 use Rattle.rp_pattern.proofs.Steps.{node_as}
 

@@ -1,15 +1,15 @@
 -- What taking up a choice of an outlook does to the words and turns ahead.
 use Rattle.std.proofs.Common.{◌≡◌, ℕ, ◌+◌, ◌-◌, ◌^◌, ◌<◌, IsTrue, List, [], ◌∷◌, length, drop, Option, Some, None, refl, sym, ap, ◌∙◌, subst, arith, length-append}
 use Rattle.std.proofs.lemmas.List.{length-map}
-use Rattle.rp_pattern.specs.declared.word.End.{End}
-use Rattle.rp_pattern.specs.declared.word.Label.{Label}
+use Rattle.rp_words.specs.declared.word.End.{End}
+use Rattle.rp_words.specs.declared.word.Label.{Label}
 use Rattle.rp_pattern.specs.declared.machine.continuation.Continuation.{Continuation}
 use Rattle.rp_pattern.specs.declared.machine.continuation.Choice.{Choice}
 use Rattle.rp_pattern.specs.declared.machine.split.Split.{Split}
 use Rattle.rp_pattern.specs.declared.outlook.Outlook.{Outlook}
-use Rattle.rp_pattern.specs.Mapping.{Mapping, preceded}
-use Rattle.rp_pattern.specs.WordLaws.{IsLater}
-use Rattle.rp_pattern.specs.Turns.{chain_turns}
+use Rattle.rp_words.specs.Mapping.{Mapping, preceded}
+use Rattle.rp_words.specs.Later.{IsLater}
+use Rattle.rp_words.specs.Turns.{chain_turns}
 use Rattle.rp_pattern.specs.Continuations.{continuation_parts, later_parts, chain_words, stack_left, rises, pushed}
 use Rattle.rp_pattern.specs.Splits.{StandsFor, option_words, option_turns, Splits, TakesRow}
 use Rattle.rp_pattern.specs.Outlooks.{stack_count, words_ahead, turns_ahead, LooksFurther}

@@ -2,10 +2,10 @@
 use Rattle.std.proofs.Common.{◌≡◌, ℕ, suc, ◌+◌, ◌<◌, ◌≤◌, List, [], ◌∷◌, ◌++◌, map, Bool, true, false, IsTrue, OnOk, Result, Ok, Err, drop, Option, Some, None, refl, sym, ap, ◌∙◌, arith, subst}
 use Rattle.std.specs.declared.rc.Rc.{Rc}
 use Rattle.std.specs.declared.alloc.Global.{Global}
-use Rattle.rp_pattern.specs.declared.form.Form.{Form}
-use Rattle.rp_pattern.specs.declared.word.End.{End}
-use Rattle.rp_pattern.specs.declared.word.End.TheVariants.{Open as OpenEnd, Closed as ClosedEnd}
-use Rattle.rp_pattern.specs.declared.form.Form.TheVariants.{Variable}
+use Rattle.rp_words.specs.declared.form.Form.{Form}
+use Rattle.rp_words.specs.declared.word.End.{End}
+use Rattle.rp_words.specs.declared.word.End.TheVariants.{Open as OpenEnd, Closed as ClosedEnd}
+use Rattle.rp_words.specs.declared.form.Form.TheVariants.{Variable}
 use Rattle.rp_pattern.specs.declared.machine.node.Node.{Node}
 use Rattle.rp_pattern.specs.declared.machine.iterations.Iterations.{Iterations}
 use Rattle.rp_pattern.specs.declared.machine.link.Part.{Part}
@@ -15,14 +15,14 @@ use Rattle.rp_pattern.specs.declared.machine.continuation.Continuation.TheVarian
 use Rattle.rp_pattern.specs.declared.machine.split.Split.{Split}
 use Rattle.rp_pattern.specs.declared.machine.split.Expansion.{Expansion}
 use Rattle.rp_pattern.specs.declared.machine.split.Expansion.TheVariants.{Full as FullExpansion, Row as RowExpansion, Open as OpenExpansion, Split as SplitExpansion}
-use Rattle.rp_pattern.specs.Movement.{always_moves}
+use Rattle.rp_words.specs.Movement.{always_moves}
 use Rattle.rp_pattern.proofs.Moves.{form_moves, again_words, again_turns}
-use Rattle.rp_pattern.specs.Turns.{WordsAndTurns, chain_turns, iterations, past}
-use Rattle.rp_pattern.specs.WordLaws.{IsLater}
-use Rattle.rp_pattern.specs.Mapping.{preceded}
+use Rattle.rp_words.specs.Turns.{WordsAndTurns, chain_turns, iterations, past}
+use Rattle.rp_words.specs.Later.{IsLater}
+use Rattle.rp_words.specs.Mapping.{preceded}
 use Rattle.rp_pattern.specs.Continuations.{part_as, form_part, node_part, iterations_part, still, tail_links, tail_parts, links_parts, guarded, continuation_parts, chain_words, IsNodeOf, AreIterationsOf, IsOneLess}
 use Rattle.rp_pattern.specs.Splits.{StandsFor, Replaces, SplitsAt, AlwaysSplits, Splits, TakesRow, Waits, ComesAgain, repeated, TakenUp, option_words, split_turns}
-use Rattle.rp_pattern.proofs.TurnsTaken.{same_first}
+use Rattle.rp_words.proofs.TurnsTaken.{same_first}
 use Rattle.rp_pattern.proofs.Expansions.{no_words, some_turns, open_words, row_words, row_turns, variable_row, variable_open, variable_closed, variable_turns, Leaves, LeavesTwo, same_first_words, greedy_leaves, lazy_leaves, greedy_unbounded, lazy_unbounded, none_left_leaves, form_within}
 
 -- ---- parts that were copied or put together

@@ -8,12 +8,12 @@ use Rattle.rp_pattern.specs.declared.machine.link.Link.{Link}
 use Rattle.rp_pattern.specs.declared.machine.link.Link.TheViews.{out-Link}
 use Rattle.rp_pattern.specs.declared.machine.link.Link.TheFolds.{map-Link, fold_out-Link}
 use Rattle.rp_pattern.specs.declared.machine.continuation.Continuation.TheVariants.{Reached}
-use Rattle.rp_pattern.specs.declared.word.End.{End}
-use Rattle.rp_pattern.specs.Words.{followed}
-use Rattle.rp_pattern.specs.Turns.{WordsAndTurns, chain_turns}
+use Rattle.rp_words.specs.declared.word.End.{End}
+use Rattle.rp_words.specs.Words.{followed}
+use Rattle.rp_words.specs.Turns.{WordsAndTurns, chain_turns}
 use Rattle.rp_pattern.specs.Continuations.{part_as, link_step, links_from, reached_parts, tail_links, tail_parts, links_parts, guarded, chain_words}
 use Rattle.rp_pattern.specs.Splits.{StandsFor}
-use Rattle.rp_pattern.proofs.TurnsTaken.{past_reached, past_there}
+use Rattle.rp_words.proofs.TurnsTaken.{past_reached, past_there}
 
 pub links_out : (l : Link) → links_from l ≡ ((out-Link l).since, (out-Link l).part) ∷ tail_links (out-Link l).then
 links_out l = fold_out-Link (List (Option ℕ × Part)) link_step l ∙ go (out-Link l).since (out-Link l).part (out-Link l).then

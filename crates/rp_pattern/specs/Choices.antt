@@ -1,16 +1,16 @@
 -- What a stack of choices stands for. A choice is a way to go on: so many labels come before it, and its continuation
 -- is what of the pattern is still to be mapped. The preferred one is on top.
 use Rattle.std.specs.Prelude.{◌≡◌, ℕ, ◌+◌, ◌<◌, ◌≤◌, true, cond, List, [], ◌∷◌, ◌++◌, map, length, take, drop}
-use Rattle.rp_pattern.specs.declared.word.End.{End}
-use Rattle.rp_pattern.specs.declared.word.End.TheVariants.{Open as OpenEnd}
-use Rattle.rp_pattern.specs.declared.word.Label.{Label}
+use Rattle.rp_words.specs.declared.word.End.{End}
+use Rattle.rp_words.specs.declared.word.End.TheVariants.{Open as OpenEnd}
+use Rattle.rp_words.specs.declared.word.Label.{Label}
 use Rattle.rp_pattern.specs.declared.machine.continuation.Choice.{Choice}
 use Rattle.rp_pattern.specs.declared.choices.Choices.{Choices}
 use Rattle.rp_pattern.specs.declared.choices.Taken.{Taken}
 use Rattle.rp_pattern.specs.declared.choices.Taken.TheVariants.{Row, Split, Full as FullTaken, Open as OpenTaken, Nothing}
-use Rattle.rp_pattern.specs.Mapping.{Mapping, Full, Open, preceded}
-use Rattle.rp_pattern.specs.Turns.{WordsAndTurns}
-use Rattle.rp_pattern.specs.WordLaws.{AtEachLater}
+use Rattle.rp_words.specs.Mapping.{Mapping, Full, Open, preceded}
+use Rattle.rp_words.specs.Turns.{WordsAndTurns}
+use Rattle.rp_words.specs.Later.{AtEachLater}
 use Rattle.rp_pattern.specs.Continuations.{tail_parts, later_parts, chain_words, chain_left, stack_words, stack_left}
 
 -- the start row

@@ -2,10 +2,10 @@
 use Rattle.std.specs.Prelude.{◌≡◌, ℕ, suc, ◌+◌, Bool, true, ◌&&◌, List, [], ◌∷◌, ◌++◌, map, length, take, drop, get_or, Option, Some, None, IsTrue, nat_le}
 use Rattle.std.specs.declared.rc.Rc.{Rc}
 use Rattle.std.specs.declared.alloc.Global.{Global}
-use Rattle.rp_pattern.specs.declared.form.Form.{Form}
-use Rattle.rp_pattern.specs.declared.form.Form.TheVariants.{Variable}
-use Rattle.rp_pattern.specs.declared.word.End.{End}
-use Rattle.rp_pattern.specs.declared.word.Label.{Label}
+use Rattle.rp_words.specs.declared.form.Form.{Form}
+use Rattle.rp_words.specs.declared.form.Form.TheVariants.{Variable}
+use Rattle.rp_words.specs.declared.word.End.{End}
+use Rattle.rp_words.specs.declared.word.Label.{Label}
 use Rattle.rp_pattern.specs.declared.machine.node.Node.{Node}
 use Rattle.rp_pattern.specs.declared.machine.iterations.Iterations.{Iterations}
 use Rattle.rp_pattern.specs.declared.machine.link.Part.{Part}
@@ -17,11 +17,11 @@ use Rattle.rp_pattern.specs.declared.machine.link.Link.TheViews.{out-Link}
 use Rattle.rp_pattern.specs.declared.machine.continuation.Continuation.{Continuation}
 use Rattle.rp_pattern.specs.declared.machine.continuation.Continuation.TheVariants.{Done, Then, Row, Reached}
 use Rattle.rp_pattern.specs.declared.machine.continuation.Choice.{Choice}
-use Rattle.rp_pattern.specs.Mapping.{Mapping, preceded}
-use Rattle.rp_pattern.specs.Movement.{always_moves}
+use Rattle.rp_words.specs.Mapping.{Mapping, preceded}
+use Rattle.rp_words.specs.Movement.{always_moves}
 use Rattle.rp_pattern.specs.PermutedParts.{permuted_parts}
-use Rattle.rp_pattern.specs.Words.{Mappings, words, nothing_mapped, sequence}
-use Rattle.rp_pattern.specs.Turns.{WordsAndTurns, turns, one_turn, chain_turns, past, within, iterations, orders_from, words_of}
+use Rattle.rp_words.specs.Words.{Mappings, words, nothing_mapped, sequence}
+use Rattle.rp_words.specs.Turns.{WordsAndTurns, turns, one_turn, chain_turns, past, within, iterations, orders_from, words_of}
 
 -- a part of a pattern, inside an exclusion or outside of one, as its words and its turns
 abbrev pub form_part : ℕ → End → Form → Bool → WordsAndTurns

@@ -1,8 +1,8 @@
 -- One step of listing the words that choices stand for.
 use Rattle.std.specs.Prelude.{◌≡◌, ℕ, ◌<◌, Bool, true, false, List, [], ◌++◌}
-use Rattle.rp_pattern.specs.declared.word.End.{End}
+use Rattle.rp_words.specs.declared.word.End.{End}
 use Rattle.rp_pattern.specs.declared.choices.Choices.{Choices}
-use Rattle.rp_pattern.specs.Mapping.{Mapping}
+use Rattle.rp_words.specs.Mapping.{Mapping}
 use Rattle.rp_pattern.specs.Choices.{remaining, turns_left}
 
 -- the words listed and those to come are as before, and fewer turns are left

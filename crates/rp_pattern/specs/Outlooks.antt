@@ -1,11 +1,11 @@
 -- What would follow a row whose test is open, by the number of words.
 use Rattle.std.specs.Prelude.{◌≡◌, ℕ, ◌+◌, ◌<◌, List, [], ◌∷◌, length}
-use Rattle.rp_pattern.specs.declared.word.End.{End}
+use Rattle.rp_words.specs.declared.word.End.{End}
 use Rattle.rp_pattern.specs.declared.machine.continuation.Choice.{Choice}
 use Rattle.rp_pattern.specs.declared.outlook.Outlook.{Outlook}
 use Rattle.rp_pattern.specs.declared.outlook.Sight.{Sight}
 use Rattle.rp_pattern.specs.declared.outlook.Sight.TheVariants.{Further, Word, Nothing}
-use Rattle.rp_pattern.specs.WordLaws.{AtEachLater}
+use Rattle.rp_words.specs.Later.{AtEachLater}
 use Rattle.rp_pattern.specs.Continuations.{continuation_parts, chain_words, stack_left}
 
 -- how many words the choices have together

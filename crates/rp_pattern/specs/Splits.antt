@@ -1,16 +1,16 @@
 -- What a choice comes to when it is taken up.
 use Rattle.std.specs.Prelude.{◌≡◌, ℕ, Bool, ◌+◌, ◌<◌, ◌≤◌, List, [], ◌∷◌, ◌++◌, map, drop, Option, Some, None}
-use Rattle.rp_pattern.specs.declared.word.End.{End}
-use Rattle.rp_pattern.specs.declared.word.End.TheVariants.{Open as OpenEnd}
-use Rattle.rp_pattern.specs.declared.word.Label.{Label}
+use Rattle.rp_words.specs.declared.word.End.{End}
+use Rattle.rp_words.specs.declared.word.End.TheVariants.{Open as OpenEnd}
+use Rattle.rp_words.specs.declared.word.Label.{Label}
 use Rattle.rp_pattern.specs.declared.machine.continuation.Continuation.{Continuation}
 use Rattle.rp_pattern.specs.declared.machine.split.Split.{Split}
 use Rattle.rp_pattern.specs.declared.machine.split.Expansion.{Expansion}
 use Rattle.rp_pattern.specs.declared.machine.split.Expansion.TheVariants.{Full as FullExpansion, Row as RowExpansion, Open as OpenExpansion, Split as SplitExpansion}
-use Rattle.rp_pattern.specs.Mapping.{Mapping, Full, Open, preceded}
-use Rattle.rp_pattern.specs.Turns.{WordsAndTurns, chain_turns, iterations, past}
+use Rattle.rp_words.specs.Mapping.{Mapping, Full, Open, preceded}
+use Rattle.rp_words.specs.Turns.{WordsAndTurns, chain_turns, iterations, past}
 use Rattle.rp_pattern.specs.declared.machine.iterations.Iterations.{Iterations}
-use Rattle.rp_pattern.specs.WordLaws.{IsLater}
+use Rattle.rp_words.specs.Later.{IsLater}
 use Rattle.rp_pattern.specs.Continuations.{continuation_parts, chain_words, node_part, still}
 
 -- the words of what is left of a pattern, if anything is

@@ -1,16 +1,15 @@
 //! The words of a pattern listed lazily, by a stack of choices.
 ghost use Rattle.std.specs.Prelude.{◌≡◌, ℕ, ◌∷◌, ◌++◌, ◌+◌, ◌^◌, ◌<◌, ◌≤◌, IfOk, OnOk, IsTrue, false, List, [], map, length, drop};
 ghost use Rattle.rp_pattern.specs.Continuations.{rises, pushed};
-ghost use Rattle.rp_pattern.specs.Numbers.{most_u64};
+ghost use Rattle.rp_words.specs.Numbers.{most_u64};
 
-use crate::form::{Form, Pattern};
 use crate::machine::continuation::{Choice, Continuation};
 use crate::machine::link::{Part, Tail, linked, reach_shared};
 use crate::machine::node::Node;
 use crate::machine::split::{Expansion, Split};
 use crate::outlook::Outlook;
 use crate::stack::Stack;
-use crate::word::{End, Label};
+use rp_words::{End, Form, Label, Pattern};
 use std::alloc::{AllocError, Global};
 use std::rc::Rc;
 
@@ -44,11 +43,11 @@ pub struct Choices {
 
 impl Choices {
     ghost use Rattle.std.specs.Prelude.{OnOk, IfOk, take, ◌∷◌, ◌++◌, map};
-    ghost use Rattle.rp_pattern.specs.declared.word.End.{End};
-    ghost use Rattle.rp_pattern.specs.Words.{words};
-    ghost use Rattle.rp_pattern.specs.Mapping.{preceded};
-    ghost use Rattle.rp_pattern.specs.Turns.{turns};
-    ghost use Rattle.rp_pattern.specs.PatternForm.{form_of};
+    ghost use Rattle.rp_words.specs.declared.word.End.{End};
+    ghost use Rattle.rp_words.specs.Words.{words};
+    ghost use Rattle.rp_words.specs.Mapping.{preceded};
+    ghost use Rattle.rp_words.specs.Turns.{turns};
+    ghost use Rattle.rp_words.specs.PatternForm.{form_of};
     ghost use Rattle.rp_pattern.specs.Continuations.{tail_links, BeginsWithRow};
     ghost use Rattle.rp_pattern.specs.Splits.{StandsFor};
     ghost use Rattle.rp_pattern.specs.Choices.{start_of, entered, first_later, whole, whole_turns, whole_from, whole_turns_from, remaining, turns_left, below, turns_left_below, after, turns_left_after, OfFirst, HasTop, AtRow, AreFirstOf, AreStrictlyFirstOf, IsSameWhole, IsSamePattern, TakenAs, HasBegun};

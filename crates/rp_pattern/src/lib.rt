@@ -1,5 +1,5 @@
-//! Row patterns of SQL's `MATCH_RECOGNIZE`, and the *words* of a pattern: the ways to map consecutive rows to its variables,
-//! in the order in which the standard prefers them.
+//! The words of a row pattern, listed in the order in which the standard prefers them: all of them at once, or one by one
+//! for a search. What a pattern's words are is said by the crate rp_words, whose names stand here too.
 //!
 //! The pattern `A B | A` has two words over two rows, `A B` and then `A`:
 //! ```text
@@ -9,28 +9,23 @@
 //!     let words = list_words(alloc, &Pattern::new(form), 1, 2, End::Closed, 100)?;
 //! }
 //! ```
-//! `Choices` lists the words one by one, for a search that tests each row and gives up what is refused. Which words there
-//! are, and in which order, is said by rules in `specs/Maps` and `specs/Readings`; that the list follows them is `law_words`.
+//! `Choices` lists the words one by one, for a search that tests each row and gives up what is refused. `Outlook` tells
+//! whether any word would follow a row whose condition is open.
 #![tactic(auto)]
 
-mod builders;
 mod choices;
-mod form;
-mod laws;
-mod lexicographic;
 mod list;
 mod machine;
 mod outlook;
 mod stack;
-mod word;
 
 pub use choices::{Choices, Taken};
-pub use form::{Form, MAX_BOUND, MAX_PARTS, Pattern};
-pub use laws::{law_labels, law_words};
-pub use lexicographic::permutations;
 pub use list::{ListFault, list_words};
 pub use outlook::{Outlook, Sight};
-pub use word::{End, Label, Mark, Seen, Word};
+pub use rp_words::{
+    End, Form, Label, MAX_BOUND, MAX_PARTS, Mark, Pattern, Seen, Word, law_labels, law_words,
+    permutations,
+};
 
 #[cfg(test)]
 mod tests;

@@ -1,17 +1,16 @@
 //! All words of a pattern, up to a given number of them.
 ghost use Rattle.std.specs.Prelude.{◌≡◌, ℕ, ◌+◌, ◌<◌, ◌≤◌, [], ◌∷◌, ◌++◌, length, IfOk, OnOk};
 ghost use Rattle.rp_pattern.specs.Choices.{HasTop, entered, remaining, turns_left, below, turns_left_below};
-ghost use Rattle.rp_pattern.specs.declared.word.End.{End};
+ghost use Rattle.rp_words.specs.declared.word.End.{End};
 ghost use Rattle.rp_pattern.specs.Listing.{ListsNext};
-ghost use Rattle.rp_pattern.specs.Mapping.{marked};
-ghost use Rattle.rp_pattern.specs.Numbers.{most_u64};
-ghost use Rattle.rp_pattern.specs.PatternForm.{form_of};
-ghost use Rattle.rp_pattern.specs.Words.{words};
+ghost use Rattle.rp_words.specs.Mapping.{marked};
+ghost use Rattle.rp_words.specs.Numbers.{most_u64};
+ghost use Rattle.rp_words.specs.PatternForm.{form_of};
+ghost use Rattle.rp_words.specs.Words.{words};
 ghost use Rattle.rp_pattern.specs.declared.list.ListFault.TheVariants.{OutOfMemory};
 
 use crate::choices::{Choices, Taken};
-use crate::form::Pattern;
-use crate::word::{End, Mark, Word};
+use rp_words::{End, Mark, Pattern, Word};
 use std::alloc::{AllocError, AllocFailed, Global};
 use thiserror::Error;
 

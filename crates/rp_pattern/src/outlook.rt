@@ -1,15 +1,15 @@
 //! What would follow a row: whether any word does. Which rows it would map is not kept.
 ghost use Rattle.std.specs.Prelude.{◌≡◌, ℕ, ◌+◌, ◌-◌, ◌^◌, ◌<◌, ◌≤◌, IfOk, IsTrue, length};
-ghost use Rattle.rp_pattern.specs.declared.word.End.{End};
+ghost use Rattle.rp_words.specs.declared.word.End.{End};
 ghost use Rattle.rp_pattern.specs.Continuations.{rises};
-ghost use Rattle.rp_pattern.specs.Numbers.{most_u64};
+ghost use Rattle.rp_words.specs.Numbers.{most_u64};
 ghost use Rattle.rp_pattern.specs.Splits.{option_words, option_turns};
 
 use crate::choices::push;
 use crate::machine::continuation::{Choice, Continuation};
 use crate::machine::split::{Expansion, Split};
 use crate::stack::Stack;
-use crate::word::End;
+use rp_words::End;
 use std::alloc::{AllocError, Global};
 
 /// What an outlook came to when its preferred choice was taken up.

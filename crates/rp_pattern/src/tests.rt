@@ -1,6 +1,6 @@
 //! Tests of patterns and permutations.
 ghost use Rattle.std.specs.Prelude.{◌≡◌, ◌≤◌, ◌<◌, length, IfOk, IfSome};
-ghost use Rattle.rp_pattern.specs.Words.{words};
+ghost use Rattle.rp_words.specs.Words.{words};
 
 use crate::{
     Choices, End, Form, ListFault, Outlook, Pattern, Sight, Taken, law_labels, law_words,

@@ -1,15 +1,16 @@
 -- How the choices of a search stand to its tests, step by step.
 use Rattle.std.proofs.Common.{map, ◌≡◌, ℕ, ◌+◌, ◌<◌, ◌≤◌, List, [], ◌∷◌, ◌++◌, length, take, refl, sym, ap, ◌∙◌, subst, arith, length-append}
 use Rattle.std.proofs.lemmas.List.{length-take}
-use Rattle.rp_pattern.specs.declared.word.Label.{Label}
-use Rattle.rp_pattern.specs.declared.word.End.{End}
-use Rattle.rp_pattern.specs.declared.word.Seen.TheVariants.{True, NotTrue, Open as OpenTest}
-use Rattle.rp_pattern.specs.Mapping.{Mapping, preceded}
+use Rattle.rp_words.specs.declared.word.Label.{Label}
+use Rattle.rp_words.specs.declared.word.End.{End}
+use Rattle.rp_words.specs.declared.word.Seen.TheVariants.{True, NotTrue, Open as OpenTest}
+use Rattle.rp_words.specs.Mapping.{Mapping, preceded}
 use Rattle.rp_pattern.specs.declared.choices.Choices.{Choices}
 use Rattle.rp_pattern.specs.declared.outlook.Outlook.{Outlook}
-use Rattle.rp_pattern.specs.WordLaws.{IsLater}
+use Rattle.rp_words.specs.Later.{IsLater}
 use Rattle.rp_pattern.specs.Choices.{AtRow, start_of, entered, whole, whole_turns, remaining, turns_left, below, turns_left_below, after, turns_left_after, AreFirstOf, AreStrictlyFirstOf, IsSameWhole, IsSameRemaining, IsSplit, IsMappedRow as TakesRow, IsFullWord, IsOpenWord, IsNothing}
-use Rattle.rp_search.specs.Found.{Test, tested, SeenStays, TestsStay, found, Match, NoMatch, Waits}
+use Rattle.rp_search.specs.Found.{Test, tested, found, Match, NoMatch, Waits}
+use Rattle.rp_search.specs.FoundLaws.{SeenStays, TestsStay}
 use Rattle.rp_search.specs.Asked.{rows_from}
 use Rattle.rp_search.specs.Fits.{RefusedUpTo, ChoicesFit, StandsAtRow, Explores}
 use Rattle.rp_search.specs.Turned.{Goes}

@@ -1,16 +1,17 @@
 -- What is left of a search, over what answers the same.
 use Rattle.std.proofs.Common.{◌≡◌, ℕ, ◌+◌, ◌≤◌, length, Option, Some, None, refl, sym, ap, ◌∙◌, arith}
-use Rattle.rp_pattern.specs.declared.word.End.{End}
-use Rattle.rp_pattern.specs.declared.word.End.TheVariants.{Open as OpenEnd, Closed as ClosedEnd}
-use Rattle.rp_pattern.specs.declared.word.Seen.{Seen}
-use Rattle.rp_pattern.specs.declared.word.Seen.TheVariants.{True, NotTrue, Open as OpenTest}
+use Rattle.rp_words.specs.declared.word.End.{End}
+use Rattle.rp_words.specs.declared.word.End.TheVariants.{Open as OpenEnd, Closed as ClosedEnd}
+use Rattle.rp_words.specs.declared.word.Seen.{Seen}
+use Rattle.rp_words.specs.declared.word.Seen.TheVariants.{True, NotTrue, Open as OpenTest}
 use Rattle.rp_pattern.specs.declared.choices.Choices.{Choices}
 use Rattle.rp_pattern.specs.Choices.{start_of, entered, turns_left, turns_left_below}
 use Rattle.rp_pattern.specs.declared.outlook.Outlook.{Outlook}
 use Rattle.rp_pattern.specs.Outlooks.{turns_ahead}
 use Rattle.rp_search.specs.declared.search.Search.{Search}
 use Rattle.rp_search.specs.Asked.{Asked, AskedExtend, rows_from}
-use Rattle.rp_search.specs.Found.{Test, SeenStays}
+use Rattle.rp_search.specs.Found.{Test}
+use Rattle.rp_search.specs.FoundLaws.{SeenStays}
 use Rattle.rp_search.specs.Fits.{unless_open, left_given}
 
 same_seen : (a b : Seen) → SeenStays a b → SeenStays b a → b ≡ a

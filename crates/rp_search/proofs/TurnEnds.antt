@@ -3,19 +3,19 @@ use Rattle.std.specs.List.{AllByRecursion}
 use Rattle.std.proofs.Common.{map, ◌≡◌, ℕ, zero, suc, ◌+◌, ◌<◌, ◌≤◌, List, [], ◌∷◌, ◌++◌, length, take, Option, Some, None, Bool, true, false, IsTrue, ◌↔◌, refl, sym, ap, ◌∙◌, subst, arith, length-append}
 use Rattle.std.proofs.lemmas.List.{take-append-le}
 use Rattle.std.proofs.lemmas.List.Elements.{All-from_recursion, recursion_from_All, All-nil, All-take, All-push}
-use Rattle.rp_pattern.specs.declared.word.Label.{Label}
-use Rattle.rp_pattern.specs.declared.word.End.{End}
-use Rattle.rp_pattern.specs.declared.word.End.TheVariants.{Open as OpenEnd, Closed as ClosedEnd}
-use Rattle.rp_pattern.specs.declared.word.Seen.{Seen}
-use Rattle.rp_pattern.specs.declared.word.Seen.TheVariants.{True, NotTrue, Open as OpenTest}
+use Rattle.rp_words.specs.declared.word.Label.{Label}
+use Rattle.rp_words.specs.declared.word.End.{End}
+use Rattle.rp_words.specs.declared.word.End.TheVariants.{Open as OpenEnd, Closed as ClosedEnd}
+use Rattle.rp_words.specs.declared.word.Seen.{Seen}
+use Rattle.rp_words.specs.declared.word.Seen.TheVariants.{True, NotTrue, Open as OpenTest}
 use Rattle.rp_pattern.specs.declared.choices.Choices.{Choices}
 use Rattle.rp_pattern.specs.declared.outlook.Outlook.{Outlook}
 use Rattle.rp_pattern.specs.Outlooks.{words_ahead, turns_ahead}
 use Rattle.rp_search.specs.declared.search.Search.{Search}
-use Rattle.rp_pattern.specs.Mapping.{Mapping, Full, Open}
-use Rattle.rp_pattern.specs.Mapping.{preceded}
-use Rattle.rp_pattern.specs.WordLaws.{IsLater}
-use Rattle.rp_pattern.specs.LabelLaws.{IsBelow}
+use Rattle.rp_words.specs.Mapping.{Mapping, Full, Open}
+use Rattle.rp_words.specs.Mapping.{preceded}
+use Rattle.rp_words.specs.Later.{IsLater}
+use Rattle.rp_words.specs.LabelLaws.{IsBelow}
 use Rattle.rp_pattern.specs.Choices.{start_of, entered, whole, whole_turns, whole_turns_from, remaining, turns_left, below, turns_left_below, after, turns_left_after, AreFirstOf, AreStrictlyFirstOf, IsSameWhole}
 use Rattle.rp_search.specs.Found.{Test, tested, found, Waits}
 use Rattle.rp_search.specs.Asked.{Asked, AreBelow, rows_from}

@@ -1,10 +1,10 @@
 -- What a search asks of the rows of a partition.
 use Rattle.std.specs.Prelude.{◌≡◌, ℕ, suc, ◌-◌, ◌<◌, List, All}
-use Rattle.rp_pattern.specs.declared.word.Label.{Label}
-use Rattle.rp_pattern.specs.declared.word.End.{End}
-use Rattle.rp_pattern.specs.declared.word.Seen.{Seen}
-use Rattle.rp_pattern.specs.WordLaws.{IsLater}
-use Rattle.rp_search.specs.Found.{TestsStay}
+use Rattle.rp_words.specs.declared.word.Label.{Label}
+use Rattle.rp_words.specs.declared.word.End.{End}
+use Rattle.rp_words.specs.declared.word.Seen.{Seen}
+use Rattle.rp_words.specs.Later.{IsLater}
+use Rattle.rp_search.specs.FoundLaws.{TestsStay}
 
 -- What a search asks of the rows of a partition.
 pub record Asked : Type 0 where

@@ -2,13 +2,13 @@
 -- needs no more of it than the names `SearchFits` and `left_by`.
 use Rattle.std.specs.Prelude.{◌≡◌, ℕ, ◌+◌, ◌≤◌, List, [], ◌∷◌, ◌++◌, length, take, Option, Some, None}
 use Rattle.std.specs.List.{AllByRecursion}
-use Rattle.rp_pattern.specs.declared.word.Label.{Label}
-use Rattle.rp_pattern.specs.declared.word.End.{End}
-use Rattle.rp_pattern.specs.declared.word.Seen.{Seen}
-use Rattle.rp_pattern.specs.declared.word.Seen.TheVariants.{True, NotTrue, Open as OpenTest}
-use Rattle.rp_pattern.specs.Mapping.{Mapping, labels_of}
+use Rattle.rp_words.specs.declared.word.Label.{Label}
+use Rattle.rp_words.specs.declared.word.End.{End}
+use Rattle.rp_words.specs.declared.word.Seen.{Seen}
+use Rattle.rp_words.specs.declared.word.Seen.TheVariants.{True, NotTrue, Open as OpenTest}
+use Rattle.rp_words.specs.Mapping.{Mapping, labels_of}
 use Rattle.rp_pattern.specs.declared.choices.Choices.{Choices}
-use Rattle.rp_pattern.specs.WordLaws.{AtEachLater}
+use Rattle.rp_words.specs.Later.{AtEachLater}
 use Rattle.rp_pattern.specs.Choices.{start_of, entered, whole, whole_turns, remaining, turns_left, turns_left_below, after, turns_left_after, HasTop, AtRow, DividesAtRow}
 use Rattle.rp_pattern.specs.declared.outlook.Outlook.{Outlook}
 use Rattle.rp_pattern.specs.Outlooks.{words_ahead, turns_ahead}

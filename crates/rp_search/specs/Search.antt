@@ -2,15 +2,15 @@
 use Rattle.std.specs.Prelude.{◌≡◌, ℕ, true, ◌+◌, ◌<◌, ◌≤◌, List, [], length, Result, Ok, OnOk}
 use Rattle.std.specs.List.{AllByRecursion}
 use Rattle.std.specs.declared.alloc.AllocError.{AllocError}
-use Rattle.rp_pattern.specs.declared.form.Form.{Form}
-use Rattle.rp_pattern.specs.declared.word.Label.{Label}
-use Rattle.rp_pattern.specs.declared.word.End.{End}
-use Rattle.rp_pattern.specs.declared.word.End.TheVariants.{Open as OpenEnd}
-use Rattle.rp_pattern.specs.Mapping.{Mapping}
-use Rattle.rp_pattern.specs.Words.{words}
-use Rattle.rp_pattern.specs.Turns.{turns}
-use Rattle.rp_pattern.specs.Variables.{are_below}
-use Rattle.rp_pattern.specs.LabelLaws.{IsBelow}
+use Rattle.rp_words.specs.declared.form.Form.{Form}
+use Rattle.rp_words.specs.declared.word.Label.{Label}
+use Rattle.rp_words.specs.declared.word.End.{End}
+use Rattle.rp_words.specs.declared.word.End.TheVariants.{Open as OpenEnd}
+use Rattle.rp_words.specs.Mapping.{Mapping}
+use Rattle.rp_words.specs.Words.{words}
+use Rattle.rp_words.specs.Turns.{turns}
+use Rattle.rp_words.specs.Variables.{are_below}
+use Rattle.rp_words.specs.LabelLaws.{IsBelow}
 use Rattle.rp_pattern.specs.Choices.{start_of, entered, whole_from, whole_turns_from}
 use Rattle.rp_search.specs.declared.search.Search.{Search}
 use Rattle.rp_search.specs.declared.search.Outcome.{Outcome}

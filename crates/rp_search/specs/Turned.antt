@@ -1,10 +1,10 @@
 -- What one turn of a search does, within a run.
 use Rattle.std.specs.Prelude.{◌≡◌, ℕ, ◌+◌, ◌<◌, ◌≤◌, List, [], ◌∷◌, ◌++◌, take, Option, Some, None}
-use Rattle.rp_pattern.specs.declared.word.Label.{Label}
-use Rattle.rp_pattern.specs.declared.word.End.{End}
-use Rattle.rp_pattern.specs.declared.word.End.TheVariants.{Open as OpenEnd}
-use Rattle.rp_pattern.specs.declared.word.Seen.{Seen}
-use Rattle.rp_pattern.specs.declared.word.Seen.TheVariants.{True, NotTrue, Open as OpenTest}
+use Rattle.rp_words.specs.declared.word.Label.{Label}
+use Rattle.rp_words.specs.declared.word.End.{End}
+use Rattle.rp_words.specs.declared.word.End.TheVariants.{Open as OpenEnd}
+use Rattle.rp_words.specs.declared.word.Seen.{Seen}
+use Rattle.rp_words.specs.declared.word.Seen.TheVariants.{True, NotTrue, Open as OpenTest}
 use Rattle.rp_pattern.specs.declared.choices.Choices.{Choices}
 use Rattle.rp_pattern.specs.declared.outlook.Outlook.{Outlook}
 use Rattle.rp_pattern.specs.Choices.{entered, turns_left}

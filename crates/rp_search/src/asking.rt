@@ -1,13 +1,14 @@
 //! What a search tells its tests and asks them: which labels stay, which one is new, and what its row comes to.
 ghost use Rattle.std.specs.Prelude.{◌≡◌, ℕ, ◌+◌, ◌<◌, ◌≤◌, ◌↔◌, ◌∷◌, ◌++◌, List, [], length, IsTrue, IfOk, OnOk};
-ghost use Rattle.rp_pattern.specs.declared.word.Label.{Label};
+ghost use Rattle.rp_words.specs.declared.word.Label.{Label};
 ghost use Rattle.rp_pattern.specs.Choices.{start_of, entered, IsSameWhole};
 ghost use Rattle.rp_search.specs.Asked.{AreBelow};
 ghost use Rattle.rp_search.specs.Fits.{StandsBy, StandsAtRowBy, test_from};
 ghost use Rattle.rp_search.specs.Turned.{AddsLabel, AreCutBack, EntersAtMost, Settled};
 
 use crate::conditions::Tests;
-use rp_pattern::{Choices, Seen};
+use rp_pattern::Choices;
+use rp_words::Seen;
 use std::alloc::AllocError;
 
 /// The tests are cut back to the labels of the choices.

@@ -1,12 +1,12 @@
 //! What a search asks of the rows of a partition.
 ghost use Rattle.std.specs.Prelude.{◌≡◌, ◌≢◌, ℕ, ◌+◌, ◌<◌, ◌≤◌, List, [], ◌∷◌, ◌++◌, length, take, min, OnOk, OnErr};
-ghost use Rattle.rp_pattern.specs.declared.word.Label.{Label};
-ghost use Rattle.rp_pattern.specs.declared.word.End.TheVariants.{Closed};
-ghost use Rattle.rp_pattern.specs.declared.word.Seen.TheVariants.{Open};
-ghost use Rattle.rp_pattern.specs.Numbers.{most_u64};
+ghost use Rattle.rp_words.specs.declared.word.Label.{Label};
+ghost use Rattle.rp_words.specs.declared.word.End.TheVariants.{Closed};
+ghost use Rattle.rp_words.specs.declared.word.Seen.TheVariants.{Open};
+ghost use Rattle.rp_words.specs.Numbers.{most_u64};
 ghost use Rattle.rp_search.specs.Asked.{Asked, AreBelow};
 
-use rp_pattern::{End, Label, Seen};
+use rp_words::{End, Label, Seen};
 use std::alloc::AllocError;
 
 /// The conditions of a pattern's variables over the known rows of a partition.

@@ -1,8 +1,8 @@
 //! Laws over the definitions alone. A call does nothing, and its caller may then use them.
-ghost use Rattle.rp_search.specs.Found.{FoundStays, FoundResumes, ClosedDecides, MatchIsWord, RefusedStays, GoodStays};
+ghost use Rattle.rp_search.specs.FoundLaws.{FoundStays, FoundResumes, ClosedDecides, MatchIsWord, RefusedStays, GoodStays};
 ghost use Rattle.rp_search.specs.Search.{SearchFitsStays, LeftIsBounded, LeftIsSame, VariablesAreBelow};
 
-use rp_pattern::law_labels;
+use rp_words::law_labels;
 
 /// The laws of what is found. A match is one of the words, and the first that isn't refused. What is found stays over
 /// whatever comes later unless it waits, and where it waits it goes on from the word where it waited. Where each word is

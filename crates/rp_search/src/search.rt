@@ -5,14 +5,15 @@
 //! over what would follow that row: only if a word does is there anything to wait for. What is explored then counts as
 //! left in place of the choice itself. A later run asks the open test again first.
 ghost use Rattle.std.specs.Prelude.{◌≡◌, ◌-◌, ◌+◌, ◌<◌, ◌≤◌, [], None, IfOk, OnOk, OnErr};
-ghost use Rattle.rp_pattern.specs.PatternForm.{form_of};
+ghost use Rattle.rp_words.specs.PatternForm.{form_of};
 
 mod explore;
 
 use crate::asking::{cut_back, enter_row, is_tested, settle};
 use crate::conditions::Tests;
 use crate::steps::Steps;
-use rp_pattern::{Choices, Label, Outlook, Pattern, Seen, Taken};
+use rp_pattern::{Choices, Outlook, Taken};
+use rp_words::{Label, Pattern, Seen};
 use std::alloc::{AllocError, Global};
 use std::sync::ledger::Ledger;
 

@@ -9,7 +9,7 @@ ghost use Rattle.std.specs.Prelude.{◌≡◌, ◌<◌};
 
 use crate::{Outcome, Search, Steps, Tests, law_found, law_search};
 use grid::Grid;
-use rp_pattern::{End, Form, Pattern, Seen};
+use rp_words::{End, Form, Pattern, Seen};
 use script::{MANY, a, any, b, created, play};
 use std::alloc::{AllocError, Global};
 use std::marker::Brand;

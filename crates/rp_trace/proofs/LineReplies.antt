@@ -2,12 +2,12 @@
 use Rattle.std.proofs.Common.{◌≡◌, ℕ, ◌<◌, List, [], ◌∷◌, length, All, ap, sym, ◌∙◌, subst, arith}
 use Rattle.std.specs.List.{AllByRecursion}
 use Rattle.std.proofs.lemmas.List.Elements.{All-from_recursion}
-use Rattle.rp_pattern.specs.declared.word.Label.{Label}
-use Rattle.rp_pattern.specs.declared.word.End.TheVariants.{Closed}
-use Rattle.rp_pattern.specs.declared.form.Form.{Form}
-use Rattle.rp_pattern.specs.LabelLaws.{IsBelow}
-use Rattle.rp_pattern.specs.Mapping.{Mapping, labels_of}
-use Rattle.rp_pattern.specs.Words.{words}
+use Rattle.rp_words.specs.declared.word.Label.{Label}
+use Rattle.rp_words.specs.declared.word.End.TheVariants.{Closed}
+use Rattle.rp_words.specs.declared.form.Form.{Form}
+use Rattle.rp_words.specs.LabelLaws.{IsBelow}
+use Rattle.rp_words.specs.Mapping.{Mapping, labels_of}
+use Rattle.rp_words.specs.Words.{words}
 use Rattle.rp_search.specs.Found.{Test, Found, Match, found, tested, status, unless_refused, Status, Good, Refused, Undecided}
 use Rattle.rp_trace.specs.LetterTest.{letter_test}
 use Rattle.rp_trace.specs.Replies.{search_text, found_text}

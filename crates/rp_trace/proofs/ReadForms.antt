@@ -1,8 +1,8 @@
 -- What each step of a parse has read, or where it stops.
 use Rattle.std.proofs.Common.{◌≡◌, ℕ, suc, ◌+◌, ◌<◌, List, ◌∷◌, length, None, true, false, refl, sym, ap, subst, arith}
-use Rattle.rp_pattern.specs.Builders.{IsConcatenation, IsAlternation, IsQuantified}
-use Rattle.rp_pattern.specs.declared.form.Form.{Form}
-use Rattle.rp_pattern.specs.declared.form.Form.TheVariants as V
+use Rattle.rp_words.specs.Builders.{IsConcatenation, IsAlternation, IsQuantified}
+use Rattle.rp_words.specs.declared.form.Form.{Form}
+use Rattle.rp_words.specs.declared.form.Form.TheVariants as V
 use Rattle.rp_trace.specs.Grammar.{Tree, Star, Both, Either, Letter, Nothing, Level, Alternatives, Sequences, Factors, Primaries, IsLettered, tree_of}
 use Rattle.rp_trace.specs.Reading.{Lacks, ReadsTree, ReadsOnly, ReadsForm, StopsAt, begins_primary}
 use Rattle.rp_trace.proofs.Derivations.{reads_one_sequence, reads_either, reads_one_factor, reads_both, reads_one_primary, reads_starred, reads_letter, reads_nothing, reads_group}

@@ -5,10 +5,10 @@ use Rattle.std.proofs.lemmas.Grind.{flat_map-append}
 use Rattle.std.proofs.lemmas.List.{length-take, take_all}
 use Rattle.std.proofs.lemmas.Bool.{cases_lt}
 use Rattle.std.proofs.lemmas.Bool.Decides.{nat_tests}
-use Rattle.rp_pattern.specs.declared.form.Form.{Form}
-use Rattle.rp_lines.specs.Devices.{AppendsFront, Moves}
-use Rattle.rp_lines.specs.Lines.{lines_of, IsLfFree, TakesLast, TakesLine}
-use Rattle.rp_lines.proofs.Cutting.{lines-front, lines-last}
+use Rattle.rp_words.specs.declared.form.Form.{Form}
+use Rattle.rp_io.specs.Devices.{AppendsFront, Moves}
+use Rattle.rp_io.specs.Lines.{lines_of, IsLfFree, TakesLast, TakesLine}
+use Rattle.rp_io.proofs.Cutting.{lines-front, lines-last}
 use Rattle.rp_trace.specs.Replies.{last_reply, reply_to, replies_to}
 
 -- What was written and what is gathered answer the lines that are taken, and the others are to come.

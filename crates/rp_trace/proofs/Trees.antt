@@ -3,13 +3,13 @@ use Rattle.std.proofs.Common.{◌≡◌, ℕ, ◌<◌, nat_lt, arith, Bool, true
 use Rattle.std.proofs.lemmas.Bool.Decides.{nat_tests}
 use Rattle.std.specs.declared.rc.Rc.{Rc}
 use Rattle.std.specs.declared.alloc.Global.{Global}
-use Rattle.rp_pattern.specs.Bounds.{is_allowed, allowed_step}
-use Rattle.rp_pattern.specs.Builders.{IsConcatenation, IsAlternation, IsQuantified}
-use Rattle.rp_pattern.specs.Variables.{are_below, below_step}
-use Rattle.rp_pattern.specs.declared.form.Form.{Form}
-use Rattle.rp_pattern.specs.declared.form.Form.TheOpen as F
-use Rattle.rp_pattern.specs.declared.form.Form.TheVariants as V
-use Rattle.rp_pattern.specs.declared.form.Form.TheFolds.{fold-roll-Form}
+use Rattle.rp_words.specs.Bounds.{is_allowed, allowed_step}
+use Rattle.rp_words.specs.Builders.{IsConcatenation, IsAlternation, IsQuantified}
+use Rattle.rp_words.specs.Variables.{are_below, below_step}
+use Rattle.rp_words.specs.declared.form.Form.{Form}
+use Rattle.rp_words.specs.declared.form.Form.TheOpen as F
+use Rattle.rp_words.specs.declared.form.Form.TheVariants as V
+use Rattle.rp_words.specs.declared.form.Form.TheFolds.{fold-roll-Form}
 use Rattle.rp_trace.specs.Grammar.{Tree, Letter, Nothing, Both, Either, Star, tree_of, tree_step, IsLettered}
 
 pub tree_variable : (v : ℕ) → tree_of (V.Variable v) ≡ Letter v

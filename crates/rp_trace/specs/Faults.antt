@@ -1,6 +1,6 @@
 -- Which fault of a run comes of which fault of a line.
-use Rattle.rp_lines.specs.declared.lines.LineFault.{LineFault}
-use Rattle.rp_lines.specs.declared.lines.LineFault.TheVariants.{Read as LineRead, TooManyReads, OutOfMemory as LineOutOfMemory}
+use Rattle.rp_io.specs.declared.lines.LineFault.{LineFault}
+use Rattle.rp_io.specs.declared.lines.LineFault.TheVariants.{Read as LineRead, TooManyReads, OutOfMemory as LineOutOfMemory}
 use Rattle.rp_trace.specs.declared.trace.TraceFault.{TraceFault}
 use Rattle.rp_trace.specs.declared.trace.TraceFault.TheVariants.{Read, Turns, OutOfMemory}
 

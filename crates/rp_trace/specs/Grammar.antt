@@ -1,11 +1,11 @@
 -- The grammar of the patterns of `trace`, over a text without its spaces.
 use Rattle.std.specs.Prelude.{◌≡◌, ℕ, zero, ◌+◌, ◌<◌, List, [], ◌∷◌, ◌++◌, Option, None, Bool, true, false, IsTrue, ◌==◌, not, codes}
 use Rattle.std.specs.List.{filter}
-use Rattle.rp_pattern.specs.declared.form.Form.{Form}
-use Rattle.rp_pattern.specs.declared.form.Form.TheOpen.{Form-F, Variable, Empty, Concatenation, Alternation, PartitionStart, PartitionEnd, Permute, Exclusion, Quantified}
-use Rattle.rp_pattern.specs.declared.form.Form.TheFolds.{fold-Form}
-use Rattle.rp_pattern.specs.Bounds.{is_allowed}
-use Rattle.rp_pattern.specs.Variables.{are_below}
+use Rattle.rp_words.specs.declared.form.Form.{Form}
+use Rattle.rp_words.specs.declared.form.Form.TheOpen.{Form-F, Variable, Empty, Concatenation, Alternation, PartitionStart, PartitionEnd, Permute, Exclusion, Quantified}
+use Rattle.rp_words.specs.declared.form.Form.TheFolds.{fold-Form}
+use Rattle.rp_words.specs.Bounds.{is_allowed}
+use Rattle.rp_words.specs.Variables.{are_below}
 use Rattle.rp_trace.specs.Bytes.{space, upper_a}
 use Rattle.rp_trace.specs.declared.letters.TheConstants.{VARIABLES}
 

@@ -2,8 +2,8 @@
 -- since specs/ can't name proofs/.
 use Rattle.std.specs.Prelude.{◌≢◌, ℕ, ◌+◌, ◌-◌, ◌^◌, ◌<◌, ◌≤◌, List, length, Bool, true, false, Option, Some, None, slice_get}
 use Rattle.std.proofs.Common.{arith}
-use Rattle.rp_pattern.specs.declared.word.Label.{Label}
-use Rattle.rp_pattern.specs.declared.word.Seen.TheVariants.{Open}
+use Rattle.rp_words.specs.declared.word.Label.{Label}
+use Rattle.rp_words.specs.declared.word.Seen.TheVariants.{Open}
 use Rattle.rp_trace.specs.declared.letters.TheConstants.{MAX_LINE}
 use Rattle.rp_trace.specs.LetterTest.{admits_letter, label_test, letter_at, letter_test, seen_if}
 

@@ -1,6 +1,6 @@
 -- The rows of a line, and what a search asks of them.
 use Rattle.std.specs.Prelude.{ℕ, List, length}
-use Rattle.rp_pattern.specs.declared.word.End.TheVariants.{Closed}
+use Rattle.rp_words.specs.declared.word.End.TheVariants.{Closed}
 use Rattle.rp_search.specs.Asked.{Asked}
 use Rattle.rp_trace.specs.declared.letters.Letters.{Letters}
 use Rattle.rp_trace.specs.declared.letters.TheConstants.{VARIABLES}

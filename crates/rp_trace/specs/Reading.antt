@@ -1,6 +1,6 @@
 -- What a front of some symbols derives, where what follows can't go on with it.
 use Rattle.std.specs.Prelude.{◌≡◌, ℕ, ◌<◌, ◌≤◌, List, [], ◌∷◌, ◌++◌, length, drop, Bool, false, ◌&&◌, ◌||◌, nat_eq, nat_le}
-use Rattle.rp_pattern.specs.declared.form.Form.{Form}
+use Rattle.rp_words.specs.declared.form.Form.{Form}
 use Rattle.rp_trace.specs.Bytes.{asterisk, left_parenthesis, space, upper_a, upper_z, vertical_bar}
 use Rattle.rp_trace.specs.Grammar.{Tree, Level, Alternatives, Sequences, Factors, Primaries, Derives, IsLettered, symbols_of, tree_of}
 

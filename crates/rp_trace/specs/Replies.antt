@@ -2,12 +2,12 @@
 use Rattle.std.specs.Prelude.{ℕ, ◌+◌, List, [], ◌∷◌, ◌++◌, length, map, Bool, ◌&&◌, nat_le, codes, if◌then◌else◌, Option, IfSome}
 use Rattle.std.specs.List.{list_all, flat_map}
 use Rattle.std.specs.Io.KnownBytes.{Appends}
-use Rattle.rp_lines.specs.Devices.{AppendsFront}
-use Rattle.rp_lines.specs.Lines.{lines_of}
-use Rattle.rp_pattern.specs.declared.word.Label.{Label}
-use Rattle.rp_pattern.specs.declared.word.End.TheVariants.{Closed}
-use Rattle.rp_pattern.specs.declared.form.Form.{Form}
-use Rattle.rp_pattern.specs.Words.{words}
+use Rattle.rp_io.specs.Devices.{AppendsFront}
+use Rattle.rp_io.specs.Lines.{lines_of}
+use Rattle.rp_words.specs.declared.word.Label.{Label}
+use Rattle.rp_words.specs.declared.word.End.TheVariants.{Closed}
+use Rattle.rp_words.specs.declared.form.Form.{Form}
+use Rattle.rp_words.specs.Words.{words}
 use Rattle.rp_trace.specs.Bytes.{lower_a, lower_z, upper_a}
 use Rattle.rp_trace.specs.declared.letters.TheConstants.{MAX_LINE}
 use Rattle.rp_trace.specs.LetterTest.{letter_test}

@@ -1,12 +1,12 @@
 //! The patterns of `trace`, as its command line gives them.
 ghost use Rattle.std.specs.Prelude.{◌≡◌, ℕ, ◌+◌, ◌<◌, ◌≤◌, List, [], ◌∷◌, length, IfOk, IfSome, IfNone};
-ghost use Rattle.rp_pattern.specs.PatternForm.{form_of};
+ghost use Rattle.rp_words.specs.PatternForm.{form_of};
 ghost use Rattle.rp_trace.specs.Bytes.{upper_a};
 ghost use Rattle.rp_trace.specs.declared.letters.TheConstants.{VARIABLES};
 ghost use Rattle.rp_trace.specs.Grammar.{Tree, Alternatives, Sequences, Factors, Primaries, Derives, IsLettered, symbols_of, tree_of};
 ghost use Rattle.rp_trace.specs.Reading.{IsSymbolPlace, LeavesSymbols, Lacks, ReadsForm, StopsAt, begins_primary};
 
-use rp_pattern::{Form, Pattern};
+use rp_words::{Form, Pattern};
 use std::alloc::{AllocError, AllocFailed, Global};
 use thiserror::Error;
 

@@ -3,8 +3,8 @@ ghost use Rattle.std.specs.Prelude.{◌≡◌, ◌≤◌, length};
 ghost use Rattle.rp_trace.specs.LetterTest.{admits_letter};
 ghost use Rattle.rp_trace.specs.declared.letters.TheConstants.{MAX_LINE};
 
-use rp_pattern::{End, Label, Seen};
 use rp_search::Tests;
+use rp_words::{End, Label, Seen};
 use std::alloc::AllocError;
 
 /// A closed partition with a row for each letter of a line. Variable Z admits every row, any other its own letter.

@@ -4,7 +4,7 @@
 //!
 //! ```text
 //! let pattern = trace_pattern(alloc, "(A B | A)* C")?;
-//! let (mut reader, mut writer) = (Port::new(stdin), Port::new(stdout)); // of rp_lines
+//! let (mut reader, mut writer) = (Port::new(stdin), Port::new(stdout)); // of rp_io
 //! run_trace(alloc, &mut reader, &mut writer, &pattern, READS)?;
 //! ```
 //!
@@ -19,4 +19,4 @@ mod tests;
 mod trace;
 
 pub use grammar::{TracePatternFault, trace_pattern};
-pub use trace::{READS, TraceFault, run_trace};
+pub use trace::{TraceFault, run_trace};

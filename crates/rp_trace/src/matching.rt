@@ -1,6 +1,6 @@
 //! A search that is run to its end.
 ghost use Rattle.std.specs.Prelude.{◌≡◌, IfOk, MatchBool};
-ghost use Rattle.rp_pattern.specs.declared.word.End.TheVariants.{Closed};
+ghost use Rattle.rp_words.specs.declared.word.End.TheVariants.{Closed};
 ghost use Rattle.rp_search.specs.Found.{Match, NoMatch};
 ghost use Rattle.rp_search.specs.Search.{CanRun, found_by, labels_of_search};
 

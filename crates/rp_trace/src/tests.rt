@@ -1,15 +1,15 @@
 //! What no contract says: texts, offsets, counts of real streams, and that calls succeed.
 ghost use Rattle.std.specs.Prelude.{◌≡◌, ◌≤◌, length, true};
-ghost use Rattle.rp_pattern.specs.PatternForm.{form_of};
-ghost use Rattle.rp_pattern.specs.Variables.{are_below};
+ghost use Rattle.rp_words.specs.PatternForm.{form_of};
+ghost use Rattle.rp_words.specs.Variables.{are_below};
 ghost use Rattle.rp_trace.specs.declared.letters.TheConstants.{VARIABLES};
 
 use crate::grammar::{TracePatternFault, trace_pattern};
 use crate::matching::BUDGET;
 use crate::tests::memory::{Sink, Source};
-use crate::trace::{READS, TraceFault, run_trace};
-use rp_lines::Port;
-use rp_pattern::Pattern;
+use crate::trace::{TraceFault, run_trace};
+use rp_io::{Port, READS};
+use rp_words::Pattern;
 use std::alloc::{AllocError, Global};
 use std::test::Fail;
 

@@ -1,19 +1,19 @@
 //! The matches of lines of letters.
 ghost use Rattle.std.specs.Prelude.{◌≡◌, ℕ, ◌<◌, ◌≤◌, ◌++◌, true, length, IfOk, IfSome, OnOk, OnErr, All};
 ghost use Rattle.std.specs.Io.KnownBytes.{IsAtEnd};
-ghost use Rattle.rp_pattern.specs.PatternForm.{form_of};
-ghost use Rattle.rp_pattern.specs.Variables.{are_below};
-ghost use Rattle.rp_lines.specs.Counts.{raised};
-ghost use Rattle.rp_lines.specs.Devices.{MakesCalls};
+ghost use Rattle.rp_words.specs.PatternForm.{form_of};
+ghost use Rattle.rp_words.specs.Variables.{are_below};
+ghost use Rattle.rp_io.specs.Counts.{raised};
+ghost use Rattle.rp_io.specs.Devices.{MakesCalls};
 ghost use Rattle.rp_trace.specs.declared.letters.TheConstants.{MAX_LINE, VARIABLES};
 ghost use Rattle.rp_trace.specs.Replies.{WritesFront, WritesReplies};
 ghost use Rattle.rp_trace.specs.Replies.{is_letter, is_looked_at, last_reply, match_text, reply_text, reply_to, search_text};
 
 use crate::letters::{Letters, MAX_LINE};
 use crate::matching::find;
-use rp_lines::{Intake, LineFault, Lines, Outlet, WriteFailed, write_all, write_block};
-use rp_pattern::{Label, Pattern, law_labels};
+use rp_io::{Intake, LineFault, Lines, Outlet, WriteFailed, write_all, write_block};
 use rp_search::{Search, Steps};
+use rp_words::{Label, Pattern, law_labels};
 use std::alloc::{AllocError, AllocFailed, Global};
 use std::marker::Brand;
 use std::sync::ledger::{Blank, Ledger};
@@ -36,9 +36,6 @@ pub enum TraceFault {
     #[error("out of memory")]
     OutOfMemory,
 }
-
-/// How often the program reads its input at most.
-pub const READS: u64 = 1_000_000_000;
 
 /// Writes a line for each line that is read: the labels of its match at row 1, where each letter is a row.
 ///

@@ -1,6 +1,7 @@
 pub mod Arithmetic
 pub mod Blocks
 pub mod Compared
+pub mod Names
 pub mod Order
 pub mod RowLists
 pub mod Rows

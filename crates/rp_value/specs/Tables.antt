@@ -6,12 +6,15 @@ use Rattle.std.specs.declared.alloc.Global.{Global}
 use Rattle.rp_value.specs.declared.table.Column.{Column}
 use Rattle.rp_value.specs.declared.table.TableFault.{TableFault}
 use Rattle.rp_value.specs.declared.table.TableFault.TheVariants.{NoColumns, BadName, DoubleName, OutOfMemory}
-use Rattle.rp_value.specs.declared.table.TheConstants.{MAX_NAME_LEN}
 use Rattle.rp_value.specs.declared.value.Kind.{Kind}
+
+-- The greatest length of a column's name, in bytes: ISO/IEC 9075-2:2016, 5.4, allows an identifier of 128 characters at most.
+abbrev pub longest_name : ℕ
+longest_name = 128
 
 -- whether a name is empty or longer than a name may be
 abbrev pub is_bad_name : List ℕ → Bool
-is_bad_name name = (length name == 0) || nat_lt MAX_NAME_LEN (length name)
+is_bad_name name = (length name == 0) || nat_lt longest_name (length name)
 
 -- whether some column has such a name
 abbrev pub has_bad_name : List Column → Bool

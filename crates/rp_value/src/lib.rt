@@ -25,6 +25,7 @@
 
 mod cells;
 mod comparison;
+mod name;
 mod row;
 mod row_list;
 mod sum;
@@ -35,6 +36,7 @@ mod value;
 
 pub use cells::{Cells, same_values};
 pub use comparison::Comparison;
+pub use name::{is_name_byte, upper_case_name};
 pub use row::{Row, RowFault, check_cells};
 pub use row_list::RowList;
 pub use sum::{RunningSum, law_sum, total};

@@ -3,17 +3,18 @@ use Rattle.std.proofs.Common.{◌≡◌, ℕ, zero, suc, ◌+◌, ◌-◌, ◌<�
 use Rattle.std.specs.Prelude.{nat_le, option_map, ⊤, Result, Ok, Err}
 use Rattle.std.proofs.lemmas.Bool.Decides.{nat_tests}
 use Rattle.rp_value.specs.declared.value.Value.{Value}
-use Rattle.rp_pattern.specs.declared.word.Label.{Label}
-use Rattle.rp_pattern.specs.declared.word.End.{End}
-use Rattle.rp_pattern.specs.declared.word.End.TheVariants.{Open as OpenEnd, Closed as ClosedEnd}
+use Rattle.rp_words.specs.declared.word.Label.{Label}
+use Rattle.rp_words.specs.declared.word.End.{End}
+use Rattle.rp_words.specs.declared.word.End.TheVariants.{Open as OpenEnd, Closed as ClosedEnd}
 use Rattle.rp_search.specs.Found.{Found, Match, NoMatch, Waits}
-use Rattle.rp_check.specs.declared.query.QueryData.{QueryData}
-use Rattle.rp_check.specs.Sound.{IsSound}
-use Rattle.rp_known.specs.declared.item.Item.{Item}
-use Rattle.rp_known.specs.declared.item.Item.TheVariants.{Row as RowItem, Fault as FaultItem, End as EndItem}
-use Rattle.rp_known.specs.declared.item.SkipFault.{SkipFault}
+use Rattle.rp_query.specs.declared.query.QueryData.{QueryData}
+use Rattle.rp_query.specs.Sound.{IsSound}
+use Rattle.rp_query.specs.declared.item.Item.{Item}
+use Rattle.rp_query.specs.declared.item.Item.TheVariants.{Row as RowItem, Fault as FaultItem, End as EndItem}
+use Rattle.rp_query.specs.declared.item.SkipFault.{SkipFault}
 use Rattle.rp_known.specs.declared.place.Place.{Place}
-use Rattle.rp_known.specs.Known.{Known, count, Continues, GoesOnFrom}
+use Rattle.rp_known.specs.Known.{Known, count}
+use Rattle.rp_known.specs.WalkLaws.{Continues, GoesOnFrom}
 use Rattle.rp_known.specs.Plans.{first_read, setting_of, values_of}
 use Rattle.rp_known.specs.Skips.{next_start}
 use Rattle.rp_known.specs.Items.{item_at, item_rows, row_item}

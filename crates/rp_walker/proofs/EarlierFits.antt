@@ -1,6 +1,6 @@
 -- A record that fitted under the older rule of AND and OR fits.
 use Rattle.std.proofs.Common.{◌≡◌, ◌≤◌, [], ◌∷◌, ◌++◌, length, length-append, append_assoc, Bool, true, false, sym, ap, ◌∙◌, subst, arith}
-use Rattle.rp_check.specs.declared.query.QueryData.{QueryData}
+use Rattle.rp_query.specs.declared.query.QueryData.{QueryData}
 use Rattle.rp_known.specs.Known.{Known}
 use Rattle.rp_known.specs.Walk.{Leg, Goes, Pauses, Ends, leg, leg_items, first_place}
 use Rattle.rp_known.specs.WalkLaws.{Stays, LegsLeadOn}

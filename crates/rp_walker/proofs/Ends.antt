@@ -2,14 +2,14 @@
 use Rattle.std.proofs.Common.{◌≡◌, ℕ, zero, suc, ◌+◌, ◌-◌, ◌<◌, ◌≤◌, List, [], ◌∷◌, ◌++◌, length, length-append, map, Bool, true, false, cond, Option, Some, None, refl, sym, ap, ◌∙◌, subst, arith}
 use Rattle.std.specs.Prelude.{◌≢◌, slice_get, nat_le, nat_eq, max}
 use Rattle.std.proofs.lemmas.Bool.Decides.{nat_tests}
-use Rattle.rp_pattern.specs.declared.word.End.{End}
-use Rattle.rp_pattern.specs.declared.form.Form.{Form}
-use Rattle.rp_pattern.specs.PatternForm.{form_of}
-use Rattle.rp_pattern.specs.Turns.{turns, starts_turns}
-use Rattle.rp_pattern.specs.Words.{words}
+use Rattle.rp_words.specs.declared.word.End.{End}
+use Rattle.rp_words.specs.declared.form.Form.{Form}
+use Rattle.rp_words.specs.PatternForm.{form_of}
+use Rattle.rp_words.specs.Turns.{turns, starts_turns}
+use Rattle.rp_words.specs.Words.{words}
 use Rattle.rp_search.specs.Found.{Found}
-use Rattle.rp_check.specs.declared.query.QueryData.{QueryData}
-use Rattle.rp_known.specs.declared.item.Item.{Item}
+use Rattle.rp_query.specs.declared.query.QueryData.{QueryData}
+use Rattle.rp_query.specs.declared.item.Item.{Item}
 use Rattle.rp_known.specs.declared.place.Place.{Place}
 use Rattle.rp_known.specs.Known.{Known, count}
 use Rattle.rp_known.specs.Items.{item_at, item_rows}

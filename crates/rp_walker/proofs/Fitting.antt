@@ -1,14 +1,14 @@
 -- What steps over the rows that are kept mean for the partition that they are of.
 use Rattle.std.proofs.Common.{◌≡◌, ℕ, suc, ◌+◌, ◌-◌, ◌<◌, ◌≤◌, List, [], ◌∷◌, ◌++◌, length, length-append, append_assoc, Bool, true, false, cond, Option, Some, None, refl, sym, ap, ◌∙◌, subst, arith}
 use Rattle.std.specs.Prelude.{slice_get, nat_le, ⊤, Result, Ok, Err}
-use Rattle.rp_pattern.specs.declared.word.Label.{Label}
-use Rattle.rp_pattern.specs.declared.word.End.{End}
-use Rattle.rp_pattern.specs.declared.word.End.TheVariants.{Open as OpenEnd, Closed as ClosedEnd}
+use Rattle.rp_words.specs.declared.word.Label.{Label}
+use Rattle.rp_words.specs.declared.word.End.{End}
+use Rattle.rp_words.specs.declared.word.End.TheVariants.{Open as OpenEnd, Closed as ClosedEnd}
 use Rattle.rp_search.specs.Found.{Found, Match, NoMatch, Waits}
-use Rattle.rp_check.specs.declared.query.QueryData.{QueryData}
-use Rattle.rp_check.specs.Sound.{IsSound}
-use Rattle.rp_known.specs.declared.item.Item.{Item}
-use Rattle.rp_known.specs.declared.item.SkipFault.{SkipFault}
+use Rattle.rp_query.specs.declared.query.QueryData.{QueryData}
+use Rattle.rp_query.specs.Sound.{IsSound}
+use Rattle.rp_query.specs.declared.item.Item.{Item}
+use Rattle.rp_query.specs.declared.item.SkipFault.{SkipFault}
 use Rattle.rp_known.specs.declared.place.Place.{Place}
 use Rattle.rp_known.specs.Known.{Known, count}
 use Rattle.rp_known.specs.Plans.{first_read}

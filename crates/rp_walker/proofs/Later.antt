@@ -6,12 +6,13 @@ use Rattle.rp_search.specs.Asked.{Asked, AskedExtend, rows_from}
 use Rattle.rp_search.specs.Fits.{SearchFits, ChoicesStand}
 use Rattle.rp_search.specs.Found.{Found, Match, NoMatch, Waits}
 use Rattle.rp_search.specs.Search.{SearchFitsStays, start_of_search, labels_of_search}
-use Rattle.rp_check.specs.declared.query.QueryData.{QueryData}
-use Rattle.rp_check.specs.Sound.{IsSound}
+use Rattle.rp_query.specs.declared.query.QueryData.{QueryData}
+use Rattle.rp_query.specs.Sound.{IsSound}
 use Rattle.rp_eval.specs.Laws.{TotalsStay}
-use Rattle.rp_tester.specs.Outlives.{TestsGoOn}
+use Rattle.rp_conditions.specs.Outlives.{TestsGoOn}
 use Rattle.rp_known.specs.declared.place.Place.{Place}
-use Rattle.rp_known.specs.Known.{Known, count, GoesOnFrom}
+use Rattle.rp_known.specs.Known.{Known, count}
+use Rattle.rp_known.specs.WalkLaws.{GoesOnFrom}
 use Rattle.rp_known.specs.Plans.{tested_by, first_read}
 use Rattle.rp_known.specs.WalkLaws.{AreKnown, FindingsStay}
 use Rattle.rp_walker.specs.declared.ahead.Ahead.{Ahead}

@@ -2,17 +2,17 @@
 use Rattle.std.proofs.Common.{◌≡◌, ℕ, ◌+◌, ◌-◌, ◌<◌, ◌≤◌, length, Bool, true, false, cond, None, refl, sym, ap, ◌∙◌, subst, arith}
 use Rattle.std.specs.Prelude.{nat_le}
 use Rattle.std.proofs.lemmas.Bool.Decides.{nat_tests}
-use Rattle.rp_pattern.specs.PatternForm.{form_of}
-use Rattle.rp_pattern.specs.Turns.{turns, starts_turns, all_turns}
-use Rattle.rp_pattern.specs.Words.{words}
-use Rattle.rp_pattern.specs.declared.word.End.{End}
-use Rattle.rp_pattern.specs.declared.word.End.TheVariants.{Open as OpenEnd, Closed as ClosedEnd}
+use Rattle.rp_words.specs.PatternForm.{form_of}
+use Rattle.rp_words.specs.Turns.{turns, starts_turns, all_turns}
+use Rattle.rp_words.specs.Words.{words}
+use Rattle.rp_words.specs.declared.word.End.{End}
+use Rattle.rp_words.specs.declared.word.End.TheVariants.{Open as OpenEnd, Closed as ClosedEnd}
 use Rattle.rp_search.specs.Asked.{AskedExtend}
 use Rattle.rp_search.specs.Fits.{left_by}
 use Rattle.rp_search.specs.Search.{LeftIsBounded as SearchLeft, LeftIsSame as SearchLeftSame}
-use Rattle.rp_tester.specs.Outlives.{TestsGoOn}
-use Rattle.rp_check.specs.declared.query.QueryData.{QueryData}
-use Rattle.rp_check.specs.Sound.{IsSound}
+use Rattle.rp_conditions.specs.Outlives.{TestsGoOn}
+use Rattle.rp_query.specs.declared.query.QueryData.{QueryData}
+use Rattle.rp_query.specs.Sound.{IsSound}
 use Rattle.rp_known.specs.Known.{Known, count}
 use Rattle.rp_known.specs.Plans.{tested_by, first_read}
 use Rattle.rp_walker.specs.declared.record.MatcherState.{MatcherState}

@@ -1,7 +1,7 @@
 -- What a step adds to those before it.
 use Rattle.std.proofs.Common.{◌≡◌, ℕ, refl, ◌∙◌, inl, arith}
-use Rattle.rp_check.specs.declared.query.QueryData.{QueryData}
-use Rattle.rp_known.specs.declared.item.Item.{Item}
+use Rattle.rp_query.specs.declared.query.QueryData.{QueryData}
+use Rattle.rp_query.specs.declared.item.Item.{Item}
 use Rattle.rp_known.specs.Known.{Known}
 use Rattle.rp_known.specs.WalkLaws.{LegsLeadOn}
 use Rattle.rp_walker.specs.declared.poll.Poll.TheVariants.{Item as ItemPoll, Idle as IdlePoll}

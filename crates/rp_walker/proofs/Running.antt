@@ -1,7 +1,7 @@
 -- What turns of a search come to.
 use Rattle.std.proofs.Common.{◌≡◌, ℕ, sym, ap, ◌∙◌, subst, arith}
-use Rattle.rp_pattern.specs.PatternForm.{form_of}
-use Rattle.rp_pattern.specs.Words.{words}
+use Rattle.rp_words.specs.PatternForm.{form_of}
+use Rattle.rp_words.specs.Words.{words}
 use Rattle.rp_search.specs.declared.search.Outcome.{Outcome}
 use Rattle.rp_search.specs.declared.search.Outcome.TheVariants.{Match as MatchOutcome, NoMatch as NoMatchOutcome, Waits as WaitsOutcome, Paused as PausedOutcome}
 use Rattle.rp_search.specs.declared.search.Search.{Search}
@@ -9,9 +9,10 @@ use Rattle.rp_search.specs.Asked.{Asked}
 use Rattle.rp_search.specs.Fits.{SearchFits}
 use Rattle.rp_search.specs.Found.{found}
 use Rattle.rp_search.specs.Search.{IsSearchFor, IsSameSearch, RunAnswers, Lowers, found_by, start_of_search, labels_of_search, turns_of_run}
-use Rattle.rp_check.specs.declared.query.QueryData.{QueryData}
-use Rattle.rp_eval.specs.Entered.{AreTotals, plan_of, totals_in}
-use Rattle.rp_tester.specs.Tested.{outcome_of}
+use Rattle.rp_query.specs.declared.query.QueryData.{QueryData}
+use Rattle.rp_eval.specs.Entered.{AreTotals, plan_of}
+use Rattle.rp_query.specs.QueryView.{totals_in}
+use Rattle.rp_conditions.specs.Tested.{outcome_of}
 use Rattle.rp_known.specs.Known.{Known, count}
 use Rattle.rp_known.specs.Plans.{tested_by}
 use Rattle.rp_known.specs.Walk.{found_at}

@@ -1,7 +1,7 @@
 -- The items of a leg, by the rows at which they are shown.
 use Rattle.std.proofs.Common.{◌≡◌, ℕ, suc, ◌≤◌, List, [], ◌∷◌, ◌++◌, length, map, Option, Some, None, refl, sym, ap, ◌∙◌, subst, arith}
 use Rattle.std.specs.Prelude.{slice_get}
-use Rattle.rp_known.specs.declared.item.Item.{Item}
+use Rattle.rp_query.specs.declared.item.Item.{Item}
 use Rattle.rp_known.specs.declared.place.Place.{Place}
 use Rattle.rp_known.specs.Walk.{Leg, Goes, Pauses, Ends, after_item, after_items, leg_items}
 use Rattle.rp_walker.specs.Steps.{IsStop, IsEnd}

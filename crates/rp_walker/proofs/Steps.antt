@@ -6,9 +6,9 @@ use Rattle.rp_search.specs.Found.{Found, Match, NoMatch, Waits}
 use Rattle.rp_known.specs.Walk.{after_items, after_found, found_at, at_last, searched, leg, leg_items, here}
 use Rattle.rp_walker.specs.Records.{place_of, IsWithin, IsLast}
 use Rattle.rp_walker.specs.Steps.{IsDone, IsStop, ended_by, Moves, IsEnd}
-use Rattle.rp_check.specs.declared.query.QueryData.{QueryData}
+use Rattle.rp_query.specs.declared.query.QueryData.{QueryData}
 use Rattle.rp_known.specs.Known.{Known, count}
-use Rattle.rp_known.specs.declared.item.Item.{Item}
+use Rattle.rp_query.specs.declared.item.Item.{Item}
 use Rattle.rp_walker.specs.declared.ahead.Ahead.{Ahead}
 use Rattle.rp_walker.specs.declared.walker.Walker.{Walker}
 use Rattle.rp_walker.specs.declared.record.MatcherState.{MatcherState}

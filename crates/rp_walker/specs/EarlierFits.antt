@@ -1,8 +1,8 @@
 -- When a record fitted under the older rule, by which AND and OR were open where either side was. It stands for one law: such a
 -- record fits now.
 use Rattle.std.specs.Prelude.{◌≡◌, ℕ, ◌+◌, ◌≤◌, Bool, true, false, List, length}
-use Rattle.rp_check.specs.declared.query.QueryData.{QueryData}
-use Rattle.rp_known.specs.declared.item.Item.{Item}
+use Rattle.rp_query.specs.declared.query.QueryData.{QueryData}
+use Rattle.rp_query.specs.declared.item.Item.{Item}
 use Rattle.rp_known.specs.declared.place.Place.{Place}
 use Rattle.rp_known.specs.Known.{Known}
 use Rattle.rp_known.specs.Plans.{first_read}

@@ -1,9 +1,10 @@
 -- What a matcher's steps mean for each partition that its record fits.
 use Rattle.std.specs.Prelude.{◌≡◌, ℕ, ◌≤◌, length, Some, slice_get, true, false}
-use Rattle.rp_check.specs.declared.query.QueryData.{QueryData}
-use Rattle.rp_known.specs.declared.item.Item.{Item}
-use Rattle.rp_known.specs.Known.{Known, GoesOnFrom, Continues}
-use Rattle.rp_check.specs.Sound.{IsSound}
+use Rattle.rp_query.specs.declared.query.QueryData.{QueryData}
+use Rattle.rp_query.specs.declared.item.Item.{Item}
+use Rattle.rp_known.specs.Known.{Known}
+use Rattle.rp_known.specs.WalkLaws.{GoesOnFrom, Continues}
+use Rattle.rp_query.specs.Sound.{IsSound}
 use Rattle.rp_known.specs.Walk.{known, walk_from, leg}
 use Rattle.rp_known.specs.WalkLaws.{IsInRows}
 use Rattle.rp_walker.specs.declared.record.MatcherState.{MatcherState}

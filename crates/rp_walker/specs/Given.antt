@@ -1,8 +1,8 @@
 -- What is still to be looked at of a search's rows, once it has ended.
 use Rattle.std.specs.Prelude.{ℕ, zero, suc, ◌+◌, ◌-◌, Bool, false, List, [], ◌∷◌, Option, Some, None, slice_get, if◌then◌else◌}
-use Rattle.rp_syntax.specs.declared.tree.RowsPerMatch.{RowsPerMatch}
-use Rattle.rp_syntax.specs.declared.tree.RowsPerMatch.TheVariants.{One}
-use Rattle.rp_pattern.specs.declared.word.Label.{Label}
+use Rattle.rp_query.specs.declared.query.RowsPerMatch.{RowsPerMatch}
+use Rattle.rp_query.specs.declared.query.RowsPerMatch.TheVariants.{One}
+use Rattle.rp_words.specs.declared.word.Label.{Label}
 use Rattle.rp_search.specs.Found.{Found, Match, NoMatch, Waits}
 use Rattle.rp_search.specs.Search.{labels_of_search}
 use Rattle.rp_walker.specs.declared.ahead.Ahead.{Ahead}

@@ -1,9 +1,9 @@
 -- How many turns a walker has left at most, and that rows which agree change nothing in it.
 use Rattle.std.specs.Prelude.{◌≡◌, ◌≤◌, false}
-use Rattle.rp_pattern.specs.PatternForm.{form_of}
-use Rattle.rp_pattern.specs.Turns.{all_turns}
-use Rattle.rp_check.specs.declared.query.QueryData.{QueryData}
-use Rattle.rp_check.specs.Sound.{IsSound}
+use Rattle.rp_words.specs.PatternForm.{form_of}
+use Rattle.rp_words.specs.Turns.{all_turns}
+use Rattle.rp_query.specs.declared.query.QueryData.{QueryData}
+use Rattle.rp_query.specs.Sound.{IsSound}
 use Rattle.rp_known.specs.Known.{Known, count}
 use Rattle.rp_known.specs.Plans.{first_read}
 use Rattle.rp_walker.specs.declared.walker.Walker.{Walker}

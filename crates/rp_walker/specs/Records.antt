@@ -1,8 +1,8 @@
 -- The record of a matcher, and when it fits a known partition.
 use Rattle.std.specs.Prelude.{◌≡◌, ℕ, ◌+◌, ◌≤◌, Bool, true, false, List, [], ◌∷◌, ◌++◌, length, ⊤, if◌then◌else◌}
-use Rattle.rp_check.specs.declared.query.QueryData.{QueryData}
-use Rattle.rp_known.specs.declared.item.Item.{Item}
-use Rattle.rp_known.specs.declared.item.Item.TheVariants.{Row as RowItem, Fault as FaultItem, End as EndItem}
+use Rattle.rp_query.specs.declared.query.QueryData.{QueryData}
+use Rattle.rp_query.specs.declared.item.Item.{Item}
+use Rattle.rp_query.specs.declared.item.Item.TheVariants.{Row as RowItem, Fault as FaultItem, End as EndItem}
 use Rattle.rp_known.specs.declared.place.Place.{Place}
 use Rattle.rp_known.specs.Known.{Known, count}
 use Rattle.rp_known.specs.Plans.{first_read}

@@ -5,7 +5,7 @@ use Rattle.rp_search.specs.declared.search.Outcome.TheVariants.{Match as MatchOu
 use Rattle.rp_search.specs.Fits.{left_by}
 use Rattle.rp_search.specs.Found.{Match, NoMatch, Waits}
 use Rattle.rp_search.specs.Search.{labels_of_search, turns_of_run}
-use Rattle.rp_check.specs.declared.query.QueryData.{QueryData}
+use Rattle.rp_query.specs.declared.query.QueryData.{QueryData}
 use Rattle.rp_known.specs.Known.{Known}
 use Rattle.rp_known.specs.Walk.{found_at}
 use Rattle.rp_walker.specs.declared.run.Run.{Run}

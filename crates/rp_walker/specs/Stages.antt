@@ -1,15 +1,16 @@
 -- How the stage of a walker stands to known rows, and what it has left.
 use Rattle.std.specs.Prelude.{◌≡◌, ℕ, suc, ◌+◌, ◌-◌, ◌<◌, ◌≤◌, false, List, ◌++◌, length, Option, Some, None, ⊤, nat_le, slice_get, if◌then◌else◌}
-use Rattle.rp_pattern.specs.PatternForm.{form_of}
-use Rattle.rp_pattern.specs.Words.{words}
-use Rattle.rp_pattern.specs.Turns.{turns, starts_turns}
+use Rattle.rp_words.specs.PatternForm.{form_of}
+use Rattle.rp_words.specs.Words.{words}
+use Rattle.rp_words.specs.Turns.{turns, starts_turns}
 use Rattle.rp_search.specs.Asked.{Asked}
 use Rattle.rp_search.specs.Fits.{left_by, SearchFits}
 use Rattle.rp_search.specs.Found.{Found}
 use Rattle.rp_search.specs.Search.{IsSearchFor, start_of_search, labels_of_search}
-use Rattle.rp_check.specs.declared.query.QueryData.{QueryData}
-use Rattle.rp_eval.specs.Entered.{AreTotals, plan_of, totals_in}
-use Rattle.rp_tester.specs.Tested.{asked_of}
+use Rattle.rp_query.specs.declared.query.QueryData.{QueryData}
+use Rattle.rp_eval.specs.Entered.{AreTotals, plan_of}
+use Rattle.rp_query.specs.QueryView.{totals_in}
+use Rattle.rp_conditions.specs.Tested.{asked_of}
 use Rattle.rp_known.specs.declared.place.Place.{Place}
 use Rattle.rp_known.specs.Known.{Known, count}
 use Rattle.rp_known.specs.Plans.{tested_by, first_read}

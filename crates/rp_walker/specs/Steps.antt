@@ -1,6 +1,6 @@
 -- What steps do to the record of a matcher.
 use Rattle.std.specs.Prelude.{◌≡◌, ℕ, ◌+◌, Bool, true, false, length, ⊤}
-use Rattle.rp_check.specs.declared.query.QueryData.{QueryData}
+use Rattle.rp_query.specs.declared.query.QueryData.{QueryData}
 use Rattle.rp_known.specs.Known.{Known}
 use Rattle.rp_known.specs.Walk.{Leg, Goes, Pauses, Ends, leg, leg_items, ComesTo}
 use Rattle.rp_walker.specs.declared.record.MatcherState.{MatcherState}

@@ -1,8 +1,9 @@
 -- What a step of a walker keeps.
 use Rattle.std.specs.Prelude.{◌≡◌, ℕ, ◌+◌, ◌<◌, ◌≤◌, Bool, true, false, ⊤}
-use Rattle.rp_check.specs.declared.query.QueryData.{QueryData}
-use Rattle.rp_check.specs.Sound.{IsSound}
-use Rattle.rp_known.specs.Known.{Known, GoesOnFrom}
+use Rattle.rp_query.specs.declared.query.QueryData.{QueryData}
+use Rattle.rp_query.specs.Sound.{IsSound}
+use Rattle.rp_known.specs.Known.{Known}
+use Rattle.rp_known.specs.WalkLaws.{GoesOnFrom}
 use Rattle.rp_known.specs.Plans.{first_read}
 use Rattle.rp_walker.specs.declared.record.MatcherState.{MatcherState}
 use Rattle.rp_walker.specs.declared.stage.Stage.{Stage}

@@ -1,6 +1,6 @@
 //! The items of a search that has ended.
 ghost use Rattle.std.specs.Prelude.{◌≡◌, ℕ, suc, ◌+◌, ◌^◌, ◌≤◌, ◌<◌, ◌-◌, IfOk, slice_get, length, max};
-ghost use Rattle.rp_check.specs.QueryView.{data_of};
+ghost use Rattle.rp_query.specs.QueryView.{data_of};
 ghost use Rattle.rp_search.specs.Found.{Match};
 ghost use Rattle.rp_search.specs.Search.{labels_of_search};
 ghost use Rattle.rp_known.specs.Known.{known_in, count};
@@ -15,12 +15,11 @@ ghost use Rattle.rp_walker.specs.Stages.{rows_ahead, MatchTotalled};
 use crate::ahead::Ahead;
 use crate::record::MatcherState;
 use crate::stage::Ended;
-use rp_check::Query;
 use rp_eval::Rows;
 use rp_known::{Item, Place, SkipFault, match_item, next_start, unmatched_item};
-use rp_pattern::Label;
+use rp_query::{Query, RowsPerMatch};
 use rp_search::Search;
-use rp_syntax::RowsPerMatch;
+use rp_words::Label;
 use std::alloc::{AllocError, Global};
 
 /// Where the walk stands.

@@ -34,7 +34,7 @@ pub fn law_walkers()
     rp_known::law_known();
     rp_known::law_legs();
     rp_search::law_search();
-    rp_tester::law_tests();
+    rp_conditions::law_tests();
     rp_eval::law_totals();
 }
 
@@ -45,5 +45,5 @@ pub fn law_left()
     ensures same { LeftIsSame }
 {
     rp_search::law_search();
-    rp_tester::law_tests();
+    rp_conditions::law_tests();
 }

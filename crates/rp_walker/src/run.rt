@@ -1,17 +1,17 @@
 //! Searches over lent rows.
 ghost use Rattle.std.specs.Prelude.{◌≡◌, ◌+◌, ◌<◌, ◌≤◌, length, IfOk, OnOk};
-ghost use Rattle.rp_check.specs.QueryView.{data_of};
-ghost use Rattle.rp_check.specs.declared.query.QueryData.{QueryData};
+ghost use Rattle.rp_query.specs.QueryView.{data_of};
+ghost use Rattle.rp_query.specs.declared.query.QueryData.{QueryData};
 ghost use Rattle.rp_known.specs.Known.{Known, known_in, count};
 ghost use Rattle.rp_walker.specs.Stages.{Searches, Serves, IsSpare};
 ghost use Rattle.rp_search.specs.Search.{turns_of_run};
 ghost use Rattle.rp_walker.specs.Polls.{TurnsAreCounted};
 ghost use Rattle.rp_walker.specs.Runs.{Ran};
 
-use rp_check::Query;
+use rp_conditions::{Entries, Tester};
 use rp_eval::{Rows, Totals};
+use rp_query::Query;
 use rp_search::{Outcome, Search, Steps};
-use rp_tester::{Entries, Tester};
 use std::alloc::{AllocError, Global};
 use std::mem;
 use std::sync::ledger::Ledger;

@@ -1,7 +1,7 @@
 //! A walker gives the items of a partition's known answer, one after another, over rows that are lent.
 ghost use Rattle.std.specs.Prelude.{◌≡◌, ◌≢◌, ◌+◌, ◌-◌, ◌^◌, ◌<◌, ◌≤◌, ℕ, Bool, true, false, length, Some, None, OnOk, OnErr, IfOk};
-ghost use Rattle.rp_check.specs.QueryView.{data_of};
-ghost use Rattle.rp_check.specs.declared.query.QueryData.{QueryData};
+ghost use Rattle.rp_query.specs.QueryView.{data_of};
+ghost use Rattle.rp_query.specs.declared.query.QueryData.{QueryData};
 ghost use Rattle.rp_known.specs.Known.{Known, known_in};
 ghost use Rattle.rp_known.specs.Plans.{first_read};
 ghost use Rattle.rp_known.specs.Walk.{found_at};
@@ -21,12 +21,12 @@ use crate::poll::Poll;
 use crate::record::MatcherState;
 use crate::run::{Run, begin, run_on};
 use crate::stage::{Ended, Stage, Step};
-use rp_check::Query;
+use rp_conditions::Entries;
 use rp_eval::Rows;
 use rp_known::{Item, Place};
-use rp_pattern::End;
+use rp_query::Query;
 use rp_search::{Outcome, Steps};
-use rp_tester::Entries;
+use rp_words::End;
 use std::alloc::{AllocError, Global};
 use std::mem;
 use std::sync::ledger::Ledger;

@@ -1,10 +1,10 @@
 -- The lines of a partition that are written item by item.
 use Rattle.std.proofs.Common.{◌≡◌, ◌∙◌, ℕ, List, [], ◌∷◌, ◌++◌, Option, sym, ap, subst, append_assoc, append-nil}
-use Rattle.rp_check.specs.declared.query.QueryData.{QueryData}
+use Rattle.rp_query.specs.declared.query.QueryData.{QueryData}
 use Rattle.rp_codec.specs.ReplyLines.{item_text}
-use Rattle.rp_known.specs.declared.item.Item.{Item}
-use Rattle.rp_lines.specs.Devices.{AppendsFront, Moves}
-use Rattle.rp_source.specs.Partitions.{Part}
+use Rattle.rp_query.specs.declared.item.Item.{Item}
+use Rattle.rp_io.specs.Devices.{AppendsFront, Moves}
+use Rattle.rp_input.specs.Partitions.{Part}
 use Rattle.rp_walker.specs.declared.poll.Poll.TheVariants.{Item as ItemPoll}
 use Rattle.rp_walker.specs.declared.record.MatcherState.{MatcherState}
 use Rattle.rp_walker.specs.Polls.{AnswerIs}

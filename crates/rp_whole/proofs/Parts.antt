@@ -6,12 +6,12 @@ use Rattle.std.specs.List.{flat_map}
 use Rattle.std.specs.declared.vec.Vec.{Vec}
 use Rattle.std.specs.declared.alloc.Global.{Global}
 use Rattle.rp_value.specs.declared.value.Value.{Value}
-use Rattle.rp_check.specs.declared.lists.OrderColumn.{OrderColumn}
-use Rattle.rp_check.specs.declared.query.QueryData.{QueryData}
-use Rattle.rp_lines.specs.Devices.{AppendsFront, Moves}
-use Rattle.rp_source.specs.Numbered.{AreOrdered}
-use Rattle.rp_source.specs.Orders.{IsOrdered, OrderExists}
-use Rattle.rp_source.specs.Partitions.{Part}
+use Rattle.rp_query.specs.declared.query.OrderColumn.{OrderColumn}
+use Rattle.rp_query.specs.declared.query.QueryData.{QueryData}
+use Rattle.rp_io.specs.Devices.{AppendsFront, Moves}
+use Rattle.rp_input.specs.Numbered.{AreOrdered}
+use Rattle.rp_input.specs.Orders.{IsOrdered, OrderExists}
+use Rattle.rp_input.specs.Partitions.{Part}
 use Rattle.rp_whole.specs.AnswerLines.{part_lines}
 use Rattle.rp_whole.specs.Writing.{WritesParts, WritesPartsFront}
 use Rattle.rp_whole.proofs.Writes.{front_longer, front_none, moves_end, moves_front, moves_more, moves_none, moves_part}

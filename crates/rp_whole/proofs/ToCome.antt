@@ -1,12 +1,13 @@
 -- The lines that are still to come.
 use Rattle.std.proofs.Common.{◌≡◌, ◌∙◌, ℕ, zero, suc, ◌+◌, List, [], ◌∷◌, ◌++◌, length, drop, Some, refl, sym, ap, arith, append_assoc, slice_get}
 use Rattle.std.proofs.lemmas.List.{drop_all}
-use Rattle.rp_check.specs.declared.query.QueryData.{QueryData}
-use Rattle.rp_known.specs.declared.item.Item.{Item}
-use Rattle.rp_known.specs.Known.{Known, GoesOnFrom}
+use Rattle.rp_query.specs.declared.query.QueryData.{QueryData}
+use Rattle.rp_query.specs.declared.item.Item.{Item}
+use Rattle.rp_known.specs.Known.{Known}
+use Rattle.rp_known.specs.WalkLaws.{GoesOnFrom}
 use Rattle.rp_known.specs.Walk.{known}
 use Rattle.rp_codec.specs.ReplyLines.{item_text}
-use Rattle.rp_source.specs.Partitions.{Part}
+use Rattle.rp_input.specs.Partitions.{Part}
 use Rattle.rp_walker.specs.FitLaws.{AgreesFrom}
 use Rattle.rp_walker.specs.declared.record.MatcherState.{MatcherState}
 use Rattle.rp_whole.specs.AnswerLines.{closed, lines_from}

@@ -2,13 +2,13 @@
 use Rattle.std.proofs.Common.{◌≡◌, ℕ, List, Option, Some, None, IfErr, IfSome, OnErr, OnOk, Result, Ok, Err, refl, subst, inl, inr}
 use Rattle.std.specs.List.{flat_map}
 use Rattle.rp_value.specs.declared.value.Value.{Value}
-use Rattle.rp_check.specs.declared.query.QueryData.{QueryData}
-use Rattle.rp_source.specs.CsvRows.{AreRowsOf}
-use Rattle.rp_source.specs.Devices.{IsInputFault, TellsFailure}
-use Rattle.rp_source.specs.Numbered.{AreOrdered}
-use Rattle.rp_source.specs.Partitions.{Part, partitions}
-use Rattle.rp_source.specs.declared.rows.CsvFault.{CsvFault}
-use Rattle.rp_source.specs.declared.rows.CsvFault.TheVariants.{Header, Record, Field, Read, Turns, OutOfMemory}
+use Rattle.rp_query.specs.declared.query.QueryData.{QueryData}
+use Rattle.rp_input.specs.CsvRows.{AreRowsOf}
+use Rattle.rp_input.specs.Devices.{IsInputFault, TellsFailure}
+use Rattle.rp_input.specs.Numbered.{AreOrdered}
+use Rattle.rp_input.specs.Partitions.{Part, partitions}
+use Rattle.rp_input.specs.declared.rows.CsvFault.{CsvFault}
+use Rattle.rp_input.specs.declared.rows.CsvFault.TheVariants.{Header, Record, Field, Read, Turns, OutOfMemory}
 use Rattle.rp_whole.specs.AnswerLines.{AreLinesOf, WritesFront, WritesLines, part_lines}
 use Rattle.rp_whole.specs.Faults.{IsOfOutput, LeavesFront, TellsRead, TellsWrite, told_csv}
 use Rattle.rp_whole.specs.Writing.{WritesParts, WritesPartsFront}

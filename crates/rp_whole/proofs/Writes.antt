@@ -1,7 +1,7 @@
 -- What was written of a text, piece after piece.
 use Rattle.std.proofs.Common.{◌≡◌, ◌∙◌, ℕ, List, [], ◌++◌, Option, Some, None, refl, sym, ap, append_assoc, append-nil}
 use Rattle.std.specs.Io.KnownBytes.{Appends}
-use Rattle.rp_lines.specs.Devices.{AppendsFront, Moves}
+use Rattle.rp_io.specs.Devices.{AppendsFront, Moves}
 
 pub front_none : (old : Option (List ℕ)) (text : List ℕ) → AppendsFront old old text
 front_none None text = tt

@@ -3,16 +3,16 @@ use Rattle.std.specs.Prelude.{◌≡◌, ℕ, suc, List, [], ◌∷◌, ◌++◌
 use Rattle.std.specs.List.{flat_map}
 use Rattle.std.specs.Io.KnownBytes.{Appends}
 use Rattle.rp_value.specs.declared.value.Value.{Value}
-use Rattle.rp_pattern.specs.declared.word.End.TheVariants.{Closed as ClosedEnd}
-use Rattle.rp_check.specs.declared.query.QueryData.{QueryData}
-use Rattle.rp_known.specs.declared.item.Item.{Item}
+use Rattle.rp_words.specs.declared.word.End.TheVariants.{Closed as ClosedEnd}
+use Rattle.rp_query.specs.declared.query.QueryData.{QueryData}
+use Rattle.rp_query.specs.declared.item.Item.{Item}
 use Rattle.rp_known.specs.Known.{Known}
 use Rattle.rp_known.specs.Walk.{known}
-use Rattle.rp_lines.specs.Devices.{AppendsFront}
+use Rattle.rp_io.specs.Devices.{AppendsFront}
 use Rattle.rp_codec.specs.ReplyLines.{item_text}
-use Rattle.rp_source.specs.CsvRows.{AreRowsOf}
-use Rattle.rp_source.specs.Numbered.{AreOrderedParts}
-use Rattle.rp_source.specs.Partitions.{Part}
+use Rattle.rp_input.specs.CsvRows.{AreRowsOf}
+use Rattle.rp_input.specs.Numbered.{AreOrderedParts}
+use Rattle.rp_input.specs.Partitions.{Part}
 
 -- a partition that has all its rows
 abbrev pub closed : List (List Value) → Known

@@ -1,10 +1,10 @@
 -- What a fault of a run says of the input and of the devices.
 use Rattle.std.specs.Prelude.{◌≡◌, ◌≢◌, ◌⊎◌, ⊤, ℕ, List, Option, IfSome, Result, Err}
-use Rattle.rp_check.specs.declared.query.QueryData.{QueryData}
-use Rattle.rp_lines.specs.Counts.{raised}
-use Rattle.rp_source.specs.Devices.{IsInputFault}
-use Rattle.rp_source.specs.declared.rows.CsvFault.{CsvFault}
-use Rattle.rp_source.specs.declared.rows.CsvFault.TheVariants.{Header, Record, Field, Read, Turns, OutOfMemory}
+use Rattle.rp_query.specs.declared.query.QueryData.{QueryData}
+use Rattle.rp_io.specs.Counts.{raised}
+use Rattle.rp_input.specs.Devices.{IsInputFault}
+use Rattle.rp_input.specs.declared.rows.CsvFault.{CsvFault}
+use Rattle.rp_input.specs.declared.rows.CsvFault.TheVariants.{Header, Record, Field, Read, Turns, OutOfMemory}
 use Rattle.rp_whole.specs.AnswerLines.{WritesFront}
 use Rattle.rp_whole.specs.declared.fault.WholeFault.{WholeFault}
 use Rattle.rp_whole.specs.declared.fault.WholeFault.TheVariants.{Csv, Write, OutOfMemory as WholeOutOfMemory}

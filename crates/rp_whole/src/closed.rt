@@ -1,10 +1,10 @@
 //! A partition whose rows have all come.
 ghost use Rattle.std.specs.Prelude.{◌-◌, ◌^◌, ◌<◌, length};
-ghost use Rattle.rp_pattern.specs.declared.word.End.TheVariants.{Closed};
+ghost use Rattle.rp_words.specs.declared.word.End.TheVariants.{Closed};
 
 use rp_eval::Rows;
-use rp_pattern::End;
 use rp_value::{Cells, Row};
+use rp_words::End;
 
 /// A partition with all its rows.
 #[derive(Drop)]

@@ -1,6 +1,6 @@
 //! How a run ends early.
-use rp_lines::WriteFailed;
-use rp_source::CsvFault;
+use rp_input::CsvFault;
+use rp_io::WriteFailed;
 use std::alloc::{AllocError, AllocFailed};
 use thiserror::Error;
 

@@ -1,7 +1,7 @@
 //! The lines of one partition's answer.
 ghost use Rattle.std.specs.Prelude.{◌≡◌, ◌<◌, ◌++◌, [], false, true, IfErr, OnErr, OnOk};
-ghost use Rattle.rp_check.specs.QueryView.{data_of};
-ghost use Rattle.rp_lines.specs.Devices.{AppendsFront, Moves};
+ghost use Rattle.rp_query.specs.QueryView.{data_of};
+ghost use Rattle.rp_io.specs.Devices.{AppendsFront, Moves};
 ghost use Rattle.rp_walker.specs.Polls.{left_in};
 ghost use Rattle.rp_walker.specs.Records.{Fits};
 ghost use Rattle.rp_walker.specs.Walking.{Stands, record_of};
@@ -12,8 +12,8 @@ ghost use Rattle.rp_whole.specs.Writing.{WritesOn, lines_to_come, part_of};
 use crate::closed::Part;
 use crate::fault::WholeFault;
 use crate::gathered::Gathered;
-use rp_check::Query;
-use rp_lines::{Outlet, write_block};
+use rp_io::{Outlet, write_block};
+use rp_query::Query;
 use rp_search::Steps;
 use rp_walker::{Poll, Walker, law_records};
 use std::alloc::Global;

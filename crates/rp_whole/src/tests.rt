@@ -4,7 +4,7 @@ mod memory;
 use crate::{WholeFault, run_whole};
 use memory::{Sink, Source};
 use rp_check::compile;
-use rp_source::CsvFault;
+use rp_input::CsvFault;
 use rp_syntax::read_table;
 use std::alloc::{AllocError, Global};
 use std::test::Fail;

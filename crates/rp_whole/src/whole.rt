@@ -1,9 +1,9 @@
 //! From a CSV input to the lines of its answers.
 ghost use Rattle.std.specs.Prelude.{◌≡◌, ◌<◌, ◌≤◌, length, IfSome, true, IfErr, OnErr, OnOk};
-ghost use Rattle.rp_check.specs.QueryView.{data_of};
-ghost use Rattle.rp_lines.specs.Devices.{MakesCalls, after_calls};
-ghost use Rattle.rp_source.specs.Gathering.{parts_of};
-ghost use Rattle.rp_source.specs.declared.rows.CsvFault.TheVariants.{Turns};
+ghost use Rattle.rp_query.specs.QueryView.{data_of};
+ghost use Rattle.rp_io.specs.Devices.{MakesCalls, after_calls};
+ghost use Rattle.rp_input.specs.Gathering.{parts_of};
+ghost use Rattle.rp_input.specs.declared.rows.CsvFault.TheVariants.{Turns};
 ghost use Rattle.rp_whole.specs.AnswerLines.{WritesLines};
 ghost use Rattle.rp_whole.specs.Faults.{IsOfOutput, LeavesFront, TellsRead, TellsWrite};
 ghost use Rattle.rp_whole.specs.Writing.{WritesParts, WritesPartsFront};
@@ -12,10 +12,10 @@ use crate::closed::Part;
 use crate::fault::WholeFault;
 use crate::gathered::Gathered;
 use crate::part::write_part;
-use rp_check::Query;
-use rp_lines::{Intake, Outlet, write_all};
+use rp_input::{law_orders, order_rows, partitions, read_rows};
+use rp_io::{Intake, Outlet, write_all};
+use rp_query::Query;
 use rp_search::Steps;
-use rp_source::{law_orders, order_rows, partitions, read_rows};
 use rp_value::{Cells, Row};
 use std::alloc::Global;
 use std::marker::Brand;

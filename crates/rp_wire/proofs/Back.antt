@@ -9,8 +9,8 @@ use Rattle.serde_json.proofs.OnLiterals.{serde_json_on_literals}
 use Rattle.rp_value.specs.declared.value.Value.{Value}
 use Rattle.rp_value.specs.declared.value.Value.TheVariants.{Null, Int, Text}
 use Rattle.rp_feed.specs.declared.answer.Taken.TheVariants.{New, Repeat, Old}
-use Rattle.rp_known.specs.declared.item.Item.TheVariants as item
-use Rattle.rp_known.specs.declared.item.SkipFault.TheVariants.{SkipNoRow, SkipSame}
+use Rattle.rp_query.specs.declared.item.Item.TheVariants as item
+use Rattle.rp_query.specs.declared.item.SkipFault.TheVariants.{SkipNoRow, SkipSame}
 use Rattle.rp_codec.specs.ReplyLines.{reply_text}
 use Rattle.rp_codec.specs.Refusals.{refusal_text}
 use Rattle.rp_codec.specs.Within.{AreCells, IsCell, IsWithin, IsRefusal}
@@ -19,10 +19,10 @@ use Rattle.rp_codec.specs.declared.refusal.Refusal.{Refusal}
 use Rattle.rp_codec.specs.declared.refusal.Refusal.TheVariants as r
 use Rattle.rp_codec.specs.declared.reply.Reply.{Reply}
 use Rattle.rp_codec.specs.declared.reply.Reply.TheVariants as reply
-use Rattle.rp_fields.specs.Digits.{short_digits_of}
-use Rattle.rp_fields.specs.Forms.{cell_data, cell_of, list_in, list_items}
-use Rattle.rp_fields.proofs.Parsed.{digits_of-decimal}
-use Rattle.rp_fields.proofs.Reading.{object_read}
+use Rattle.rp_json.specs.Digits.{short_digits_of}
+use Rattle.rp_json.specs.Forms.{cell_data, cell_of, list_in, list_items}
+use Rattle.rp_json.proofs.Parsed.{digits_of-decimal}
+use Rattle.rp_json.proofs.Reading.{object_read}
 use Rattle.rp_wire.specs.RefusalTexts.{refusal_of}
 use Rattle.rp_wire.specs.Replies.{NamesColumn, answered, reply_data, reply_in}
 use Rattle.rp_wire.proofs.Law.{reply_read}

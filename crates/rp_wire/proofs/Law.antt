@@ -19,11 +19,11 @@ use Rattle.serde_json.proofs.OnLiterals.{serde_json_on_literals}
 use Rattle.serde_json.proofs.Texts.{print-outline}
 use Rattle.rp_value.specs.declared.value.Value.{Value}
 use Rattle.rp_value.specs.declared.value.Value.TheVariants.{Null, Int, Text}
-use Rattle.rp_known.specs.declared.item.Item.TheVariants as item
+use Rattle.rp_query.specs.declared.item.Item.TheVariants as item
 use Rattle.rp_codec.specs.Within.{AreCells, IsCell, IsWithin}
 use Rattle.rp_codec.specs.declared.reply.Reply.{Reply}
 use Rattle.rp_codec.specs.declared.reply.Reply.TheVariants as reply
-use Rattle.rp_fields.specs.Forms.{cell_data, cells_data, list_items}
+use Rattle.rp_json.specs.Forms.{cell_data, cells_data, list_items}
 use Rattle.rp_wire.specs.Replies.{reply_data}
 
 pub items_back : (cs : List Value) → AreCells cs → of_items (items_outline (list_items cell_data cs)) ≡ Some (list_items cell_data cs)

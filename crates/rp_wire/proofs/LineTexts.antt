@@ -7,7 +7,7 @@ use Rattle.serde_json.specs.Written.{compact_text, items_text}
 use Rattle.serde_json.proofs.OnLiterals.{serde_json_on_literals}
 use Rattle.rp_value.specs.declared.value.Value.{Value}
 use Rattle.rp_value.specs.declared.value.Value.TheVariants.{Null, Int, Text}
-use Rattle.rp_codec.specs.declared.packet.Packet.TheVariants as packet
+use Rattle.rp_feed.specs.declared.packet.Packet.TheVariants as packet
 use Rattle.rp_codec.specs.ReplyLines.{key_text, more_values, place_text, reply_text, values_text}
 use Rattle.rp_codec.specs.Within.{IsRefusal, IsWithin}
 use Rattle.rp_codec.specs.declared.refusal.Field.TheVariants as f
@@ -17,10 +17,10 @@ use Rattle.rp_codec.specs.declared.reply.Reply.{Reply}
 use Rattle.rp_codec.specs.declared.reply.Reply.TheVariants as reply
 use Rattle.rp_codec.proofs.Texts.{digits_plain}
 use Rattle.rp_feed.specs.declared.answer.Taken.TheVariants.{New, Repeat, Old}
-use Rattle.rp_known.specs.declared.item.Item.{Item}
-use Rattle.rp_known.specs.declared.item.Item.TheVariants as item
-use Rattle.rp_known.specs.declared.item.SkipFault.TheVariants.{SkipNoRow, SkipSame}
-use Rattle.rp_fields.specs.Forms.{cell_data, cells_data, list_items}
+use Rattle.rp_query.specs.declared.item.Item.{Item}
+use Rattle.rp_query.specs.declared.item.Item.TheVariants as item
+use Rattle.rp_query.specs.declared.item.SkipFault.TheVariants.{SkipNoRow, SkipSame}
+use Rattle.rp_json.specs.Forms.{cell_data, cells_data, list_items}
 use Rattle.rp_wire.specs.declared.request.Request.{Request}
 use Rattle.rp_wire.specs.declared.request.Request.TheVariants as request
 use Rattle.rp_wire.specs.Replies.{reply_data}

@@ -9,7 +9,7 @@ use Rattle.serde_json.specs.Read.{read, of_json}
 use Rattle.serde_json.specs.Written.{compact_text, outline}
 use Rattle.serde_json.proofs.Numbers.{number_of-decimal}
 use Rattle.serde_json.proofs.OnLiterals.{serde_json_on_literals}
-use Rattle.rp_codec.specs.declared.packet.Packet.TheVariants as packet
+use Rattle.rp_feed.specs.declared.packet.Packet.TheVariants as packet
 use Rattle.rp_wire.specs.Compact.{IsAsked, IsLineOf}
 use Rattle.rp_wire.specs.Requests.{asked, request_data, request_in}
 use Rattle.rp_wire.specs.declared.request.Request.{Request}

@@ -6,12 +6,12 @@ use Rattle.serde_json.specs.Data.{Data, depth}
 use Rattle.serde_json.specs.Read.{read}
 use Rattle.serde_json.specs.Find.{as_object}
 use Rattle.serde_json.specs.Written.{has_float}
-use Rattle.rp_codec.specs.declared.packet.Packet.TheVariants as packet
+use Rattle.rp_feed.specs.declared.packet.Packet.TheVariants as packet
 use Rattle.rp_wire.specs.declared.request.Request.{Request}
 use Rattle.rp_wire.specs.declared.request.Request.TheVariants as request
 use Rattle.rp_wire.specs.Requests.{asked, request_data, request_in}
-use Rattle.rp_fields.proofs.Reading.{object_read}
-use Rattle.rp_fields.proofs.Steps.{flat, no_float}
+use Rattle.rp_json.proofs.Reading.{object_read}
+use Rattle.rp_json.proofs.Steps.{flat, no_float}
 
 pub request_has_no_float : (r : Request) → has_float (request_data r) ≡ false
 request_has_no_float (request.Packet (packet.Row n cells)) = rw (no_float cells) refl

@@ -1,6 +1,6 @@
 -- Lines that are the compact text of a request.
 use Rattle.std.specs.Prelude.{◌≡◌, ◌<◌, ◌^◌, ℕ, List}
-use Rattle.rp_codec.specs.declared.packet.Packet.TheVariants as packet
+use Rattle.rp_feed.specs.declared.packet.Packet.TheVariants as packet
 use Rattle.rp_codec.specs.Within.{AreCells}
 use Rattle.rp_wire.specs.Requests.{request_text}
 use Rattle.rp_wire.specs.declared.request.Request.{Request}

@@ -5,8 +5,8 @@ use Rattle.rp_codec.specs.Refusals.{refusal_word}
 use Rattle.rp_codec.specs.declared.refusal.Field.TheVariants as f
 use Rattle.rp_codec.specs.declared.refusal.Refusal.{Refusal}
 use Rattle.rp_codec.specs.declared.refusal.Refusal.TheVariants.{TooLong, NotJson, BadField, BadRowWidth, BadRowKind, NumberRange, PastClose, Conflict, TooFar, CloseDiffers, CloseBelow, UnknownPartition}
-use Rattle.rp_fields.specs.Digits.{short_digits_of}
-use Rattle.rp_fields.specs.Forms.{named}
+use Rattle.rp_json.specs.Digits.{short_digits_of}
+use Rattle.rp_json.specs.Forms.{named}
 
 -- all that name no column
 abbrev pub plain_refusals : List Refusal

@@ -4,18 +4,18 @@ use Rattle.serde_json.specs.Data.{Data, boolean, string, object, no_members, mem
 use Rattle.serde_json.specs.Find.{get, as_bool, as_str}
 use Rattle.rp_feed.specs.declared.answer.Taken.{Taken}
 use Rattle.rp_feed.specs.declared.answer.Taken.TheVariants.{New, Repeat, Old}
-use Rattle.rp_known.specs.declared.item.Item.{Item}
-use Rattle.rp_known.specs.declared.item.Item.TheVariants as item
-use Rattle.rp_known.specs.declared.item.SkipFault.{SkipFault}
-use Rattle.rp_known.specs.declared.item.SkipFault.TheVariants.{SkipNoRow, SkipSame}
+use Rattle.rp_query.specs.declared.item.Item.{Item}
+use Rattle.rp_query.specs.declared.item.Item.TheVariants as item
+use Rattle.rp_query.specs.declared.item.SkipFault.{SkipFault}
+use Rattle.rp_query.specs.declared.item.SkipFault.TheVariants.{SkipNoRow, SkipSame}
 use Rattle.rp_codec.specs.ReplyLines.{name_of_fault, name_of_taken}
 use Rattle.rp_codec.specs.Refusals.{refusal_text}
 use Rattle.rp_codec.specs.declared.refusal.Field.TheVariants as f
 use Rattle.rp_codec.specs.declared.refusal.Refusal.TheVariants.{BadRowKind}
 use Rattle.rp_codec.specs.declared.reply.Reply.{Reply}
 use Rattle.rp_codec.specs.declared.reply.Reply.TheVariants as reply
-use Rattle.rp_fields.specs.Forms.{cells_data, cells_of, named, optional_data, optional_of, place_data, place_of}
-use Rattle.rp_fields.specs.Objects.{field, object_of, only}
+use Rattle.rp_json.specs.Forms.{cells_data, cells_of, named, optional_data, optional_of, place_data, place_of}
+use Rattle.rp_json.specs.Objects.{field, object_of, only}
 use Rattle.rp_wire.specs.RefusalTexts.{refusal_of}
 use Rattle.rp_wire.specs.declared.fault.LineFault.{LineFault}
 use Rattle.rp_wire.specs.declared.fault.LineFault.TheVariants.{TooLong, NotJson, BadField}

@@ -2,12 +2,12 @@
 use Rattle.std.specs.Prelude.{ℕ, List, length, Option, Some, None, is_some, Result, Ok, Err, if◌then◌else◌, nat_lt, codes, ◌++◌, decimal}
 use Rattle.serde_json.specs.Data.{Data, object, no_members, member}
 use Rattle.serde_json.specs.Find.{get}
-use Rattle.rp_codec.specs.declared.packet.Packet.TheVariants as packet
+use Rattle.rp_feed.specs.declared.packet.Packet.TheVariants as packet
 use Rattle.rp_codec.specs.ReplyLines.{values_text}
 use Rattle.rp_codec.specs.declared.refusal.Field.{Field}
 use Rattle.rp_codec.specs.declared.refusal.Field.TheVariants as f
-use Rattle.rp_fields.specs.Forms.{cells_data, cells_of, short_of, whole_data, whole_of}
-use Rattle.rp_fields.specs.Objects.{field, has_fields, object_of}
+use Rattle.rp_json.specs.Forms.{cells_data, cells_of, short_of, whole_data, whole_of}
+use Rattle.rp_json.specs.Objects.{field, has_fields, object_of}
 use Rattle.rp_wire.specs.declared.request.Request.{Request}
 use Rattle.rp_wire.specs.declared.request.Request.TheVariants as request
 use Rattle.rp_wire.specs.declared.fault.LineFault.{LineFault}

@@ -1,11 +1,11 @@
 //! The refusals of texts.
 ghost use Rattle.std.specs.Prelude.{◌≡◌};
 ghost use Rattle.rp_codec.specs.Refusals.{refusal_word};
-ghost use Rattle.rp_fields.specs.Forms.{named};
+ghost use Rattle.rp_json.specs.Forms.{named};
 ghost use Rattle.rp_wire.specs.RefusalTexts.{column_of, plain_refusals, refusal_of};
 
 use rp_codec::{Field, Refusal};
-use rp_fields::short_digits_of;
+use rp_json::short_digits_of;
 
 /// The refusal of a text.
 pub(crate) fn refusal_of(text: &str) -> Option<Refusal>

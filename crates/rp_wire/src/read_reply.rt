@@ -1,14 +1,14 @@
 //! From a line to a reply.
 ghost use Rattle.std.specs.Prelude.{◌≡◌, ◌⊎◌, Ok, Err, Some, IfOk, IfErr, codes};
 ghost use Rattle.serde_json.specs.View.{view};
-ghost use Rattle.rp_fields.specs.Forms.{place_of};
-ghost use Rattle.rp_fields.specs.Objects.{field, only};
+ghost use Rattle.rp_json.specs.Forms.{place_of};
+ghost use Rattle.rp_json.specs.Objects.{field, only};
 ghost use Rattle.rp_wire.specs.Replies.{answered, fault_of, item_in, placed_in, refused_of, reply_in, row_item_in, taken_of, true_of};
 
 use crate::read_refusal::refusal_of;
 use crate::{LineFault, MAX_LINE_LEN};
 use rp_codec::{Field, Item, Reply, SkipFault, Taken};
-use rp_fields::{cells, has, has_fields, object_of, optional, place_of};
+use rp_json::{cells, has, has_fields, object_of, optional, place_of};
 use serde_json::Value as Json;
 use std::alloc::{AllocError, Global};
 

@@ -5,7 +5,7 @@ ghost use Rattle.rp_wire.specs.Requests.{asked, request_data, request_in, reques
 
 use crate::Request;
 use rp_codec::Packet;
-use rp_fields::json_of_cells;
+use rp_json::json_of_cells;
 use serde_json::{Map, Value as Json};
 use std::alloc::{AllocError, Global};
 

@@ -1,12 +1,12 @@
 //! A matcher and its last row.
 ghost use Rattle.std.specs.Prelude.{◌≡◌, ◌^◌, ◌<◌, ◌≤◌, false, IsTrue};
-ghost use Rattle.rp_pattern.specs.declared.word.End.TheVariants.{Open};
-ghost use Rattle.rp_check.specs.QueryView.{data_of};
+ghost use Rattle.rp_words.specs.declared.word.End.TheVariants.{Open};
+ghost use Rattle.rp_query.specs.QueryView.{data_of};
 ghost use Rattle.rp_known.specs.Known.{count};
 ghost use Rattle.rp_walker.specs.Walking.{CanGoOn};
 
 use crate::Matcher;
-use rp_check::Query;
+use rp_query::Query;
 use rp_search::Steps;
 use rp_value::Row;
 use rp_walker::{MatcherState, Poll};

@@ -2,8 +2,8 @@
 ghost use Rattle.std.specs.Prelude.{◌-◌, ◌^◌, ◌<◌, length};
 
 use rp_eval::Rows;
-use rp_pattern::End;
 use rp_value::Row;
+use rp_words::End;
 use std::alloc::Global;
 use std::test::Fail;
 

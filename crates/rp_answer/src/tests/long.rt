@@ -3,7 +3,8 @@
 ghost use Rattle.std.specs.Prelude.{◌≡◌, ◌<◌};
 
 use super::driven::Driven;
-use rp_check::{Query, compile};
+use rp_check::compile;
+use rp_query::Query;
 use rp_search::Steps;
 use rp_syntax::read_table;
 use rp_value::{Row, Table, Value};

@@ -6,11 +6,11 @@ ghost use Rattle.rp_eval.specs.Entered.{AreTotals};
 
 use super::listed::Listed;
 use super::text::row_text;
-use rp_check::{Query, SkipTo, Variables};
 use rp_eval::{Cell, Rows, Totals, View, condition, measure};
-use rp_pattern::{End, Label, Mark, Seen, Word, list_words};
-use rp_syntax::RowsPerMatch;
+use rp_pattern::list_words;
+use rp_query::{Query, RowsPerMatch, SkipTo, Variables};
 use rp_value::Value;
+use rp_words::{End, Label, Mark, Seen, Word};
 use std::alloc::Global;
 use std::test::Fail;
 

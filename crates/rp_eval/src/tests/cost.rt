@@ -1,9 +1,9 @@
 //! How many rows are asked for.
 use super::support::{Listed, Of, entered, label, numbered, plan};
 use crate::{Rows, View, condition, measure};
-use rp_check::{Condition, Edge, Expr, Function, Navigation, RowsOf, Step};
-use rp_pattern::{End, Label, Seen};
+use rp_query::{Condition, Edge, Expr, Function, Navigation, RowsOf, Step};
 use rp_value::{Comparison, Value};
+use rp_words::{End, Label, Seen};
 use std::alloc::Global;
 use std::test::Fail;
 

@@ -1,9 +1,9 @@
 //! Conditions at the second of two rows, and sums, by the rules.
 use super::support::{Listed, Of, entered, label, numbered, plan, shown, text};
 use crate::{Rows, View, condition};
-use rp_check::{Condition, Edge, Expr, Function, Navigation, Operation, RowsOf, Step};
-use rp_pattern::{End, Seen};
+use rp_query::{Condition, Edge, Expr, Function, Navigation, Operation, RowsOf, Step};
 use rp_value::{Comparison, Value};
+use rp_words::{End, Seen};
 use std::alloc::{AllocError, Global};
 use std::process::Abort;
 use std::rc::Rc;

@@ -1,9 +1,9 @@
 //! Long matches. What a row costs doesn't go up with their length, which `.ci/cost` shows.
 use super::support::{Listed, Of, entered, label, numbered, plan};
 use crate::{Cell, Rows, View, condition, measure};
-use rp_check::{Condition, Edge, Expr, Function, Navigation, RowsOf, Step};
-use rp_pattern::{End, Label, Seen};
+use rp_query::{Condition, Edge, Expr, Function, Navigation, RowsOf, Step};
 use rp_value::{Comparison, Value};
+use rp_words::{End, Label, Seen};
 use std::alloc::Global;
 use std::process::Abort;
 use std::test::Fail;

@@ -5,9 +5,10 @@ ghost use Rattle.rp_eval.specs.Partition.{Rows as Known};
 
 use super::support::{Listed, Of, label, numbered, plan, rows_of_cells, shown};
 use crate::{Rows, Totals, View};
-use rp_check::{Edge, Expr, Function, Navigation, Query, RowsOf, Step, Total, compile};
-use rp_pattern::{End, Label};
+use rp_check::compile;
+use rp_query::{Edge, Expr, Function, Navigation, Query, RowsOf, Step, Total};
 use rp_value::{Kind, Table};
+use rp_words::{End, Label};
 use std::alloc::{AllocError, Global};
 use std::rc::Rc;
 use std::test::Fail;

@@ -3,9 +3,9 @@ ghost use Rattle.std.specs.Prelude.{◌≡◌, ◌+◌, ◌-◌, ◌^◌, ◌<�
 ghost use Rattle.rp_eval.specs.Entered.{AreTotals};
 
 use crate::{Cell, Rows, Totals, View, measure};
-use rp_check::{Expr, Function, Total, Variables};
-use rp_pattern::{End, Label};
+use rp_query::{Expr, Function, Total, Variables};
 use rp_value::{Kind, Row, Table, Text, Value};
+use rp_words::{End, Label};
 use std::alloc::{AllocError, Global};
 use std::rc::Rc;
 use std::test::Fail;

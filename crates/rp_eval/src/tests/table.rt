@@ -2,8 +2,8 @@
 //! values wanted were worked out by a plain program that goes over all labels again for each row.
 use super::support::{Listed, Of, entered, label, plan, rows_of_cells, shown};
 use crate::{Rows, Totals, View};
-use rp_check::{Edge, Expr, Function, Navigation, RowsOf, Step, Total};
-use rp_pattern::{End, Label};
+use rp_query::{Edge, Expr, Function, Navigation, RowsOf, Step, Total};
+use rp_words::{End, Label};
 use std::alloc::Global;
 use std::rc::Rc;
 use std::test::Fail;

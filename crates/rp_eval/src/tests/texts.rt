@@ -1,9 +1,10 @@
 //! Measures from the text of a clause to their values, which were worked out by hand from the rules of the clause.
 use super::support::{entered, label, rows_of_cells, shown};
 use crate::{Rows, View};
-use rp_check::{Query, compile};
-use rp_pattern::End;
+use rp_check::compile;
+use rp_query::Query;
 use rp_value::{Kind, Table};
+use rp_words::End;
 use std::alloc::Global;
 use std::test::Fail;
 

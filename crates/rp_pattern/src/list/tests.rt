@@ -1,7 +1,6 @@
 //! Tests of word lists.
 use super::*;
-use crate::form::Form;
-use crate::word::Label;
+use rp_words::{Form, Label};
 use std::process::Abort;
 use std::test::Fail;
 

@@ -1,15 +1,14 @@
 //! What is left of a pattern from a choice on.
 ghost use Rattle.std.specs.Prelude.{◌≡◌, ℕ, ◌∷◌, IfOk, IfSome, IsTrue, Some};
-ghost use Rattle.rp_pattern.specs.declared.word.End.{End};
-ghost use Rattle.rp_pattern.specs.Bounds.{is_allowed};
+ghost use Rattle.rp_words.specs.declared.word.End.{End};
+ghost use Rattle.rp_words.specs.Bounds.{is_allowed};
 ghost use Rattle.rp_pattern.specs.Continuations.{continuation_parts, later_parts, form_part, tail_parts, BeginsWithRow};
 ghost use Rattle.rp_pattern.specs.Splits.{Replaces, StandsFor, TakenUp};
 
-use crate::form::Form;
 use crate::machine::link::{Link, Tail, reach, reach_shared, share, take_reached};
 use crate::machine::node::Node;
 use crate::machine::split::{Expansion, Split, take_row};
-use crate::word::{End, Label};
+use rp_words::{End, Form, Label};
 use std::alloc::{AllocError, Global};
 use std::rc::Rc;
 

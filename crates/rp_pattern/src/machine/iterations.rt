@@ -1,12 +1,12 @@
 //! Iterations of a quantified part, and what they give way to.
 ghost use Rattle.std.specs.Prelude.{◌≡◌};
-ghost use Rattle.rp_pattern.specs.Movement.{always_moves};
+ghost use Rattle.rp_words.specs.Movement.{always_moves};
 
-use crate::form::Form;
 use crate::machine::continuation::{Continuation, before};
 use crate::machine::link::{Part, Tail, linked, reach_shared, share};
 use crate::machine::node::Node;
 use crate::machine::split::Split;
+use rp_words::Form;
 use std::alloc::{AllocError, Global};
 use std::rc::Rc;
 
@@ -25,9 +25,9 @@ pub(crate) struct Iterations {
 
 impl Iterations {
     ghost use Rattle.std.specs.Prelude.{◌≡◌, ℕ, ◌∷◌, ◌+◌, IfOk, OnOk, List, Option, Some, None};
-    ghost use Rattle.rp_pattern.specs.declared.word.End.{End};
-    ghost use Rattle.rp_pattern.specs.Words.{further};
-    ghost use Rattle.rp_pattern.specs.Turns.{WordsAndTurns};
+    ghost use Rattle.rp_words.specs.declared.word.End.{End};
+    ghost use Rattle.rp_words.specs.Words.{further};
+    ghost use Rattle.rp_words.specs.Turns.{WordsAndTurns};
     ghost use Rattle.rp_pattern.specs.Continuations.{AreIterationsOf, IsNodeOf, IsOneLess, iterations_part, tail_parts, still};
     ghost use Rattle.rp_pattern.specs.Splits.{AlwaysSplits, SplitsAt, StandsFor, ComesAgain};
 

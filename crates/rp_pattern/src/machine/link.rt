@@ -1,6 +1,6 @@
 //! Later parts, linked.
 ghost use Rattle.std.specs.Prelude.{◌≡◌, ℕ, ◌∷◌, IfOk, OnOk, IsTrue};
-ghost use Rattle.rp_pattern.specs.declared.word.End.{End};
+ghost use Rattle.rp_words.specs.declared.word.End.{End};
 ghost use Rattle.rp_pattern.specs.Continuations.{links_from, reached_parts, tail_links, tail_parts, IsTimes, ComesUnchanged};
 ghost use Rattle.rp_pattern.specs.Splits.{AlwaysSplits, StandsFor, TakenUp};
 
@@ -9,7 +9,7 @@ use crate::machine::iterations::Iterations;
 use crate::machine::node::Node;
 use crate::machine::orders::Orders;
 use crate::machine::split::{Expansion, Split};
-use crate::word::End;
+use rp_words::End;
 use std::alloc::{AllocError, Global};
 use std::rc::Rc;
 

@@ -1,14 +1,13 @@
 //! A part of a pattern, and what it gives way to: an arm for each form.
 ghost use Rattle.std.specs.Prelude.{◌≡◌, IsTrue};
-ghost use Rattle.rp_pattern.specs.Bounds.{is_allowed};
+ghost use Rattle.rp_words.specs.Bounds.{is_allowed};
 
-use crate::form::{Form, MAX_PARTS};
 use crate::machine::continuation::{Continuation, before};
 use crate::machine::iterations::Iterations;
 use crate::machine::link::{Part, Tail, linked, reach_shared, share};
 use crate::machine::orders::Orders;
 use crate::machine::split::{Expansion, Split, take_row};
-use crate::word::End;
+use rp_words::{End, Form, MAX_PARTS};
 use std::alloc::{AllocError, Global};
 use std::rc::Rc;
 
@@ -27,11 +26,11 @@ impl Node {
     ghost use Rattle.std.specs.declared.vec.Vec.{Vec};
     ghost use Rattle.std.specs.declared.rc.Rc.{Rc};
     ghost use Rattle.std.specs.declared.alloc.Global.{Global};
-    ghost use Rattle.rp_pattern.specs.declared.word.End.{End};
-    ghost use Rattle.rp_pattern.specs.declared.form.Form.{Form};
-    ghost use Rattle.rp_pattern.specs.Bounds.{is_allowed};
+    ghost use Rattle.rp_words.specs.declared.word.End.{End};
+    ghost use Rattle.rp_words.specs.declared.form.Form.{Form};
+    ghost use Rattle.rp_words.specs.Bounds.{is_allowed};
     ghost use Rattle.rp_pattern.specs.PermutedParts.{permuted_parts};
-    ghost use Rattle.rp_pattern.specs.Variables.{all_true};
+    ghost use Rattle.rp_words.specs.Variables.{all_true};
     ghost use Rattle.rp_pattern.specs.Continuations.{IsNodeOf, IsSamePart, tail_parts, node_part, iterations_part, permuted_form_parts, in_order};
     ghost use Rattle.rp_pattern.specs.Splits.{TakenUp, AlwaysSplits};
 

@@ -1,13 +1,13 @@
 //! The orders of a PERMUTE, and what they give way to.
 ghost use Rattle.std.specs.Prelude.{◌<◌, length};
-ghost use Rattle.rp_pattern.specs.Permutations.{factorial};
+ghost use Rattle.rp_words.specs.Permutations.{factorial};
 ghost use Rattle.rp_pattern.specs.PermutedParts.{permuted_parts};
 
-use crate::lexicographic::{factorial, permutation_at};
 use crate::machine::continuation::Continuation;
 use crate::machine::link::{Part, Tail, link_of, reach_shared, share};
 use crate::machine::node::Node;
 use crate::machine::split::Split;
+use rp_words::{factorial, permutation_at};
 use std::alloc::{AllocError, Global};
 
 /// The orders of a PERMUTE from this number on. The first order has the number 0.
@@ -21,10 +21,10 @@ pub(crate) struct Orders {
 impl Orders {
     ghost use Rattle.std.specs.Prelude.{◌≡◌, ℕ, ◌∷◌, ◌+◌, ◌<◌, IfOk, OnOk, length, drop};
     ghost use Rattle.std.specs.List.{AllByRecursion};
-    ghost use Rattle.rp_pattern.specs.declared.word.End.{End};
-    ghost use Rattle.rp_pattern.specs.Words.{orders};
-    ghost use Rattle.rp_pattern.specs.Turns.{orders_from};
-    ghost use Rattle.rp_pattern.specs.Permutations.{upto};
+    ghost use Rattle.rp_words.specs.declared.word.End.{End};
+    ghost use Rattle.rp_words.specs.Words.{orders};
+    ghost use Rattle.rp_words.specs.Turns.{orders_from};
+    ghost use Rattle.rp_words.specs.Permutations.{upto};
     ghost use Rattle.rp_pattern.specs.PermutedParts.{permuted_parts};
     ghost use Rattle.rp_pattern.specs.Continuations.{permuted_form_parts, tail_parts};
     ghost use Rattle.rp_pattern.specs.Splits.{AlwaysSplits, StandsFor};

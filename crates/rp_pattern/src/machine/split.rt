@@ -1,13 +1,12 @@
 //! What a choice comes to when it is taken up.
 ghost use Rattle.std.specs.Prelude.{◌≡◌, ℕ, ◌∷◌, List};
-ghost use Rattle.rp_pattern.specs.declared.word.End.{End};
+ghost use Rattle.rp_words.specs.declared.word.End.{End};
 ghost use Rattle.rp_pattern.specs.Continuations.{form_part};
-ghost use Rattle.rp_pattern.specs.Turns.{WordsAndTurns};
+ghost use Rattle.rp_words.specs.Turns.{WordsAndTurns};
 ghost use Rattle.rp_pattern.specs.Splits.{TakenUp};
 
-use crate::form::Form;
 use crate::machine::continuation::Continuation;
-use crate::word::{End, Label};
+use rp_words::{End, Form, Label};
 
 /// The choices that a choice stands for.
 #[derive(Drop)]

@@ -5,7 +5,7 @@ ghost use Rattle.rp_search.specs.GridDecides.{grid_decides};
 ghost use Rattle.rp_search.specs.Asked.{AskedExtend};
 
 use crate::conditions::Tests;
-use rp_pattern::{End, Label, Seen};
+use rp_words::{End, Label, Seen};
 use std::alloc::{AllocError, Global};
 use std::cell::Cell;
 

@@ -3,7 +3,7 @@
 
 use super::grid::Grid;
 use super::script::{MANY, a, any, b, play};
-use rp_pattern::{End, Form, Seen};
+use rp_words::{End, Form, Seen};
 use std::test::Fail;
 
 /// One run, or one after another with a budget of few turns each.

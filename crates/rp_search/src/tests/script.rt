@@ -1,7 +1,7 @@
 //! Searches over stages, for the tests.
 ghost use Rattle.std.specs.Prelude.{◌≡◌, ◌<◌, true, [], IfOk, OnOk};
-ghost use Rattle.rp_pattern.specs.PatternForm.{form_of};
-ghost use Rattle.rp_pattern.specs.Variables.{are_below};
+ghost use Rattle.rp_words.specs.PatternForm.{form_of};
+ghost use Rattle.rp_words.specs.Variables.{are_below};
 ghost use Rattle.rp_search.specs.Search.{CanRun, HasVariablesBelow, IsAtStart, IsSameSearch, RunAnswers, start_of_search};
 
 use super::grid::{Grid, write_letters};
@@ -9,7 +9,7 @@ use crate::conditions::Tests;
 use crate::laws::law_search;
 use crate::search::{Outcome, Search};
 use crate::steps::Steps;
-use rp_pattern::{End, Form, Label, Pattern};
+use rp_words::{End, Form, Label, Pattern};
 use std::alloc::{AllocError, Global};
 use std::marker::Brand;
 use std::sync::ledger::{Blank, Ledger};

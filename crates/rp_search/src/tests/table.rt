@@ -1,14 +1,15 @@
 //! A table of patterns: what a search finds beside the words that are listed.
 ghost use Rattle.std.specs.Prelude.{◌≡◌, ◌<◌, true};
-ghost use Rattle.rp_pattern.specs.PatternForm.{form_of};
-ghost use Rattle.rp_pattern.specs.Variables.{are_below};
+ghost use Rattle.rp_words.specs.PatternForm.{form_of};
+ghost use Rattle.rp_words.specs.Variables.{are_below};
 
 use super::grid::Grid;
 use super::script::{MANY, a, any, b, created, decide};
 use crate::search::Outcome;
 use crate::steps::Steps;
-use rp_pattern::Seen::{NotTrue, Open, True};
-use rp_pattern::{End, Form, Label, ListFault, Mark, Pattern, Seen, Word, list_words};
+use rp_pattern::{ListFault, list_words};
+use rp_words::Seen::{NotTrue, Open, True};
+use rp_words::{End, Form, Label, Mark, Pattern, Seen, Word};
 use std::alloc::{AllocError, Global};
 use std::marker::Brand;
 use std::sync::ledger::{Blank, Ledger};

@@ -4,7 +4,7 @@
 
 use super::grid::Grid;
 use super::script::{MANY, a, any, b, play};
-use rp_pattern::{End, Form, Seen};
+use rp_words::{End, Form, Seen};
 use std::alloc::{AllocError, Global};
 use std::test::Fail;
 

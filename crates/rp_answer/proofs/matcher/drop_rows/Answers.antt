@@ -1,5 +1,5 @@
 use Rattle.std.proofs.Common.{◌≡◌, ◌≤◌, false, sym, ap, ◌∙◌, subst}
-use Rattle.rp_check.specs.QueryView.{data_of}
+use Rattle.rp_query.specs.QueryView.{data_of}
 use Rattle.rp_known.specs.Plans.{first_read}
 use Rattle.rp_walker.specs.declared.record.MatcherState.{MatcherState}
 use Rattle.rp_walker.specs.Walking.{record_of}

@@ -1,8 +1,8 @@
 use Rattle.std.proofs.Common.{◌≡◌, drop}
 use Rattle.serde_json.specs.View.{items_view}
 use Rattle.rp_checkpoint.specs.Checkpoints.{partition_of}
-use Rattle.rp_fields.specs.Forms.{list_in}
-use Rattle.rp_fields.proofs.Steps.{joined}
+use Rattle.rp_json.specs.Forms.{list_in}
+use Rattle.rp_json.proofs.Steps.{joined}
 use Rattle.rp_checkpoint.proofs.restore.partitions_in.Given as goal
 
 abbrev pub invariant-loop-json : goal.invariant-loop-json

@@ -3,7 +3,7 @@ use Rattle.std.specs.Result.{is_ok}
 use Rattle.std.specs.Prelude.{true}
 use Rattle.std.proofs.lemmas.List.{take_more}
 use Rattle.rp_checkpoint.specs.Checkpoints.{row_data, row_of}
-use Rattle.rp_fields.proofs.Steps.{append-items, read-after, viewed-more, written-more}
+use Rattle.rp_json.proofs.Steps.{append-items, read-after, viewed-more, written-more}
 use Rattle.rp_checkpoint.proofs.write_checkpoint.rows_list.Goals as goal
 
 pub loop-row-preserved : goal.loop-row-preserved

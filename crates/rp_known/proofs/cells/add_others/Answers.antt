@@ -1,6 +1,6 @@
 use Rattle.std.proofs.Common.{◌≡◌, ◌<◌, List, length, sym, ap, ◌∙◌, arith}
 use Rattle.rp_value.specs.declared.table.Column.{Column}
-use Rattle.rp_check.specs.QueryView.{data_of}
+use Rattle.rp_query.specs.QueryView.{data_of}
 use Rattle.rp_known.specs.Plans.{is_key}
 use Rattle.rp_known.proofs.Columns.{passed_over, taken_up}
 use Rattle.rp_known.proofs.cells.add_others.Goals as goal

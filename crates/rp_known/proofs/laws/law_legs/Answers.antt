@@ -1,7 +1,7 @@
 use Rattle.std.proofs.Common.{refl}
 use Rattle.rp_known.specs.Plans.{tested_by}
 use Rattle.rp_known.specs.Walk.{found_at}
-use Rattle.rp_tester.specs.Tested.{outcome_of}
+use Rattle.rp_conditions.specs.Tested.{outcome_of}
 use Rattle.rp_known.proofs.InRows.{walk_in}
 use Rattle.rp_known.proofs.Legs.{leg_on, found_on, match_known}
 use Rattle.rp_known.proofs.Values.{continues_on}

@@ -1,6 +1,6 @@
 use Rattle.std.proofs.Common.{◌≡◌, ℕ, suc, ◌+◌, ◌<◌, Bool, true, false, cond, List, [], ◌∷◌, ◌++◌, length, take, get_or, Option, Some, None, IfSome, refl, sym, ap, ◌∙◌, subst, arith}
 use Rattle.std.proofs.lemmas.List.{take_more, length-take}
-use Rattle.rp_pattern.specs.declared.word.Label.{Label}
+use Rattle.rp_words.specs.declared.word.Label.{Label}
 use Rattle.rp_known.specs.Skips.{is_of, last_place, or_here}
 use Rattle.rp_known.proofs.skips.last_place.Goals as goal
 use Rattle.rp_known.proofs.skips.last_place.Goals.{then-includes, else-includes}

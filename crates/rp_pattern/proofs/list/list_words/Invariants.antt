@@ -1,6 +1,6 @@
 use Rattle.std.proofs.Common.{◌≡◌, ◌≤◌, ◌++◌, length}
-use Rattle.rp_pattern.specs.PatternForm.{form_of}
-use Rattle.rp_pattern.specs.Words.{words}
+use Rattle.rp_words.specs.PatternForm.{form_of}
+use Rattle.rp_words.specs.Words.{words}
 use Rattle.rp_pattern.specs.Choices.{remaining, turns_left}
 use Rattle.rp_pattern.proofs.list.list_words.Given as goal
 

@@ -1,5 +1,5 @@
 use Rattle.std.proofs.Common.{◌≡◌, sym, subst}
-use Rattle.rp_pattern.specs.declared.word.Seen.TheVariants.{True, NotTrue}
+use Rattle.rp_words.specs.declared.word.Seen.TheVariants.{True, NotTrue}
 use Rattle.rp_pattern.specs.Choices.{start_of, entered}
 use Rattle.rp_search.specs.Asked.{Asked, AreBelow}
 use Rattle.rp_search.proofs.ChoiceSteps.{goes_admitted, goes_refused}

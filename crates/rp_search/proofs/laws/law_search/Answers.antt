@@ -1,9 +1,9 @@
 use Rattle.std.proofs.Common.{◌+◌, ◌≤◌, ℕ, Option, Some, None, arith, subst, sym}
 use Rattle.std.specs.List.{AllByRecursion}
-use Rattle.rp_pattern.specs.LabelLaws.{IsBelow}
-use Rattle.rp_pattern.specs.declared.word.End.{End}
-use Rattle.rp_pattern.specs.declared.word.Seen.{Seen}
-use Rattle.rp_pattern.specs.declared.word.Seen.TheVariants.{True, NotTrue, Open as OpenTest}
+use Rattle.rp_words.specs.LabelLaws.{IsBelow}
+use Rattle.rp_words.specs.declared.word.End.{End}
+use Rattle.rp_words.specs.declared.word.Seen.{Seen}
+use Rattle.rp_words.specs.declared.word.Seen.TheVariants.{True, NotTrue, Open as OpenTest}
 use Rattle.rp_pattern.specs.declared.choices.Choices.{Choices}
 use Rattle.rp_pattern.specs.Choices.{start_of, entered, turns_left, whole_turns, whole_turns_from, turns_left_below}
 use Rattle.rp_pattern.specs.declared.outlook.Outlook.{Outlook}

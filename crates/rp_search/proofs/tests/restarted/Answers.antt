@@ -1,6 +1,6 @@
 use Rattle.std.proofs.Common.{◌≡◌, ◌∙◌, ap, arith, refl, rules, subst, sym}
 use Rattle.std.specs.List.{AllByRecursion}
-use Rattle.rp_pattern.specs.LabelLaws.{IsBelow}
+use Rattle.rp_words.specs.LabelLaws.{IsBelow}
 use Rattle.rp_search.specs.Asked.{Asked}
 use Rattle.rp_search.proofs.tests.restarted.Goals as goal
 

@@ -1,5 +1,5 @@
 use Rattle.std.proofs.Common.{◌≡◌, ℕ}
-use Rattle.rp_pattern.specs.declared.word.End.{End}
+use Rattle.rp_words.specs.declared.word.End.{End}
 use Rattle.rp_search.specs.Fits.{SearchFits, left_by}
 use Rattle.rp_search.specs.Search.{HasVariablesBelow, labels_of_search, start_of_search, words_from}
 use Rattle.rp_trace.proofs.matching.find.Given as goal

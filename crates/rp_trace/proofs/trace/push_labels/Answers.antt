@@ -1,6 +1,6 @@
 use Rattle.std.proofs.Common.{◌≡◌, ℕ, ◌+◌, ◌<◌, List, [], ◌∷◌, ◌++◌, length, get_or, map, take, append_assoc, arith}
 use Rattle.std.proofs.lemmas.List.{map_more}
-use Rattle.rp_pattern.specs.declared.word.Label.{Label}
+use Rattle.rp_words.specs.declared.word.Label.{Label}
 use Rattle.rp_trace.proofs.trace.push_labels.Goals as goal
 
 -- one more letter, for the label at k

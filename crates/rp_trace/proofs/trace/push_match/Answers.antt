@@ -1,14 +1,14 @@
 use Rattle.std.proofs.Common.{◌∙◌, ap, arith, rules, length, subst, sym}
 use Rattle.std.specs.List.{AllByRecursion}
-use Rattle.rp_pattern.specs.LabelLaws.{IsBelow}
-use Rattle.rp_pattern.specs.PatternForm.{form_of}
-use Rattle.rp_pattern.specs.Words.{words}
-use Rattle.rp_pattern.specs.declared.word.End.TheVariants.{Closed}
+use Rattle.rp_words.specs.LabelLaws.{IsBelow}
+use Rattle.rp_words.specs.PatternForm.{form_of}
+use Rattle.rp_words.specs.Words.{words}
+use Rattle.rp_words.specs.declared.word.End.TheVariants.{Closed}
 use Rattle.rp_search.specs.Found.{Match, NoMatch}
 use Rattle.rp_search.specs.Search.{labels_of_search, start_of_search, words_from}
 use Rattle.rp_trace.specs.LetterTest.{letter_test}
 use Rattle.rp_trace.proofs.LineReplies.{match-below, search-text}
-use Rattle.rp_lines.proofs.Cutting.{when_true, when_false}
+use Rattle.rp_io.proofs.Cutting.{when_true, when_false}
 use Rattle.rp_trace.proofs.trace.push_match.Goals as goal
 
 pub returns-then-not-branch : goal.returns-then-not-branch

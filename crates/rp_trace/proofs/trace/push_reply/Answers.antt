@@ -1,5 +1,5 @@
 use Rattle.std.proofs.Common.{[], ◌∷◌, ◌++◌, ◌∙◌, ap, append_assoc}
-use Rattle.rp_pattern.specs.PatternForm.{form_of}
+use Rattle.rp_words.specs.PatternForm.{form_of}
 use Rattle.rp_trace.specs.Replies.{reply_text}
 use Rattle.rp_trace.proofs.trace.push_reply.Goals as goal
 

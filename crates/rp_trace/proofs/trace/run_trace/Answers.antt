@@ -1,12 +1,12 @@
 use Rattle.std.proofs.Common.{rules, ◌≡◌, ◌++◌, refl, ap, ◌∙◌}
-use Rattle.rp_pattern.specs.PatternForm.{form_of}
-use Rattle.rp_lines.specs.Pending.{coming}
+use Rattle.rp_words.specs.PatternForm.{form_of}
+use Rattle.rp_io.specs.Pending.{coming}
 use Rattle.rp_trace.specs.Replies.{last_reply, reply_to}
-use Rattle.rp_lines.proofs.Calls.{UsesCalls-all, UsesCalls-at_most, UsesCalls-none, UsesCalls-trans}
-use Rattle.rp_lines.proofs.Cutting.{on_err_from}
+use Rattle.rp_io.proofs.Calls.{UsesCalls-all, UsesCalls-at_most, UsesCalls-none, UsesCalls-trans}
+use Rattle.rp_io.proofs.Cutting.{on_err_from}
 use Rattle.rp_trace.proofs.RepliesSoFar.{AppendsFront-none, Replied-start, Replied-more, Replied-moved, Replied-last, Replied-end, Replied-fault}
-use Rattle.rp_lines.proofs.Giving.{AsManyBytesAsReads-start, AsManyBytesAsReads-trans}
-use Rattle.rp_lines.proofs.Told.{told_more}
+use Rattle.rp_io.proofs.Giving.{AsManyBytesAsReads-start, AsManyBytesAsReads-trans}
+use Rattle.rp_io.proofs.Told.{told_more}
 use Rattle.rp_trace.proofs.trace.run_trace.Goals as goal
 
 pub loop-text-init : goal.loop-text-init

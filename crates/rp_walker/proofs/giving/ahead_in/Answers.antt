@@ -1,6 +1,6 @@
 use Rattle.std.proofs.Common.{◌≡◌, ◌+◌, length, ap, ◌∙◌, arith}
-use Rattle.rp_check.specs.QueryView.{data_of}
-use Rattle.rp_check.specs.declared.query.Plan.{Plan}
+use Rattle.rp_query.specs.QueryView.{data_of}
+use Rattle.rp_query.specs.declared.query.Plan.{Plan}
 use Rattle.rp_walker.proofs.Begins.{all_ahead}
 use Rattle.rp_walker.proofs.giving.ahead_in.Goals as goal
 

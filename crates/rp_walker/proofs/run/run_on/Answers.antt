@@ -1,14 +1,15 @@
 use Rattle.std.specs.Box.{with_value}
 use Rattle.rp_walker.specs.declared.run.Run.{Run}
 use Rattle.std.proofs.Common.{◌≡◌, ◌-◌, ◌≤◌, sym, subst, ap, ◌∙◌, arith}
-use Rattle.rp_pattern.specs.PatternForm.{form_of}
+use Rattle.rp_words.specs.PatternForm.{form_of}
 use Rattle.rp_search.specs.Fits.{SearchFits}
 use Rattle.rp_search.specs.declared.search.Search.{Search}
 use Rattle.rp_search.specs.Search.{CanRun, HasVariablesBelow, labels_of_search, start_of_search}
-use Rattle.rp_check.specs.QueryView.{data_of}
-use Rattle.rp_eval.specs.Entered.{AreTotals, totals_in}
-use Rattle.rp_tester.specs.Tested.{Tested, asked_of}
-use Rattle.rp_tester.specs.Entered.{tested_by as tester_of, HasEntered}
+use Rattle.rp_query.specs.QueryView.{data_of}
+use Rattle.rp_eval.specs.Entered.{AreTotals}
+use Rattle.rp_query.specs.QueryView.{totals_in}
+use Rattle.rp_conditions.specs.Tested.{Tested, asked_of}
+use Rattle.rp_conditions.specs.Entered.{tested_by as tester_of, HasEntered}
 use Rattle.rp_known.specs.Known.{known_in}
 use Rattle.rp_known.specs.Plans.{tested_by}
 use Rattle.rp_walker.proofs.Running.{ran_of}

@@ -1,6 +1,6 @@
 use Rattle.std.proofs.Common.{subst}
-use Rattle.rp_check.specs.QueryView.{data_of}
-use Rattle.rp_lines.proofs.Cutting.{on_err_from}
+use Rattle.rp_query.specs.QueryView.{data_of}
+use Rattle.rp_io.proofs.Cutting.{on_err_from}
 use Rattle.rp_walker.specs.declared.poll.Poll.TheVariants.{Item as ItemPoll}
 use Rattle.rp_walker.specs.Polls.{AnswerIs}
 use Rattle.rp_walker.specs.Walking.{record_of}

@@ -1,6 +1,6 @@
 use Rattle.std.proofs.Common.{rules, ◌≡◌, ◌∙◌, refl, sym, ap, subst}
-use Rattle.rp_check.specs.QueryView.{data_of}
-use Rattle.rp_lines.proofs.Cutting.{on_err_from}
+use Rattle.rp_query.specs.QueryView.{data_of}
+use Rattle.rp_io.proofs.Cutting.{on_err_from}
 use Rattle.rp_walker.specs.Records.{Fits, first_state}
 use Rattle.rp_walker.specs.Walking.{record_of}
 use Rattle.rp_whole.specs.AnswerLines.{closed}

@@ -1,5 +1,5 @@
 use Rattle.std.proofs.Common.{◌≡◌}
-use Rattle.rp_check.specs.QueryView.{data_of}
+use Rattle.rp_query.specs.QueryView.{data_of}
 use Rattle.rp_walker.specs.Polls.{left_in}
 use Rattle.rp_walker.specs.Records.{Fits, first_state}
 use Rattle.rp_walker.specs.Walking.{Stands, record_of}

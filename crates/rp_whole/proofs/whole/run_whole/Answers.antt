@@ -1,8 +1,8 @@
 use Rattle.std.proofs.Common.{◌≡◌, IfSome, subst}
-use Rattle.rp_check.specs.QueryView.{data_of}
-use Rattle.rp_source.specs.CsvRows.{AreRowsOf}
-use Rattle.rp_source.specs.Gathering.{parts_of}
-use Rattle.rp_source.specs.Partitions.{partitions}
+use Rattle.rp_query.specs.QueryView.{data_of}
+use Rattle.rp_input.specs.CsvRows.{AreRowsOf}
+use Rattle.rp_input.specs.Gathering.{parts_of}
+use Rattle.rp_input.specs.Partitions.{partitions}
 use Rattle.rp_whole.proofs.Told.{front_of_lines, wrote_front, wrote_lines}
 use Rattle.rp_whole.proofs.whole.run_whole.Goals as goal
 

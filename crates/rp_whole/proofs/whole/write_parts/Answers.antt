@@ -2,10 +2,10 @@ use Rattle.std.proofs.Common.{◌≡◌, ◌∙◌, [], ◌∷◌, refl, sym, su
 use Rattle.std.proofs.lemmas.Grind.{common_steps}
 use Rattle.std.specs.Io.KnownBytes.{Appends}
 use Rattle.std.specs.Vec.Iter.{into_iter_items}
-use Rattle.rp_check.specs.QueryView.{data_of}
-use Rattle.rp_lines.proofs.Cutting.{on_err_from}
-use Rattle.rp_lines.specs.Devices.{AppendsFront}
-use Rattle.rp_source.specs.Gathering.{parts_of}
+use Rattle.rp_query.specs.QueryView.{data_of}
+use Rattle.rp_io.proofs.Cutting.{on_err_from}
+use Rattle.rp_io.specs.Devices.{AppendsFront}
+use Rattle.rp_input.specs.Gathering.{parts_of}
 use Rattle.rp_whole.proofs.Parts.{HasWritten, Kept, all_front, all_written, none_written, part_front, part_written, stopped_front}
 use Rattle.rp_whole.proofs.whole.write_parts.Goals as goal
 

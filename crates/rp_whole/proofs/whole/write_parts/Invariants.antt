@@ -1,7 +1,7 @@
 use Rattle.std.proofs.Common.{◌≡◌}
 use Rattle.std.specs.Vec.Iter.{into_iter_items}
-use Rattle.rp_check.specs.QueryView.{data_of}
-use Rattle.rp_source.specs.Gathering.{parts_of}
+use Rattle.rp_query.specs.QueryView.{data_of}
+use Rattle.rp_input.specs.Gathering.{parts_of}
 use Rattle.rp_whole.proofs.Parts.{HasWritten}
 use Rattle.rp_whole.proofs.whole.write_parts.Given as goal
 

@@ -1,6 +1,6 @@
 use Rattle.std.proofs.Common.{◌≡◌, drop}
 use Rattle.rp_codec.specs.Refusals.{refusal_word}
-use Rattle.rp_fields.specs.Forms.{named}
+use Rattle.rp_json.specs.Forms.{named}
 use Rattle.rp_wire.proofs.read_refusal.first_named.Given as goal
 
 abbrev pub invariant-loop-refusal : goal.invariant-loop-refusal

@@ -1,6 +1,6 @@
 use Rattle.std.specs.Prelude.{string_bytes}
 use Rattle.std.proofs.lemmas.Str.{IsUtf8-string_bytes}
-use Rattle.rp_fields.proofs.Reading.{ok-both}
+use Rattle.rp_json.proofs.Reading.{ok-both}
 use Rattle.rp_wire.proofs.Back.{answered_text}
 use Rattle.rp_wire.proofs.write_reply.reply_line.Goals as goal
 

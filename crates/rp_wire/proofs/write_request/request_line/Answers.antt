@@ -3,7 +3,7 @@ use Rattle.std.proofs.lemmas.Result.{IfOk-weaker}
 use Rattle.serde_json.specs.Data.{depth}
 use Rattle.serde_json.specs.View.{view}
 use Rattle.serde_json.specs.Written.{compact_text, has_float}
-use Rattle.rp_fields.proofs.Reading.{ok-both}
+use Rattle.rp_json.proofs.Reading.{ok-both}
 use Rattle.rp_wire.proofs.LineTexts.{request_written}
 use Rattle.rp_wire.proofs.RequestObjects.{asked_line, request_depth, request_has_no_float}
 use Rattle.rp_wire.proofs.write_request.request_line.Goals as goal

@@ -1,6 +1,6 @@
 use Rattle.std.proofs.Common.{◌≡◌, ap, ◌∙◌}
-use Rattle.rp_pattern.specs.declared.word.End.TheVariants.{Open}
-use Rattle.rp_check.specs.QueryView.{data_of}
+use Rattle.rp_words.specs.declared.word.End.TheVariants.{Open}
+use Rattle.rp_query.specs.QueryView.{data_of}
 use Rattle.rp_answer.specs.MatcherData.{MatcherData}
 use Rattle.rp_answer.proofs.Keeping.{closed_on, same_rows}
 use Rattle.rp_answer.proofs.Readiness.{ready_on}

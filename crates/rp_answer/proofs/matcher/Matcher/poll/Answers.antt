@@ -1,5 +1,5 @@
 use Rattle.std.proofs.Common.{sym, subst}
-use Rattle.rp_check.specs.QueryView.{data_of}
+use Rattle.rp_query.specs.QueryView.{data_of}
 use Rattle.rp_walker.specs.FitLaws.{AgreesFrom}
 use Rattle.rp_walker.specs.Polls.{left_in, PollLowers}
 use Rattle.rp_walker.specs.Walking.{record_of}

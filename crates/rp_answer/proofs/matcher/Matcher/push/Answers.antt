@@ -1,6 +1,6 @@
 use Rattle.std.proofs.Common.{◌≡◌, ◌-◌, ◌^◌, ◌<◌, length, ap, ◌∙◌, subst, sym, arith}
-use Rattle.rp_pattern.specs.declared.word.End.TheVariants.{Open}
-use Rattle.rp_check.specs.QueryView.{data_of}
+use Rattle.rp_words.specs.declared.word.End.TheVariants.{Open}
+use Rattle.rp_query.specs.QueryView.{data_of}
 use Rattle.rp_answer.specs.MatcherData.{MatcherData}
 use Rattle.rp_answer.specs.Kept.{kept_rows, kept_count}
 use Rattle.rp_answer.proofs.Keeping.{pushed_on, pushed_rows, refused_matcher}

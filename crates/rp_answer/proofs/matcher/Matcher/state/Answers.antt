@@ -1,5 +1,5 @@
 use Rattle.std.proofs.Common.{sym, ap, ◌∙◌, subst, arith}
-use Rattle.rp_check.specs.QueryView.{data_of}
+use Rattle.rp_query.specs.QueryView.{data_of}
 use Rattle.rp_walker.specs.Walking.{CanGoOn}
 use Rattle.rp_walker.specs.declared.record.MatcherState.{MatcherState}
 use Rattle.rp_answer.specs.Matching.{known_by}

@@ -1,6 +1,6 @@
 use Rattle.std.proofs.Common.{◌≡◌, ◌<◌, ◌+◌, ◌-◌, ◌^◌, ◌∷◌, [], true, false, length, refl, sym, ap, ◌∙◌, arith, append-nil, length-append}
-use Rattle.rp_pattern.specs.declared.word.Label.{Label}
-use Rattle.rp_check.specs.Scopes.{includes}
+use Rattle.rp_words.specs.declared.word.Label.{Label}
+use Rattle.rp_query.specs.Scopes.{includes}
 use Rattle.rp_eval.proofs.KeptSeries.{last_label, last_few, entered_tally, entered_place, on_ok}
 use Rattle.rp_eval.proofs.series.Series.enter.Goals as goal
 

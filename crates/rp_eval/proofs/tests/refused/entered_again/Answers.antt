@@ -1,6 +1,6 @@
 use Rattle.std.proofs.Common.{map, take, get_or, false, sym, ap, ◌∙◌}
 use Rattle.std.proofs.lemmas.List.{take_more}
-use Rattle.rp_pattern.specs.declared.word.Label.{Label}
+use Rattle.rp_words.specs.declared.word.Label.{Label}
 use Rattle.rp_eval.specs.Kept.{kept_of}
 use Rattle.rp_eval.proofs.tests.refused.entered_again.Goals as goal
 

@@ -1,5 +1,5 @@
 use Rattle.std.proofs.Common.{◌≡◌, ℕ, ◌+◌, length, ◌∙◌, ap, arith}
-use Rattle.rp_pattern.specs.declared.word.End.{End}
+use Rattle.rp_words.specs.declared.word.End.{End}
 use Rattle.rp_pattern.specs.Choices.{after, turns_left_after}
 use Rattle.rp_pattern.specs.Outlooks.{words_ahead, turns_ahead}
 use Rattle.rp_pattern.proofs.OrderRests.{IfOk-map}

@@ -1,5 +1,5 @@
 use Rattle.std.proofs.Common.{ℕ, Some, refl, sym, ap, subst}
-use Rattle.rp_pattern.specs.declared.word.End.{End}
+use Rattle.rp_words.specs.declared.word.End.{End}
 use Rattle.rp_pattern.specs.declared.machine.continuation.Continuation.TheVariants.{Done}
 use Rattle.rp_pattern.specs.Choices.{first_later}
 use Rattle.rp_pattern.specs.Splits.{StandsFor}

@@ -1,8 +1,8 @@
 use Rattle.std.proofs.Common.{refl, ap, ◌∙◌}
-use Rattle.rp_pattern.specs.Bounds.{is_allowed}
-use Rattle.rp_pattern.specs.Words.{words}
-use Rattle.rp_pattern.specs.Turns.{turns}
-use Rattle.rp_pattern.specs.PatternForm.{form_of}
+use Rattle.rp_words.specs.Bounds.{is_allowed}
+use Rattle.rp_words.specs.Words.{words}
+use Rattle.rp_words.specs.Turns.{turns}
+use Rattle.rp_words.specs.PatternForm.{form_of}
 use Rattle.rp_pattern.specs.Choices.{start_of, entered}
 use Rattle.rp_pattern.proofs.ChoiceStacks.{new_from, new_left_from, new_whole, new_left, fresh_remaining, fresh_left}
 use Rattle.rp_pattern.proofs.choices.Choices.new.Goals as goal

@@ -3,7 +3,7 @@ use Rattle.rp_pattern.specs.declared.machine.split.Split.{Split}
 use Rattle.rp_pattern.specs.declared.machine.split.Expansion.TheVariants.{Row as RowExpansion, Open as OpenExpansion, Split as SplitExpansion}
 use Rattle.rp_pattern.specs.Choices.{OfFirst}
 use Rattle.rp_pattern.specs.Continuations.{BeginsWithRow, form_part, later_parts, continuation_parts, rises}
-use Rattle.rp_pattern.specs.declared.form.Form.TheVariants.{Variable}
+use Rattle.rp_words.specs.declared.form.Form.TheVariants.{Variable}
 use Rattle.rp_pattern.proofs.ChoiceStacks.{Stack, same_whole, is_open, is_split, maps_row}
 use Rattle.rp_pattern.proofs.Steps.{row_taken, row_waits, row_none, taken_as}
 use Rattle.rp_pattern.proofs.choices.Choices.take_top_row.Goals as goal

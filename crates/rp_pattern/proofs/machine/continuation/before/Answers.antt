@@ -1,7 +1,7 @@
 use Rattle.std.proofs.Common.{◌∷◌, ◌≡◌, List, Some, sym, ap, ◌∙◌, subst}
-use Rattle.rp_pattern.specs.declared.form.Form.TheVariants.{Variable, Concatenation}
+use Rattle.rp_words.specs.declared.form.Form.TheVariants.{Variable, Concatenation}
 use Rattle.rp_pattern.specs.declared.machine.continuation.Continuation.TheVariants.{Then, Row}
-use Rattle.rp_pattern.specs.Turns.{WordsAndTurns}
+use Rattle.rp_words.specs.Turns.{WordsAndTurns}
 use Rattle.rp_pattern.specs.Continuations.{form_part, continuation_parts, tail_parts}
 use Rattle.rp_pattern.proofs.Expansions.{Leaves, concatenation_leaves}
 use Rattle.rp_pattern.proofs.Steps.{node_as, stands_as, leaves_replaces}

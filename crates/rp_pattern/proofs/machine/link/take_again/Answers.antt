@@ -1,7 +1,7 @@
 use Rattle.std.proofs.Common.{◌≡◌, ◌∷◌, None, Some, refl, sym, ap, ◌∙◌, subst}
 use Rattle.rp_pattern.specs.declared.machine.link.Part.TheVariants.{Times}
 use Rattle.rp_pattern.specs.declared.machine.link.Link.TheViews.{out-Link}
-use Rattle.rp_pattern.specs.Turns.{iterations}
+use Rattle.rp_words.specs.Turns.{iterations}
 use Rattle.rp_pattern.specs.Continuations.{IsOneLess, guarded, iterations_part, links_from, links_parts, node_part, part_as, reached_parts, still, tail_parts}
 use Rattle.rp_pattern.specs.Splits.{AlwaysSplits, StandsFor}
 use Rattle.rp_pattern.proofs.Steps.{OnOk-map, splits_as, comes_moving}

@@ -1,8 +1,8 @@
 use Rattle.std.proofs.Common.{◌∷◌, ℕ, List}
-use Rattle.rp_pattern.specs.declared.word.End.{End}
+use Rattle.rp_words.specs.declared.word.End.{End}
 use Rattle.rp_pattern.specs.declared.machine.link.Part.TheVariants.{Whole, Orders}
 use Rattle.rp_pattern.specs.declared.machine.link.Link.TheViews.{out-Link}
-use Rattle.rp_pattern.specs.Turns.{WordsAndTurns}
+use Rattle.rp_words.specs.Turns.{WordsAndTurns}
 use Rattle.rp_pattern.specs.Continuations.{links_from, node_part, reached_parts, tail_parts}
 use Rattle.rp_pattern.specs.Splits.{TakenUp}
 use Rattle.rp_pattern.proofs.OrderRests.{IfOk-map}

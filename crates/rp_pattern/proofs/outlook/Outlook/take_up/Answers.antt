@@ -1,6 +1,6 @@
 use Rattle.std.proofs.Common.{◌+◌, [], refl, subst, sym, ap, ◌∙◌, IsTrue, arith, drop}
 use Rattle.rp_pattern.specs.declared.machine.split.Expansion.{Expansion}
-use Rattle.rp_pattern.specs.Mapping.{Full, Open}
+use Rattle.rp_words.specs.Mapping.{Full, Open}
 use Rattle.rp_pattern.specs.Continuations.{pushed, rises, continuation_parts}
 use Rattle.rp_pattern.specs.Splits.{TakenUp}
 use Rattle.rp_pattern.proofs.ChoiceStacks.{rises_more}

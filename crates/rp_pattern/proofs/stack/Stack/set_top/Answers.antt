@@ -1,6 +1,6 @@
 use Rattle.std.proofs.Common.{◌≡◌, ◌∷◌, ◌-◌, ◌+◌, length, drop, ap, ◌∙◌, arith}
 use Rattle.std.proofs.lemmas.List.{length-reverse}
-use Rattle.rp_pattern.proofs.LastElement.{set_last}
+use Rattle.rp_words.proofs.LastElement.{set_last}
 use Rattle.rp_pattern.proofs.stack.Stack.set_top.Goals as goal
 
 pub returns : goal.returns

@@ -1,5 +1,5 @@
 use Rattle.std.proofs.Common.{◌≡◌, true, false, take, refl, subst, sym, rules}
-use Rattle.rp_pattern.specs.declared.word.Seen.TheVariants.{Open as OpenTest}
+use Rattle.rp_words.specs.declared.word.Seen.TheVariants.{Open as OpenTest}
 use Rattle.rp_pattern.specs.Choices.{start_of, entered, whole, whole_from}
 use Rattle.rp_search.specs.Asked.{Asked, AreBelow}
 use Rattle.rp_search.specs.Search.{start_of_search, labels_of_search, words_from}

@@ -1,8 +1,8 @@
 use Rattle.std.proofs.Common.{◌≡◌, Ok, Err, IfOk, Result, true}
 use Rattle.std.specs.declared.alloc.AllocError.{AllocError}
-use Rattle.rp_pattern.specs.declared.form.Form.{Form}
-use Rattle.rp_pattern.specs.PatternForm.{form_of}
-use Rattle.rp_pattern.specs.Variables.{are_below}
+use Rattle.rp_words.specs.declared.form.Form.{Form}
+use Rattle.rp_words.specs.PatternForm.{form_of}
+use Rattle.rp_words.specs.Variables.{are_below}
 use Rattle.rp_search.specs.declared.search.Search.{Search}
 use Rattle.rp_search.specs.Search.{HasVariablesBelow, IsSearchFor, VariablesAreBelow}
 use Rattle.rp_search.proofs.tests.script.created.Goals as goal

@@ -1,6 +1,6 @@
 use Rattle.std.proofs.Common.{sym, ◌∙◌, arith}
-use Rattle.rp_check.specs.QueryView.{data_of}
-use Rattle.rp_known.specs.declared.item.Item.TheVariants.{End as EndItem}
+use Rattle.rp_query.specs.QueryView.{data_of}
+use Rattle.rp_query.specs.declared.item.Item.TheVariants.{End as EndItem}
 use Rattle.rp_known.specs.Known.{known_in}
 use Rattle.rp_walker.proofs.Ends.{ends_with}
 use Rattle.rp_walker.proofs.Begins.{waits_past, end_past, left_past}

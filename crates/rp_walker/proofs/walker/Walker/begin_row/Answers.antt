@@ -1,4 +1,4 @@
-use Rattle.rp_check.specs.QueryView.{data_of}
+use Rattle.rp_query.specs.QueryView.{data_of}
 use Rattle.rp_known.specs.Known.{known_in}
 use Rattle.rp_walker.specs.declared.stage.Stage.TheVariants.{Begin, Searching}
 use Rattle.rp_walker.specs.Walking.{KeepsGoing}

@@ -1,6 +1,6 @@
 use Rattle.std.proofs.Common.{Some, sym, ap, ◌∙◌, subst, arith}
-use Rattle.rp_check.specs.QueryView.{data_of}
-use Rattle.rp_known.specs.declared.item.Item.TheVariants.{Fault as FaultItem}
+use Rattle.rp_query.specs.QueryView.{data_of}
+use Rattle.rp_query.specs.declared.item.Item.TheVariants.{Fault as FaultItem}
 use Rattle.rp_known.specs.declared.place.Place.{Place}
 use Rattle.rp_known.specs.Known.{known_in}
 use Rattle.rp_known.specs.Walk.{after_found}

@@ -1,6 +1,6 @@
 use Rattle.std.proofs.Common.{take, get_or, false}
 use Rattle.std.proofs.lemmas.List.{take_more}
-use Rattle.rp_pattern.specs.declared.word.Label.{Label}
+use Rattle.rp_words.specs.declared.word.Label.{Label}
 use Rattle.rp_answer.proofs.tests.plain.Plain.totals.Goals as goal
 
 pub loop-depth-init : goal.loop-depth-init

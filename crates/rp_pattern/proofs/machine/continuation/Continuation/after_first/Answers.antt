@@ -1,5 +1,5 @@
 use Rattle.std.proofs.Common.{ℕ, Some, refl, sym, ap, ◌∙◌, subst}
-use Rattle.rp_pattern.specs.declared.word.End.{End}
+use Rattle.rp_words.specs.declared.word.End.{End}
 use Rattle.rp_pattern.specs.declared.machine.continuation.Continuation.TheVariants.{Done}
 use Rattle.rp_pattern.specs.declared.machine.link.Link.TheViews.{out-Link}
 use Rattle.rp_pattern.specs.Continuations.{later_parts, tail_parts}

@@ -1,7 +1,7 @@
 use Rattle.std.proofs.Common.{◌≡◌, ◌∷◌, ℕ, sym, ap, ◌∙◌}
-use Rattle.rp_pattern.specs.declared.word.End.{End}
+use Rattle.rp_words.specs.declared.word.End.{End}
 use Rattle.rp_pattern.specs.declared.machine.link.Part.TheVariants.{Times}
-use Rattle.rp_pattern.specs.Turns.{iterations}
+use Rattle.rp_words.specs.Turns.{iterations}
 use Rattle.rp_pattern.specs.Continuations.{guarded, node_part, still, tail_links, tail_parts}
 use Rattle.rp_pattern.specs.Splits.{ComesAgain}
 use Rattle.rp_pattern.proofs.OrderRests.{IfOk-map}

@@ -1,7 +1,7 @@
 use Rattle.std.proofs.Common.{◌≡◌, ◌∷◌, ◌+◌, ℕ, suc, List, None, Some, refl, sym, ap, ◌∙◌, subst, arith}
-use Rattle.rp_pattern.specs.declared.word.End.{End}
+use Rattle.rp_words.specs.declared.word.End.{End}
 use Rattle.rp_pattern.specs.declared.machine.link.Part.TheVariants.{Times}
-use Rattle.rp_pattern.specs.Turns.{WordsAndTurns, iterations}
+use Rattle.rp_words.specs.Turns.{WordsAndTurns, iterations}
 use Rattle.rp_pattern.specs.Continuations.{form_part, iterations_part, node_part, still, tail_parts}
 use Rattle.rp_pattern.specs.Splits.{AlwaysSplits, Replaces}
 use Rattle.rp_pattern.proofs.Expansions.{Leaves, required_leaves}

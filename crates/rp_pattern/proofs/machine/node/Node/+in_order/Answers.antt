@@ -1,9 +1,9 @@
 use Rattle.std.proofs.Common.{◌≡◌, ◌<◌, ◌∷◌, ◌++◌, ℕ, List, None, length, sym, ap, subst, arith, IsTrue}
 use Rattle.std.specs.List.{AllByRecursion}
 use Rattle.std.proofs.lemmas.List.{length-map}
-use Rattle.rp_pattern.specs.Bounds.{is_allowed}
+use Rattle.rp_words.specs.Bounds.{is_allowed}
 use Rattle.rp_pattern.specs.PermutedParts.{permuted_parts}
-use Rattle.rp_pattern.specs.declared.word.End.{End}
+use Rattle.rp_words.specs.declared.word.End.{End}
 use Rattle.rp_pattern.specs.declared.machine.link.Part.TheVariants.{Whole}
 use Rattle.rp_pattern.specs.Continuations.{permuted_form_parts, in_order, tail_parts, tail_links}
 use Rattle.rp_pattern.proofs.OrderRests.{allowed_at, next_linked, IfOk-map}

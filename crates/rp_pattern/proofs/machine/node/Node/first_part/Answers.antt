@@ -1,9 +1,9 @@
 use Rattle.std.proofs.Common.{◌∷◌, ◌≡◌, ℕ, List, None, Some, refl, sym, ap, ◌∙◌, subst}
-use Rattle.rp_pattern.specs.declared.word.End.{End}
-use Rattle.rp_pattern.specs.declared.form.Form.TheVariants.{Variable}
+use Rattle.rp_words.specs.declared.word.End.{End}
+use Rattle.rp_words.specs.declared.form.Form.TheVariants.{Variable}
 use Rattle.rp_pattern.specs.declared.machine.link.Part.TheVariants.{Whole}
 use Rattle.rp_pattern.specs.declared.machine.continuation.Continuation.TheVariants.{Then, Row}
-use Rattle.rp_pattern.specs.Turns.{WordsAndTurns}
+use Rattle.rp_words.specs.Turns.{WordsAndTurns}
 use Rattle.rp_pattern.specs.Continuations.{form_part, continuation_parts, node_part, tail_parts}
 use Rattle.rp_pattern.specs.Splits.{AlwaysSplits, Replaces}
 use Rattle.rp_pattern.proofs.Expansions.{Leaves, concatenation_leaves}

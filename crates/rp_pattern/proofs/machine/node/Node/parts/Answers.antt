@@ -1,8 +1,8 @@
 use Rattle.std.proofs.Common.{◌&&◌, ◌∙◌, ap, sym, map, length, subst, IsTrue}
 use Rattle.std.specs.Prelude.{nat_le}
-use Rattle.rp_pattern.specs.Bounds.{is_allowed}
-use Rattle.rp_pattern.specs.Variables.{all_true}
-use Rattle.rp_pattern.proofs.FormEquations.{allowed_permute}
+use Rattle.rp_words.specs.Bounds.{is_allowed}
+use Rattle.rp_words.specs.Variables.{all_true}
+use Rattle.rp_words.proofs.FormEquations.{allowed_permute}
 use Rattle.rp_pattern.proofs.OrderRests.{and_last}
 use Rattle.rp_pattern.proofs.machine.node.Node.parts.Goals as goal
 

@@ -1,5 +1,5 @@
 use Rattle.std.proofs.Common.{◌∷◌, List, Some, sym, subst}
-use Rattle.rp_pattern.specs.Turns.{WordsAndTurns}
+use Rattle.rp_words.specs.Turns.{WordsAndTurns}
 use Rattle.rp_pattern.specs.Continuations.{form_part, tail_parts}
 use Rattle.rp_pattern.proofs.Expansions.{LeavesTwo, alternation_leaves}
 use Rattle.rp_pattern.proofs.Steps.{two_splits, before_shared}

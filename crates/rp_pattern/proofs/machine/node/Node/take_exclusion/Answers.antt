@@ -1,5 +1,5 @@
 use Rattle.std.proofs.Common.{◌∷◌, List, true, sym, subst, Some}
-use Rattle.rp_pattern.specs.Turns.{WordsAndTurns}
+use Rattle.rp_words.specs.Turns.{WordsAndTurns}
 use Rattle.rp_pattern.specs.Continuations.{form_part, tail_parts}
 use Rattle.rp_pattern.proofs.Expansions.{Leaves, exclusion_leaves}
 use Rattle.rp_pattern.proofs.Steps.{one_splits, before_shared}

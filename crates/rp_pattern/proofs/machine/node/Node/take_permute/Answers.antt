@@ -1,8 +1,8 @@
 use Rattle.std.proofs.Common.{◌∷◌, subst}
-use Rattle.rp_pattern.specs.Turns.{orders_from}
+use Rattle.rp_words.specs.Turns.{orders_from}
 use Rattle.rp_pattern.specs.Continuations.{node_part, tail_parts}
 use Rattle.rp_pattern.specs.Splits.{AlwaysSplits, SplitsAt}
-use Rattle.rp_pattern.proofs.OrdersAt.{factorial_positive}
+use Rattle.rp_words.proofs.OrdersAt.{factorial_positive}
 use Rattle.rp_pattern.proofs.OrderRests.{IfOk-map, permute_splits, permuted_same}
 use Rattle.rp_pattern.proofs.machine.node.Node.take_permute.Goals as goal
 

@@ -1,13 +1,13 @@
 use Rattle.std.proofs.Common.{◌≡◌, ◌∷◌, ◌+◌, length, sym, ap, ◌∙◌, arith}
 use Rattle.std.proofs.lemmas.List.{length-map}
 use Rattle.rp_pattern.specs.PermutedParts.{permuted_parts}
-use Rattle.rp_pattern.specs.Permutations.{factorial}
+use Rattle.rp_words.specs.Permutations.{factorial}
 use Rattle.rp_pattern.specs.Continuations.{permuted_form_parts, links_parts, tail_parts, reached_parts, form_part}
-use Rattle.rp_pattern.proofs.OrdersAt.{factorial_small}
+use Rattle.rp_words.proofs.OrdersAt.{factorial_small}
 use Rattle.rp_pattern.proofs.OrderRests.{no_order, permuted_same}
 use Rattle.rp_pattern.proofs.Steps.{stands_as}
 use Rattle.rp_pattern.specs.declared.machine.continuation.Continuation.TheVariants.{Reached}
-use Rattle.rp_pattern.specs.Turns.{orders_from}
+use Rattle.rp_words.specs.Turns.{orders_from}
 use Rattle.rp_pattern.proofs.machine.orders.Orders.after.Goals as goal
 
 pub overflow_add-from : goal.overflow_add-from

@@ -2,8 +2,8 @@ use Rattle.std.proofs.Common.{◌≡◌, ◌<◌, ◌∷◌, ◌+◌, drop, leng
 use Rattle.std.specs.List.{AllByRecursion}
 use Rattle.std.proofs.lemmas.List.{length-map}
 use Rattle.rp_pattern.specs.PermutedParts.{permuted_parts}
-use Rattle.rp_pattern.specs.Words.{orders}
-use Rattle.rp_pattern.specs.Permutations.{upto}
+use Rattle.rp_words.specs.Words.{orders}
+use Rattle.rp_words.specs.Permutations.{upto}
 use Rattle.rp_pattern.proofs.OrderRests.{items_below, IfOk-map}
 use Rattle.rp_pattern.proofs.machine.orders.Orders.order.Goals as goal
 

@@ -1,7 +1,7 @@
 use Rattle.std.proofs.Common.{◌≡◌, ◌∷◌, ◌++◌, ◌+◌, length, sym, ap, ◌∙◌, subst}
 use Rattle.std.proofs.lemmas.List.{length-map}
 use Rattle.rp_pattern.specs.PermutedParts.{permuted_parts}
-use Rattle.rp_pattern.specs.Turns.{orders_from}
+use Rattle.rp_words.specs.Turns.{orders_from}
 use Rattle.rp_pattern.specs.Continuations.{permuted_form_parts, in_order, tail_parts, form_part}
 use Rattle.rp_pattern.specs.Splits.{StandsFor}
 use Rattle.rp_pattern.proofs.Steps.{two_splits, replaces}

@@ -1,8 +1,0 @@
-use Rattle.std.proofs.Common.{◌≡◌, drop}
-use Rattle.serde_json.specs.View.{items_view}
-use Rattle.rp_fields.specs.Forms.{cell_of, list_in}
-use Rattle.rp_fields.proofs.Steps.{joined}
-use Rattle.rp_fields.proofs.values.cells_in.Given as goal
-
-abbrev pub invariant-loop-json : goal.invariant-loop-json
-invariant-loop-json l = list_in cell_of (items_view l.list) ≡ joined cell_of l.cells.items (drop l.json-index l.list)

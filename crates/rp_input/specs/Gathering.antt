@@ -1,0 +1,16 @@
+-- How partitions are gathered, a row at a time.
+use Rattle.std.specs.Prelude.{List, [], ◌∷◌, ◌++◌, map, if◌then◌else◌}
+use Rattle.std.specs.declared.vec.Vec.{Vec}
+use Rattle.std.specs.declared.alloc.Global.{Global}
+use Rattle.rp_value.specs.declared.value.Value.{Value}
+use Rattle.rp_input.specs.Partitions.{Part, same_key}
+
+-- partitions as plain lists: keys with their rows
+abbrev pub parts_of : List (List Value × Vec (List Value) Global) → List Part
+parts_of entries = map (λ entry. (entry.0, entry.1.items)) entries
+
+-- a row more in the partition of its key, which comes last where it is new
+abbrev pub with_row : List Part → List Value → List Value → List Part
+with_row [] key row = (key, row ∷ []) ∷ []
+with_row (part ∷ parts) key row =
+    if same_key key part.0 then (part.0, part.1 ++ row ∷ []) ∷ parts else part ∷ with_row parts key row

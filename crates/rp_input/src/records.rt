@@ -1,0 +1,31 @@
+//! The records of a text, one after the other.
+ghost use Rattle.std.specs.Prelude.{List, ℕ, [], ◌∷◌, ◌++◌, IfOk, MatchBool};
+ghost use Rattle.csv.specs.Records.{fields_of};
+ghost use Rattle.rp_input.specs.Standing.{AreAll, Stands};
+
+use csv::{ByteRecord, Reader, ReaderBuilder};
+use std::alloc::{AllocError, Global};
+
+/// A reader that stands before the first record of a text.
+pub(crate) fn reader_of<'a>(alloc: Global, text: &'a [u8]) -> Reader<&'a [u8]>
+    ensures { Stands text.now [] result }
+{
+    ReaderBuilder::new()
+        .has_headers(false)
+        .flexible(true)
+        .from_reader(alloc, text)
+}
+
+/// Takes the next record, and says whether there was one.
+pub(crate) fn take_record(
+    reader: &mut Reader<&[u8]>,
+    fields: &mut ByteRecord,
+) -> Result<bool, AllocError>
+    ensures { IfOk result (λ found. (text : List ℕ) (before : List (List (List ℕ))) → Stands text before reader.old
+        → MatchBool found (Stands text (before ++ fields_of fields.new ∷ []) reader.new) (AreAll text before)) }
+{
+    let Ok(found) = reader.read_byte_record(fields) else {
+        return Err(AllocError);
+    };
+    Ok(found)
+}

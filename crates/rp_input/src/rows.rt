@@ -1,0 +1,89 @@
+//! The rows of a CSV text.
+ghost use Rattle.std.specs.Prelude.{◌≡◌, IfOk, IfErr};
+ghost use Rattle.rp_input.specs.CsvRows.{AreRowsOf, IsTextFault};
+ghost use Rattle.rp_input.specs.declared.rows.CsvFault.TheVariants.{OutOfMemory};
+
+use crate::header::names_columns;
+use crate::records::{reader_of, take_record};
+use crate::taking::Taking;
+use csv::ByteRecord;
+use rp_value::{Row, Table};
+use std::alloc::{AllocError, AllocFailed, Global};
+use thiserror::Error;
+
+/// The most records that an input may have beside its header.
+pub const MAX_RECORDS: u64 = 1_099_511_627_776;
+
+/// Why an input is no rows of a table: the first reason, in the order of its text.
+#[derive(Clone, Copy, Debug, PartialEq, Eq, Error)]
+pub enum CsvFault {
+    /// There is no header, or it doesn't name the table's columns in order.
+    #[error("Header")]
+    Header,
+    /// This record, from 1, hasn't a field for each column, or is one too many.
+    #[error("Record at record {0}")]
+    Record(u64),
+    /// A field of this record, from 1, is no value of its column.
+    #[error("Field at record {0}")]
+    Field(u64),
+    /// The device failed.
+    #[error("device: read")]
+    Read,
+    /// All reads that are allowed were made, none of them told the end, and another is due. (A turn of a search is another
+    /// thing.)
+    #[error("too many turns")]
+    Turns,
+    /// Memory was refused.
+    #[error("out of memory")]
+    OutOfMemory,
+}
+
+impl From<AllocError> for CsvFault {
+    ghost from_gives = { λ _ fault. fault ≡ OutOfMemory };
+
+    fn from(_error: AllocError) -> CsvFault {
+        CsvFault::OutOfMemory
+    }
+}
+
+impl<T: Drop> From<AllocFailed<T>> for CsvFault {
+    ghost from_gives = { λ _ fault. fault ≡ OutOfMemory };
+
+    fn from(_error: AllocFailed<T>) -> CsvFault {
+        CsvFault::OutOfMemory
+    }
+}
+
+/// The rows of a CSV text over a table.
+///
+/// The first record is the header. A field is a column's name, or has the form of a name whose upper-case form that is.
+/// Of the records after it an empty field is null, any other UTF-8; that of a column of whole numbers is a sign or none
+/// and digits, within 64 bits. The error is the first of the text: the header's, then the records' in order, where the
+/// number of fields is looked at before what they are.
+///
+/// Rows that were read one after another share blocks of memory (`RowList`): who keeps a few of many rows for long keeps the
+/// blocks in which they lie.
+pub fn rows_of(alloc: Global, text: &[u8], table: &Table) -> Result<Vec<Row>, CsvFault>
+    ensures ok { IfOk result (λ rows. AreRowsOf table.now text.now rows.items) }
+    ensures err { IfErr result (λ fault. IsTextFault table.now text.now fault) }
+{
+    let mut reader = reader_of(alloc, text);
+    let mut fields = ByteRecord::new(alloc);
+    if !take_record(&mut reader, &mut fields)? {
+        return Err(CsvFault::Header);
+    }
+    if !names_columns(alloc, table.columns(), &fields)? {
+        return Err(CsvFault::Header);
+    }
+    let mut taking = Taking::new(alloc)?;
+    for number in 1..MAX_RECORDS + 1 {
+        if !take_record(&mut reader, &mut fields)? {
+            return Ok(taking.into_rows()?);
+        }
+        fields = taking.take(alloc, table, fields, number)?;
+    }
+    if take_record(&mut reader, &mut fields)? {
+        return Err(CsvFault::Record(MAX_RECORDS + 1));
+    }
+    Ok(taking.into_rows()?)
+}

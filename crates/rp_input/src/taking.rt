@@ -1,0 +1,69 @@
+//! Records taken as rows, one after another.
+ghost use Rattle.std.specs.Prelude.{◌≡◌, [], IfErr, IfOk, OnOk};
+ghost use Rattle.csv.specs.Records.{fields_of};
+ghost use Rattle.rp_value.specs.RowLists.{rows_added};
+ghost use Rattle.rp_value.specs.Tables.{kinds_of};
+
+use crate::fields::take_values;
+use crate::rows::CsvFault;
+use crate::texts::Texts;
+use csv::{ByteRecord, StringRecord};
+use rp_value::{Row, RowList, Table, Value};
+use std::alloc::{AllocError, Global};
+
+/// The rows of the records so far, and what is used again for the next one: the texts that rows share, and the room of its
+/// cells.
+#[derive(Drop)]
+pub(crate) struct Taking {
+    texts: Texts,
+    cells: Vec<Value>,
+    rows: RowList,
+}
+
+impl Taking {
+    ghost use Rattle.rp_input.specs.CsvRows.{IsRowFault, TakesOne};
+
+    /// No record was taken yet.
+    pub(crate) fn new(alloc: Global) -> Result<Taking, AllocError>
+        ensures { IfOk result (λ taking. rows_added taking.rows ≡ []) }
+    {
+        Ok(Taking {
+            texts: Texts::new(alloc)?,
+            cells: Vec::new(alloc),
+            rows: RowList::new(alloc),
+        })
+    }
+
+    /// Takes a record as the next row, and gives its room back. The number, from 1, is for the fault.
+    pub(crate) fn take(
+        &mut self,
+        alloc: Global,
+        table: &Table,
+        fields: ByteRecord,
+        number: u64,
+    ) -> Result<ByteRecord, CsvFault>
+        ensures ok { OnOk result
+            (TakesOne (kinds_of table.now) (fields_of fields) (rows_added self.old.rows) (rows_added self.new.rows)) }
+        ensures err { IfErr result (λ fault. IsRowFault (kinds_of table.now) (fields_of fields) number fault) }
+    {
+        let columns = table.columns();
+        if fields.len() != columns.len() {
+            return Err(CsvFault::Record(number));
+        }
+        let Ok(fields) = StringRecord::from_byte_record(fields) else {
+            return Err(CsvFault::Field(number));
+        };
+        if !take_values(alloc, &mut self.texts, columns, &fields, &mut self.cells)? {
+            return Err(CsvFault::Field(number));
+        }
+        self.rows.push(&mut self.cells)?;
+        Ok(fields.into_byte_record())
+    }
+
+    /// The rows of all records. After want of memory they are dropped.
+    pub(crate) fn into_rows(self) -> Result<Vec<Row>, AllocError>
+        ensures { IfOk result (λ rows. rows.items ≡ rows_added self.rows) }
+    {
+        self.rows.into_rows()
+    }
+}

@@ -1,0 +1,20 @@
+use Rattle.std.proofs.Common.{◌≡◌, ◌≤◌, vec_len}
+use Rattle.rp_io.specs.Devices.{AsManyBytesAsReads, UsesCalls}
+use Rattle.rp_io.specs.Pending.{coming, most_lines_to_come}
+use Rattle.rp_io.proofs.Cutting.{ReadFront}
+use Rattle.rp_io.proofs.lines.Lines.next.Given as goal
+
+abbrev pub invariant-loop-self : goal.invariant-loop-self
+invariant-loop-self g l = record {
+  read : ReadFront l.fn.self.kept (coming l.fn.self (g.R.Intake.remaining l.fn.reader)) (coming l.self (g.R.Intake.remaining l.reader)) l.line.items;
+  fits : vec_len l.line ≤ l.self.kept;
+  kept : l.self.kept ≡ l.fn.self.kept;
+  goes : g.R.Intake.failures l.reader ≡ g.R.Intake.failures l.fn.reader;
+  calls : UsesCalls l.fn.self.reads l.self.reads (g.R.Intake.calls l.fn.reader) (g.R.Intake.calls l.reader);
+  ended : g.R.Intake.ended l.reader ≡ g.R.Intake.ended l.fn.reader;
+  gives : AsManyBytesAsReads l.fn.self.reads l.self.reads (g.R.Intake.remaining l.fn.reader) (g.R.Intake.remaining l.reader);
+  left : most_lines_to_come l.self ≤ most_lines_to_come l.fn.self;
+}
+
+abbrev pub decreases-loop-self : goal.decreases-loop-self
+decreases-loop-self g l = l.self.reads

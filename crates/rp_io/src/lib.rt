@@ -1,0 +1,25 @@
+//! Lines of input and blocks of output, over devices whose bytes, calls and failures clauses see.
+//!
+//! `Port` makes a device of any of std's readers and writers. Of each line at most 80 bytes are kept here, the reader is called
+//! at most a thousand times, and what is gathered is written once it is a block:
+//!
+//! ```text
+//! let (mut reader, mut writer) = (Port::new(stdin), Port::new(stdout));
+//! let mut lines = Lines::new(alloc, 1_000, 80);
+//! let (mut line, mut text) = (Vec::new(alloc), Vec::new(alloc));
+//! while lines.next(&mut reader, &mut line)? {
+//!     text.extend_from_slice(line.as_slice())?;
+//!     write_block(&mut writer, &mut text)?;
+//! }
+//! write_all(&mut writer, text.as_slice())?; // `line` has what stood behind the last LF
+//! ```
+//!
+//! What a line is, is said by `specs/Lines`; what calls do to a device's bytes and counts by `specs/Devices`, `Counts` and
+//! `Telling`.
+#![tactic(auto)]
+
+mod lines;
+mod port;
+
+pub use lines::{LineFault, Lines};
+pub use port::{Intake, Outlet, Port, READS, ReadFailed, WriteFailed, write_all, write_block};

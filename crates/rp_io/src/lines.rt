@@ -1,0 +1,197 @@
+//! The lines of what is read.
+ghost use Rattle.std.specs.Prelude.{◌≡◌, ◌+◌, ◌<◌, ◌≤◌, ◌∷◌, ◌++◌, length, take, drop, vec_len, OnOk};
+ghost use Rattle.rp_io.specs.Lines.{IsLfFree};
+ghost use Rattle.rp_io.specs.declared.lines.TheConstants.{CHUNK, LF};
+
+use crate::port::Intake;
+use std::alloc::{AllocError, AllocFailed, Global};
+use thiserror::Error;
+
+/// Why the next line is not there.
+#[derive(Clone, Copy, Debug, PartialEq, Eq, Error)]
+pub enum LineFault {
+    /// The device failed.
+    #[error("device: read")]
+    Read,
+    /// All reads that are allowed were made, and another is due.
+    #[error("too many reads")]
+    TooManyReads,
+    /// Memory was refused.
+    #[error("out of memory")]
+    OutOfMemory,
+}
+
+/// The most bytes that one call reads.
+const CHUNK: usize = 65_536;
+
+/// The byte that ends a line.
+const LF: u8 = b'\n';
+
+/// Cuts what is read into lines. Of a long line only the first bytes are kept.
+#[derive(Drop)]
+pub struct Lines {
+    /// What was read last.
+    pub chunk: Vec<u8>,
+    /// How many bytes of it were cut off, from the first on.
+    pub taken: usize,
+    /// How many more calls of the reader may be made.
+    pub reads: u64,
+    /// How many bytes of a line are kept at most.
+    pub kept: usize,
+    ghost within: { taken ≤ vec_len chunk },
+    ghost bounded: { vec_len chunk ≤ CHUNK },
+}
+
+impl Lines {
+    ghost use Rattle.std.specs.Prelude.{◌≡◌, ◌<◌, ◌≤◌, ◌⊎◌, true, false, [], length, take, vec_len, IfOk, OnOk, OnErr};
+    ghost use Rattle.std.specs.Io.KnownBytes.{Consumes, IsAtEnd};
+    ghost use Rattle.rp_io.specs.Cuts.{Advances, CutsOff};
+    ghost use Rattle.rp_io.specs.Devices.{AsManyBytesAsReads, UsesCalls};
+    ghost use Rattle.rp_io.specs.Lines.{TakesLast, TakesLine};
+    ghost use Rattle.rp_io.specs.Pending.{pending_of, coming, most_lines_to_come};
+    ghost use Rattle.rp_io.specs.Telling.{EndIsTold, FailureIsCounted};
+
+    /// Nothing is read yet, at most `reads` calls of the reader will be made, and of each line at most `kept` bytes kept.
+    pub fn new(alloc: Global, reads: u64, kept: usize) -> Self
+        ensures pending { pending_of result ≡ [] }
+        ensures reads { result.reads ≡ reads }
+        ensures kept { result.kept ≡ kept }
+    {
+        Lines {
+            chunk: Vec::new(alloc),
+            taken: 0,
+            reads,
+            kept,
+        }
+    }
+
+    /// Puts the first bytes of the next line into `line`, without its LF, and says whether it had one. Without one it is
+    /// what stood behind the last LF of the input, perhaps nothing, and the input has ended.
+    pub fn next<R: Intake>(&mut self, reader: &mut R, line: &mut Vec<u8>) -> Result<bool, LineFault>
+        ensures line { result ≡ Ok true → TakesLine self.old.kept
+            (coming self.old (R.remaining reader.old)) (coming self.new (R.remaining reader.new)) line.new.items }
+        ensures last { result ≡ Ok false → TakesLast self.old.kept
+            (coming self.old (R.remaining reader.old)) (coming self.new (R.remaining reader.new)) line.new.items }
+        ensures end { result ≡ Ok false → IsAtEnd (R.remaining reader.new) }
+        ensures told { EndIsTold result (R.ended reader.old) (R.ended reader.new) }
+        ensures failures { FailureIsCounted result (R.failures reader.old) (R.failures reader.new) }
+        ensures calls { UsesCalls self.old.reads self.new.reads (R.calls reader.old) (R.calls reader.new) }
+        ensures reads { result ≡ Err LineFault.TooManyReads → self.new.reads ≡ 0 }
+        ensures gives { (result ≡ Ok true) ⊎ (result ≡ Err LineFault.TooManyReads) →
+            AsManyBytesAsReads self.old.reads self.new.reads (R.remaining reader.old) (R.remaining reader.new) }
+        ensures falls { result ≡ Ok true → most_lines_to_come self.new < most_lines_to_come self.old }
+        ensures few { vec_len line.new ≤ self.old.kept }
+        ensures kept { self.new.kept ≡ self.old.kept }
+    {
+        line.clear();
+        loop {
+            if self.cut(line)? {
+                return Ok(true);
+            }
+            if !self.fill(reader)? {
+                return Ok(false);
+            }
+        }
+    }
+
+    /// Moves what is left of the chunk to the line, up to a LF, and says whether there was one.
+    fn cut(&mut self, line: &mut Vec<u8>) -> Result<bool, AllocError>
+        requires { vec_len line.old ≤ self.old.kept }
+        ensures cut { IfOk result (λ had_lf. CutsOff had_lf self.old self.new line.old.items line.new.items) }
+        ensures fits { vec_len line.new ≤ self.old.kept }
+        ensures falls { IfOk result (λ had_lf. Advances had_lf self.old self.new) }
+        ensures chunk { self.new.chunk ≡ self.old.chunk }
+        ensures reads { self.new.reads ≡ self.old.reads }
+        ensures kept { self.new.kept ≡ self.old.kept }
+    {
+        let rest = &self.chunk[self.taken..];
+        let length = line_length(rest);
+        let had_lf = length < rest.len();
+        push_up_to(line, &rest[..length], self.kept)?;
+        self.taken += length + usize::from(had_lf);
+        Ok(had_lf)
+    }
+
+    /// Reads the next chunk, if a further call may be made, and says whether there is any. If none may be made, nothing
+    /// changes.
+    fn fill<R: Intake>(&mut self, reader: &mut R) -> Result<bool, LineFault>
+        requires { pending_of self.old ≡ [] }
+        ensures ok { OnOk result (Consumes (R.remaining reader.old) (R.remaining reader.new) (pending_of self.new)) }
+        ensures none { result ≡ Ok false → pending_of self.new ≡ [] }
+        ensures end { result ≡ Ok false → IsAtEnd (R.remaining reader.new) }
+        ensures told { EndIsTold result (R.ended reader.old) (R.ended reader.new) }
+        ensures failures { FailureIsCounted result (R.failures reader.old) (R.failures reader.new) }
+        ensures calls { UsesCalls self.old.reads self.new.reads (R.calls reader.old) (R.calls reader.new) }
+        ensures unread { result ≡ Err LineFault.TooManyReads →
+            (self.old.reads ≡ 0) × (self.new ≡ self.old) × (reader.new ≡ reader.old) }
+        ensures gives { result ≡ Ok true →
+            AsManyBytesAsReads self.old.reads self.new.reads (R.remaining reader.old) (R.remaining reader.new) }
+        ensures fewer { OnOk result (self.new.reads < self.old.reads) }
+        ensures kept { self.new.kept ≡ self.old.kept }
+    {
+        if self.reads == 0 {
+            return Err(LineFault::TooManyReads);
+        }
+        self.taken = 0;
+        self.chunk.resize(CHUNK, 0)?;
+        self.reads -= 1;
+        match reader.read(self.chunk.as_mut_slice()) {
+            Ok(count) => {
+                self.chunk.truncate(count);
+                Ok(count > 0)
+            }
+            Err(_) => {
+                self.chunk.clear();
+                Err(LineFault::Read)
+            }
+        }
+    }
+}
+
+impl From<AllocError> for LineFault {
+    ghost use Rattle.std.specs.Prelude.{◌≡◌};
+    ghost use Rattle.rp_io.specs.declared.lines.LineFault.TheVariants.{OutOfMemory};
+
+    ghost from_gives = { λ _ fault. fault ≡ OutOfMemory };
+
+    fn from(_: AllocError) -> LineFault {
+        LineFault::OutOfMemory
+    }
+}
+
+impl<T: Drop> From<AllocFailed<T>> for LineFault {
+    ghost use Rattle.std.specs.Prelude.{◌≡◌};
+    ghost use Rattle.rp_io.specs.declared.lines.LineFault.TheVariants.{OutOfMemory};
+
+    ghost from_gives = { λ _ fault. fault ≡ OutOfMemory };
+
+    fn from(_: AllocFailed<T>) -> LineFault {
+        LineFault::OutOfMemory
+    }
+}
+
+/// How many bytes stand before the first LF, or in all.
+fn line_length(bytes: &[u8]) -> usize
+    ensures within { result ≤ length bytes.now }
+    ensures before { IsLfFree (take result bytes.now) }
+    ensures found { result < length bytes.now →
+        bytes.now ≡ take result bytes.now ++ LF ∷ drop (result + 1) bytes.now }
+{
+    for (index, byte) in bytes.iter().enumerate() {
+        if *byte == LF {
+            return index;
+        }
+    }
+    bytes.len()
+}
+
+/// Adds the bytes to the line, but none past `kept`.
+fn push_up_to(line: &mut Vec<u8>, bytes: &[u8], kept: usize) -> Result<(), AllocError>
+    requires { vec_len line.old ≤ kept }
+    ensures front { OnOk result (line.new.items ≡ take kept (line.old.items ++ bytes.now)) }
+    ensures fits { vec_len line.new ≤ kept }
+{
+    let room = kept - line.len();
+    line.extend_from_slice(&bytes[..room.min(bytes.len())])?;
+    Ok(())
+}

@@ -1,0 +1,11 @@
+-- What a query means, as plain data.
+pub mod Scopes
+pub mod Reach
+pub mod Formulas
+pub mod SkipRules
+pub mod Definitions
+pub mod QueryView
+-- What each query meets.
+pub mod Kinds
+pub mod Allowed
+pub mod Sound

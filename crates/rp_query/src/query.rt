@@ -1,0 +1,194 @@
+//! Queries.
+
+ghost use Rattle.rp_query.specs.Sound.{IsSound};
+
+use crate::plan::{Condition, Expr, Total, Variables};
+use rp_value::{Table, Text};
+use rp_words::Pattern;
+use std::alloc::{AllocError, Global};
+use std::rc::Rc;
+
+/// Which rows a match gives.
+#[derive(Clone, Copy, Debug, PartialEq, Eq)]
+pub enum RowsPerMatch {
+    /// ONE ROW PER MATCH, also where nothing is written.
+    One,
+    /// ALL ROWS PER MATCH, alone or with SHOW EMPTY MATCHES.
+    AllShowEmpty,
+    /// ALL ROWS PER MATCH OMIT EMPTY MATCHES.
+    AllOmitEmpty,
+    /// ALL ROWS PER MATCH WITH UNMATCHED ROWS.
+    AllWithUnmatched,
+}
+
+/// A column by which rows are ordered.
+#[derive(Clone, Copy, Debug, PartialEq, Eq)]
+pub struct OrderColumn {
+    /// Its number, from 1.
+    pub column: usize,
+    /// Whether greater values come first.
+    pub descending: bool,
+}
+
+/// Where the next search starts after a match, with names resolved.
+#[derive(Debug, Drop)]
+pub enum SkipTo {
+    PastLastRow,
+    NextRow,
+    /// The first row of these variables.
+    First(Variables),
+    /// The last row of these variables.
+    Last(Variables),
+}
+
+/// What is computed for a match, with names resolved.
+#[derive(Debug, Drop)]
+pub struct Plan {
+    /// The measures, in text order.
+    pub measures: Vec<Expr>,
+    /// Which rows a match gives.
+    pub rows: RowsPerMatch,
+    /// Where the next search starts.
+    pub skip: SkipTo,
+    /// The conditions of DEFINE, in text order.
+    pub conditions: Vec<Condition>,
+    /// For each pattern variable the place of its condition, from 0; none: it admits every row.
+    pub definitions: Vec<Option<usize>>,
+    /// What is kept of the rows for navigation and aggregates, which name an entry by its place.
+    pub totals: Rc<Vec<Total>>,
+}
+
+/// What a query is made of, as contracts see it.
+#[derive(Debug, Drop)]
+pub struct QueryData {
+    /// The text of the clause.
+    pub text: Text,
+    pub table: Table,
+    /// The row pattern, its variables numbered by first appearance.
+    pub pattern: Pattern,
+    /// The names of the output columns.
+    pub output: Vec<Text>,
+    /// The greatest offset of PREV, 0 where there is none.
+    pub reach: u64,
+    /// The columns of PARTITION BY, from 1.
+    pub partition: Vec<usize>,
+    /// The columns of ORDER BY.
+    pub order: Vec<OrderColumn>,
+    pub plan: Plan,
+}
+
+/// A clause that was checked against a table, its names resolved. A further owner costs a count.
+#[derive(Debug, Drop)]
+pub struct Query {
+    parts: Rc<QueryData>,
+    ghost sound: { IsSound parts.value },
+}
+
+impl Plan {
+    ghost use Rattle.std.specs.Prelude.{◌≡◌, option_map};
+    ghost use Rattle.rp_query.specs.Definitions.{definition_of};
+
+    /// The condition of the pattern variable of this number; none: it admits every row.
+    pub fn definition(&self, variable: usize) -> Option<&Condition>
+        ensures { option_map (λ c. c.now) result ≡ definition_of self.now variable }
+    {
+        let place = self.definitions.as_slice().get(variable)?;
+        let place = (*place)?;
+        self.conditions.as_slice().get(place)
+    }
+}
+
+#[tactic(auto, unfolding(crate::specs::QueryView::data_of))]
+impl Query {
+    ghost use Rattle.std.specs.Prelude.{◌≡◌, IfOk, option_map};
+    ghost use Rattle.rp_query.specs.Definitions.{definition_of};
+    ghost use Rattle.rp_query.specs.QueryView.{data_of};
+
+    /// The query of this data.
+    pub fn new(alloc: Global, parts: QueryData) -> Result<Query, AllocError>
+        requires { IsSound parts }
+        ensures { IfOk result (λ query. data_of query ≡ parts) }
+    {
+        let parts = Rc::new(alloc, parts)?;
+        Ok(Query { parts })
+    }
+
+    /// The text of the clause, as it was compiled.
+    pub fn text(&self) -> &Text
+        ensures { result.now ≡ (data_of self.now).text }
+    {
+        &self.parts.text
+    }
+
+    /// The table that it was checked against.
+    pub fn table(&self) -> &Table
+        ensures { result.now ≡ (data_of self.now).table }
+    {
+        &self.parts.table
+    }
+
+    /// The row pattern. Its variables are numbered from 0 by first appearance.
+    pub fn pattern(&self) -> &Pattern
+        ensures { result.now ≡ (data_of self.now).pattern }
+    {
+        &self.parts.pattern
+    }
+
+    /// The names of the output columns, in order.
+    pub fn output(&self) -> &[Text]
+        ensures { result.now ≡ (data_of self.now).output.items }
+    {
+        self.parts.output.as_slice()
+    }
+
+    /// The greatest offset of PREV, 0 where there is none: so many rows before a match may be read.
+    pub fn reach(&self) -> u64
+        ensures { result ≡ (data_of self.now).reach }
+    {
+        self.parts.reach
+    }
+
+    /// The columns of PARTITION BY, by number from 1.
+    pub fn partition(&self) -> &[usize]
+        ensures { result.now ≡ (data_of self.now).partition.items }
+    {
+        self.parts.partition.as_slice()
+    }
+
+    /// The columns of ORDER BY, by number from 1, each with its direction.
+    pub fn order(&self) -> &[OrderColumn]
+        ensures { result.now ≡ (data_of self.now).order.items }
+    {
+        self.parts.order.as_slice()
+    }
+
+    /// The measures, rows per match, the skip rule and the variables' definitions.
+    pub fn plan(&self) -> &Plan
+        ensures plan { result.now ≡ (data_of self.now).plan }
+        ensures sound { IsSound (data_of self.now) }
+    {
+        &self.parts.plan
+    }
+
+    /// The condition that DEFINE gives the pattern variable of this number; none: it admits every row.
+    pub fn definition(&self, variable: usize) -> Option<&Condition>
+        ensures { option_map (λ c. c.now) result ≡ definition_of (data_of self.now).plan variable }
+    {
+        self.parts.plan.definition(variable)
+    }
+
+    /// What is kept of the rows for navigation and aggregates.
+    pub fn totals(&self) -> &Rc<Vec<Total>>
+        ensures { result.now ≡ (data_of self.now).plan.totals }
+    {
+        &self.parts.plan.totals
+    }
+
+    /// An equal query: a further owner of the same data. The error says that the count of owners is full.
+    pub fn share(&self) -> Result<Query, AllocError>
+        ensures { IfOk result (λ query. data_of query ≡ data_of self.now) }
+    {
+        let parts = self.parts.clone()?;
+        Ok(Query { parts })
+    }
+}

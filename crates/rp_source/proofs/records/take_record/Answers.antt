@@ -1,7 +1,0 @@
-use Rattle.csv.specs.Records.{fields_of}
-use Rattle.rp_source.proofs.Takes.{takes}
-use Rattle.rp_source.proofs.records.take_record.Goals as goal
-
-pub returns : goal.returns
-returns c = λ text before at.
-    takes text before c.args.reader.now c.read_byte_record.new.self (fields_of c.read_byte_record.new.row) c.in-Ok.found at (c.in-Ok.ensures.reads at.trims at.ready) (c.in-Ok.ensures.ready at.trims)
