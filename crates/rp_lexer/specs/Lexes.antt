@@ -54,13 +54,3 @@ LexesUpTo text at (token ∷ tokens) end = IsGap text at token.start × IsToken 
 -- the tokens are those of the text
 abbrev pub Lexes : List ℕ → List Token → Type 0
 Lexes text tokens = LexesUpTo text 0 tokens (length text)
-
--- the first of the tokens is of the kind
-abbrev pub FirstIsOfKind : TokenKind → List Token → Type 0
-FirstIsOfKind kind [] = ⊥
-FirstIsOfKind kind (token ∷ tokens) = token.kind ≡ kind
-
--- the offset of the first of the tokens, or of the end of the text
-abbrev pub next_offset : List ℕ → List Token → ℕ
-next_offset text [] = length text
-next_offset text (token ∷ tokens) = token.start

@@ -5,16 +5,18 @@
 //! B, AS, the name P, `<` and the number 5:
 //!
 //!     let tokens = lex(alloc, text)?;
-//!     if let Some((token, rest)) = next_if(&tokens, TokenKind::Name) {
-//!         let name = name_of(alloc, text, token)?;
+//!     match tokens.split_first() {
+//!         Some((first, rest)) if first.kind == TokenKind::Name => {
+//!             let name = name_of(alloc, text, *first)?;
+//!         }
+//!         _ => {}
 //!     }
 //!
-//! That a token stands in the text is a clause of `lex`, and `next` and `next_if` hand it on with the token and with the
-//! rest, so that a parser may ask for the meaning of each token that it comes to. What is a token, a fault and a meaning is
-//! said in `specs/`: Forms and Spelling, Lexes, Faults, Meanings.
+//! That each token stands in the text is a clause of `lex`, and its parts keep it, so that a parser may ask for the meaning of
+//! each token that it comes to. What is a token, a fault and a meaning is said in `specs/`: Forms and Spelling, Lexes,
+//! Faults, Meanings.
 #![tactic(auto)]
 
-mod cursor;
 mod fault;
 mod gap;
 mod kind;
@@ -22,11 +24,8 @@ mod laws;
 mod lexer;
 mod meaning;
 mod scan;
-#[cfg(test)]
-mod tests;
 mod token;
 
-pub use cursor::{next, next_if, next_offset};
 pub use fault::LexFault;
 pub use kind::{Keyword, Mark, TokenKind};
 pub use laws::law_lexes;

@@ -1,11 +1,9 @@
 //! Texts with their tokens, their faults and what those tokens mean.
-ghost use Rattle.std.specs.Prelude.{◌≡◌, ◌⊎◌, ◌^◌, ◌<◌, All, IfOk, IfSome};
+ghost use Rattle.std.specs.Prelude.{◌≡◌, ◌⊎◌, All, IfOk};
 ghost use Rattle.rp_lexer.specs.Lexes.{IsToken};
 
-use crate::{
-    Keyword, LexFault, Mark, Token, TokenKind, lex, name_of, next, next_if, next_offset, number_of,
-    text_of, upper_case_name,
-};
+use rp_lexer::{Keyword, LexFault, Mark, Token, TokenKind, lex, name_of, number_of, text_of};
+use rp_value::upper_case_name;
 use std::alloc::{AllocError, Global};
 use std::process::Abort;
 use std::test::Fail;
@@ -327,44 +325,6 @@ fn refused_meanings(rt: HostRuntime) -> Result<(), Fail> {
     Ok(())
 }
 
-/// The bound of a text such as `LAST 5`, as a caller of this crate reads it: each token that is handed on still stands in
-/// the text, so that it may be asked for its meaning. None for any other text.
-fn last_bound(alloc: Global, text: &str) -> Result<Option<u64>, LexFault>
-    ensures small { IfOk result (λ found. IfSome found (λ bound. bound < 2 ^ 63)) }
-{
-    let tokens = lex(alloc, text)?;
-    let Some((_, rest)) = next_if(&tokens, TokenKind::Keyword(Keyword::Last)) else {
-        return Ok(None);
-    };
-    let Some((token, rest)) = next_if(rest, TokenKind::Number) else {
-        return Ok(None);
-    };
-    if next(rest).is_some() {
-        return Ok(None);
-    }
-    Ok(Some(number_of(text, token)))
-}
-
-#[test]
-fn tokens_one_after_another(rt: HostRuntime) -> Result<(), Fail> {
-    let alloc = rt.alloc();
-    let bounds = [
-        ("last 5", Some(5)),
-        ("last x", None),
-        ("last 5 5", None),
-        ("5", None),
-    ];
-    for (text, bound) in bounds {
-        assert_eq!(rt; last_bound(alloc, text)?, bound, "{text}");
-    }
-    let text = " a b";
-    let tokens = lexed(alloc, text)?;
-    assert_eq!(rt; next_offset(text, &tokens), 1);
-    assert_eq!(rt; next_offset(text, &tokens[1..]), 3);
-    assert_eq!(rt; next_offset(text, &tokens[2..]), 4);
-    Ok(())
-}
-
 /// Whether the upper-case form of the text is this one, or none where that is empty. A call that is refused is made again.
 fn is_upper_case(alloc: Global, text: &str, form: &str) -> Result<bool, AllocError> {
     let found = upper_case_name(alloc, text).or_else(|_| upper_case_name(alloc, text))?;
@@ -374,24 +334,31 @@ fn is_upper_case(alloc: Global, text: &str, form: &str) -> Result<bool, AllocErr
     }
 }
 
-#[test]
-fn upper_case_names(rt: HostRuntime) -> Result<(), Fail> {
-    let alloc = rt.alloc();
-    let forms = [
-        ("aB_1", "AB_1"),
-        ("order", "ORDER"),
-        ("_", "_"),
-        ("", ""),
-        ("1a", ""),
-        ("a b", ""),
-        ("a$", ""),
-        ("aé", ""),
-        ("\"a\"", ""),
-    ];
+/// Asserts that each text has the upper-case form beside it, or none where that is empty.
+fn check_forms(rt: &impl Abort, alloc: Global, forms: &[(&str, &str)]) -> Result<(), Fail> {
     for (text, form) in forms {
         assert!(rt; is_upper_case(alloc, text, form)?, "{text}");
     }
     Ok(())
+}
+
+#[test]
+fn upper_case_names(rt: HostRuntime) -> Result<(), Fail> {
+    check_forms(
+        &rt,
+        rt.alloc(),
+        &[
+            ("aB_1", "AB_1"),
+            ("order", "ORDER"),
+            ("_", "_"),
+            ("", ""),
+            ("1a", ""),
+            ("a b", ""),
+            ("a$", ""),
+            ("aé", ""),
+            ("\"a\"", ""),
+        ],
+    )
 }
 
 #[test]
