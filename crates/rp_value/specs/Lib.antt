@@ -1,11 +1,13 @@
-pub mod Arithmetic
-pub mod Blocks
+-- What contracts of public calls cite: values, names, sums, truth values, tables, rows and lists of rows.
 pub mod Compared
-pub mod Names
 pub mod Order
-pub mod RowLists
-pub mod Rows
+pub mod Names
+pub mod Arithmetic
 pub mod Sums
-pub mod Tables
 pub mod Truth
 pub mod TruthLaws
+pub mod Tables
+pub mod Rows
+pub mod RowLists
+-- The inside of a list of rows.
+pub mod Blocks

@@ -44,6 +44,3 @@ pub use table::{Column, MAX_NAME_LEN, Table, TableFault};
 pub use text::Text;
 pub use truth::{Judged, Tri, law_told_stays};
 pub use value::{Kind, Value, law_value_order};
-
-#[cfg(test)]
-mod tests;

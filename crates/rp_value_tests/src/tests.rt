@@ -2,9 +2,14 @@
 ghost use Rattle.std.specs.Prelude.{◌≡◌, [], ◌∷◌, IfOk, IfErr, string_bytes};
 ghost use Rattle.rp_value.specs.Tables.{kinds_of};
 
-use super::*;
+use rp_value::{
+    Cells, Comparison, Judged, Kind, Row, RowFault, RowList, RunningSum, Table, TableFault, Text,
+    Tri, Value, check_cells, is_name_byte, law_sum, law_told_stays, law_value_order, same_values,
+    total, upper_case_name,
+};
 use std::alloc::{AllocError, Global};
 use std::cmp::Ordering;
+use std::process::Abort;
 use std::test::Fail;
 
 const LEAST: i64 = -9_223_372_036_854_775_808;
@@ -45,9 +50,17 @@ fn refusal(alloc: Global, name: &str) -> Result<Option<TableFault>, TableFault> 
     Ok(fault)
 }
 
-/// The order of two texts.
-fn order(alloc: Global, left: &str, right: &str) -> Result<Option<Ordering>, AllocError> {
-    Ok(text(alloc, left)?.compare(&text(alloc, right)?))
+/// Whether texts compare so.
+fn compare_so(
+    rt: &impl Abort,
+    alloc: Global,
+    texts: &[(&str, &str, Ordering)],
+) -> Result<(), Fail> {
+    for (left, right, expected) in texts {
+        let order = text(alloc, left)?.compare(&text(alloc, right)?);
+        assert_eq!(rt; order, Some(*expected), "{left} {right}");
+    }
+    Ok(())
 }
 
 #[test]
@@ -64,15 +77,30 @@ fn comparisons(rt: HostRuntime) -> Result<(), Fail> {
         ("z", "é", Ordering::Less),
         ("é", "é", Ordering::Equal),
     ];
-    for (left, right, expected) in texts {
-        assert_eq!(rt; order(alloc, left, right)?, Some(expected));
+    compare_so(&rt, alloc, &texts)
+}
+
+/// What a comparison is with a lesser, an equal and a greater value on its left.
+type Compared = (Comparison, Tri, Tri, Tri);
+
+/// Whether comparisons of numbers and texts have these truth values, and comparisons with null or across kinds none.
+fn are_compared_so(rt: &impl Abort, word: &Value, comparisons: &[Compared]) {
+    let five = Value::Int(5);
+    let null = Value::Null;
+    for (comparison, less, equal, greater) in comparisons {
+        let comparison = *comparison;
+        assert_eq!(rt; Value::Int(-5).comparison_truth(comparison, &five), *less);
+        assert_eq!(rt; five.comparison_truth(comparison, &five), *equal);
+        assert_eq!(rt; word.comparison_truth(comparison, word), *equal);
+        assert_eq!(rt; five.comparison_truth(comparison, &Value::Int(4)), *greater);
+        assert_eq!(rt; five.comparison_truth(comparison, &null), Tri::Unknown);
+        assert_eq!(rt; null.comparison_truth(comparison, &null), Tri::Unknown);
+        assert_eq!(rt; word.comparison_truth(comparison, &five), Tri::Unknown);
     }
-    Ok(())
 }
 
 #[test]
 fn judged_comparisons(rt: HostRuntime) -> Result<(), Fail> {
-    let alloc = rt.alloc();
     let comparisons = [
         (Comparison::Equal, Tri::False, Tri::True, Tri::False),
         (Comparison::NotEqual, Tri::True, Tri::False, Tri::True),
@@ -81,23 +109,7 @@ fn judged_comparisons(rt: HostRuntime) -> Result<(), Fail> {
         (Comparison::Greater, Tri::False, Tri::False, Tri::True),
         (Comparison::GreaterOrEqual, Tri::False, Tri::True, Tri::True),
     ];
-    let five = Value::Int(5);
-    let word = text(alloc, "5")?;
-    for (comparison, less, equal, greater) in comparisons {
-        assert_eq!(rt; Value::Int(-5).comparison_truth(comparison, &five), less);
-        assert_eq!(rt; five.comparison_truth(comparison, &five), equal);
-        assert_eq!(rt; word.comparison_truth(comparison, &word), equal);
-        assert_eq!(rt; five.comparison_truth(comparison, &Value::Int(4)), greater);
-        assert_eq!(rt;
-            five.comparison_truth(comparison, &Value::Null),
-            Tri::Unknown
-        );
-        assert_eq!(rt;
-            Value::Null.comparison_truth(comparison, &Value::Null),
-            Tri::Unknown
-        );
-        assert_eq!(rt; word.comparison_truth(comparison, &five), Tri::Unknown);
-    }
+    are_compared_so(&rt, &text(rt.alloc(), "5")?, &comparisons);
     Ok(())
 }
 
@@ -133,6 +145,19 @@ fn number(number: Option<i64>) -> Value {
     number.map_or(Value::Null, Value::Int)
 }
 
+/// Two numbers with their sum, difference and product, None where that is null.
+type Computed = (i64, i64, Option<i64>, Option<i64>, Option<i64>);
+
+fn are_computed_so(rt: &impl Abort, numbers: &[Computed]) {
+    for (left, right, sum, difference, product) in numbers {
+        let left = Value::Int(*left);
+        let right = Value::Int(*right);
+        assert_eq!(rt; left.plus(&right), number(*sum));
+        assert_eq!(rt; left.minus(&right), number(*difference));
+        assert_eq!(rt; left.times(&right), number(*product));
+    }
+}
+
 #[test]
 fn arithmetic(rt: HostRuntime) -> Result<(), Fail> {
     let numbers = [
@@ -141,13 +166,7 @@ fn arithmetic(rt: HostRuntime) -> Result<(), Fail> {
         (LEAST, 1, Some(LEAST + 1), None, Some(LEAST)),
         (5, -7, Some(-2), Some(12), Some(-35)),
     ];
-    for (left, right, sum, difference, product) in numbers {
-        let left = Value::Int(left);
-        let right = Value::Int(right);
-        assert_eq!(rt; left.plus(&right), number(sum));
-        assert_eq!(rt; left.minus(&right), number(difference));
-        assert_eq!(rt; left.times(&right), number(product));
-    }
+    are_computed_so(&rt, &numbers);
     assert_eq!(rt; Value::Int(5).minus(&Value::Null), Value::Null);
     assert_eq!(rt; Value::Int(5).plus(&text(rt.alloc(), "1")?), Value::Null);
     Ok(())
@@ -174,6 +193,16 @@ fn sums_are_exact(rt: HostRuntime) -> Result<(), Fail> {
     Ok(())
 }
 
+/// Two truth values with their AND and their OR.
+fn are_joined_so(rt: &impl Abort, table: &[(Tri, Tri, Tri, Tri)]) {
+    for (left, right, least, greatest) in table {
+        assert_eq!(rt; left.and(*right), *least);
+        assert_eq!(rt; right.and(*left), *least);
+        assert_eq!(rt; left.or(*right), *greatest);
+        assert_eq!(rt; right.or(*left), *greatest);
+    }
+}
+
 #[test]
 fn three_truth_values(rt: HostRuntime) -> Result<(), Fail> {
     let table = [
@@ -184,16 +213,21 @@ fn three_truth_values(rt: HostRuntime) -> Result<(), Fail> {
         (Tri::Unknown, Tri::False, Tri::False, Tri::Unknown),
         (Tri::False, Tri::False, Tri::False, Tri::False),
     ];
-    for (left, right, least, greatest) in table {
-        assert_eq!(rt; left.and(right), least);
-        assert_eq!(rt; right.and(left), least);
-        assert_eq!(rt; left.or(right), greatest);
-        assert_eq!(rt; right.or(left), greatest);
-    }
+    are_joined_so(&rt, &table);
     assert_eq!(rt; Tri::True.not(), Tri::False);
     assert_eq!(rt; Tri::False.not(), Tri::True);
     assert_eq!(rt; Tri::Unknown.not(), Tri::Unknown);
     Ok(())
+}
+
+/// Two judgements with their AND and their OR.
+fn are_judged_so(rt: &impl Abort, table: &[(Judged, Judged, Judged, Judged)]) {
+    for (left, right, both, either) in table {
+        assert_eq!(rt; left.and(*right), *both);
+        assert_eq!(rt; right.and(*left), *both);
+        assert_eq!(rt; left.or(*right), *either);
+        assert_eq!(rt; right.or(*left), *either);
+    }
 }
 
 #[test]
@@ -214,17 +248,48 @@ fn a_decided_side_decides(rt: HostRuntime) -> Result<(), Fail> {
         (no, open, no, open),
         (open, open, open, open),
     ];
-    for (left, right, both, either) in table {
-        assert_eq!(rt; left.and(right), both);
-        assert_eq!(rt; right.and(left), both);
-        assert_eq!(rt; left.or(right), either);
-        assert_eq!(rt; right.or(left), either);
-    }
+    are_judged_so(&rt, &table);
     assert_eq!(rt; yes.not(), no);
     assert_eq!(rt; no.not(), yes);
     assert_eq!(rt; unknown.not(), unknown);
     assert_eq!(rt; open.not(), open);
     Ok(())
+}
+
+/// Whether the upper-case form of each text is the other one, or there is none where that is empty. A call that is refused is
+/// made again.
+fn have_upper_case(rt: &impl Abort, alloc: Global, forms: &[(&str, &str)]) -> Result<(), Fail> {
+    for (text, form) in forms {
+        let found = upper_case_name(alloc, text).or_else(|_| upper_case_name(alloc, text))?;
+        let same = match found {
+            Some(name) => name.as_str() == *form,
+            None => form.is_empty(),
+        };
+        assert!(rt; same, "{text}");
+    }
+    Ok(())
+}
+
+#[test]
+fn upper_case_names(rt: HostRuntime) -> Result<(), Fail> {
+    let forms = [
+        ("aB_1", "AB_1"),
+        ("order", "ORDER"),
+        ("_", "_"),
+        ("", ""),
+        ("1a", ""),
+        ("a b", ""),
+        ("a$", ""),
+        ("aé", ""),
+        ("\"a\"", ""),
+    ];
+    have_upper_case(&rt, rt.alloc(), &forms)
+}
+
+#[test]
+fn bytes_of_names(rt: HostRuntime) {
+    assert!(rt; b"azAZ09_".iter().all(|byte| is_name_byte(*byte)));
+    assert!(rt; !b"@[`{/: $-.\xc3".iter().any(|byte| is_name_byte(*byte)));
 }
 
 #[test]
@@ -317,19 +382,24 @@ fn rows(rt: HostRuntime) -> Result<(), Fail> {
     Ok(())
 }
 
+/// Whether the cells of a row fit columns of these kinds so, and never fewer columns.
+fn are_checked_so(rt: &impl Abort, cells: &[Value], kinds: &[([Kind; 2], Result<(), RowFault>)]) {
+    for (kinds, expected) in kinds {
+        assert_eq!(rt; check_cells(kinds, cells), *expected);
+        assert_eq!(rt; check_cells(&kinds[..1], cells), Err(RowFault::Width));
+    }
+}
+
 #[test]
 fn cells_of_kinds(rt: HostRuntime) -> Result<(), Fail> {
-    let alloc = rt.alloc();
-    let cells = sale(alloc)?;
     let kinds = [
         ([Kind::Text, Kind::Int], Ok(())),
         ([Kind::Text, Kind::Text], Err(RowFault::Kind(2))),
         ([Kind::Int, Kind::Text], Err(RowFault::Kind(1))),
     ];
-    for (kinds, expected) in kinds {
-        assert_eq!(rt; check_cells(&kinds, &cells), expected);
-        assert_eq!(rt; check_cells(&kinds[..1], &cells), Err(RowFault::Width));
-    }
+    let cells = sale(rt.alloc())?;
+    assert_eq!(rt; cells.len(), 2);
+    are_checked_so(&rt, &cells, &kinds);
     assert_eq!(rt; check_cells(&[], &[]), Ok(()));
     Ok(())
 }
@@ -458,12 +528,21 @@ fn refused_texts(rt: HostRuntime) -> Result<(), Fail> {
     Ok(())
 }
 
+/// Calls of the laws do nothing.
+#[test]
+fn laws(_rt: HostRuntime) {
+    law_sum();
+    law_told_stays();
+    law_value_order();
+}
+
 #[test]
 fn refused_keys(rt: HostRuntime) -> Result<(), Fail> {
     let alloc = rt.alloc();
     let key = Cells::new(sale(alloc)?);
     let copy = key.share(alloc).or_else(|_| key.share(alloc))?;
     assert!(rt; copy.same(&key));
+    assert!(rt; same_values(copy.as_slice(), key.as_slice()));
     assert_eq!(rt; copy.into_vec(), key.into_vec());
     Ok(())
 }
@@ -474,9 +553,13 @@ fn refused_tables_and_rows(rt: HostRuntime) -> Result<(), Fail> {
     let table = sales(alloc).or_else(|_| sales(alloc))?;
     let copy = table.share()?;
     assert_eq!(rt; copy, table);
+    assert!(rt; copy.same(&table));
     let row = row_of(alloc, &copy).or_else(|_| row_of(alloc, &copy))?;
     let twin = row.share()?;
     assert!(rt; twin.same(&row));
+    assert_eq!(rt; twin, row);
+    assert!(rt; row.cell(1).is_some_and(|cell| Kind::Text.admits(cell)));
+    assert!(rt; row.cell(2).is_some_and(|cell| !Kind::Text.admits(cell)));
     Ok(())
 }
 
