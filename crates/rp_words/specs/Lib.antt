@@ -1,17 +1,18 @@
--- What contracts of public calls cite: the rules of row patterns, and the list of words.
+-- What contracts of public calls cite: forms, the rules of row patterns, the list of words and its laws.
+pub mod PatternForm
+pub mod Builders
+pub mod Bounds
+pub mod Variables
+pub mod SameTree
 pub mod Mapping
-pub mod Numbers
 pub mod Maps
 pub mod Readings
 pub mod Words
+pub mod Turns
 pub mod Later
 pub mod WordLaws
 pub mod LabelLaws
-pub mod Variables
-pub mod Bounds
-pub mod Builders
-pub mod Permutations
-pub mod PatternForm
-pub mod Turns
 pub mod Movement
-pub mod SameTree
+pub mod Permutations
+-- A bound that contracts of the crates above cite.
+pub mod Numbers
