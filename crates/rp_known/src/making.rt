@@ -12,7 +12,7 @@ ghost use Rattle.rp_known.specs.Plans.{leading, trailing, row_cells, values_of};
 use crate::cells::{add_columns, add_nulls, add_order, add_others, shows_all};
 use crate::place::Place;
 use rp_eval::{Cell, Rows, Totals, View, measure};
-use rp_query::{Expr, Query};
+use rp_query::{Expr, Item, Query};
 use rp_value::{Cells, Value};
 use rp_words::Label;
 use std::alloc::{AllocError, Global};

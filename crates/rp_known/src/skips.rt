@@ -3,7 +3,7 @@ ghost use Rattle.std.specs.Prelude.{◌≡◌, ◌+◌, ◌-◌, ◌^◌, ◌≤
 ghost use Rattle.rp_query.specs.Scopes.{includes};
 ghost use Rattle.rp_known.specs.Skips.{is_of, first_place, last_place, skipped, next_start};
 
-use rp_query::{SkipTo, Variables};
+use rp_query::{SkipFault, SkipTo, Variables};
 use rp_words::Label;
 
 /// The row at which the next search starts, after a match from the row `start` with these labels.
