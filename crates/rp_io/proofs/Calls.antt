@@ -23,5 +23,7 @@ UsesCalls-trans a b c old now new first second =
 pub UsesCalls-at_most : (before after old new : ℕ) → UsesCalls before after old new → MakesCalls 0 before old new
 UsesCalls-at_most before after old new uses = (uses.0, omega arith, omega arith, uses.2)
 
-pub UsesCalls-all : (before after old new : ℕ) → after ≡ 0 → UsesCalls before after old new → MakesCalls before before old new
-UsesCalls-all before after old new none uses = (uses.0, omega arith, omega arith, uses.2)
+pub UsesCalls-used : (before after old new : ℕ) → after ≡ 0 → UsesCalls before after old new → new ≡ after_calls before old
+UsesCalls-used before after old new none uses =
+    let e : uses.0 ≡ before = let all = uses.1 in omega arith in
+    uses.2 ∙ ap (λ n. after_calls n old) e

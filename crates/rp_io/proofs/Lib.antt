@@ -3,3 +3,4 @@ pub mod Giving
 pub mod Cutting
 pub mod Told
 pub mod Calls
+pub mod SoFar

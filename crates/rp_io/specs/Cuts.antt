@@ -1,14 +1,13 @@
 -- What is cut off the bytes that were read last.
 use Rattle.std.specs.Prelude.{◌≡◌, ◌<◌, ◌≤◌, List, ℕ, [], ◌∷◌, ◌++◌, take, Bool, MatchBool}
-use Rattle.rp_io.specs.Lines.{IsLfFree}
+use Rattle.rp_io.specs.Lines.{IsLfFree, line_feed}
 use Rattle.rp_io.specs.Pending.{pending_of}
 use Rattle.rp_io.specs.declared.lines.Lines.{Lines}
-use Rattle.rp_io.specs.declared.lines.TheConstants.{LF}
 
 -- the bytes up to a LF are put behind those of the line, and the LF is passed over
 abbrev pub CutsLine : Lines → Lines → List ℕ → List ℕ → Type 0
 CutsLine old new line line' =
-    (part : List ℕ) × IsLfFree part × (pending_of old ≡ part ++ LF ∷ pending_of new) × (line' ≡ take old.kept (line ++ part))
+    (part : List ℕ) × IsLfFree part × (pending_of old ≡ part ++ line_feed ∷ pending_of new) × (line' ≡ take old.kept (line ++ part))
 
 -- all bytes are put behind those of the line, and none is a LF
 abbrev pub CutsRest : Lines → Lines → List ℕ → List ℕ → Type 0

@@ -15,11 +15,15 @@
 //! ```
 //!
 //! What a line is, is said by `specs/Lines`; what calls do to a device's bytes and counts by `specs/Devices`, `Counts` and
-//! `Telling`.
+//! `Telling`; and what all reads of a command's run did, by how it ended, by `specs/Reading`.
+//!
+//! `MemoryInput` and `MemoryOutput` are devices over bytes, for tests: one call of theirs can be made to fail.
 #![tactic(auto)]
 
 mod lines;
+mod memory;
 mod port;
 
 pub use lines::{LineFault, Lines};
+pub use memory::{MemoryInput, MemoryOutput};
 pub use port::{Intake, Outlet, Port, READS, ReadFailed, WriteFailed, write_all, write_block};

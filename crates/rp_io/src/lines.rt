@@ -1,7 +1,7 @@
 //! The lines of what is read.
 ghost use Rattle.std.specs.Prelude.{◌≡◌, ◌+◌, ◌<◌, ◌≤◌, ◌∷◌, ◌++◌, length, take, drop, vec_len, OnOk};
-ghost use Rattle.rp_io.specs.Lines.{IsLfFree};
-ghost use Rattle.rp_io.specs.declared.lines.TheConstants.{CHUNK, LF};
+ghost use Rattle.rp_io.specs.Lines.{IsLfFree, line_feed};
+ghost use Rattle.rp_io.specs.declared.lines.TheConstants.{CHUNK};
 
 use crate::port::Intake;
 use std::alloc::{AllocError, AllocFailed, Global};
@@ -24,7 +24,7 @@ pub enum LineFault {
 /// The most bytes that one call reads.
 const CHUNK: usize = 65_536;
 
-/// The byte that ends a line.
+/// The byte that ends a line, as `specs/Lines` has it.
 const LF: u8 = b'\n';
 
 /// Cuts what is read into lines. Of a long line only the first bytes are kept.
@@ -175,7 +175,7 @@ fn line_length(bytes: &[u8]) -> usize
     ensures within { result ≤ length bytes.now }
     ensures before { IsLfFree (take result bytes.now) }
     ensures found { result < length bytes.now →
-        bytes.now ≡ take result bytes.now ++ LF ∷ drop (result + 1) bytes.now }
+        bytes.now ≡ take result bytes.now ++ line_feed ∷ drop (result + 1) bytes.now }
 {
     for (index, byte) in bytes.iter().enumerate() {
         if *byte == LF {

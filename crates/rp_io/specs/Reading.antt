@@ -1,0 +1,54 @@
+-- What the calls of a reader did, by how the run that made them ended. Each command's run cites it, with how its own result tells
+-- the end: own.
+use Rattle.std.specs.Prelude.{◌≡◌, ◌⊎◌, ◌≤◌, ℕ, Bool, true, List, length, Option, IfSome}
+use Rattle.std.specs.Io.KnownBytes.{IsAtEnd}
+use Rattle.rp_io.specs.Counts.{raised}
+use Rattle.rp_io.specs.Devices.{MakesCalls, after_calls}
+use Rattle.rp_io.specs.declared.lines.LineFault.{LineFault}
+use Rattle.rp_io.specs.declared.lines.LineFault.TheVariants.{Read, TooManyReads, OutOfMemory}
+
+-- How a run's reads came to their end: the end of the input was read, a read failed, all reads that are allowed were made and another
+-- was due, or something else than reading ended the run, as a write that failed or want of memory.
+pub data Told : Type 0 where
+  Ended : Told
+  ReadFailed : Told
+  NoReadsLeft : Told
+  Other : Told
+
+-- how a fault of a line tells it
+abbrev pub line_told : LineFault → Told
+line_told Read = ReadFailed
+line_told TooManyReads = NoReadsLeft
+line_told OutOfMemory = Other
+
+-- One more read has failed where that is told, and else as many as before.
+abbrev pub FailureIsTold : Told → ℕ → ℕ → Type 0
+FailureIsTold Ended old new = new ≡ old
+FailureIsTold ReadFailed old new = new ≡ raised old
+FailureIsTold NoReadsLeft old new = new ≡ old
+FailureIsTold Other old new = new ≡ old
+
+-- Whether a read has told the end: yes where the end was read, as before where reading was cut short, and either where the run ended
+-- otherwise.
+abbrev pub EndOfReadsIsTold : Told → Bool → Bool → Type 0
+EndOfReadsIsTold Ended old new = new ≡ true
+EndOfReadsIsTold ReadFailed old new = new ≡ old
+EndOfReadsIsTold NoReadsLeft old new = new ≡ old
+EndOfReadsIsTold Other old new = (new ≡ true) ⊎ (new ≡ old)
+
+-- The reads of a run that was allowed so many: the reader's count of calls, its count of failures, whether its end was told, and what
+-- was still to come, each before and after.
+pub record ReadsWithin (reads : ℕ) (told : Told) (calls calls' failures failures' : ℕ) (ended ended' : Bool)
+    (remaining remaining' : Option (List ℕ)) : Type 0 where
+  -- no more reads were made than are allowed
+  pub within : MakesCalls 0 reads calls calls'
+  -- a failure is counted where it is told, and no other has come
+  pub failure : FailureIsTold told failures failures'
+  -- the end was told by a read where it is told
+  pub end : EndOfReadsIsTold told ended ended'
+  -- then nothing is still to come
+  pub nothing_left : told ≡ Ended → IsAtEnd remaining'
+  -- no reads are left only after as many as are allowed
+  pub all_made : told ≡ NoReadsLeft → calls' ≡ after_calls reads calls
+  -- and then each has given a byte at least, where the bytes are known
+  pub all_gave : told ≡ NoReadsLeft → IfSome remaining (λ input. reads ≤ length input)
