@@ -5,7 +5,7 @@ use Rattle.std.proofs.lemmas.Bool.Decides.{nat_tests}
 use Rattle.rp_value.specs.declared.value.Value.{Value}
 use Rattle.rp_feed.specs.declared.answer.Taken.TheVariants.{New, Repeat, Old}
 use Rattle.rp_feed.specs.declared.answer.FeedFault.TheVariants.{NumberRange, PastClose, Conflict, TooFar, CloseDiffers, CloseBelow}
-use Rattle.rp_feed.specs.declared.answer.TheConstants.{MAX_NUMBER, MAX_BEYOND}
+use Rattle.rp_feed.specs.Limits.{greatest_number, most_beyond}
 use Rattle.rp_feed.specs.Fed.{Fed, IsFeed, IsFront, IsOrdered, row_at, with_row, front_of, rows_from}
 use Rattle.rp_feed.specs.Slots.{Slots, held_from, leading, put_at}
 use Rattle.rp_feed.specs.Consistent.{IsConsistent, EndsBy}
@@ -22,11 +22,11 @@ due_held false later = refl
 
 -- a number that is in range, not above the close and not dropped
 pub answer_within : (same : List Value → List Value → Bool) (fed : Fed) (n : ℕ) (row : List Value)
-    → n ≢ 0 → n ≤ MAX_NUMBER → is_past fed.closed n ≡ false → fed.first ≤ n
-    → row_answer same fed n row ≡ held_answer (compared same (row_at fed.rows n) row) (cond (nat_lt (front_of fed + MAX_BEYOND) n) (Err TooFar) (Ok New))
+    → n ≢ 0 → n ≤ greatest_number → is_past fed.closed n ≡ false → fed.first ≤ n
+    → row_answer same fed n row ≡ held_answer (compared same (row_at fed.rows n) row) (cond (nat_lt (front_of fed + most_beyond) n) (Err TooFar) (Ok New))
 answer_within same fed n row nonzero small unpast kept =
     let a : eqb n 0 ≡ false = grind (arith, nat_tests) in
-    let b : nat_lt MAX_NUMBER n ≡ false = grind (arith, nat_tests) in
+    let b : nat_lt greatest_number n ≡ false = grind (arith, nat_tests) in
     let d : nat_lt n fed.first ≡ false = grind (arith, nat_tests) in
     rw (a, b, unpast, d) refl
 
@@ -40,7 +40,7 @@ module _ (first ready : ℕ) (slots : Slots) (closed : Option ℕ) (room : IsCon
   pub row-is : (n : ℕ) → first ≤ n → row_at (held_from first slots) n ≡ get_or slots (n - first) None
   row-is n h = let e : n ≡ first + (n - first) = omega arith in ap (row_at (held_from first slots)) e ∙ row_at-held first (n - first) slots
 
-  few : count_by (λ e. nat_lt (first - 1 + ready) e.0) (held_from first slots) ≤ MAX_BEYOND
+  few : count_by (λ e. nat_lt (first - 1 + ready) e.0) (held_from first slots) ≤ most_beyond
   few = let r = room.run in let m = room.least in let e = room.near in let b = few_beyond (first - 1 + ready) first slots (omega arith) in omega arith
 
   pub ordered : IsOrdered (fed_of first slots closed)
@@ -50,37 +50,37 @@ module _ (first ready : ℕ) (slots : Slots) (closed : Option ℕ) (room : IsCon
   is_feed = record {
     ordered = ordered;
     limit = (let f = front-is in let w = run_fits in let g = room.greatest in let l = room.least in omega arith);
-    few = subst (λ z. count_by (λ e. nat_lt z e.0) (held_from first slots) ≤ MAX_BEYOND) front-is few;
+    few = subst (λ z. count_by (λ e. nat_lt z e.0) (held_from first slots) ≤ most_beyond) front-is few;
   }
 
   pub is_front : (n : ℕ) → n ≡ first - 1 + ready → IsFront (fed_of first slots closed) n
   is_front n h = subst (λ z. IsFront (fed_of first slots closed) z) (sym (h ∙ front-is)) (front_runs (fed_of first slots closed) ordered)
 
-  module _ (same : List Value → List Value → Bool) (n : ℕ) (row : List Value) (nonzero : n ≢ 0) (small : n ≤ MAX_NUMBER) (unpast : is_past closed n ≡ false) (kept : first ≤ n) where
+  module _ (same : List Value → List Value → Bool) (n : ℕ) (row : List Value) (nonzero : n ≢ 0) (small : n ≤ greatest_number) (unpast : is_past closed n ≡ false) (kept : first ≤ n) where
     answer : compared same (get_or slots (n - first) None) row ≡ compared same (row_at (held_from first slots) n) row
     answer = ap (λ z. compared same z row) (sym (row-is n kept))
 
     pub held_row : (is : Bool) (later : Answer) → Some is ≡ compared same (get_or slots (n - first) None) row → held_answer (Some is) later ≡ row_answer same (fed_of first slots closed) n row
     held_row is later h =
-        ap (λ z. held_answer z (cond (nat_lt (front_of (fed_of first slots closed) + MAX_BEYOND) n) (Err TooFar) (Ok New))) (h ∙ answer)
+        ap (λ z. held_answer z (cond (nat_lt (front_of (fed_of first slots closed) + most_beyond) n) (Err TooFar) (Ok New))) (h ∙ answer)
         ∙ sym (answer_within same (fed_of first slots closed) n row nonzero small unpast kept)
 
     module _ (none : None ≡ compared same (get_or slots (n - first) None) row) where
-      reduced : cond (nat_lt (front_of (fed_of first slots closed) + MAX_BEYOND) n) (Err TooFar) (Ok New) ≡ row_answer same (fed_of first slots closed) n row
+      reduced : cond (nat_lt (front_of (fed_of first slots closed) + most_beyond) n) (Err TooFar) (Ok New) ≡ row_answer same (fed_of first slots closed) n row
       reduced =
-          ap (λ z. held_answer z (cond (nat_lt (front_of (fed_of first slots closed) + MAX_BEYOND) n) (Err TooFar) (Ok New))) (none ∙ answer)
+          ap (λ z. held_answer z (cond (nat_lt (front_of (fed_of first slots closed) + most_beyond) n) (Err TooFar) (Ok New))) (none ∙ answer)
           ∙ sym (answer_within same (fed_of first slots closed) n row nonzero small unpast kept)
 
-      pub too_far : ready + MAX_BEYOND ≤ n - first → Err TooFar ≡ row_answer same (fed_of first slots closed) n row
+      pub too_far : ready + most_beyond ≤ n - first → Err TooFar ≡ row_answer same (fed_of first slots closed) n row
       too_far h =
           let f = front-is in let l = room.least in
-          let t : nat_lt (front_of (fed_of first slots closed) + MAX_BEYOND) n ≡ true = grind (arith, nat_tests) in
+          let t : nat_lt (front_of (fed_of first slots closed) + most_beyond) n ≡ true = grind (arith, nat_tests) in
           sym (ap (λ z. cond z (Err TooFar) (Ok New)) t) ∙ reduced
 
-      pub new_row : n - first < ready + MAX_BEYOND → Ok New ≡ row_answer same (fed_of first slots closed) n row
+      pub new_row : n - first < ready + most_beyond → Ok New ≡ row_answer same (fed_of first slots closed) n row
       new_row h =
           let f = front-is in let l = room.least in
-          let t : nat_lt (front_of (fed_of first slots closed) + MAX_BEYOND) n ≡ false = grind (arith, nat_tests) in
+          let t : nat_lt (front_of (fed_of first slots closed) + most_beyond) n ≡ false = grind (arith, nat_tests) in
           sym (ap (λ z. cond z (Err TooFar) (Ok New)) t) ∙ reduced
 
       free : get_or slots (n - first) None ≡ None
@@ -103,7 +103,7 @@ module _ (first ready : ℕ) (slots : Slots) (closed : Option ℕ) (room : IsCon
       ends_by None next next' p m h = tt
       ends_by (Some count) next next' p m h = let a = h.0 in let b = h.1 in (grind (arith, nat_tests), b)
 
-      pub room_put : n - first < ready + MAX_BEYOND → IsConsistent first (leading (put_at (n - first) row slots)) (put_at (n - first) row slots) closed
+      pub room_put : n - first < ready + most_beyond → IsConsistent first (leading (put_at (n - first) row slots)) (put_at (n - first) row slots) closed
       room_put h =
           let len = length-put (n - first) row slots in
           let l = leading-put (n - first) row slots in
@@ -119,7 +119,7 @@ module _ (first ready : ℕ) (slots : Slots) (closed : Option ℕ) (room : IsCon
           }
 
   -- a close
-  module _ (count : ℕ) (small : count ≤ MAX_NUMBER) (fresh : closed ≡ None) where
+  module _ (count : ℕ) (small : count ≤ greatest_number) (fresh : closed ≡ None) where
     above-is : has_above (fed_of first slots closed) count ≡ nat_lt (count + 1) (first + length slots)
     above-is = go (nat_le first (count + 1)) refl
       where
@@ -134,7 +134,7 @@ module _ (first ready : ℕ) (slots : Slots) (closed : Option ℕ) (room : IsCon
 
     close_reduced : (b : Bool) → nat_lt (count + 1) (first + length slots) ≡ b → close_answer (fed_of first slots closed) count ≡ cond b (Err CloseBelow) (Ok New)
     close_reduced b h =
-        let t : nat_lt MAX_NUMBER count ≡ false = grind (arith, nat_tests) in
+        let t : nat_lt greatest_number count ≡ false = grind (arith, nat_tests) in
         rw t (ap (λ o. closed_answer o count (cond (has_above (fed_of first slots closed) count) (Err CloseBelow) (Ok New))) fresh
         ∙ ap (λ z. cond z (Err CloseBelow) (Ok New)) (above-is ∙ h))
 
@@ -182,9 +182,9 @@ kept_all first slots closed before h =
 -- ---- what New says
 
 pub new_is_due : (same : List Value → List Value → Bool) (fed : Fed) (n : ℕ) (row : List Value) → row_answer same fed n row ≡ Ok New → IsDue fed n
-new_is_due same fed n row h = go (eqb n 0) (nat_lt MAX_NUMBER n) (is_past fed.closed n) (nat_lt n fed.first) (row_at fed.rows n) (nat_lt (front_of fed + MAX_BEYOND) n) refl refl refl refl refl refl h
+new_is_due same fed n row h = go (eqb n 0) (nat_lt greatest_number n) (is_past fed.closed n) (nat_lt n fed.first) (row_at fed.rows n) (nat_lt (front_of fed + most_beyond) n) refl refl refl refl refl refl h
   where
-    go : (a b d e : Bool) (o : Option (List Value)) (f : Bool) → eqb n 0 ≡ a → nat_lt MAX_NUMBER n ≡ b → is_past fed.closed n ≡ d → nat_lt n fed.first ≡ e → row_at fed.rows n ≡ o → nat_lt (front_of fed + MAX_BEYOND) n ≡ f
+    go : (a b d e : Bool) (o : Option (List Value)) (f : Bool) → eqb n 0 ≡ a → nat_lt greatest_number n ≡ b → is_past fed.closed n ≡ d → nat_lt n fed.first ≡ e → row_at fed.rows n ≡ o → nat_lt (front_of fed + most_beyond) n ≡ f
         → cond (a || b) (Err NumberRange) (cond d (Err PastClose) (cond e (Ok Old) (held_answer (compared same o row) (cond f (Err TooFar) (Ok New))))) ≡ Ok New → IsDue fed n
     go true b d e o f i j k l m p q = absurd (cc)
     go false true d e o f i j k l m p q = absurd (cc)
@@ -205,9 +205,9 @@ new_is_due same fed n row h = go (eqb n 0) (nat_lt MAX_NUMBER n) (is_past fed.cl
     }
 
 pub new_close_is_due : (fed : Fed) (count : ℕ) → close_answer fed count ≡ Ok New → IsDueClose fed count
-new_close_is_due fed count h = go (nat_lt MAX_NUMBER count) fed.closed (has_above fed count) refl refl refl h
+new_close_is_due fed count h = go (nat_lt greatest_number count) fed.closed (has_above fed count) refl refl refl h
   where
-    go : (a : Bool) (o : Option ℕ) (b : Bool) → nat_lt MAX_NUMBER count ≡ a → fed.closed ≡ o → has_above fed count ≡ b
+    go : (a : Bool) (o : Option ℕ) (b : Bool) → nat_lt greatest_number count ≡ a → fed.closed ≡ o → has_above fed count ≡ b
         → cond a (Err NumberRange) (closed_answer o count (cond b (Err CloseBelow) (Ok New))) ≡ Ok New → IsDueClose fed count
     go true o b i j k h = absurd (cc)
     go false None true i j k h = absurd (cc)

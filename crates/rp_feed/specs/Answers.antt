@@ -6,7 +6,7 @@ use Rattle.rp_feed.specs.declared.answer.Taken.{Taken}
 use Rattle.rp_feed.specs.declared.answer.Taken.TheVariants.{New, Repeat, Old}
 use Rattle.rp_feed.specs.declared.answer.FeedFault.{FeedFault}
 use Rattle.rp_feed.specs.declared.answer.FeedFault.TheVariants.{NumberRange, PastClose, Conflict, TooFar, CloseDiffers, CloseBelow, OutOfMemory}
-use Rattle.rp_feed.specs.declared.answer.TheConstants.{MAX_NUMBER, MAX_BEYOND}
+use Rattle.rp_feed.specs.Limits.{greatest_number, most_beyond}
 use Rattle.rp_feed.specs.Fed.{Fed, IsFree, row_at, front_of}
 
 -- what is answered to a row or to a close: what it is, or why it is refused
@@ -33,11 +33,11 @@ held_answer (Some is_same) later = if is_same then Ok Repeat else Err Conflict
 -- (below `first`), that of a row that is held, too far above the front; else the row is New
 abbrev pub row_answer : (List Value → List Value → Bool) → Fed → ℕ → List Value → Answer
 row_answer same fed n row =
-    if n == 0 || nat_lt MAX_NUMBER n then Err NumberRange
+    if n == 0 || nat_lt greatest_number n then Err NumberRange
     else (if is_past fed.closed n then Err PastClose
     else (if nat_lt n fed.first then Ok Old
     else held_answer (compared same (row_at fed.rows n) row)
-    (if nat_lt (front_of fed + MAX_BEYOND) n then Err TooFar else Ok New)))
+    (if nat_lt (front_of fed + most_beyond) n then Err TooFar else Ok New)))
 
 -- the answer to a close by the count of an earlier one: it repeats that or differs from it; where there was none, the later rules
 -- answer
@@ -53,7 +53,7 @@ has_above fed n = nat_lt (n + 1) fed.first || list_any (λ e. nat_lt n e.0) fed.
 -- taken; else the close is New
 abbrev pub close_answer : Fed → ℕ → Answer
 close_answer fed count =
-    if nat_lt MAX_NUMBER count then Err NumberRange
+    if nat_lt greatest_number count then Err NumberRange
     else closed_answer fed.closed count (if has_above fed count then Err CloseBelow else Ok New)
 
 -- what an answer says of the row, want of memory aside: that says that the row would have been New
@@ -69,14 +69,14 @@ after answer changed fed = fed
 -- a row of that number is due: the feed can take it as New
 pub record IsDue (fed : Fed) (n : ℕ) : Type 0 where
   pub least : 1 ≤ n
-  pub greatest : n ≤ MAX_NUMBER
+  pub greatest : n ≤ greatest_number
   pub within : is_past fed.closed n ≡ false
   pub free : IsFree fed n
-  pub near : n ≤ front_of fed + MAX_BEYOND
+  pub near : n ≤ front_of fed + most_beyond
 
 -- a close with that count is due: the feed can take it as New
 pub record IsDueClose (fed : Fed) (count : ℕ) : Type 0 where
-  pub greatest : count ≤ MAX_NUMBER
+  pub greatest : count ≤ greatest_number
   pub unclosed : fed.closed ≡ None
   pub within : has_above fed count ≡ false
 

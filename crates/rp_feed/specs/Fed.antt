@@ -1,7 +1,7 @@
 -- What a feed is seen as: the rows that it holds by their numbers, and what follows of them.
 use Rattle.std.specs.Prelude.{◌≡◌, ℕ, ◌+◌, ◌-◌, ◌≤◌, ◌==◌, Bool, true, false, List, [], ◌∷◌, filter, Option, None, Some, is_some, nat_lt, nat_le, ◌||◌, count_by, if◌then◌else◌, ⊤}
 use Rattle.rp_value.specs.declared.value.Value.{Value}
-use Rattle.rp_feed.specs.declared.answer.TheConstants.{MAX_NUMBER, MAX_BEYOND}
+use Rattle.rp_feed.specs.Limits.{greatest_number, most_beyond}
 
 -- a row with its number
 abbrev pub Numbered : Type 0
@@ -87,8 +87,9 @@ pub record IsReached (fed : Fed) (before : ℕ) : Type 0 where
 abbrev pub beyond : Fed → ℕ
 beyond fed = count_by (λ e. nat_lt (front_of fed) e.0) fed.rows
 
--- What is true of every feed: numbers ascend, the front is at most MAX_NUMBER, and at most MAX_BEYOND rows beyond it are held.
+-- What is true of every feed: numbers ascend, the front is at most the greatest number, and no more rows beyond it are held
+-- than may be.
 pub record IsFeed (fed : Fed) : Type 0 where
   pub ordered : IsOrdered fed
-  pub limit : front_of fed ≤ MAX_NUMBER
-  pub few : beyond fed ≤ MAX_BEYOND
+  pub limit : front_of fed ≤ greatest_number
+  pub few : beyond fed ≤ most_beyond

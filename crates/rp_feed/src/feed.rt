@@ -1,6 +1,7 @@
 //! The feed of a partition.
 ghost use Rattle.std.specs.Prelude.{◌≡◌, ◌+◌, ◌≤◌, IfOk, option_copied, if◌then◌else◌};
 ghost use Rattle.rp_feed.specs.Fed.{IsFeed, IsFront, fed_from, forgotten, front_of, row_at, with_close, with_taken};
+ghost use Rattle.rp_feed.specs.Limits.{greatest_number};
 ghost use Rattle.rp_feed.specs.Answers.{after, close_answer, memory_aside, is_past, row_answer};
 
 use crate::slots::{compare_at, drop_first, numbered, put_at, row_in, run_on};
@@ -18,7 +19,7 @@ use std::marker::Model;
 /// A feed takes 72 bytes where it stands, and no other memory before its first row; with one row 96 bytes more, four
 /// places of 24. A number that is missing below the greatest one takes a place too. Places grow by doubling and are used
 /// again, and none is given back before the feed is dropped.
-#[derive(Debug, Drop)]
+#[derive(Drop)]
 pub struct Feed {
     /// The number of the first place.
     first: u64,
@@ -53,7 +54,7 @@ impl Feed {
     /// A feed that has taken all numbers below `first` and dropped their rows.
     pub fn starting(alloc: Global, first: u64) -> Feed
         requires least { 1 ≤ first }
-        requires greatest { first ≤ MAX_NUMBER + 1 }
+        requires greatest { first ≤ greatest_number + 1 }
         ensures { result ≡ fed_from first }
     {
         Feed {

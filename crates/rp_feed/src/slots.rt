@@ -1,9 +1,9 @@
 //! Places for consecutive numbers, each with its row or empty.
 ghost use Rattle.std.specs.Prelude.{◌≡◌, ◌+◌, ◌<◌, ◌≤◌, length, drop, ◌++◌, ◌^◌, IfOk, option_copied, is_some, OnOk, OnErr};
+ghost use Rattle.rp_feed.specs.Limits.{greatest_number};
 ghost use Rattle.rp_feed.specs.Slots.{slot_at, leading, held_from, numbered_row, put_at as with_put};
 ghost use Rattle.rp_feed.specs.Answers.{compared};
 
-use crate::MAX_NUMBER;
 use rp_value::Row;
 use std::alloc::{AllocError, Global};
 use std::collections::VecDeque;
@@ -33,7 +33,7 @@ pub(crate) fn put_at(
     place: usize,
     row: Row,
 ) -> Result<(), AllocError>
-    requires { place < MAX_NUMBER }
+    requires { place < greatest_number }
     ensures ok { OnOk result (slots.new.items ≡ with_put place row slots.old.items) }
     ensures err { OnErr result (slots.new.items ≡ slots.old.items) }
 {
