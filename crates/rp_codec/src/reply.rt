@@ -5,7 +5,7 @@ use rp_feed::Taken;
 use rp_value::Cells;
 
 /// What a node replies to a line.
-#[derive(Debug, Drop)]
+#[derive(Drop)]
 pub enum Reply {
     /// What became of a row or a close.
     Taken(Taken),

@@ -11,6 +11,7 @@ use Rattle.serde_json.proofs.Numbers.{number_of-decimal}
 use Rattle.serde_json.proofs.OnLiterals.{serde_json_on_literals}
 use Rattle.rp_feed.specs.declared.packet.Packet.TheVariants as packet
 use Rattle.rp_wire.specs.Compact.{IsAsked, IsLineOf}
+use Rattle.rp_wire.specs.Lines.{longest_line}
 use Rattle.rp_wire.specs.Requests.{asked, request_data, request_in}
 use Rattle.rp_wire.specs.declared.request.Request.{Request}
 use Rattle.rp_wire.specs.declared.request.Request.TheVariants as request
@@ -49,13 +50,13 @@ request_back (request.Packet (packet.Close key count)) h = rw (cells_in key h.1)
 request_back (request.Poll key budget) h = rw (cells_in key h.1, lt-ltb budget (2 ^ 32) h.0) refl
 
 -- a line that is the text of a request asks it
-pub asked_text : (line : List ℕ) (r : Request) → IsUtf8 line → IsLineOf line r → length line ≤ 65536 → asked line ≡ Ok r
+pub asked_text : (line : List ℕ) (r : Request) → IsUtf8 line → IsLineOf line r → length line ≤ longest_line → asked line ≡ Ok r
 asked_text line r utf8 h short =
     let whole : read line ≡ Some (request_data r) = ap read (h.0 ∙ sym (request_written r)) ∙ request_read r h.1 in
     asked_line line (request_data r) r utf8 whole refl (request_back r h.1) short
 
 -- the same of what was found, if it was
-pub asked_line_of : {E : Type 0} (line text : List ℕ) (found : Result (Option Request) E) → IsUtf8 line → line ≡ text → IfOk found (λ o. IfSome o (IsLineOf text)) → IfOk found (λ o. IfSome o (λ r. length line ≤ 65536 → asked line ≡ Ok r))
+pub asked_line_of : {E : Type 0} (line text : List ℕ) (found : Result (Option Request) E) → IsUtf8 line → line ≡ text → IfOk found (λ o. IfSome o (IsLineOf text)) → IfOk found (λ o. IfSome o (λ r. length line ≤ longest_line → asked line ≡ Ok r))
 asked_line_of line text (Ok (Some r)) utf8 is h = λ short. asked_text line r utf8 (is ∙ h.0, h.1) short
 asked_line_of line text (Ok None) utf8 is h = tt
 asked_line_of line text (Err e) utf8 is h = tt

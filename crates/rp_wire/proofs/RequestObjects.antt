@@ -9,6 +9,7 @@ use Rattle.serde_json.specs.Written.{has_float}
 use Rattle.rp_feed.specs.declared.packet.Packet.TheVariants as packet
 use Rattle.rp_wire.specs.declared.request.Request.{Request}
 use Rattle.rp_wire.specs.declared.request.Request.TheVariants as request
+use Rattle.rp_wire.specs.Lines.{longest_line}
 use Rattle.rp_wire.specs.Requests.{asked, request_data, request_in}
 use Rattle.rp_json.proofs.Reading.{object_read}
 use Rattle.rp_json.proofs.Steps.{flat, no_float}
@@ -28,7 +29,7 @@ request_is_object (request.Packet (packet.Row n cells)) = refl
 request_is_object (request.Packet (packet.Close key count)) = refl
 request_is_object (request.Poll key budget) = refl
 
-pub asked_line : (line : List ℕ) (d : Data) (r : Request) → IsUtf8 line → read line ≡ Some d → d ≡ request_data r → request_in d ≡ Ok r → length line ≤ 65536 → asked line ≡ Ok r
+pub asked_line : (line : List ℕ) (d : Data) (r : Request) → IsUtf8 line → read line ≡ Some d → d ≡ request_data r → request_in d ≡ Ok r → length line ≤ longest_line → asked line ≡ Ok r
 asked_line line d r text is written back short =
     let object : is_some (as_object d) ≡ true = rw written (request_is_object r) in
-    rw (le-ltb 65536 (length line) short, object_read line d text is object, back) refl
+    rw (le-ltb longest_line (length line) short, object_read line d text is object, back) refl

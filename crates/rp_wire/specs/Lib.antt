@@ -1,4 +1,8 @@
-pub mod Compact
-pub mod RefusalTexts
-pub mod Replies
+-- What contracts of public calls cite: the limit of a line, what lines ask and reply, and the law of replies.
+pub mod Lines
 pub mod Requests
+pub mod Replies
+pub mod ReplyLaw
+-- The inside: texts of refusals, and compact lines.
+pub mod RefusalTexts
+pub mod Compact

@@ -16,6 +16,7 @@ use Rattle.rp_codec.specs.declared.reply.Reply.{Reply}
 use Rattle.rp_codec.specs.declared.reply.Reply.TheVariants as reply
 use Rattle.rp_json.specs.Forms.{cells_data, cells_of, named, optional_data, optional_of, place_data, place_of}
 use Rattle.rp_json.specs.Objects.{field, object_of, only}
+use Rattle.rp_wire.specs.Lines.{longest_line}
 use Rattle.rp_wire.specs.RefusalTexts.{refusal_of}
 use Rattle.rp_wire.specs.declared.fault.LineFault.{LineFault}
 use Rattle.rp_wire.specs.declared.fault.LineFault.TheVariants.{TooLong, NotJson, BadField}
@@ -98,4 +99,4 @@ NamesColumn (reply.Refused _) = ⊤
 
 -- the reply that a line is, or its first fault
 abbrev pub answered : List ℕ → Result Reply LineFault
-answered line = if nat_lt 65536 (length line) then Err TooLong else answer_of (object_of line)
+answered line = if nat_lt longest_line (length line) then Err TooLong else answer_of (object_of line)

@@ -8,6 +8,7 @@ use Rattle.rp_codec.specs.declared.refusal.Field.{Field}
 use Rattle.rp_codec.specs.declared.refusal.Field.TheVariants as f
 use Rattle.rp_json.specs.Forms.{cells_data, cells_of, short_of, whole_data, whole_of}
 use Rattle.rp_json.specs.Objects.{field, has_fields, object_of}
+use Rattle.rp_wire.specs.Lines.{longest_line}
 use Rattle.rp_wire.specs.declared.request.Request.{Request}
 use Rattle.rp_wire.specs.declared.request.Request.TheVariants as request
 use Rattle.rp_wire.specs.declared.fault.LineFault.{LineFault}
@@ -73,4 +74,4 @@ in_object (Some d) asked = asked d
 
 -- what a line asks, or its first fault
 abbrev pub asked : List ℕ → Asked
-asked line = if nat_lt 65536 (length line) then Err TooLong else in_object (object_of line) request_in
+asked line = if nat_lt longest_line (length line) then Err TooLong else in_object (object_of line) request_in

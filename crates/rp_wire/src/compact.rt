@@ -8,6 +8,7 @@ ghost use Rattle.std.specs.Fmt.{signed_decimal};
 ghost use Rattle.json.specs.Print.{escape, escape_byte};
 ghost use Rattle.rp_codec.specs.ReplyLines.{value_text, values_text};
 ghost use Rattle.rp_codec.specs.Within.{AreCells, IsCell};
+ghost use Rattle.rp_wire.specs.Lines.{longest_line};
 ghost use Rattle.rp_wire.specs.Requests.{asked, request_text};
 ghost use Rattle.rp_wire.specs.Compact.{IsLineOf};
 
@@ -17,9 +18,10 @@ use rp_codec::Packet;
 use rp_value::{Cells, Row, Text, Value};
 use std::alloc::{AllocError, Global};
 
-/// The request of a line that is compact and has no escape, such as `{"cells":["x",1,10],"row":12}`.
-pub(crate) fn compact_request(alloc: Global, line: &[u8]) -> Result<Option<Request>, AllocError>
-    ensures { IfOk result (λ o. IfSome o (λ r. length line.now ≤ 65536 → asked line.now ≡ Ok r)) }
+/// The request of a line that is compact and has no escape, such as `{"cells":["x",1,10],"row":12}`. Of any other line it
+/// says nothing: None, where `request_of`, which tries this first, makes a tree of JSON. The length is for the caller to see.
+pub fn compact_request(alloc: Global, line: &[u8]) -> Result<Option<Request>, AllocError>
+    ensures { IfOk result (λ o. IfSome o (λ r. length line.now ≤ longest_line → asked line.now ≡ Ok r)) }
 {
     let Ok(_) = std::str::from_utf8(line) else {
         return Ok(None);

@@ -2,7 +2,7 @@
 ghost use Rattle.std.specs.Prelude.{◌≡◌};
 ghost use Rattle.rp_wire.specs.declared.fault.LineFault.TheVariants.{OutOfMemory};
 
-use rp_codec::Field;
+use rp_codec::{Field, Refusal};
 use std::alloc::AllocError;
 use thiserror::Error;
 
@@ -19,7 +19,7 @@ pub enum LineFault {
     #[error("NotJson")]
     NotJson,
     /// The field is missing, of another form, or one too many.
-    #[error("BadField")]
+    #[error("{}", Refusal::BadField(*.0).word())]
     BadField(Field),
     /// No memory was left. It says nothing of the line.
     #[error("out of memory")]

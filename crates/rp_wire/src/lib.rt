@@ -7,25 +7,24 @@
 //!     {"close":1,"key":["x"]}             {"taken":"new"}
 //!     {"budget":50,"poll":["x"]}          {"end":true,"key":["x"],"place":"1"}
 //!
-//! What stands on a line is said in `specs/Requests` and `specs/Replies`. A compact request is read without a tree of
-//! JSON.
+//! What stands on a line is said in `specs/Requests` and `specs/Replies`, and in `specs/ReplyLaw` that the line of a reply
+//! reads back. A compact request is read without a tree of JSON.
 #![tactic(auto)]
 
 mod compact;
 mod fault;
+mod laws;
 mod read_refusal;
 mod read_reply;
 mod read_request;
 mod request;
-#[cfg(test)]
-mod tests;
-mod write_reply;
 mod write_request;
 
+pub use compact::compact_request;
 pub use fault::{LineFault, MAX_LINE_LEN};
+pub use laws::law_replies;
 pub use read_reply::reply_of;
 pub use read_request::request_of;
 pub use request::Request;
-pub use rp_codec::{Field, Item, Packet, Refusal, Reply, SkipFault, Taken};
-pub use write_reply::reply_line;
+pub use rp_codec::{Field, Item, Packet, Refusal, Reply, SkipFault, Taken, reply_line};
 pub use write_request::request_line;

@@ -1,6 +1,7 @@
 //! From a line to a request.
 ghost use Rattle.std.specs.Prelude.{◌≡◌, ◌≤◌, ◌⊎◌, Ok, Err, IfOk, IfErr, length};
 ghost use Rattle.serde_json.specs.View.{view};
+ghost use Rattle.rp_wire.specs.Lines.{longest_line};
 ghost use Rattle.rp_wire.specs.Requests.{asked, close_in, only_two, poll_in, request_in, row_in};
 
 use crate::compact::compact_request;
@@ -29,9 +30,9 @@ pub fn request_of(alloc: Global, line: &[u8]) -> Result<Request, LineFault>
 
 /// The same by a tree of JSON, of a line that isn't too long.
 pub(crate) fn request_of_tree(alloc: Global, line: &[u8]) -> Result<Request, LineFault>
-    ensures ok { IfOk result (λ r. length line.now ≤ 65536 → asked line.now ≡ Ok r) }
+    ensures ok { IfOk result (λ r. length line.now ≤ longest_line → asked line.now ≡ Ok r) }
     ensures err { IfErr result (λ e. (e ≡ LineFault.OutOfMemory)
-        ⊎ (length line.now ≤ 65536 → asked line.now ≡ Err e)) }
+        ⊎ (length line.now ≤ longest_line → asked line.now ≡ Err e)) }
 {
     let object = object_of(alloc, line)?;
     let json = object.ok_or(LineFault::NotJson)?;

@@ -4,7 +4,7 @@ use rp_codec::Packet;
 use rp_value::Cells;
 
 /// What a line asks of a node.
-#[derive(Debug, PartialEq, Eq, Drop)]
+#[derive(PartialEq, Eq, Drop)]
 pub enum Request {
     /// To take a packet.
     Packet(Packet),

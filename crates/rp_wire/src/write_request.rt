@@ -1,6 +1,7 @@
 //! From a request to its line.
 ghost use Rattle.std.specs.Prelude.{◌≡◌, ◌≤◌, IfOk, Ok, length};
 ghost use Rattle.serde_json.specs.View.{view};
+ghost use Rattle.rp_wire.specs.Lines.{longest_line};
 ghost use Rattle.rp_wire.specs.Requests.{asked, request_data, request_in, request_text};
 
 use crate::Request;
@@ -12,7 +13,7 @@ use std::alloc::{AllocError, Global};
 /// The line of a request, without its line feed. What it asks is the request again, unless it is too long.
 pub fn request_line(alloc: Global, request: &Request) -> Result<Vec<u8>, AllocError>
     ensures text { IfOk result (λ line. line.items ≡ request_text request.now) }
-    ensures back { IfOk result (λ line. length line.items ≤ 65536 → asked line.items ≡ Ok request.now) }
+    ensures back { IfOk result (λ line. length line.items ≤ longest_line → asked line.items ≡ Ok request.now) }
 {
     let json = request_json(alloc, request)?;
     json.to_vec(alloc)
