@@ -11,8 +11,6 @@
 mod node_data;
 mod restore;
 mod seal;
-#[cfg(test)]
-mod tests;
 mod write_checkpoint;
 
 pub use node_data::{

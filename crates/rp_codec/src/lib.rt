@@ -13,8 +13,6 @@
 mod line;
 mod refusal;
 mod reply;
-#[cfg(test)]
-mod tests;
 
 pub use line::{push_item_line, push_reply_line, reply_line};
 pub use refusal::{Field, Refusal};

@@ -22,6 +22,3 @@ pub use answer::{FeedFault, MAX_BEYOND, MAX_NUMBER, Taken};
 pub use feed::Feed;
 pub use laws::{law_front, law_new, law_rows, law_same_rows};
 pub use packet::Packet;
-
-#[cfg(test)]
-mod tests;

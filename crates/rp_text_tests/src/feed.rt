@@ -1,7 +1,8 @@
 //! Feeds at work.
-use crate::{Feed, FeedFault, MAX_NUMBER, Taken};
+use rp_feed::{Feed, FeedFault, Taken};
 use rp_value::{Kind, Row, RowFault, Table, TableFault, Value};
 use std::alloc::{AllocError, Global};
+use std::process::Abort;
 use std::test::Fail;
 
 mod orders;
@@ -149,26 +150,33 @@ fn later_start(rt: HostRuntime) -> Result<(), Fail> {
     assert_eq!(rt; prices.feed.close(5), Err(FeedFault::CloseBelow));
     assert_eq!(rt; prices.take(1_099_511_627_770, 9)?, Ok(Taken::New));
     assert_eq!(rt; prices.feed.front(), 1_099_511_627_770);
-    let mut full = Feed::starting(alloc, MAX_NUMBER + 1);
+    let mut full = Feed::starting(alloc, 1_099_511_627_777);
     assert_eq!(rt; full.front(), 1_099_511_627_776);
     assert_eq!(rt; full.close(1_099_511_627_775), Err(FeedFault::CloseBelow));
     assert_eq!(rt; full.close(1_099_511_627_776), Ok(Taken::New));
     Ok(())
 }
 
-#[test]
-fn fault_texts(rt: HostRuntime) -> Result<(), Fail> {
-    let alloc = rt.alloc();
-    let texts = [
-        (FeedFault::NumberRange, "NumberRange"),
-        (FeedFault::PastClose, "PastClose"),
-        (FeedFault::Conflict, "Conflict"),
-        (FeedFault::TooFar, "TooFar"),
-        (FeedFault::CloseDiffers, "CloseDiffers"),
-        (FeedFault::CloseBelow, "CloseBelow"),
-    ];
+/// The refusals of a packet and of a close, with the texts that stand in replies.
+const FAULT_TEXTS: [(FeedFault, &str); 7] = [
+    (FeedFault::NumberRange, "NumberRange"),
+    (FeedFault::PastClose, "PastClose"),
+    (FeedFault::Conflict, "Conflict"),
+    (FeedFault::TooFar, "TooFar"),
+    (FeedFault::CloseDiffers, "CloseDiffers"),
+    (FeedFault::CloseBelow, "CloseBelow"),
+    (FeedFault::OutOfMemory, "out of memory"),
+];
+
+/// Whether each fault is printed as its text.
+fn faults_printed(rt: &impl Abort, alloc: Global, texts: &[(FeedFault, &str)]) -> Result<(), Fail> {
     for (fault, text) in texts {
-        assert_eq!(rt; format!(in alloc; "{fault}")?.as_str(), text);
+        assert_eq!(rt; format!(in alloc; "{fault}")?.as_str(), *text);
     }
     Ok(())
+}
+
+#[test]
+fn fault_texts(rt: HostRuntime) -> Result<(), Fail> {
+    faults_printed(&rt, rt.alloc(), &FAULT_TEXTS)
 }

@@ -1,11 +1,12 @@
 //! Checkpoints, against bytes written by hand. The digests in full are those of `sha256sum`.
-use crate::seal::seal;
-use crate::{
+use rp_checkpoint::{
     CheckpointFault, Columns, HeldRow, HeldRows, NodeData, PartitionData, Partitions, ascend,
     checkpoint_of, read_checkpoint,
 };
 use rp_value::{Cells, Column, Kind, Row, Text, Value};
+use sha2::{Digest, Sha256};
 use std::alloc::{AllocError, Global};
+use std::process::Abort;
 use std::test::Fail;
 
 const FRESH: &str =
@@ -48,9 +49,19 @@ fn fault_of(alloc: Global, bytes: &[u8]) -> Result<Option<CheckpointFault>, Chec
     }
 }
 
+/// An object behind its digest, a line feed between them.
+fn sealed(alloc: Global, object: &[u8]) -> Result<Vec<u8>, AllocError> {
+    let digest = Sha256::digest(object);
+    let digits = hex::encode(alloc, digest.as_slice())?;
+    let mut bytes = Vec::from_slice(alloc, digits.as_bytes())?;
+    bytes.push(b'\n')?;
+    bytes.extend_from_slice(object)?;
+    Ok(bytes)
+}
+
 /// The fault of an object behind its own digest.
 fn fault_in(alloc: Global, object: &str) -> Result<Option<CheckpointFault>, CheckpointFault> {
-    let bytes = seal(alloc, object.as_bytes())?;
+    let bytes = sealed(alloc, object.as_bytes())?;
     fault_of(alloc, bytes.as_slice())
 }
 
@@ -122,38 +133,49 @@ fn version_1_is_written_as_2(rt: HostRuntime) -> Result<(), Fail> {
     let Some(object) = want.as_bytes().get(65..) else {
         return Err("an object".into());
     };
-    assert!(rt; again.as_slice() == seal(alloc, object)?.as_slice());
+    assert!(rt; again.as_slice() == sealed(alloc, object)?.as_slice());
+    Ok(())
+}
+
+/// Whether no front of the bytes has a digest of its own.
+fn fronts_refused(rt: &impl Abort, alloc: Global, bytes: &[u8]) -> Result<(), Fail> {
+    for end in 0..bytes.len() {
+        let fault = fault_of(alloc, bytes.get(..end).unwrap_or(bytes))?;
+        assert_eq!(rt; fault, Some(CheckpointFault::Digest), "{end}");
+    }
     Ok(())
 }
 
 #[test]
 fn cut_short(rt: HostRuntime) -> Result<(), Fail> {
     let alloc = rt.alloc();
-    for bytes in [FRESH.as_bytes(), SECOND.as_bytes()] {
-        for end in 0..bytes.len() {
-            let fault = fault_of(alloc, bytes.get(..end).unwrap_or(bytes))?;
-            assert_eq!(rt; fault, Some(CheckpointFault::Digest), "{end}");
-        }
+    fronts_refused(&rt, alloc, FRESH.as_bytes())?;
+    fronts_refused(&rt, alloc, SECOND.as_bytes())
+}
+
+/// Parts of a checkpoint, and what makes the digest another's in their place.
+const ALTERED: [(&str, &str); 6] = [
+    ("3435687f", "3435687e"),
+    ("3435687f", "3435687F"),
+    ("3435687f", "343568.f"),
+    ("6442\n", "6442 "),
+    ("= 1\"", "= 2\""),
+    ("\"version\":2}", "\"version\":2} "),
+];
+
+/// Whether a checkpoint in which one part is another is refused for its digest.
+fn digests_refused(rt: &impl Abort, alloc: Global, parts: &[(&str, &str)]) -> Result<(), Fail> {
+    for (old, new) in parts {
+        let bytes = FRESH.replace(alloc, *old, *new)?;
+        let fault = fault_of(alloc, bytes.as_bytes())?;
+        assert_eq!(rt; fault, Some(CheckpointFault::Digest), "{new}");
     }
     Ok(())
 }
 
 #[test]
 fn digest_of_other_bytes(rt: HostRuntime) -> Result<(), Fail> {
-    let alloc = rt.alloc();
-    for (old, new) in [
-        ("3435687f", "3435687e"),
-        ("3435687f", "3435687F"),
-        ("3435687f", "343568.f"),
-        ("6442\n", "6442 "),
-        ("= 1\"", "= 2\""),
-        ("\"version\":2}", "\"version\":2} "),
-    ] {
-        let bytes = FRESH.replace(alloc, old, new)?;
-        let fault = fault_of(alloc, bytes.as_bytes())?;
-        assert_eq!(rt; fault, Some(CheckpointFault::Digest), "{new}");
-    }
-    Ok(())
+    digests_refused(&rt, rt.alloc(), &ALTERED)
 }
 
 /// Objects, and their first faults.
@@ -205,12 +227,22 @@ const OBJECTS: [(&str, CheckpointFault); 18] = [
     ),
 ];
 
+/// Whether each object has this first fault.
+fn objects_refused(
+    rt: &impl Abort,
+    alloc: Global,
+    objects: &[(&str, CheckpointFault)],
+) -> Result<(), Fail> {
+    for (object, fault) in objects {
+        assert_eq!(rt; fault_in(alloc, object)?, Some(*fault), "{object}");
+    }
+    Ok(())
+}
+
 #[test]
 fn first_fault_of_an_object(rt: HostRuntime) -> Result<(), Fail> {
     let alloc = rt.alloc();
-    for (object, want) in OBJECTS {
-        assert_eq!(rt; fault_in(alloc, object)?, Some(want), "{object}");
-    }
+    objects_refused(&rt, alloc, &OBJECTS)?;
     let blanks = " {\"version\" : 1, \"table\" : [], \"partitions\" : [], \"clause\" : \"\" } ";
     assert_eq!(rt; fault_in(alloc, blanks)?, None);
     Ok(())
@@ -246,22 +278,59 @@ const FIELDS: [(&str, &str); 26] = [
     ("\"at\":1", "\"at\":1,\"x\":1"),
 ];
 
+/// Whether an object in which one part is another is refused for a field.
+fn fields_refused(
+    rt: &impl Abort,
+    alloc: Global,
+    whole: &str,
+    parts: &[(&str, &str)],
+) -> Result<(), Fail> {
+    for (old, new) in parts {
+        let object = whole.replace(alloc, *old, *new)?;
+        let fault = fault_in(alloc, object.as_str())?;
+        assert_eq!(rt; fault, Some(CheckpointFault::BadField), "{new} for {old}");
+    }
+    Ok(())
+}
+
 #[test]
 fn fields_of_a_partition(rt: HostRuntime) -> Result<(), Fail> {
     let alloc = rt.alloc();
     let whole = with_partition(alloc, PARTITION)?;
     assert_eq!(rt; fault_in(alloc, whole.as_str())?, None);
-    for (old, new) in FIELDS {
-        let object = whole.replace(alloc, old, new)?;
-        let fault = fault_in(alloc, object.as_str())?;
-        assert_eq!(rt; fault, Some(CheckpointFault::BadField), "{new} for {old}");
-    }
+    fields_refused(&rt, alloc, whole.as_str(), &FIELDS)?;
     let older = whole.replace(alloc, "\"version\":2", "\"version\":1")?;
     assert_eq!(rt;
         fault_in(alloc, older.as_str())?,
         Some(CheckpointFault::BadField)
     );
     Ok(())
+}
+
+/// Faults, and their texts: the names by which the forms of checkpoints are documented.
+const FAULT_TEXTS: [(CheckpointFault, &str); 5] = [
+    (CheckpointFault::Digest, "Digest"),
+    (CheckpointFault::NotJson, "NotJson"),
+    (CheckpointFault::Version, "Version"),
+    (CheckpointFault::BadField, "BadField"),
+    (CheckpointFault::OutOfMemory, "out of memory"),
+];
+
+/// Whether each fault is printed as its text.
+fn faults_printed(
+    rt: &impl Abort,
+    alloc: Global,
+    texts: &[(CheckpointFault, &str)],
+) -> Result<(), Fail> {
+    for (fault, text) in texts {
+        assert_eq!(rt; format!(in alloc; "{fault}")?.as_str(), *text);
+    }
+    Ok(())
+}
+
+#[test]
+fn fault_texts(rt: HostRuntime) -> Result<(), Fail> {
+    faults_printed(&rt, rt.alloc(), &FAULT_TEXTS)
 }
 
 /// A stream of numbers that look random, by Knuth's multiplier.

@@ -1,7 +1,10 @@
 //! Lines of replies, against texts written by hand.
-use crate::{Field, Item, Refusal, Reply, SkipFault, Taken, push_reply_line, reply_line};
+use rp_codec::{
+    Field, Item, Refusal, Reply, SkipFault, Taken, push_item_line, push_reply_line, reply_line,
+};
 use rp_value::{Cells, Text, Value};
 use std::alloc::{AllocError, Global};
+use std::process::Abort;
 use std::test::Fail;
 
 fn text(alloc: Global, text: &str) -> Result<Value, AllocError> {
@@ -54,38 +57,47 @@ fn line_at_the_limits(rt: HostRuntime) -> Result<(), Fail> {
     Ok(())
 }
 
+/// Whether each reply has its line.
+fn all_written(rt: &impl Abort, alloc: Global, replies: &[(Reply, &str)]) -> Result<(), Fail> {
+    for (reply, line) in replies {
+        assert_eq!(rt; reply_line(alloc, reply)?.as_str(), *line);
+    }
+    Ok(())
+}
+
 #[test]
 fn lines_without_a_match(rt: HostRuntime) -> Result<(), Fail> {
     let alloc = rt.alloc();
-    for (item, want) in [
-        (Item::End, "{\"end\":true,\"key\":[],\"place\":\"2\"}"),
+    let unmatched = Item::Row {
+        number: None,
+        cells: Cells::new(Vec::new(alloc)),
+    };
+    let replies = [
         (
-            Item::Fault(SkipFault::SkipSame),
+            reply(alloc, Vec::new(alloc), 2, Item::End),
+            "{\"end\":true,\"key\":[],\"place\":\"2\"}",
+        ),
+        (
+            reply(alloc, Vec::new(alloc), 2, Item::Fault(SkipFault::SkipSame)),
             "{\"fault\":\"SkipSame\",\"key\":[],\"place\":\"2\"}",
         ),
         (
-            Item::Fault(SkipFault::SkipNoRow),
+            reply(alloc, Vec::new(alloc), 2, Item::Fault(SkipFault::SkipNoRow)),
             "{\"fault\":\"SkipNoRow\",\"key\":[],\"place\":\"2\"}",
         ),
         (
-            Item::Row {
-                number: None,
-                cells: Cells::new(Vec::new(alloc)),
-            },
+            reply(alloc, Vec::new(alloc), 2, unmatched),
             "{\"cells\":[],\"key\":[],\"number\":null,\"place\":\"2\"}",
         ),
-    ] {
-        let reply = reply(alloc, Vec::new(alloc), 2, item);
-        assert_eq!(rt; reply_line(alloc, &reply)?.as_str(), want);
-    }
-    Ok(())
+    ];
+    all_written(&rt, alloc, &replies)
 }
 
 #[test]
 fn lines_of_other_replies(rt: HostRuntime) -> Result<(), Fail> {
     let alloc = rt.alloc();
     let key = vec![in alloc; text(alloc, "x")?, Value::Null]?;
-    for (reply, want) in [
+    let replies = [
         (Reply::Taken(Taken::New), "{\"taken\":\"new\"}"),
         (Reply::Taken(Taken::Repeat), "{\"taken\":\"repeat\"}"),
         (Reply::Taken(Taken::Old), "{\"taken\":\"old\"}"),
@@ -102,9 +114,15 @@ fn lines_of_other_replies(rt: HostRuntime) -> Result<(), Fail> {
             Reply::Refused(Refusal::BadRowKind(u64::MAX)),
             "{\"refused\":\"BadRow kind 18446744073709551615\"}",
         ),
-    ] {
-        assert_eq!(rt; reply_line(alloc, &reply)?.as_str(), want);
-    }
+    ];
+    all_written(&rt, alloc, &replies)
+}
+
+#[test]
+fn words_of_refusals(rt: HostRuntime) -> Result<(), Fail> {
+    assert_eq!(rt; Refusal::TooFar.word(), "TooFar");
+    assert_eq!(rt; Refusal::BadField(Field::Key).word(), "BadField key");
+    assert_eq!(rt; Refusal::BadRowKind(3).word(), "BadRow kind ");
     Ok(())
 }
 
@@ -119,6 +137,25 @@ fn lines_go_into_one_buffer(rt: HostRuntime) -> Result<(), Fail> {
     }
     let want =
         "{\"end\":true,\"key\":[],\"place\":\"1\"}\n{\"end\":true,\"key\":[],\"place\":\"2\"}\n";
+    assert!(rt; buffer.as_slice() == want.as_bytes());
+    Ok(())
+}
+
+#[test]
+fn item_lines_go_into_one_buffer(rt: HostRuntime) -> Result<(), Fail> {
+    let alloc = rt.alloc();
+    let mut buffer = Vec::from_slice(alloc, b"x\n")?;
+    let key = Cells::new(vec![in alloc; Value::Int(7)]?);
+    let cells = Cells::new(vec![in alloc; Value::Int(7), text(alloc, "y")?]?);
+    let row = Item::Row {
+        number: Some(1),
+        cells,
+    };
+    push_item_line(alloc, &mut buffer, &key, 1, &row)?;
+    buffer.push(b'\n')?;
+    push_item_line(alloc, &mut buffer, &key, 2, &Item::End)?;
+    let want =
+        "x\n{\"cells\":[7,\"y\"],\"key\":[7],\"number\":1,\"place\":\"1\"}\n{\"end\":true,\"key\":[7],\"place\":\"2\"}";
     assert!(rt; buffer.as_slice() == want.as_bytes());
     Ok(())
 }

@@ -2,7 +2,7 @@
 ghost use Rattle.std.specs.Prelude.{◌<◌, ◌≤◌};
 
 use super::{price_table, row_of};
-use crate::{Feed, FeedFault, MAX_BEYOND, MAX_NUMBER, Taken};
+use rp_feed::{Feed, FeedFault, Taken};
 use rp_value::Row;
 use std::alloc::{AllocFailed, Global};
 use std::collections::BTreeMap;
@@ -10,6 +10,9 @@ use std::test::Fail;
 
 /// How many rows the partition has.
 const ROWS: u64 = 30;
+
+/// The greatest number of a row, as the limit is documented.
+const GREATEST: u64 = 1_099_511_627_776;
 
 /// Numbers that look random (Knuth's MMIX generator).
 #[derive(Drop)]
@@ -64,7 +67,7 @@ impl Plain {
         number: u64,
         price: usize,
     ) -> Result<Result<Taken, FeedFault>, AllocFailed<(u64, usize)>> {
-        if number == 0 || number > MAX_NUMBER {
+        if number == 0 || number > GREATEST {
             return Ok(Err(FeedFault::NumberRange));
         }
         if self.closed.is_some_and(|count| number > count) {
@@ -78,7 +81,7 @@ impl Plain {
             Some(_) => return Ok(Err(FeedFault::Conflict)),
             None => {}
         }
-        if number.saturating_sub(MAX_BEYOND) > self.front() {
+        if number.saturating_sub(4_096) > self.front() {
             return Ok(Err(FeedFault::TooFar));
         }
         self.taken.insert(number, price)?;
@@ -87,7 +90,7 @@ impl Plain {
 
     /// Takes the close, and says what it is.
     fn close(&mut self, count: u64) -> Result<Taken, FeedFault> {
-        if count > MAX_NUMBER {
+        if count > GREATEST {
             return Err(FeedFault::NumberRange);
         }
         match self.closed {
@@ -122,7 +125,7 @@ fn next_arrival(dice: &mut Dice, order: u64, front: u64) -> Arrival
         0 => Arrival::Forget(dice.below(front + 2)),
         1 => Arrival::Close(ROWS + dice.below(2)),
         2 => Arrival::Close(number),
-        3 => Arrival::Row(MAX_NUMBER + dice.below(2), 0),
+        3 => Arrival::Row(GREATEST + dice.below(2), 0),
         4 => Arrival::Row(0, 0),
         5 => Arrival::Row(number, price + 1),
         6 if order % 4 == 0 => Arrival::Row(front + 4_094 + dice.below(5), 5),

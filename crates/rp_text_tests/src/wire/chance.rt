@@ -1,9 +1,9 @@
 //! Requests and replies that look random.
-use crate::{
+use rp_value::{Cells, Row, Text, Value};
+use rp_wire::{
     Item, Packet, Refusal, Reply, Request, SkipFault, Taken, reply_line, reply_of, request_line,
     request_of,
 };
-use rp_value::{Cells, Row, Text, Value};
 use std::alloc::{AllocError, Global};
 use std::test::Fail;
 

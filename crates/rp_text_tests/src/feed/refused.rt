@@ -1,7 +1,7 @@
 //! A call that is refused memory, made again, answers as with ample memory.
 
 use super::{price_table, row_of};
-use crate::{Feed, FeedFault, Taken};
+use rp_feed::{Feed, FeedFault, Taken};
 use rp_value::{Row, Table, TableFault};
 use std::alloc::{AllocError, Global};
 use std::test::Fail;

@@ -1,0 +1,87 @@
+//! Which JSON stands for which value.
+use rp_json::{
+    cells, cells_of, digits_of, has, has_fields, json_of_cells, json_of_optional, json_of_place,
+    object_of, optional, optional_of, place_of, short_digits_of, short_whole, whole,
+};
+use rp_value::{Text, Value};
+use serde_json::Value as Json;
+use std::alloc::Global;
+use std::test::Fail;
+
+/// The object of a text that is one.
+fn object(alloc: Global, text: &str) -> Result<Json, Fail> {
+    Ok(object_of(alloc, text.as_bytes())?.ok_or("an object")?)
+}
+
+#[test]
+fn texts_of_digits(rt: HostRuntime) -> Result<(), Fail> {
+    assert_eq!(rt; digits_of("0"), Some(0));
+    assert_eq!(rt;
+        digits_of("340282366920938463463374607431768211455"),
+        Some(u128::MAX)
+    );
+    assert_eq!(rt; digits_of("340282366920938463463374607431768211456"), None);
+    assert_eq!(rt; digits_of("01"), None);
+    assert_eq!(rt; digits_of("+1"), None);
+    assert_eq!(rt; digits_of(""), None);
+    assert_eq!(rt; short_digits_of(b"18446744073709551615"), Some(u64::MAX));
+    assert_eq!(rt; short_digits_of(b"18446744073709551616"), None);
+    Ok(())
+}
+
+#[test]
+fn fields_of_an_object(rt: HostRuntime) -> Result<(), Fail> {
+    let alloc = rt.alloc();
+    let json = object(
+        alloc,
+        "{\"a\":4294967296,\"b\":7,\"c\":null,\"d\":[null,-1]}",
+    )?;
+    assert!(rt; has(&json, "a") && !has(&json, "e"));
+    assert!(rt; has_fields(&json, 4) && !has_fields(&json, 3));
+    assert_eq!(rt; whole(&json, "a"), Some(4_294_967_296));
+    assert_eq!(rt; short_whole(&json, "a"), None);
+    assert_eq!(rt; short_whole(&json, "b"), Some(7));
+    assert_eq!(rt; optional(&json, "b"), Some(Some(7)));
+    assert_eq!(rt; optional(&json, "c"), Some(None));
+    assert_eq!(rt; optional(&json, "d"), None);
+    let list = cells(alloc, &json, "d")?.ok_or("cells")?;
+    assert!(rt; list.as_slice() == [Value::Null, Value::Int(-1)].as_slice());
+    assert!(rt; cells(alloc, &json, "a")?.is_none());
+    Ok(())
+}
+
+#[test]
+fn text_that_is_no_object(rt: HostRuntime) -> Result<(), Fail> {
+    let alloc = rt.alloc();
+    assert!(rt; object_of(alloc, b"[1]")?.is_none());
+    assert!(rt; object_of(alloc, b"{")?.is_none());
+    assert!(rt; object_of(alloc, b"{\"\xff\":1}")?.is_none());
+    Ok(())
+}
+
+#[test]
+fn numbers_there_and_back(rt: HostRuntime) -> Result<(), Fail> {
+    let alloc = rt.alloc();
+    assert_eq!(rt; optional_of(&json_of_optional(None)), Some(None));
+    assert_eq!(rt;
+        optional_of(&json_of_optional(Some(u64::MAX))),
+        Some(Some(u64::MAX))
+    );
+    assert_eq!(rt;
+        place_of(&json_of_place(alloc, u128::MAX)?),
+        Some(u128::MAX)
+    );
+    assert_eq!(rt; place_of(&Json::from(5u64)), Some(5));
+    Ok(())
+}
+
+#[test]
+fn cells_there_and_back(rt: HostRuntime) -> Result<(), Fail> {
+    let alloc = rt.alloc();
+    let text = Text::new(alloc, String::from_str(alloc, "x\"")?)?;
+    let list = vec![in alloc; Value::Null, Value::Int(i64::MIN), Value::Text(text)]?;
+    let json = Json::Array(json_of_cells(alloc, list.as_slice())?);
+    let again = cells_of(alloc, &json)?.ok_or("cells")?;
+    assert!(rt; again.as_slice() == list.as_slice());
+    Ok(())
+}
