@@ -9,7 +9,7 @@ use std::marker::Model;
 use thiserror::Error;
 
 /// A row that is held.
-#[derive(Debug, Drop)]
+#[derive(Drop)]
 pub struct HeldRow {
     /// Its number in its partition, from 1.
     pub number: u64,
@@ -18,7 +18,7 @@ pub struct HeldRow {
 }
 
 /// Rows whose numbers ascend strictly, which contracts see as their list.
-#[derive(Debug, Drop)]
+#[derive(Drop)]
 pub struct HeldRows {
     rows: Vec<HeldRow>,
 }
@@ -77,7 +77,7 @@ fn is_above(before: Option<u64>, number: u64) -> bool
 }
 
 /// The columns of a table, which contracts see as their list. They may be no table.
-#[derive(Debug, Drop)]
+#[derive(Drop)]
 pub struct Columns {
     columns: Vec<Column>,
 }
@@ -108,7 +108,7 @@ impl Columns {
 }
 
 /// What is kept of a partition.
-#[derive(Debug, Drop)]
+#[derive(Drop)]
 pub struct PartitionData {
     /// The start row of the present search.
     pub at: u64,
@@ -131,7 +131,7 @@ pub struct PartitionData {
 }
 
 /// Partitions, which contracts see as their list.
-#[derive(Debug, Drop)]
+#[derive(Drop)]
 pub struct Partitions {
     partitions: Vec<PartitionData>,
 }
@@ -162,7 +162,7 @@ impl Partitions {
 }
 
 /// What a checkpoint keeps of a node.
-#[derive(Debug, Drop)]
+#[derive(Drop)]
 pub struct NodeData {
     /// The clause's text, as it was compiled.
     pub clause: Text,

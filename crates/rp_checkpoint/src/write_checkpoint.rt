@@ -26,12 +26,12 @@ fn node_json(alloc: Global, node: &NodeData) -> Result<Json, AllocError>
     ensures data { IfOk result (λ j. view j ≡ node_data node.now) }
     ensures back { IfOk result (λ j. restored_object (view j) ≡ Ok node.now) }
 {
-    let clause = Json::try_from_str(alloc, node.clause.as_str())?;
-    let partitions = partitions_list(alloc, node.partitions.as_slice())?;
-    let table = columns_list(alloc, node.table.as_slice())?;
     let mut map = Map::new(alloc);
+    let clause = Json::try_from_str(alloc, node.clause.as_str())?;
     serde_json::put(&mut map, alloc, "clause", clause)?;
+    let partitions = partitions_list(alloc, node.partitions.as_slice())?;
     serde_json::put(&mut map, alloc, "partitions", Json::Array(partitions))?;
+    let table = columns_list(alloc, node.table.as_slice())?;
     serde_json::put(&mut map, alloc, "table", Json::Array(table))?;
     serde_json::put(&mut map, alloc, "version", Json::from(2u64))?;
     Ok(Json::Object(map))
@@ -56,10 +56,10 @@ fn column_json(alloc: Global, column: &Column) -> Result<Json, AllocError>
         Kind::Int => "int",
         Kind::Text => "text",
     };
-    let name = Json::try_from_str(alloc, column.name.as_str())?;
-    let kind = Json::try_from_str(alloc, word)?;
     let mut pair = Vec::with_capacity(alloc, 2)?;
+    let name = Json::try_from_str(alloc, column.name.as_str())?;
     pair.push(name)?;
+    let kind = Json::try_from_str(alloc, word)?;
     pair.push(kind)?;
     Ok(Json::Array(pair))
 }
@@ -81,19 +81,19 @@ fn partition_json(alloc: Global, partition: &PartitionData) -> Result<Json, Allo
     ensures data { IfOk result (λ j. view j ≡ partition_data partition.now) }
     ensures back { IfOk result (λ j. partition_of 2 (view j) ≡ Some partition.now) }
 {
-    let given = json_of_place(alloc, partition.given)?;
-    let key = json_of_cells(alloc, partition.key.as_slice())?;
-    let rows = rows_json(alloc, &partition.rows)?;
     let mut map = Map::new(alloc);
     serde_json::put(&mut map, alloc, "at", Json::from(partition.at))?;
     serde_json::put(&mut map, alloc, "close", json_of_optional(partition.close))?;
     serde_json::put(&mut map, alloc, "covered", Json::from(partition.covered))?;
     serde_json::put(&mut map, alloc, "first", Json::from(partition.first))?;
+    let given = json_of_place(alloc, partition.given)?;
     serde_json::put(&mut map, alloc, "given", given)?;
     serde_json::put(&mut map, alloc, "here", Json::from(partition.here))?;
+    let key = json_of_cells(alloc, partition.key.as_slice())?;
     serde_json::put(&mut map, alloc, "key", Json::Array(key))?;
     serde_json::put(&mut map, alloc, "matches", Json::from(partition.matches))?;
     serde_json::put(&mut map, alloc, "over", Json::Bool(partition.over))?;
+    let rows = rows_json(alloc, &partition.rows)?;
     serde_json::put(&mut map, alloc, "rows", rows)?;
     Ok(Json::Object(map))
 }
