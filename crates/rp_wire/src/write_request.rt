@@ -7,6 +7,7 @@ ghost use Rattle.rp_wire.specs.Requests.{asked, request_data, request_in, reques
 use crate::Request;
 use rp_codec::Packet;
 use rp_json::json_of_cells;
+use rp_value::{Cells, Row};
 use serde_json::{Map, Value as Json};
 use std::alloc::{AllocError, Global};
 
@@ -23,25 +24,42 @@ fn request_json(alloc: Global, request: &Request) -> Result<Json, AllocError>
     ensures data { IfOk result (λ j. view j ≡ request_data request.now) }
     ensures back { IfOk result (λ j. request_in (view j) ≡ Ok request.now) }
 {
-    let mut map = Map::new(alloc);
     match request {
-        Request::Packet(Packet::Row { number, cells }) => {
-            let list = json_of_cells(alloc, cells.cells())?;
-            serde_json::put(&mut map, alloc, "cells", Json::Array(list))?;
-            serde_json::put(&mut map, alloc, "row", Json::from(*number))?;
-            Ok(Json::Object(map))
-        }
-        Request::Packet(Packet::Close { key, count }) => {
-            let list = json_of_cells(alloc, key.as_slice())?;
-            serde_json::put(&mut map, alloc, "close", Json::from(*count))?;
-            serde_json::put(&mut map, alloc, "key", Json::Array(list))?;
-            Ok(Json::Object(map))
-        }
-        Request::Poll { key, budget } => {
-            let list = json_of_cells(alloc, key.as_slice())?;
-            serde_json::put(&mut map, alloc, "budget", Json::from(*budget))?;
-            serde_json::put(&mut map, alloc, "poll", Json::Array(list))?;
-            Ok(Json::Object(map))
-        }
+        Request::Packet(Packet::Row { number, cells }) => row_json(alloc, *number, cells),
+        Request::Packet(Packet::Close { key, count }) => close_json(alloc, key, *count),
+        Request::Poll { key, budget } => poll_json(alloc, key, *budget),
     }
+}
+
+fn row_json(alloc: Global, number: u64, cells: &Row) -> Result<Json, AllocError>
+    ensures data { IfOk result (λ j. view j ≡ request_data (Request.Packet (Packet.Row number cells.now))) }
+    ensures back { IfOk result (λ j. request_in (view j) ≡ Ok (Request.Packet (Packet.Row number cells.now))) }
+{
+    let mut map = Map::new(alloc);
+    let list = json_of_cells(alloc, cells.cells())?;
+    serde_json::put(&mut map, alloc, "cells", Json::Array(list))?;
+    serde_json::put(&mut map, alloc, "row", Json::from(number))?;
+    Ok(Json::Object(map))
+}
+
+fn close_json(alloc: Global, key: &Cells, count: u64) -> Result<Json, AllocError>
+    ensures data { IfOk result (λ j. view j ≡ request_data (Request.Packet (Packet.Close key.now count))) }
+    ensures back { IfOk result (λ j. request_in (view j) ≡ Ok (Request.Packet (Packet.Close key.now count))) }
+{
+    let mut map = Map::new(alloc);
+    let list = json_of_cells(alloc, key.as_slice())?;
+    serde_json::put(&mut map, alloc, "close", Json::from(count))?;
+    serde_json::put(&mut map, alloc, "key", Json::Array(list))?;
+    Ok(Json::Object(map))
+}
+
+fn poll_json(alloc: Global, key: &Cells, budget: u32) -> Result<Json, AllocError>
+    ensures data { IfOk result (λ j. view j ≡ request_data (Request.Poll key.now budget)) }
+    ensures back { IfOk result (λ j. request_in (view j) ≡ Ok (Request.Poll key.now budget)) }
+{
+    let mut map = Map::new(alloc);
+    let list = json_of_cells(alloc, key.as_slice())?;
+    serde_json::put(&mut map, alloc, "budget", Json::from(budget))?;
+    serde_json::put(&mut map, alloc, "poll", Json::Array(list))?;
+    Ok(Json::Object(map))
 }
