@@ -13,6 +13,3 @@ mod tester;
 pub use entries::Entries;
 pub use laws::law_tests;
 pub use tester::Tester;
-
-#[cfg(test)]
-mod tests;

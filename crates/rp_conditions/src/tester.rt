@@ -1,4 +1,4 @@
-//! Tests by conditions.
+//! A query's conditions as the tests of a search.
 ghost use Rattle.std.specs.Prelude.{◌≡◌};
 ghost use Rattle.rp_query.specs.QueryView.{data_of};
 ghost use Rattle.rp_eval.specs.Entered.{plan_of};

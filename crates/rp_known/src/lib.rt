@@ -15,6 +15,3 @@ pub use making::{match_item, unmatched_item};
 pub use place::Place;
 pub use rp_query::{Item, SkipFault};
 pub use skips::next_start;
-
-#[cfg(test)]
-mod tests;

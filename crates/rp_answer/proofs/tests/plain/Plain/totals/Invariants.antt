@@ -1,6 +1,0 @@
-use Rattle.std.proofs.Common.{take}
-use Rattle.rp_eval.specs.Entered.{AreTotals}
-use Rattle.rp_answer.proofs.tests.plain.Plain.totals.Given as goal
-
-abbrev pub invariant-loop-depth : goal.invariant-loop-depth
-invariant-loop-depth l = AreTotals l.totals l.self.rows.now.rows.items l.start (take l.depth l.labels)
