@@ -102,22 +102,10 @@ list_begins text g s r x first =
     let rest = gives second (word (kind.Mark mark.Comma) then g) in
     begins text (λ y ys t. Ok (y ∷ ys, t)) (λ ys t. Ok (ys, t)) g rest s r x ((listed g).read text s) (λ ys t. refl) first (rw first (list_join x ((many rest).read text r)))
 
-chain_join : {A B C : Type 0} (f : A → List B → C) (x : A) (read : Result (List B × List Token) ParseFault)
-    → (◌>>=◌ {A = (A × List B) × List Token} {B = C × List Token} (◌>>=◌ {A = List B × List Token} {B = (A × List B) × List Token} read (λ y. Ok ((x, y.0), y.1))) (λ z. Ok (f z.0.0 z.0.1, z.1)))
-    ≡ (◌>>=◌ {A = List B × List Token} {B = C × List Token} read (λ xs. Ok (f x xs.0, xs.1)))
-chain_join f x (Err n) = refl
-chain_join f x (Ok xs) = refl
+every : {A : Type 0} (read : Result (List A × List Token) ParseFault) → read ≡ (◌>>=◌ {A = List A × List Token} {B = List A × List Token} read (λ xs. Ok (xs.0, xs.1)))
+every (Err n) = refl
+every (Ok xs) = refl
 
--- The first of a chain is read, and operators with operands may follow.
-pub chain_starts : {A B C : Type 0} (text : List ℕ) (f : A → List B → C) (g : Grammar A) (h : Grammar B) (s r : List Token) (x : A) → g.read text s ≡ Ok (x, r)
-    → GoesOn h.first (h.read text) (λ xs t. Ok (f x xs, t)) [] r ((gives (λ y. f y.0 y.1) (g then many h)).read text s)
-chain_starts text f g h s r x first = record { fuel = length r; enough = omega arith; reads = rw first (chain_join f x ((many h).read text r)) }
-
--- an operator and its operand
-pub operand : {A B : Type 0} (text : List ℕ) (g : Grammar A) (h : Grammar B) (s m r : List Token) (o : A) (x : B) → g.read text s ≡ Ok (o, m) → h.read text m ≡ Ok (x, r) → (g then h).read text s ≡ Ok ((o, x), r)
-operand text g h s m r o x one two = rw (one, two) refl
-
-pub operand_refused : {A B : Type 0} (text : List ℕ) (e : ParseFault) (g : Grammar A) (h : Grammar B) (s m : List Token) (o : A) → g.read text s ≡ Ok (o, m) → Refuses e (h.read text m) → Refuses e ((g then h).read text s)
-operand_refused text fault.OutOfMemory g h s m o one none = tt
-operand_refused text (fault.Expected n) g h s m o one none = rw (one, none) refl
-operand_refused text (fault.Deep n) g h s m o one none = rw (one, none) refl
+-- None is read as yet, and any number may follow.
+pub many_starts : {A : Type 0} (text : List ℕ) (g : Grammar A) (s : List Token) → GoesOn g.first (g.read text) (λ xs t. Ok (xs, t)) [] s ((many g).read text s)
+many_starts text g s = record { fuel = length s; enough = omega arith; reads = every ((many g).read text s) }

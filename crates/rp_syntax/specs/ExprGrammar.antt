@@ -63,12 +63,16 @@ under_scope room =
 unfoldable pub scoped : ℕ → Grammar Term
 scoped room = gives (λ x. x.1 x.0) (optional scope then under_scope room)
 
+-- "(" expr ")"
+abbrev pub bracketed : ℕ → Grammar Term → Grammar Term
+bracketed room inner = gives (λ x. x.1.0) (opening room open_mark then inner then word close_mark)
+
 -- number | text | "(" expr ")" | column | navigation | aggregate | MATCH_NUMBER "(" ")" | CLASSIFIER "(" ")"
 unfoldable pub value : ℕ → Grammar Term → Grammar Term
 value room inner =
     one_of (kind.Number ∷ []) (λ text t. Number t.start (number_of text t))
     or one_of (kind.Text ∷ []) (λ text t. Literal t.start (unquoted false 39 (behind_first (bytes_of text t))))
-    or gives (λ x. x.1.0) (opening room open_mark then inner then word close_mark)
+    or bracketed room inner
     or gives Navigation (plain room (inside_path room))
     or gives (λ x. MatchNumber x.0) (word (key keyword.MatchNumber) then opening room open_mark then word close_mark)
     or gives (λ x. Classifier x.0) (word (key keyword.Classifier) then opening room open_mark then word close_mark)
@@ -89,17 +93,25 @@ signed room inner = gives (λ x. perhaps Negative x.0 x.1) (optional (word (kind
 abbrev pub operation : Operator → TokenKind → Grammar Operation
 operation o k = gives (λ at. record { operator = o; at = at }) (word k)
 
+-- "*" signed
+abbrev pub factor : ℕ → Grammar Term → Grammar (Operation × Term)
+factor room inner = operation operator.Times (kind.Mark mark.Asterisk) then signed room inner
+
 -- signed, then any number of "*" signed
 unfoldable pub product : ℕ → Grammar Term → Grammar Term
-product room inner = gives (λ x. from_left x.0 x.1) (signed room inner then many (operation operator.Times (kind.Mark mark.Asterisk) then signed room inner))
+product room inner = gives (λ x. from_left x.0 x.1) (signed room inner then many (factor room inner))
 
 -- "+" | "-"
 abbrev pub sign : Grammar Operation
 sign = operation operator.Plus (kind.Mark mark.Plus) or operation operator.Minus (kind.Mark mark.Minus)
 
+-- ("+" | "-") product
+abbrev pub addend : ℕ → Grammar Term → Grammar (Operation × Term)
+addend room inner = sign then product room inner
+
 -- product, then any number of ("+" | "-") product
 unfoldable pub sum : ℕ → Grammar Term → Grammar Term
-sum room inner = gives (λ x. from_left x.0 x.1) (product room inner then many (sign then product room inner))
+sum room inner = gives (λ x. from_left x.0 x.1) (product room inner then many (addend room inner))
 
 -- "=" | "<>" | "<" | "<=" | ">" | ">="
 unfoldable pub comparison : Grammar Operation
@@ -137,13 +149,21 @@ predicate room inner =
 unfoldable pub negation : ℕ → Grammar Term → Grammar Term
 negation room inner = gives (λ x. perhaps Not x.0 x.1) (optional (word (key keyword.Not)) then predicate room inner)
 
+-- AND negation
+abbrev pub conjunct : ℕ → Grammar Term → Grammar (Operation × Term)
+conjunct room inner = operation operator.And (key keyword.And) then negation room inner
+
 -- negations with AND between them
 unfoldable pub conjunction : ℕ → Grammar Term → Grammar Term
-conjunction room inner = gives (λ x. from_right x.0 x.1) (negation room inner then many (operation operator.And (key keyword.And) then negation room inner))
+conjunction room inner = gives (λ x. from_right x.0 x.1) (negation room inner then many (conjunct room inner))
+
+-- OR conjunction
+abbrev pub disjunct : ℕ → Grammar Term → Grammar (Operation × Term)
+disjunct room inner = operation operator.Or (key keyword.Or) then conjunction room inner
 
 -- conjunctions with OR between them
 unfoldable pub expr : ℕ → Grammar Term → Grammar Term
-expr room inner = gives (λ x. from_right x.0 x.1) (conjunction room inner then many (operation operator.Or (key keyword.Or) then conjunction room inner))
+expr room inner = gives (λ x. from_right x.0 x.1) (conjunction room inner then many (disjunct room inner))
 
 abbrev pub expr_kinds : List TokenKind
 expr_kinds =

@@ -5,9 +5,9 @@ ghost use Rattle.rp_lexer.specs.Lexes.{IsToken};
 ghost use Rattle.rp_lexer.specs.Meanings.{bytes_of, number_of};
 ghost use Rattle.rp_grammar.specs.Reading.{Gives, starts};
 ghost use Rattle.rp_syntax.specs.Names.{unquoted, behind_first};
-ghost use Rattle.rp_grammar.specs.Grammar.{gives, one_of};
+ghost use Rattle.rp_grammar.specs.Grammar.{gives, many, one_of};
 ghost use Rattle.rp_syntax.specs.Terms.{IsNull, Negative, Not, Literal, Number, Operate, from_left, from_right, operand_of, term_of};
-ghost use Rattle.rp_syntax.specs.ExprGrammar.{aggregate, aggregated, comparison, conjunction, counted, deeper_expr, expr, inside_expr, negation, nullness, operation, over_column, product, scoped, sign, sign_kinds, comparison_kinds, signed, sum, predicate, value};
+ghost use Rattle.rp_syntax.specs.ExprGrammar.{addend, aggregate, aggregated, bracketed, comparison, comparison_kinds, conjunct, conjunction, counted, deeper_expr, disjunct, expr, factor, inside_expr, negation, nullness, operation, over_column, predicate, product, scoped, sign, sign_kinds, signed, sum, value};
 
 use crate::name::name;
 use crate::navigation::{begins_plain, column, edge, plain, scope};
@@ -323,23 +323,56 @@ pub(crate) fn expr<'a>(
     ensures stands { IfOk result (λ x. All (IsToken text.now) x.1.now) }
     ensures shorter { IfOk result (λ x. length x.1.now < length tokens.now) }
 {
-    let (first, mut rest) = conjunction(alloc, text, tokens, room)?;
+    let (first, rest) = conjunction(alloc, text, tokens, room)?;
     if !begins(rest, TokenKind::Keyword(Keyword::Or)) {
         return Ok((first, rest));
     }
-    let mut others = Vec::new(alloc);
-    while begins(rest, TokenKind::Keyword(Keyword::Or)) {
-        let (operation, behind) = operation(
-            text,
-            rest,
-            TokenKind::Keyword(Keyword::Or),
-            Operator::Or,
-        )?;
-        let (operand, behind) = conjunction(alloc, text, behind, room)?;
-        others.push((operation, operand))?;
+    let first = Box::new(alloc, first)?;
+    let (others, rest) = disjuncts(alloc, text, rest, room)?;
+    Ok((from_right(first, others), rest))
+}
+
+/// Any number of OR with a conjunction, and what follows.
+#[cycle(expr)]
+fn disjuncts<'a>(
+    alloc: Global,
+    text: &str,
+    tokens: &'a [Token],
+    room: usize,
+) -> Result<(Vec<(Operation, Expr)>, &'a [Token]), ParseFault>
+    requires stands { All (IsToken text.now) tokens.now }
+    ensures exact { Gives (λ x. (map operand_of x.0.items, x.1.now)) result
+        ((many (disjunct room (inside_expr room))).read text.now tokens.now) }
+    ensures stands { IfOk result (λ x. All (IsToken text.now) x.1.now) }
+    ensures no_longer { IfOk result (λ x. length x.1.now ≤ length tokens.now) }
+{
+    let mut rest = tokens;
+    let mut items = Vec::new(alloc);
+    'items: while begins(rest, TokenKind::Keyword(Keyword::Or)) {
+        let (item, behind) = disjunct(alloc, text, rest, room)?;
+        items.push(item)?;
         rest = behind;
     }
-    Ok((from_right(alloc, first, others)?, rest))
+    Ok((items, rest))
+}
+
+/// OR and a conjunction, and what follows.
+#[cycle(expr)]
+fn disjunct<'a>(
+    alloc: Global,
+    text: &str,
+    tokens: &'a [Token],
+    room: usize,
+) -> Result<((Operation, Expr), &'a [Token]), ParseFault>
+    requires stands { All (IsToken text.now) tokens.now }
+    ensures exact { Gives (λ x. (operand_of x.0, x.1.now)) result
+        ((disjunct room (inside_expr room)).read text.now tokens.now) }
+    ensures stands { IfOk result (λ x. All (IsToken text.now) x.1.now) }
+    ensures shorter { IfOk result (λ x. length x.1.now < length tokens.now) }
+{
+    let (operation, rest) = operation(text, tokens, TokenKind::Keyword(Keyword::Or), Operator::Or)?;
+    let (operand, rest) = conjunction(alloc, text, rest, room)?;
+    Ok(((operation, operand), rest))
 }
 
 /// Negations with AND between them, and what follows.
@@ -357,23 +390,61 @@ fn conjunction<'a>(
     ensures stands { IfOk result (λ x. All (IsToken text.now) x.1.now) }
     ensures shorter { IfOk result (λ x. length x.1.now < length tokens.now) }
 {
-    let (first, mut rest) = negation(alloc, text, tokens, room)?;
+    let (first, rest) = negation(alloc, text, tokens, room)?;
     if !begins(rest, TokenKind::Keyword(Keyword::And)) {
         return Ok((first, rest));
     }
-    let mut others = Vec::new(alloc);
-    while begins(rest, TokenKind::Keyword(Keyword::And)) {
-        let (operation, behind) = operation(
-            text,
-            rest,
-            TokenKind::Keyword(Keyword::And),
-            Operator::And,
-        )?;
-        let (operand, behind) = negation(alloc, text, behind, room)?;
-        others.push((operation, operand))?;
+    let first = Box::new(alloc, first)?;
+    let (others, rest) = conjuncts(alloc, text, rest, room)?;
+    Ok((from_right(first, others), rest))
+}
+
+/// Any number of AND with a negation, and what follows.
+#[cycle(expr)]
+fn conjuncts<'a>(
+    alloc: Global,
+    text: &str,
+    tokens: &'a [Token],
+    room: usize,
+) -> Result<(Vec<(Operation, Expr)>, &'a [Token]), ParseFault>
+    requires stands { All (IsToken text.now) tokens.now }
+    ensures exact { Gives (λ x. (map operand_of x.0.items, x.1.now)) result
+        ((many (conjunct room (inside_expr room))).read text.now tokens.now) }
+    ensures stands { IfOk result (λ x. All (IsToken text.now) x.1.now) }
+    ensures no_longer { IfOk result (λ x. length x.1.now ≤ length tokens.now) }
+{
+    let mut rest = tokens;
+    let mut items = Vec::new(alloc);
+    'items: while begins(rest, TokenKind::Keyword(Keyword::And)) {
+        let (item, behind) = conjunct(alloc, text, rest, room)?;
+        items.push(item)?;
         rest = behind;
     }
-    Ok((from_right(alloc, first, others)?, rest))
+    Ok((items, rest))
+}
+
+/// AND and a negation, and what follows.
+#[cycle(expr)]
+fn conjunct<'a>(
+    alloc: Global,
+    text: &str,
+    tokens: &'a [Token],
+    room: usize,
+) -> Result<((Operation, Expr), &'a [Token]), ParseFault>
+    requires stands { All (IsToken text.now) tokens.now }
+    ensures exact { Gives (λ x. (operand_of x.0, x.1.now)) result
+        ((conjunct room (inside_expr room)).read text.now tokens.now) }
+    ensures stands { IfOk result (λ x. All (IsToken text.now) x.1.now) }
+    ensures shorter { IfOk result (λ x. length x.1.now < length tokens.now) }
+{
+    let (operation, rest) = operation(
+        text,
+        tokens,
+        TokenKind::Keyword(Keyword::And),
+        Operator::And,
+    )?;
+    let (operand, rest) = negation(alloc, text, rest, room)?;
+    Ok(((operation, operand), rest))
 }
 
 /// A predicate, perhaps with NOT, and what follows.
@@ -416,13 +487,16 @@ fn predicate<'a>(
 {
     let (left, rest) = sum(alloc, text, tokens, room)?;
     if begins(rest, TokenKind::Keyword(Keyword::Is)) {
+        let left = Box::new(alloc, left)?;
         let (at, negated, rest) = nullness(text, rest)?;
-        return Ok((is_null(alloc, at, left, negated)?, rest));
+        return Ok((is_null(at, left, negated), rest));
     }
     if begins_comparison(rest) {
+        let left = Box::new(alloc, left)?;
         let (operation, rest) = comparison(text, rest)?;
         let (right, rest) = sum(alloc, text, rest, room)?;
-        return Ok((compared(alloc, left, operation, right)?, rest));
+        let right = Box::new(alloc, right)?;
+        return Ok((compared(left, operation, right), rest));
     }
     Ok((left, rest))
 }
@@ -442,18 +516,56 @@ fn sum<'a>(
     ensures stands { IfOk result (λ x. All (IsToken text.now) x.1.now) }
     ensures shorter { IfOk result (λ x. length x.1.now < length tokens.now) }
 {
-    let (first, mut rest) = product(alloc, text, tokens, room)?;
+    let (first, rest) = product(alloc, text, tokens, room)?;
     if !begins_sign(rest) {
         return Ok((first, rest));
     }
-    let mut others = Vec::new(alloc);
-    while begins_sign(rest) {
-        let (operation, behind) = sign(text, rest)?;
-        let (operand, behind) = product(alloc, text, behind, room)?;
-        others.push((operation, operand))?;
+    let first = Box::new(alloc, first)?;
+    let (others, rest) = addends(alloc, text, rest, room)?;
+    Ok((from_left(first, others), rest))
+}
+
+/// Any number of `+` or `-` with a product, and what follows.
+#[cycle(expr)]
+fn addends<'a>(
+    alloc: Global,
+    text: &str,
+    tokens: &'a [Token],
+    room: usize,
+) -> Result<(Vec<(Operation, Expr)>, &'a [Token]), ParseFault>
+    requires stands { All (IsToken text.now) tokens.now }
+    ensures exact { Gives (λ x. (map operand_of x.0.items, x.1.now)) result
+        ((many (addend room (inside_expr room))).read text.now tokens.now) }
+    ensures stands { IfOk result (λ x. All (IsToken text.now) x.1.now) }
+    ensures no_longer { IfOk result (λ x. length x.1.now ≤ length tokens.now) }
+{
+    let mut rest = tokens;
+    let mut items = Vec::new(alloc);
+    'items: while begins_sign(rest) {
+        let (item, behind) = addend(alloc, text, rest, room)?;
+        items.push(item)?;
         rest = behind;
     }
-    Ok((from_left(alloc, first, others)?, rest))
+    Ok((items, rest))
+}
+
+/// `+` or `-`, and a product, and what follows.
+#[cycle(expr)]
+fn addend<'a>(
+    alloc: Global,
+    text: &str,
+    tokens: &'a [Token],
+    room: usize,
+) -> Result<((Operation, Expr), &'a [Token]), ParseFault>
+    requires stands { All (IsToken text.now) tokens.now }
+    ensures exact { Gives (λ x. (operand_of x.0, x.1.now)) result
+        ((addend room (inside_expr room)).read text.now tokens.now) }
+    ensures stands { IfOk result (λ x. All (IsToken text.now) x.1.now) }
+    ensures shorter { IfOk result (λ x. length x.1.now < length tokens.now) }
+{
+    let (operation, rest) = sign(text, tokens)?;
+    let (operand, rest) = product(alloc, text, rest, room)?;
+    Ok(((operation, operand), rest))
 }
 
 /// Values with `*` between them, and what follows.
@@ -471,23 +583,61 @@ fn product<'a>(
     ensures stands { IfOk result (λ x. All (IsToken text.now) x.1.now) }
     ensures shorter { IfOk result (λ x. length x.1.now < length tokens.now) }
 {
-    let (first, mut rest) = signed(alloc, text, tokens, room)?;
+    let (first, rest) = signed(alloc, text, tokens, room)?;
     if !begins(rest, TokenKind::Mark(Mark::Asterisk)) {
         return Ok((first, rest));
     }
-    let mut others = Vec::new(alloc);
-    while begins(rest, TokenKind::Mark(Mark::Asterisk)) {
-        let (operation, behind) = operation(
-            text,
-            rest,
-            TokenKind::Mark(Mark::Asterisk),
-            Operator::Times,
-        )?;
-        let (operand, behind) = signed(alloc, text, behind, room)?;
-        others.push((operation, operand))?;
+    let first = Box::new(alloc, first)?;
+    let (others, rest) = factors(alloc, text, rest, room)?;
+    Ok((from_left(first, others), rest))
+}
+
+/// Any number of `*` with a value, and what follows.
+#[cycle(expr)]
+fn factors<'a>(
+    alloc: Global,
+    text: &str,
+    tokens: &'a [Token],
+    room: usize,
+) -> Result<(Vec<(Operation, Expr)>, &'a [Token]), ParseFault>
+    requires stands { All (IsToken text.now) tokens.now }
+    ensures exact { Gives (λ x. (map operand_of x.0.items, x.1.now)) result
+        ((many (factor room (inside_expr room))).read text.now tokens.now) }
+    ensures stands { IfOk result (λ x. All (IsToken text.now) x.1.now) }
+    ensures no_longer { IfOk result (λ x. length x.1.now ≤ length tokens.now) }
+{
+    let mut rest = tokens;
+    let mut items = Vec::new(alloc);
+    'items: while begins(rest, TokenKind::Mark(Mark::Asterisk)) {
+        let (item, behind) = factor(alloc, text, rest, room)?;
+        items.push(item)?;
         rest = behind;
     }
-    Ok((from_left(alloc, first, others)?, rest))
+    Ok((items, rest))
+}
+
+/// `*` and a value, and what follows.
+#[cycle(expr)]
+fn factor<'a>(
+    alloc: Global,
+    text: &str,
+    tokens: &'a [Token],
+    room: usize,
+) -> Result<((Operation, Expr), &'a [Token]), ParseFault>
+    requires stands { All (IsToken text.now) tokens.now }
+    ensures exact { Gives (λ x. (operand_of x.0, x.1.now)) result
+        ((factor room (inside_expr room)).read text.now tokens.now) }
+    ensures stands { IfOk result (λ x. All (IsToken text.now) x.1.now) }
+    ensures shorter { IfOk result (λ x. length x.1.now < length tokens.now) }
+{
+    let (operation, rest) = operation(
+        text,
+        tokens,
+        TokenKind::Mark(Mark::Asterisk),
+        Operator::Times,
+    )?;
+    let (operand, rest) = signed(alloc, text, rest, room)?;
+    Ok(((operation, operand), rest))
 }
 
 /// A value, perhaps with `-`, and what follows.
@@ -535,10 +685,7 @@ fn value<'a>(
         return literal(alloc, text, tokens);
     }
     if begins(tokens, TokenKind::Mark(Mark::LeftParenthesis)) {
-        let (_, rest) = opening(text, tokens, TokenKind::Mark(Mark::LeftParenthesis), room)?;
-        let (body, rest) = inner_expr(alloc, text, rest, room)?;
-        let (_, rest) = word(text, rest, TokenKind::Mark(Mark::RightParenthesis))?;
-        return Ok((body, rest));
+        return bracketed(alloc, text, tokens, room);
     }
     if begins_plain(tokens) {
         let (path, rest) = plain(alloc, text, tokens, room)?;
@@ -557,6 +704,26 @@ fn value<'a>(
         return Ok((Expr::Classifier(at), rest));
     }
     scoped(alloc, text, tokens, room)
+}
+
+/// `(`, an expression, `)`, and what follows.
+#[cycle(expr)]
+fn bracketed<'a>(
+    alloc: Global,
+    text: &str,
+    tokens: &'a [Token],
+    room: usize,
+) -> Result<(Expr, &'a [Token]), ParseFault>
+    requires stands { All (IsToken text.now) tokens.now }
+    ensures exact { Gives (λ x. (term_of x.0, x.1.now)) result
+        ((bracketed room (inside_expr room)).read text.now tokens.now) }
+    ensures stands { IfOk result (λ x. All (IsToken text.now) x.1.now) }
+    ensures shorter { IfOk result (λ x. length x.1.now < length tokens.now) }
+{
+    let (_, rest) = opening(text, tokens, TokenKind::Mark(Mark::LeftParenthesis), room)?;
+    let (body, rest) = inner_expr(alloc, text, rest, room)?;
+    let (_, rest) = word(text, rest, TokenKind::Mark(Mark::RightParenthesis))?;
+    Ok((body, rest))
 }
 
 /// An expression inside a bracket for which there was room, and what follows.
@@ -595,45 +762,30 @@ fn negative(alloc: Global, at: usize, body: Expr) -> Result<Expr, AllocError>
     })
 }
 
-fn is_null(alloc: Global, at: usize, body: Expr, negated: bool) -> Result<Expr, AllocError>
-    ensures { IfOk result (λ expr. term_of expr ≡ IsNull at negated (term_of body)) }
+fn is_null(at: usize, body: Box<Expr>, negated: bool) -> Expr
+    ensures { term_of result ≡ IsNull at negated (term_of body.value) }
 {
-    Ok(Expr::IsNull {
-        at,
-        body: Box::new(alloc, body)?,
-        negated,
-    })
+    Expr::IsNull { at, body, negated }
 }
 
-fn compared(
-    alloc: Global,
-    left: Expr,
-    operation: Operation,
-    right: Expr,
-) -> Result<Expr, AllocError>
-    ensures { IfOk result (λ expr. term_of expr ≡ Operate (term_of left) operation (term_of right)) }
+fn compared(left: Box<Expr>, operation: Operation, right: Box<Expr>) -> Expr
+    ensures { term_of result ≡ Operate (term_of left.value) operation (term_of right.value) }
 {
-    Ok(Expr::Comparison {
-        left: Box::new(alloc, left)?,
+    Expr::Comparison {
+        left,
         operation,
-        right: Box::new(alloc, right)?,
-    })
+        right,
+    }
 }
 
-fn from_left(alloc: Global, first: Expr, rest: Vec<(Operation, Expr)>) -> Result<Expr, AllocError>
-    ensures { IfOk result (λ expr. term_of expr ≡ from_left (term_of first) (map operand_of rest.items)) }
+fn from_left(first: Box<Expr>, rest: Vec<(Operation, Expr)>) -> Expr
+    ensures { term_of result ≡ from_left (term_of first.value) (map operand_of rest.items) }
 {
-    Ok(Expr::FromLeft {
-        first: Box::new(alloc, first)?,
-        rest,
-    })
+    Expr::FromLeft { first, rest }
 }
 
-fn from_right(alloc: Global, first: Expr, rest: Vec<(Operation, Expr)>) -> Result<Expr, AllocError>
-    ensures { IfOk result (λ expr. term_of expr ≡ from_right (term_of first) (map operand_of rest.items)) }
+fn from_right(first: Box<Expr>, rest: Vec<(Operation, Expr)>) -> Expr
+    ensures { term_of result ≡ from_right (term_of first.value) (map operand_of rest.items) }
 {
-    Ok(Expr::FromRight {
-        first: Box::new(alloc, first)?,
-        rest,
-    })
+    Expr::FromRight { first, rest }
 }
