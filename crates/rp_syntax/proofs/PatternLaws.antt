@@ -61,7 +61,7 @@ pub factor_lawful : (text : List ℕ) (room : ℕ) (g : Grammar Tree) → Lawful
 unfolding factor quantifier bounds bound primary group permute exclusion
 factor_lawful text room g inner =
     gives_lawful _ _ (then_lawful _ _ (primary_lawful text room g inner)
-    (optional_lawful _ (then_lawful _ _ (quantifier_lawful text) (optional_lawful _ (word_lawful (kind.Mark mark.QuestionMark)) refl) refl) refl) refl)
+    (optional_lawful _ (gives_lawful _ _ (then_lawful _ _ (quantifier_lawful text) (optional_lawful _ (word_lawful (kind.Mark mark.QuestionMark)) refl) refl)) refl) refl)
 
 pub sequence_lawful : (text : List ℕ) (room : ℕ) (g : Grammar Tree) → Lawful text (as_pattern g) → Lawful text (sequence room (as_pattern g))
 unfolding sequence factor quantifier bounds bound primary group permute exclusion

@@ -4,6 +4,7 @@ use Rattle.rp_lexer.specs.declared.token.Token.{Token}
 use Rattle.rp_lexer.specs.declared.kind.TokenKind.{TokenKind}
 use Rattle.rp_lexer.specs.declared.kind.TokenKind.TheVariants as kind
 use Rattle.rp_lexer.specs.declared.kind.Mark.TheVariants as mark
+use Rattle.rp_lexer.specs.declared.kind.Keyword.{Keyword}
 use Rattle.rp_lexer.specs.declared.kind.Keyword.TheVariants as keyword
 use Rattle.rp_syntax.specs.declared.tree.Name.{Name}
 use Rattle.rp_syntax.specs.declared.tree.Order.{Order}
@@ -34,19 +35,29 @@ order =
 unfoldable pub measure : ℕ → Grammar MeasureTree
 measure room = gives (λ x. record { at = x.0; term = x.1.0; name = x.1.1.1 }) (here then whole_expr room then word (key keyword.As) then name)
 
+-- three reserved words that ask for these rows
+abbrev pub three_words : Keyword → Keyword → Keyword → RowsPerMatch → Grammar RowsPerMatch
+three_words a b c rows = gives (λ x. rows) (word (key a) then word (key b) then word (key c))
+
 -- SHOW EMPTY MATCHES | OMIT EMPTY MATCHES | WITH UNMATCHED ROWS, or nothing
 unfoldable pub shown : Grammar RowsPerMatch
 shown =
-    gives (λ x. rows_as.AllShowEmpty) (word (key keyword.Show) then word (key keyword.Empty) then word (key keyword.Matches))
-    or gives (λ x. rows_as.AllOmitEmpty) (word (key keyword.Omit) then word (key keyword.Empty) then word (key keyword.Matches))
-    or gives (λ x. rows_as.AllWithUnmatched) (word (key keyword.With) then word (key keyword.Unmatched) then word (key keyword.Rows))
+    three_words keyword.Show keyword.Empty keyword.Matches rows_as.AllShowEmpty
+    or three_words keyword.Omit keyword.Empty keyword.Matches rows_as.AllOmitEmpty
+    or three_words keyword.With keyword.Unmatched keyword.Rows rows_as.AllWithUnmatched
     or nothing rows_as.AllShowEmpty
 
--- ONE ROW PER MATCH | ALL ROWS PER MATCH shown
+-- ONE ROW PER MATCH
+abbrev pub one_row : Grammar RowsPerMatch
+one_row = gives (λ x. rows_as.One) (word (key keyword.One) then word (key keyword.Row) then word (key keyword.Per) then word (key keyword.Match))
+
+-- ALL ROWS PER MATCH shown
+abbrev pub all_rows : Grammar RowsPerMatch
+all_rows = gives (λ x. x.1.1.1.1) (word (key keyword.All) then word (key keyword.Rows) then word (key keyword.Per) then word (key keyword.Match) then shown)
+
+-- one_row | all_rows
 unfoldable pub rows : Grammar RowsPerMatch
-rows =
-    gives (λ x. rows_as.One) (word (key keyword.One) then word (key keyword.Row) then word (key keyword.Per) then word (key keyword.Match))
-    or gives (λ x. x.1.1.1.1) (word (key keyword.All) then word (key keyword.Rows) then word (key keyword.Per) then word (key keyword.Match) then shown)
+rows = one_row or all_rows
 
 -- NEXT ROW | FIRST name | LAST name | name
 unfoldable pub target : Grammar Skip
@@ -117,12 +128,17 @@ subset_part room = gives or_none (optional (gives second (word (key keyword.Subs
 unfoldable pub define_part : ℕ → Grammar (List DefinitionTree)
 define_part room = gives second (word (key keyword.Define) then listed (definition room))
 
+-- skip_part, pattern_part, subset_part, define_part
+abbrev pub later_parts : ℕ → Grammar (Skip × (Tree × (List UnionTree × List DefinitionTree)))
+later_parts room = skip_part then pattern_part room then subset_part room then define_part room
+
 -- the parts in their order
 unfoldable pub body : ℕ → Grammar ClauseTree
 body room =
     gives (λ x. record { partition = x.0; order = x.1.0; measures = x.1.1.0; rows = x.1.1.1.0; skip = x.1.1.1.1.0; pattern = x.1.1.1.1.1.0; subsets = x.1.1.1.1.1.1.0; definitions = x.1.1.1.1.1.1.1 })
-    (partition_part then order_part then measures_part room then rows_part then skip_part then pattern_part room then subset_part room then define_part room)
+    (partition_part then order_part then measures_part room then rows_part then later_parts room)
 
+-- So many brackets may be open at once, MATCH_RECOGNIZE's among them, so that a parser needs few levels of calls. (own)
 abbrev pub max_open : ℕ
 max_open = 100
 

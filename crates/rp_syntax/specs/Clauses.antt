@@ -7,6 +7,7 @@ use Rattle.rp_syntax.specs.declared.tree.RowsPerMatch.{RowsPerMatch}
 use Rattle.rp_syntax.specs.declared.tree.Skip.{Skip}
 use Rattle.rp_syntax.specs.declared.tree.Union.{Union}
 use Rattle.rp_syntax.specs.declared.tree.Definition.{Definition}
+use Rattle.rp_syntax.specs.declared.tree.Pattern.{Pattern}
 use Rattle.rp_syntax.specs.declared.tree.Clause.{Clause}
 use Rattle.rp_syntax.specs.Tree.{Tree, tree_of}
 use Rattle.rp_syntax.specs.Terms.{Term, term_of}
@@ -47,6 +48,10 @@ union_tree u = record { name = u.name; members = u.members.items }
 
 abbrev pub definition_tree : Definition → DefinitionTree
 definition_tree d = record { name = d.name; at = d.at; term = term_of d.expr }
+
+-- a skip, a pattern, unions and definitions as plain data
+abbrev pub later_trees : Skip → Pattern → List Union → List Definition → Skip × (Tree × (List UnionTree × List DefinitionTree))
+later_trees s p us ds = (s, (tree_of p, (map union_tree us, map definition_tree ds)))
 
 -- what a clause says, its text left aside
 abbrev pub clause_tree : Clause → ClauseTree

@@ -36,10 +36,13 @@ scope =
     gives (λ at. record { at = at; is_final = false }) (word (key keyword.Running))
     or gives (λ at. record { at = at; is_final = true }) (word (key keyword.Final))
 
--- "(" (column | navigation) ["," number] ")"
+-- ["," number] ")"
+unfoldable pub ending : Grammar (Option Offset)
+ending = gives (λ x. x.0) (optional (gives second (word (kind.Mark mark.Comma) then offset)) then word (kind.Mark mark.RightParenthesis))
+
+-- "(" (column | navigation) ending
 unfoldable pub argument : ℕ → Grammar Path → Grammar (Path × Option Offset)
-argument room inner =
-    gives (λ x. (x.1.0, x.1.1.0)) (opening room (kind.Mark mark.LeftParenthesis) then inner then optional (gives second (word (kind.Mark mark.Comma) then offset)) then word (kind.Mark mark.RightParenthesis))
+argument room inner = gives (λ x. (x.1.0, x.1.1)) (opening room (kind.Mark mark.LeftParenthesis) then inner then ending)
 
 abbrev pub moved : Movement → ℕ × (Path × Option Offset) → Path
 moved movement x = Move movement x.0 x.1.0 x.1.1

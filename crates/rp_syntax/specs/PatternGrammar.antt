@@ -42,10 +42,20 @@ quantifier =
     or gives (λ at. repeated at (unwritten at 0) (Some (unwritten at 1))) (word (kind.Mark mark.QuestionMark))
     or gives (λ x. x.1 x.0) (word (kind.Mark mark.LeftBrace) then bounds)
 
-abbrev pub with_quantifier : Tree → Option (Quantifier × Option ℕ) → Tree
+abbrev pub lazily : Quantifier → Quantifier
+lazily q = record q { reluctant = true }
+
+abbrev pub perhaps_lazily : Quantifier → Option ℕ → Quantifier
+perhaps_lazily q None = q
+perhaps_lazily q (Some at) = lazily q
+
+-- quantifier ["?"]
+abbrev pub repetition : Grammar Quantifier
+repetition = gives (λ x. perhaps_lazily x.0 x.1) (quantifier then optional (word (kind.Mark mark.QuestionMark)))
+
+abbrev pub with_quantifier : Tree → Option Quantifier → Tree
 with_quantifier t None = t
-with_quantifier t (Some (q, None)) = Quantified q t
-with_quantifier t (Some (q, Some at)) = Quantified (record q { reluctant = true }) t
+with_quantifier t (Some q) = Quantified q t
 
 abbrev pub or_empty : Option Tree → Tree
 or_empty None = Empty
@@ -75,9 +85,9 @@ primary room inner =
     or permute room inner
     or exclusion room inner
 
--- primary [quantifier ["?"]]
+-- primary [repetition]
 unfoldable pub factor : ℕ → Grammar Tree → Grammar Tree
-factor room inner = gives (λ x. with_quantifier x.0 x.1) (primary room inner then optional (quantifier then optional (word (kind.Mark mark.QuestionMark))))
+factor room inner = gives (λ x. with_quantifier x.0 x.1) (primary room inner then optional repetition)
 
 -- one or more factors
 unfoldable pub sequence : ℕ → Grammar Tree → Grammar Tree

@@ -4,11 +4,11 @@ ghost use Rattle.std.specs.Prelude.{◌≡◌, ◌≢◌, ◌<◌, ◌≤◌, le
 ghost use Rattle.rp_lexer.specs.Lexes.{IsToken, Lexes};
 ghost use Rattle.rp_grammar.specs.Reading.{Gives, IsFaultIn};
 ghost use Rattle.rp_syntax.specs.Tree.{tree_of};
-ghost use Rattle.rp_grammar.specs.Grammar.{listed};
+ghost use Rattle.rp_grammar.specs.Grammar.{gives, listed, second, word, ◌then◌};
 ghost use Rattle.rp_syntax.specs.Names.{name};
-ghost use Rattle.rp_syntax.specs.Clauses.{clause_tree, definition_tree, measure_tree, union_tree};
+ghost use Rattle.rp_syntax.specs.Clauses.{clause_tree, definition_tree, later_trees, measure_tree, union_tree};
 ghost use Rattle.rp_syntax.specs.Derived.{DerivesNone, DerivesOnly};
-ghost use Rattle.rp_syntax.specs.ClauseGrammar.{Derives, body, clause, define_part, definition, measure, measures_part, order, order_part, partition_part, pattern_part, rows, rows_part, skip_part, shown, skip, subset_part, target, union};
+ghost use Rattle.rp_syntax.specs.ClauseGrammar.{Derives, all_rows, body, clause, define_part, definition, later_parts, measure, measures_part, one_row, order, order_part, partition_part, pattern_part, rows, rows_part, shown, skip, skip_part, subset_part, target, three_words, union};
 
 use crate::expr::expr;
 use crate::name::name;
@@ -17,9 +17,9 @@ use crate::tree::{Clause, Definition, Measure, Name, Order, Pattern, RowsPerMatc
 use rp_grammar::{ParseFault, begins, opening, place, word};
 use rp_lexer::{Keyword, Mark, Token, TokenKind};
 use rp_value::Text;
-use std::alloc::Global;
+use std::alloc::{AllocError, Global};
 
-/// The most brackets that may be open.
+/// The most brackets that may be open, which bounds how deep the calls of this parser go.
 const MAX_OPEN: usize = 100;
 
 /// A column to order by, and what follows.
@@ -64,6 +64,22 @@ fn order<'a>(
     ))
 }
 
+/// AS and a name, and what follows.
+fn as_name<'a>(
+    alloc: Global,
+    text: &str,
+    tokens: &'a [Token],
+) -> Result<(Name, &'a [Token]), ParseFault>
+    requires stands { All (IsToken text.now) tokens.now }
+    ensures exact { Gives (λ x. (x.0, x.1.now)) result
+        ((gives second (word (TokenKind.Keyword Keyword.As) then name)).read text.now tokens.now) }
+    ensures stands { IfOk result (λ x. All (IsToken text.now) x.1.now) }
+    ensures shorter { IfOk result (λ x. length x.1.now < length tokens.now) }
+{
+    let (_, rest) = word(text, tokens, TokenKind::Keyword(Keyword::As))?;
+    name(alloc, text, rest)
+}
+
 /// A measure, and what follows.
 #[tactic(auto, unfolding(crate::specs::ClauseGrammar::measure))]
 fn measure<'a>(
@@ -79,8 +95,7 @@ fn measure<'a>(
 {
     let at = place(text, tokens);
     let (expr, rest) = expr(alloc, text, tokens, room)?;
-    let (_, rest) = word(text, rest, TokenKind::Keyword(Keyword::As))?;
-    let (name, rest) = name(alloc, text, rest)?;
+    let (name, rest) = as_name(alloc, text, rest)?;
     Ok((Measure { at, expr, name }, rest))
 }
 
@@ -246,6 +261,24 @@ fn definitions<'a>(
     Ok((items, rest))
 }
 
+/// Three words that ask for these rows, and what follows.
+fn three_words<'a>(
+    text: &str,
+    tokens: &'a [Token],
+    words: (Keyword, Keyword, Keyword),
+    rows: RowsPerMatch,
+) -> Result<(RowsPerMatch, &'a [Token]), ParseFault>
+    requires stands { All (IsToken text.now) tokens.now }
+    ensures exact { Gives (λ x. (x.0, x.1.now)) result ((three_words words.0 words.1 words.2 rows).read text.now tokens.now) }
+    ensures stands { IfOk result (λ x. All (IsToken text.now) x.1.now) }
+    ensures shorter { IfOk result (λ x. length x.1.now < length tokens.now) }
+{
+    let (_, rest) = word(text, tokens, TokenKind::Keyword(words.0))?;
+    let (_, rest) = word(text, rest, TokenKind::Keyword(words.1))?;
+    let (_, rest) = word(text, rest, TokenKind::Keyword(words.2))?;
+    Ok((rows, rest))
+}
+
 /// Which rows of a match and of no match are shown, and what follows.
 #[tactic(auto, unfolding(crate::specs::ClauseGrammar::shown))]
 fn shown<'a>(text: &str, tokens: &'a [Token]) -> Result<(RowsPerMatch, &'a [Token]), ParseFault>
@@ -255,24 +288,46 @@ fn shown<'a>(text: &str, tokens: &'a [Token]) -> Result<(RowsPerMatch, &'a [Toke
     ensures no_longer { IfOk result (λ x. length x.1.now ≤ length tokens.now) }
 {
     if begins(tokens, TokenKind::Keyword(Keyword::Show)) {
-        let (_, rest) = word(text, tokens, TokenKind::Keyword(Keyword::Show))?;
-        let (_, rest) = word(text, rest, TokenKind::Keyword(Keyword::Empty))?;
-        let (_, rest) = word(text, rest, TokenKind::Keyword(Keyword::Matches))?;
-        return Ok((RowsPerMatch::AllShowEmpty, rest));
+        let words = (Keyword::Show, Keyword::Empty, Keyword::Matches);
+        return three_words(text, tokens, words, RowsPerMatch::AllShowEmpty);
     }
     if begins(tokens, TokenKind::Keyword(Keyword::Omit)) {
-        let (_, rest) = word(text, tokens, TokenKind::Keyword(Keyword::Omit))?;
-        let (_, rest) = word(text, rest, TokenKind::Keyword(Keyword::Empty))?;
-        let (_, rest) = word(text, rest, TokenKind::Keyword(Keyword::Matches))?;
-        return Ok((RowsPerMatch::AllOmitEmpty, rest));
+        let words = (Keyword::Omit, Keyword::Empty, Keyword::Matches);
+        return three_words(text, tokens, words, RowsPerMatch::AllOmitEmpty);
     }
     if begins(tokens, TokenKind::Keyword(Keyword::With)) {
-        let (_, rest) = word(text, tokens, TokenKind::Keyword(Keyword::With))?;
-        let (_, rest) = word(text, rest, TokenKind::Keyword(Keyword::Unmatched))?;
-        let (_, rest) = word(text, rest, TokenKind::Keyword(Keyword::Rows))?;
-        return Ok((RowsPerMatch::AllWithUnmatched, rest));
+        let words = (Keyword::With, Keyword::Unmatched, Keyword::Rows);
+        return three_words(text, tokens, words, RowsPerMatch::AllWithUnmatched);
     }
     Ok((RowsPerMatch::AllShowEmpty, tokens))
+}
+
+/// ONE ROW PER MATCH, and what follows.
+fn one_row<'a>(text: &str, tokens: &'a [Token]) -> Result<(RowsPerMatch, &'a [Token]), ParseFault>
+    requires stands { All (IsToken text.now) tokens.now }
+    ensures exact { Gives (λ x. (x.0, x.1.now)) result (one_row.read text.now tokens.now) }
+    ensures stands { IfOk result (λ x. All (IsToken text.now) x.1.now) }
+    ensures shorter { IfOk result (λ x. length x.1.now < length tokens.now) }
+{
+    let (_, rest) = word(text, tokens, TokenKind::Keyword(Keyword::One))?;
+    let (_, rest) = word(text, rest, TokenKind::Keyword(Keyword::Row))?;
+    let (_, rest) = word(text, rest, TokenKind::Keyword(Keyword::Per))?;
+    let (_, rest) = word(text, rest, TokenKind::Keyword(Keyword::Match))?;
+    Ok((RowsPerMatch::One, rest))
+}
+
+/// ALL ROWS PER MATCH with what is shown, and what follows.
+fn all_rows<'a>(text: &str, tokens: &'a [Token]) -> Result<(RowsPerMatch, &'a [Token]), ParseFault>
+    requires stands { All (IsToken text.now) tokens.now }
+    ensures exact { Gives (λ x. (x.0, x.1.now)) result (all_rows.read text.now tokens.now) }
+    ensures stands { IfOk result (λ x. All (IsToken text.now) x.1.now) }
+    ensures shorter { IfOk result (λ x. length x.1.now < length tokens.now) }
+{
+    let (_, rest) = word(text, tokens, TokenKind::Keyword(Keyword::All))?;
+    let (_, rest) = word(text, rest, TokenKind::Keyword(Keyword::Rows))?;
+    let (_, rest) = word(text, rest, TokenKind::Keyword(Keyword::Per))?;
+    let (_, rest) = word(text, rest, TokenKind::Keyword(Keyword::Match))?;
+    shown(text, rest)
 }
 
 /// Rows per match, and what follows.
@@ -284,17 +339,9 @@ fn rows<'a>(text: &str, tokens: &'a [Token]) -> Result<(RowsPerMatch, &'a [Token
     ensures shorter { IfOk result (λ x. length x.1.now < length tokens.now) }
 {
     if begins(tokens, TokenKind::Keyword(Keyword::One)) {
-        let (_, rest) = word(text, tokens, TokenKind::Keyword(Keyword::One))?;
-        let (_, rest) = word(text, rest, TokenKind::Keyword(Keyword::Row))?;
-        let (_, rest) = word(text, rest, TokenKind::Keyword(Keyword::Per))?;
-        let (_, rest) = word(text, rest, TokenKind::Keyword(Keyword::Match))?;
-        return Ok((RowsPerMatch::One, rest));
+        return one_row(text, tokens);
     }
-    let (_, rest) = word(text, tokens, TokenKind::Keyword(Keyword::All))?;
-    let (_, rest) = word(text, rest, TokenKind::Keyword(Keyword::Rows))?;
-    let (_, rest) = word(text, rest, TokenKind::Keyword(Keyword::Per))?;
-    let (_, rest) = word(text, rest, TokenKind::Keyword(Keyword::Match))?;
-    shown(text, rest)
+    all_rows(text, tokens)
 }
 
 /// Where a skip goes to, and what follows.
@@ -507,6 +554,32 @@ fn skip_part<'a>(
     skip(alloc, text, tokens)
 }
 
+/// Perhaps a skip, PATTERN, perhaps SUBSET, and DEFINE, and what follows.
+fn later_parts<'a>(
+    alloc: Global,
+    text: &str,
+    tokens: &'a [Token],
+    room: usize,
+) -> Result<((Skip, Pattern, Vec<Union>, Vec<Definition>), &'a [Token]), ParseFault>
+    requires stands { All (IsToken text.now) tokens.now }
+    ensures exact { Gives (λ x. (later_trees x.0.0 x.0.1 x.0.2.items x.0.3.items, x.1.now)) result
+        ((later_parts room).read text.now tokens.now) }
+    ensures stands { IfOk result (λ x. All (IsToken text.now) x.1.now) }
+{
+    let (skip, rest) = skip_part(alloc, text, tokens)?;
+    let (pattern, rest) = pattern_part(alloc, text, rest, room)?;
+    let (subsets, rest) = subset_part(alloc, text, rest, room)?;
+    let (definitions, rest) = define_part(alloc, text, rest, room)?;
+    Ok(((skip, pattern, subsets, definitions), rest))
+}
+
+/// A copy of the text.
+fn copied(alloc: Global, text: &str) -> Result<Text, AllocError>
+    ensures { IfOk result (λ copy. copy ≡ text.now) }
+{
+    Text::new(alloc, String::from_str(alloc, text)?)
+}
+
 /// The parts of a clause in their order, and what follows.
 #[tactic(auto, unfolding(crate::specs::ClauseGrammar::body))]
 fn body<'a>(
@@ -520,16 +593,15 @@ fn body<'a>(
     ensures text { IfOk result (λ x. x.0.text ≡ text.now) }
     ensures stands { IfOk result (λ x. All (IsToken text.now) x.1.now) }
 {
+    let copy = copied(alloc, text)?;
     let (partition, rest) = partition_part(alloc, text, tokens)?;
     let (order, rest) = order_part(alloc, text, rest)?;
     let (measures, rest) = measures_part(alloc, text, rest, room)?;
     let (rows, rest) = rows_part(text, rest)?;
-    let (skip, rest) = skip_part(alloc, text, rest)?;
-    let (pattern, rest) = pattern_part(alloc, text, rest, room)?;
-    let (subsets, rest) = subset_part(alloc, text, rest, room)?;
-    let (definitions, rest) = define_part(alloc, text, rest, room)?;
+    let (later, rest) = later_parts(alloc, text, rest, room)?;
+    let (skip, pattern, subsets, definitions) = later;
     let clause = Clause {
-        text: Text::new(alloc, String::from_str(alloc, text)?)?,
+        text: copy,
         partition,
         order,
         measures,

@@ -5,7 +5,7 @@ ghost use Rattle.rp_lexer.specs.Lexes.{IsToken};
 ghost use Rattle.rp_grammar.specs.Reading.{Gives, starts};
 ghost use Rattle.rp_grammar.specs.Grammar.{gives, optional};
 ghost use Rattle.rp_syntax.specs.Paths.{Move, path_of};
-ghost use Rattle.rp_syntax.specs.NavigationGrammar.{argument, column, deeper_path, edge, inside_path, offset, path, plain, plain_kinds, scope};
+ghost use Rattle.rp_syntax.specs.NavigationGrammar.{argument, column, deeper_path, edge, ending, inside_path, offset, path, plain, plain_kinds, scope};
 
 use crate::name::{begins_name, name};
 use crate::tree::{Column, Movement, Navigation, Offset, Scope};
@@ -90,6 +90,24 @@ pub(crate) fn scope<'a>(
     Ok((None, tokens))
 }
 
+/// Perhaps a comma and by how many rows, `)`, and what follows.
+#[tactic(auto, unfolding(crate::specs::NavigationGrammar::ending))]
+fn ending<'a>(text: &str, tokens: &'a [Token]) -> Result<(Option<Offset>, &'a [Token]), ParseFault>
+    requires stands { All (IsToken text.now) tokens.now }
+    ensures exact { Gives (λ x. (x.0, x.1.now)) result (ending.read text.now tokens.now) }
+    ensures stands { IfOk result (λ x. All (IsToken text.now) x.1.now) }
+    ensures shorter { IfOk result (λ x. length x.1.now < length tokens.now) }
+{
+    if !begins(tokens, TokenKind::Mark(Mark::Comma)) {
+        let (_, rest) = word(text, tokens, TokenKind::Mark(Mark::RightParenthesis))?;
+        return Ok((None, rest));
+    }
+    let (_, rest) = word(text, tokens, TokenKind::Mark(Mark::Comma))?;
+    let (rows, rest) = offset(text, rest)?;
+    let (_, rest) = word(text, rest, TokenKind::Mark(Mark::RightParenthesis))?;
+    Ok((Some(rows), rest))
+}
+
 /// The argument of a navigation in its brackets, and what follows.
 #[cycle(navigation)]
 #[tactic(auto, unfolding(crate::specs::NavigationGrammar::argument))]
@@ -107,14 +125,8 @@ fn argument<'a>(
 {
     let (_, rest) = opening(text, tokens, TokenKind::Mark(Mark::LeftParenthesis), room)?;
     let (path, rest) = inner_path(alloc, text, rest, room)?;
-    if !begins(rest, TokenKind::Mark(Mark::Comma)) {
-        let (_, rest) = word(text, rest, TokenKind::Mark(Mark::RightParenthesis))?;
-        return Ok((path, None, rest));
-    }
-    let (_, rest) = word(text, rest, TokenKind::Mark(Mark::Comma))?;
-    let (rows, rest) = offset(text, rest)?;
-    let (_, rest) = word(text, rest, TokenKind::Mark(Mark::RightParenthesis))?;
-    Ok((path, Some(rows), rest))
+    let (rows, rest) = ending(text, rest)?;
+    Ok((path, rows, rest))
 }
 
 /// A column or a navigation inside a bracket for which there was room, and what follows.

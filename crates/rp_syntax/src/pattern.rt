@@ -5,7 +5,7 @@ ghost use Rattle.rp_lexer.specs.Lexes.{IsToken};
 ghost use Rattle.rp_grammar.specs.Reading.{Gives, starts};
 ghost use Rattle.rp_syntax.specs.Tree.{tree_of, joined_all, Concatenation, Alternation, Permute, Beside, Quantified, Exclusion};
 ghost use Rattle.rp_grammar.specs.Grammar.{gives, listed};
-ghost use Rattle.rp_syntax.specs.PatternGrammar.{bound, bounds, quantifier, repeated, unwritten, group, permute, exclusion, primary, factor, sequence, alternatives, inside, deeper, pattern_kinds, quantifier_kinds};
+ghost use Rattle.rp_syntax.specs.PatternGrammar.{bound, bounds, lazily, quantifier, repeated, repetition, unwritten, group, permute, exclusion, primary, factor, sequence, alternatives, inside, deeper, pattern_kinds, quantifier_kinds};
 
 use crate::name::{begins_name, name};
 use crate::tree::{Bound, Pattern, Quantifier};
@@ -107,6 +107,32 @@ fn bounds<'a>(
     let (upper, rest) = bound(text, rest)?;
     let (_, rest) = word(text, rest, TokenKind::Mark(Mark::RightBrace))?;
     Ok((repeated(at, lower, Some(upper)), rest))
+}
+
+/// The quantifier with a `?` behind it.
+fn lazily(greedy: Quantifier) -> Quantifier
+    ensures { result ≡ lazily greedy }
+{
+    Quantifier {
+        reluctant: true,
+        ..greedy
+    }
+}
+
+/// A quantifier, perhaps with `?`, and what follows.
+#[tactic(auto, unfolding(crate::specs::PatternGrammar::quantifier))]
+fn repetition<'a>(text: &str, tokens: &'a [Token]) -> Result<(Quantifier, &'a [Token]), ParseFault>
+    requires stands { All (IsToken text.now) tokens.now }
+    ensures exact { Gives (λ x. (x.0, x.1.now)) result (repetition.read text.now tokens.now) }
+    ensures stands { IfOk result (λ x. All (IsToken text.now) x.1.now) }
+    ensures shorter { IfOk result (λ x. length x.1.now < length tokens.now) }
+{
+    let (greedy, rest) = quantifier(text, tokens)?;
+    if !begins(rest, TokenKind::Mark(Mark::QuestionMark)) {
+        return Ok((greedy, rest));
+    }
+    let (_, rest) = word(text, rest, TokenKind::Mark(Mark::QuestionMark))?;
+    Ok((lazily(greedy), rest))
 }
 
 /// Whether the tokens begin with a primary, and so with a pattern.
@@ -216,16 +242,9 @@ fn factor<'a>(
     if !begins_quantifier(rest) {
         return Ok((body, rest));
     }
-    let (greedy, rest) = quantifier(text, rest)?;
-    if !begins(rest, TokenKind::Mark(Mark::QuestionMark)) {
-        return Ok((quantified(alloc, body, greedy)?, rest));
-    }
-    let (_, rest) = word(text, rest, TokenKind::Mark(Mark::QuestionMark))?;
-    let reluctant = Quantifier {
-        reluctant: true,
-        ..greedy
-    };
-    Ok((quantified(alloc, body, reluctant)?, rest))
+    let body = Box::new(alloc, body)?;
+    let (quantifier, rest) = repetition(text, rest)?;
+    Ok((quantified(body, quantifier), rest))
 }
 
 /// Whether the tokens begin with a quantifier.
@@ -238,13 +257,10 @@ fn begins_quantifier(tokens: &[Token]) -> bool
         || begins(tokens, TokenKind::Mark(Mark::LeftBrace))
 }
 
-fn quantified(alloc: Global, body: Pattern, quantifier: Quantifier) -> Result<Pattern, AllocError>
-    ensures { IfOk result (λ pattern. tree_of pattern ≡ Quantified quantifier (tree_of body)) }
+fn quantified(body: Box<Pattern>, quantifier: Quantifier) -> Pattern
+    ensures { tree_of result ≡ Quantified quantifier (tree_of body.value) }
 {
-    Ok(Pattern::Quantified {
-        body: Box::new(alloc, body)?,
-        quantifier,
-    })
+    Pattern::Quantified { body, quantifier }
 }
 
 /// A variable, an anchor or a bracket, and what follows.
