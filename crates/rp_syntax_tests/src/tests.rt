@@ -8,6 +8,7 @@ use rp_syntax::{Clause, ParseFault, TableTextFault, parse, read_table};
 use rp_value::{Kind, Table, TableFault};
 use second::first_fault;
 use std::alloc::Global;
+use std::process::Abort;
 use std::test::*;
 
 /// The clause of a text, or its fault, where memory is left: a call that is refused is made again.
@@ -37,7 +38,7 @@ fn expected_at(alloc: Global, text: &str) -> Result<Option<usize>, Fail> {
 }
 
 /// Each optional part left out and put in, with the fields of the tree behind the text.
-const CLAUSES: [(&str, &str); 17] = [
+const CLAUSES: &[(&str, &str)] = &[
     (
         "PATTERN (A) DEFINE A AS p",
         "partition: [], order: [], measures: [], rows: One, skip: PastLastRow, pattern: Variable(Name { text: Text { string: \"A\" }, at: 9 }), subsets: [], definitions: [Definition { name: Name { text: Text { string: \"A\" }, at: 19 }, at: 24, expr: Navigation(Column(Column { qualifier: None, name: Name { text: Text { string: \"P\" }, at: 24 } })) }]",
@@ -108,10 +109,9 @@ const CLAUSES: [(&str, &str); 17] = [
     ),
 ];
 
-#[test]
-fn optional_parts(rt: HostRuntime) -> Result<(), Fail> {
-    let alloc = rt.alloc();
-    for (text, tree) in CLAUSES {
+/// Asserts that each clause has the tree beside it.
+fn check_clauses(rt: &impl Abort, alloc: Global, clauses: &[(&str, &str)]) -> Result<(), Fail> {
+    for (text, tree) in clauses {
         let clause = clause_of(alloc, text)?;
         let shown = format!(in alloc; "{:?}", clause)?;
         let wanted = format!(in alloc; "Clause {{ text: {:?}, {} }}", clause.text, tree)?;
@@ -120,8 +120,13 @@ fn optional_parts(rt: HostRuntime) -> Result<(), Fail> {
     Ok(())
 }
 
+#[test]
+fn optional_parts(rt: HostRuntime) -> Result<(), Fail> {
+    check_clauses(&rt, rt.alloc(), CLAUSES)
+}
+
 /// Each form of pattern and quantifier, behind `PATTERN (`.
-const PATTERNS: [(&str, &str); 18] = [
+const PATTERNS: &[(&str, &str)] = &[
     (
         "A",
         "Variable(Name { text: Text { string: \"A\" }, at: 9 })",
@@ -193,23 +198,31 @@ const PATTERNS: [(&str, &str); 18] = [
     ),
 ];
 
-#[test]
-fn pattern_forms(rt: HostRuntime) -> Result<(), Fail> {
-    let alloc = rt.alloc();
-    for (pattern, tree) in PATTERNS {
+/// Asserts that each pattern has the tree beside it.
+fn check_patterns(rt: &impl Abort, alloc: Global, patterns: &[(&str, &str)]) -> Result<(), Fail> {
+    for (pattern, tree) in patterns {
         let text = format!(in alloc; "PATTERN ({pattern}) DEFINE A AS p")?;
         let clause = clause_of(alloc, text.as_str())?;
         let shown = format!(in alloc; "{:?}", clause.pattern)?;
-        assert_eq!(rt; shown.as_str(), tree, "{pattern}");
+        assert_eq!(rt; shown.as_str(), *tree, "{pattern}");
     }
     Ok(())
 }
 
+#[test]
+fn pattern_forms(rt: HostRuntime) -> Result<(), Fail> {
+    check_patterns(&rt, rt.alloc(), PATTERNS)
+}
+
 /// Each form of expression, behind `PATTERN (A) DEFINE A AS `.
-const CONDITIONS: [(&str, &str); 20] = [
+const CONDITIONS: &[(&str, &str)] = &[
     (
         "p = 1 OR q = 2 AND r = 3 OR s = 4",
         "FromRight { first: Comparison { left: Navigation(Column(Column { qualifier: None, name: Name { text: Text { string: \"P\" }, at: 24 } })), operation: Operation { operator: Equals, at: 26 }, right: Number { at: 28, value: 1 } }, rest: [(Operation { operator: Or, at: 30 }, FromRight { first: Comparison { left: Navigation(Column(Column { qualifier: None, name: Name { text: Text { string: \"Q\" }, at: 33 } })), operation: Operation { operator: Equals, at: 35 }, right: Number { at: 37, value: 2 } }, rest: [(Operation { operator: And, at: 39 }, Comparison { left: Navigation(Column(Column { qualifier: None, name: Name { text: Text { string: \"R\" }, at: 43 } })), operation: Operation { operator: Equals, at: 45 }, right: Number { at: 47, value: 3 } })] }), (Operation { operator: Or, at: 49 }, Comparison { left: Navigation(Column(Column { qualifier: None, name: Name { text: Text { string: \"S\" }, at: 52 } })), operation: Operation { operator: Equals, at: 54 }, right: Number { at: 56, value: 4 } })] }",
+    ),
+    (
+        "p AND q OR r",
+        "FromRight { first: FromRight { first: Navigation(Column(Column { qualifier: None, name: Name { text: Text { string: \"P\" }, at: 24 } })), rest: [(Operation { operator: And, at: 26 }, Navigation(Column(Column { qualifier: None, name: Name { text: Text { string: \"Q\" }, at: 30 } })))] }, rest: [(Operation { operator: Or, at: 32 }, Navigation(Column(Column { qualifier: None, name: Name { text: Text { string: \"R\" }, at: 35 } })))] }",
     ),
     (
         "NOT p <> -1",
@@ -289,22 +302,30 @@ const CONDITIONS: [(&str, &str); 20] = [
     ),
 ];
 
-#[test]
-fn expression_forms(rt: HostRuntime) -> Result<(), Fail> {
-    let alloc = rt.alloc();
-    for (condition, tree) in CONDITIONS {
+/// Asserts that each expression has the tree beside it.
+fn check_conditions(
+    rt: &impl Abort,
+    alloc: Global,
+    conditions: &[(&str, &str)],
+) -> Result<(), Fail> {
+    for (condition, tree) in conditions {
         let text = format!(in alloc; "PATTERN (A) DEFINE A AS {condition}")?;
         let clause = clause_of(alloc, text.as_str())?;
         let definition = clause.definitions.first().ok_or("a definition")?;
         assert_eq!(rt; definition.at, 24);
         let shown = format!(in alloc; "{:?}", definition.expr)?;
-        assert_eq!(rt; shown.as_str(), tree, "{condition}");
+        assert_eq!(rt; shown.as_str(), *tree, "{condition}");
     }
     Ok(())
 }
 
+#[test]
+fn expression_forms(rt: HostRuntime) -> Result<(), Fail> {
+    check_conditions(&rt, rt.alloc(), CONDITIONS)
+}
+
 /// Texts with the offset of the first token that can't follow, or their length.
-const FAULTS: [(&str, usize); 19] = [
+const FAULTS: &[(&str, usize)] = &[
     ("PATTERN (A", 10),
     ("PATTERN (A)", 11),
     ("PATTERN (A DEFINE", 11),
@@ -326,16 +347,21 @@ const FAULTS: [(&str, usize); 19] = [
     ("PATTERN (A |) DEFINE A AS p", 12),
 ];
 
-#[test]
-fn compile_faults(rt: HostRuntime) -> Result<(), Fail> {
-    for (text, at) in FAULTS {
-        assert_eq!(rt; expected_at(rt.alloc(), text)?, Some(at), "{text}");
+/// Asserts that each text is at fault at the offset beside it.
+fn check_faults(rt: &impl Abort, alloc: Global, faults: &[(&str, usize)]) -> Result<(), Fail> {
+    for (text, at) in faults {
+        assert_eq!(rt; expected_at(alloc, text)?, Some(*at), "{text}");
     }
     Ok(())
 }
 
+#[test]
+fn compile_faults(rt: HostRuntime) -> Result<(), Fail> {
+    check_faults(&rt, rt.alloc(), FAULTS)
+}
+
 /// The tokens of a clause that has each part.
-const WORDS: [&str; 69] = [
+const WORDS: &[&str] = &[
     "PARTITION",
     "BY",
     "s",
@@ -406,10 +432,16 @@ const WORDS: [&str; 69] = [
     "IS",
     "NULL",
 ];
+
 /// The words, where the one at the index stands so many times.
-fn with_times(alloc: Global, index: usize, times: usize) -> Result<Vec<&'static str>, Fail> {
+fn with_times<'a>(
+    alloc: Global,
+    all: &[&'a str],
+    index: usize,
+    times: usize,
+) -> Result<Vec<&'a str>, Fail> {
     let mut words = Vec::new(alloc);
-    for (place, word) in WORDS.iter().enumerate() {
+    for (place, word) in all.iter().enumerate() {
         let count = if place == index { times } else { 1 };
         for _ in 0..count {
             words.push(*word)?;
@@ -419,7 +451,7 @@ fn with_times(alloc: Global, index: usize, times: usize) -> Result<Vec<&'static 
 }
 
 /// A text of these words, with a blank behind each.
-fn text_of(alloc: Global, words: &[&'static str]) -> Result<String, Fail> {
+fn text_of(alloc: Global, words: &[&str]) -> Result<String, Fail> {
     let mut text = String::new(alloc);
     for word in words {
         text.push_str(word)?;
@@ -428,20 +460,28 @@ fn text_of(alloc: Global, words: &[&'static str]) -> Result<String, Fail> {
     Ok(text)
 }
 
-/// Each token of a clause dropped and doubled in turn: what is left is at fault where a plain second parser finds that
+/// Asserts that the words, where each in turn stands so many times, are at fault where a plain second parser finds that
 /// nothing can go on.
-#[test]
-fn dropped_and_doubled_tokens(rt: HostRuntime) -> Result<(), Fail> {
-    let alloc = rt.alloc();
-    for index in 0..WORDS.len() {
-        for times in [0, 2] {
-            let words = with_times(alloc, index, times)?;
-            let text = text_of(alloc, words.as_slice())?;
-            let fault = first_fault(alloc, words.as_slice())?;
-            assert_eq!(rt; expected_at(alloc, text.as_str())?, fault, "{text}");
-        }
+fn check_times(
+    rt: &impl Abort,
+    alloc: Global,
+    all: &[&'static str],
+    times: usize,
+) -> Result<(), Fail> {
+    for index in 0..all.len() {
+        let words = with_times(alloc, all, index, times)?;
+        let text = text_of(alloc, words.as_slice())?;
+        let fault = first_fault(alloc, words.as_slice())?;
+        assert_eq!(rt; expected_at(alloc, text.as_str())?, fault, "{text}");
     }
     Ok(())
+}
+
+/// Each token of a clause dropped and doubled in turn.
+#[test]
+fn dropped_and_doubled_tokens(rt: HostRuntime) -> Result<(), Fail> {
+    check_times(&rt, rt.alloc(), WORDS, 0)?;
+    check_times(&rt, rt.alloc(), WORDS, 2)
 }
 
 /// A text with a part of it so many times in the middle.
@@ -461,7 +501,7 @@ fn repeated(
 }
 
 /// A front, a part of it so many times, what stands behind, and the fault.
-const BRACKETS: [(&str, &str, usize, &str, ParseFault); 12] = [
+const BRACKETS: &[(&str, &str, usize, &str, ParseFault)] = &[
     ("PATTERN ", "(", 101, "", ParseFault::Deep(108)),
     ("PATTERN ", "(", 100, "{-", ParseFault::Deep(108)),
     ("PATTERN ", "(", 100, "()", ParseFault::Deep(108)),
@@ -506,29 +546,40 @@ const BRACKETS: [(&str, &str, usize, &str, ParseFault); 12] = [
     ),
 ];
 
-/// A bracket above the hundredth is Deep where it may stand, else Expected.
-#[test]
-fn deep_brackets(rt: HostRuntime) -> Result<(), Fail> {
-    let alloc = rt.alloc();
-    for (before, part, times, behind, fault) in BRACKETS {
-        let text = repeated(alloc, before, part, times, behind)?;
+/// Asserts that each text has the fault beside it.
+fn check_brackets(
+    rt: &impl Abort,
+    alloc: Global,
+    brackets: &[(&str, &str, usize, &str, ParseFault)],
+) -> Result<(), Fail> {
+    for (before, part, times, behind, fault) in brackets {
+        let text = repeated(alloc, before, part, *times, behind)?;
         match parsed(alloc, text.as_str())? {
             Ok(_) => assert!(rt; false, "{text}"),
-            Err(found) => assert!(rt; found == fault, "{text}"),
+            Err(found) => assert!(rt; found == *fault, "{text}"),
         }
     }
     Ok(())
 }
 
+/// A bracket above the hundredth is Deep where it may stand, else Expected.
+#[test]
+fn deep_brackets(rt: HostRuntime) -> Result<(), Fail> {
+    check_brackets(&rt, rt.alloc(), BRACKETS)
+}
+
+/// A front, a part that may stand any number of times, and what stands behind.
+const LISTS: &[(&str, &str, &str)] = &[
+    ("PATTERN (A", " A", ") DEFINE A AS p"),
+    ("PATTERN (A", "|A", ") DEFINE A AS p"),
+    ("PATTERN (A) DEFINE A AS p", " AND p", ""),
+    ("PATTERN (A) DEFINE A AS p", " + 1", ""),
+    ("MEASURES p AS q", ", p AS q", " PATTERN (A) DEFINE A AS p"),
+];
+
 /// Lists take no stack: so many variables, terms, numbers and measures are read and dropped.
-fn long_lists(alloc: Global, count: usize) -> Result<(), Fail> {
-    for (before, part, behind) in [
-        ("PATTERN (A", " A", ") DEFINE A AS p"),
-        ("PATTERN (A", "|A", ") DEFINE A AS p"),
-        ("PATTERN (A) DEFINE A AS p", " AND p", ""),
-        ("PATTERN (A) DEFINE A AS p", " + 1", ""),
-        ("MEASURES p AS q", ", p AS q", " PATTERN (A) DEFINE A AS p"),
-    ] {
+fn long_lists(alloc: Global, lists: &[(&str, &str, &str)], count: usize) -> Result<(), Fail> {
+    for (before, part, behind) in lists {
         let text = repeated(alloc, before, part, count, behind)?;
         let _clause = clause_of(alloc, text.as_str())?;
     }
@@ -537,12 +588,12 @@ fn long_lists(alloc: Global, count: usize) -> Result<(), Fail> {
 
 #[test]
 fn lists_of_1_000_parts(rt: HostRuntime) -> Result<(), Fail> {
-    long_lists(rt.alloc(), 1000)
+    long_lists(rt.alloc(), LISTS, 1000)
 }
 
 #[test]
 fn lists_of_10_000_parts(rt: HostRuntime) -> Result<(), Fail> {
-    long_lists(rt.alloc(), 10000)
+    long_lists(rt.alloc(), LISTS, 10000)
 }
 
 #[test]
@@ -586,28 +637,41 @@ fn refused_tables(rt: HostRuntime) -> Result<(), Fail> {
     Ok(())
 }
 
-#[test]
-fn table_faults(rt: HostRuntime) -> Result<(), Fail> {
-    for (text, fault) in [
-        ("p decimal", TableTextFault::Expected(2)),
-        ("p \"INT\"", TableTextFault::Expected(2)),
-        ("p int,", TableTextFault::Expected(6)),
-        ("p int q int", TableTextFault::Expected(6)),
-        (
-            "p int, P int",
-            TableTextFault::Table(TableFault::DoubleName),
-        ),
-        ("p #", TableTextFault::Lex(LexFault::BadChar(2))),
-        ("p", TableTextFault::Expected(1)),
-        ("", TableTextFault::Expected(0)),
-        ("row int", TableTextFault::Expected(0)),
-    ] {
-        match table_of(rt.alloc(), text) {
+/// Asserts that each text has the fault beside it.
+fn check_tables(
+    rt: &impl Abort,
+    alloc: Global,
+    faults: &[(&str, TableTextFault)],
+) -> Result<(), Fail> {
+    for (text, fault) in faults {
+        match table_of(alloc, text) {
             Ok(_) => assert!(rt; false, "{text}"),
-            Err(found) => assert!(rt; found == fault, "{text}"),
+            Err(found) => assert!(rt; found == *fault, "{text}"),
         }
     }
     Ok(())
+}
+
+#[test]
+fn table_faults(rt: HostRuntime) -> Result<(), Fail> {
+    check_tables(
+        &rt,
+        rt.alloc(),
+        &[
+            ("p decimal", TableTextFault::Expected(2)),
+            ("p \"INT\"", TableTextFault::Expected(2)),
+            ("p int,", TableTextFault::Expected(6)),
+            ("p int q int", TableTextFault::Expected(6)),
+            (
+                "p int, P int",
+                TableTextFault::Table(TableFault::DoubleName),
+            ),
+            ("p #", TableTextFault::Lex(LexFault::BadChar(2))),
+            ("p", TableTextFault::Expected(1)),
+            ("", TableTextFault::Expected(0)),
+            ("row int", TableTextFault::Expected(0)),
+        ],
+    )
 }
 
 #[test]
