@@ -3,7 +3,7 @@ mod Headers
 mod CsvRecords
 mod Takes
 mod TakenRecords
-mod Calls
+mod Filled
 mod Orders
 mod Sinking
 mod NotText

@@ -8,8 +8,7 @@ use Rattle.rp_value.specs.declared.value.Kind.{Kind}
 use Rattle.rp_value.specs.declared.value.Value.{Value}
 use Rattle.rp_input.specs.declared.rows.CsvFault.{CsvFault}
 use Rattle.rp_input.specs.declared.rows.CsvFault.TheVariants.{Header, Record, Field, Read, Turns, OutOfMemory}
-use Rattle.rp_input.specs.declared.rows.TheConstants.{MAX_RECORDS}
-use Rattle.rp_input.specs.CsvRows.{AreRows, AreRowsOf, HasNoHeader, IsFirstFault, IsRowFault, IsTextFault, csv_records}
+use Rattle.rp_input.specs.CsvRows.{AreRows, AreRowsOf, HasNoHeader, IsFirstFault, IsRowFault, IsTextFault, csv_records, most_records}
 use Rattle.rp_input.specs.Fields.{IsRow}
 use Rattle.rp_input.specs.Headers.{NamesColumns}
 use Rattle.rp_input.specs.Standing.{AreAll, Stands}
@@ -50,11 +49,11 @@ module _ (columns : List Column) (text : List ℕ) (rows : List (List Value)) (n
     place = let p = t.place in omega (arith, length-append t.records (f ∷ []));
   }
 
-  pub all_taken : number ≤ MAX_RECORDS + 1 → AreAll text (t.header ∷ t.records) → AreRowsOf columns text rows
+  pub all_taken : number ≤ most_records + 1 → AreAll text (t.header ∷ t.records) → AreRowsOf columns text rows
   all_taken small all = record { header = t.header; records = t.records; all = all_of text (t.header ∷ t.records) all; named = t.named; are = t.are; few = let p = t.place in omega arith }
 
   -- a record at fault
-  first_fault : (b : Reader (Bor (List ℕ))) (f : List (List ℕ)) (Why : List Kind → List (List ℕ) → Type 0) → number ≤ MAX_RECORDS + 1 → Stands text (t.header ∷ t.records ++ f ∷ []) b → Why (kinds_of columns) f
+  first_fault : (b : Reader (Bor (List ℕ))) (f : List (List ℕ)) (Why : List Kind → List (List ℕ) → Type 0) → number ≤ most_records + 1 → Stands text (t.header ∷ t.records ++ f ∷ []) b → Why (kinds_of columns) f
       → IsFirstFault columns text number Why
   first_fault b f Why small at why =
       let first = first_of text (t.header ∷ t.records ++ f ∷ []) b at in
@@ -72,7 +71,7 @@ module _ (columns : List Column) (text : List ℕ) (rows : List (List Value)) (n
         why = why;
       }
 
-  pub fault_taken : (b : Reader (Bor (List ℕ))) (f : List (List ℕ)) (fault : CsvFault) → number ≤ MAX_RECORDS → Stands text (t.header ∷ t.records ++ f ∷ []) b → IsRowFault (kinds_of columns) f number fault
+  pub fault_taken : (b : Reader (Bor (List ℕ))) (f : List (List ℕ)) (fault : CsvFault) → number ≤ most_records → Stands text (t.header ∷ t.records ++ f ∷ []) b → IsRowFault (kinds_of columns) f number fault
       → IsTextFault columns text fault
   fault_taken b f Header small at h = absurd h
   fault_taken b f (Record n) small at h = rw h.0 (first_fault b f _ (omega arith) at (inl h.1))
@@ -81,5 +80,5 @@ module _ (columns : List Column) (text : List ℕ) (rows : List (List Value)) (n
   fault_taken b f Turns small at h = absurd h
   fault_taken b f OutOfMemory small at h = tt
 
-  pub limit_taken : (b : Reader (Bor (List ℕ))) (f : List (List ℕ)) → Stands text (t.header ∷ t.records ++ f ∷ []) b → number ≡ MAX_RECORDS + 1 → IsTextFault columns text (Record (MAX_RECORDS + 1))
+  pub limit_taken : (b : Reader (Bor (List ℕ))) (f : List (List ℕ)) → Stands text (t.header ∷ t.records ++ f ∷ []) b → number ≡ most_records + 1 → IsTextFault columns text (Record (most_records + 1))
   limit_taken b f at is = rw (← is) (first_fault b f _ (omega arith) at (inr (omega arith)))

@@ -9,7 +9,11 @@ use Rattle.rp_input.specs.Fields.{HasNoField, IsRow}
 use Rattle.rp_input.specs.Headers.{NamesColumns}
 use Rattle.rp_input.specs.declared.rows.CsvFault.{CsvFault}
 use Rattle.rp_input.specs.declared.rows.CsvFault.TheVariants.{Header, Record, Field, OutOfMemory}
-use Rattle.rp_input.specs.declared.rows.TheConstants.{MAX_RECORDS}
+
+-- The most records that a text may have beside its header: own. It is 2^40, more than memory holds, so that the numbers of rows stay far
+-- below 2^64.
+abbrev pub most_records : ℕ
+most_records = 1099511627776
 
 -- the records of a text as csv reads it, without the byte order mark that it may begin with
 abbrev pub csv_records : List ℕ → List (List (List ℕ))
@@ -28,7 +32,7 @@ pub record AreRowsOf (columns : List Column) (text : List ℕ) (rows : List (Lis
   pub all : csv_records text ≡ header ∷ records
   pub named : NamesColumns columns header
   pub are : AreRows (kinds_of columns) records rows
-  pub few : length records ≤ MAX_RECORDS
+  pub few : length records ≤ most_records
 
 -- why the fields of a record are no row of columns of these kinds
 abbrev pub Reason : Type 1
@@ -45,7 +49,7 @@ pub record IsFirstFault (columns : List Column) (text : List ℕ) (number : ℕ)
   pub all : csv_records text ≡ header ∷ (before ++ fields ∷ after)
   pub named : NamesColumns columns header
   pub are : AreRows (kinds_of columns) before rows
-  pub few : length before ≤ MAX_RECORDS
+  pub few : length before ≤ most_records
   pub place : number ≡ length before + 1
   pub why : Why (kinds_of columns) fields
 
@@ -60,8 +64,8 @@ HasNoHeader columns text = (csv_records text ≡ [])
 abbrev pub IsTextFault : List Column → List ℕ → CsvFault → Type 0
 IsTextFault columns text Header = HasNoHeader columns text
 IsTextFault columns text (Record n) =
-    IsFirstFault columns text n (λ kinds fields. (length fields ≢ length kinds) ⊎ (MAX_RECORDS < n))
-IsTextFault columns text (Field n) = (n ≤ MAX_RECORDS)
+    IsFirstFault columns text n (λ kinds fields. (length fields ≢ length kinds) ⊎ (most_records < n))
+IsTextFault columns text (Field n) = (n ≤ most_records)
     × IsFirstFault columns text n (λ kinds fields. (length fields ≡ length kinds) × HasNoField kinds fields)
 IsTextFault columns text OutOfMemory = ⊤
 IsTextFault columns text _ = ⊥

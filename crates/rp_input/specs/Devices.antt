@@ -1,6 +1,7 @@
 -- What a fault of reading says of the device.
-use Rattle.std.specs.Prelude.{◌≡◌, ◌⊎◌, ⊤, ℕ, List, Result, Ok, Err, Bool, true}
-use Rattle.rp_io.specs.Counts.{raised}
+use Rattle.std.specs.Prelude.{◌⊎◌, ⊤, ℕ, List, Result, Ok, Err}
+use Rattle.rp_io.specs.Reading.{Told}
+use Rattle.rp_io.specs.Reading.Told.{Ended, NoReadsLeft, Other, ReadFailed}
 use Rattle.rp_value.specs.declared.table.Column.{Column}
 use Rattle.rp_input.specs.CsvRows.{IsTextFault}
 use Rattle.rp_input.specs.declared.rows.CsvFault.{CsvFault}
@@ -17,18 +18,16 @@ IsOfDevice _ = ⊥
 abbrev pub IsInputFault : List Column → List ℕ → CsvFault → Type 0
 IsInputFault columns text fault = IsTextFault columns text fault ⊎ IsOfDevice fault
 
--- One more call has failed where that is the fault, and else none.
-abbrev pub TellsFailure : {X : Type 0} → Result X CsvFault → ℕ → ℕ → Type 0
-TellsFailure (Err Read) old new = new ≡ raised old
-TellsFailure _ old new = new ≡ old
+-- What a fault tells of the reads: a fault of the text comes when all of it was read, and want of memory may come before or after.
+abbrev pub fault_told : CsvFault → Told
+fault_told Header = Ended
+fault_told (Record n) = Ended
+fault_told (Field n) = Ended
+fault_told Read = ReadFailed
+fault_told Turns = NoReadsLeft
+fault_told OutOfMemory = Other
 
--- The end was told where there is an answer, or a fault of the text; where reading was cut short it was not told anew; want of memory
--- may come before or after it.
-abbrev pub TellsEnd : {X : Type 0} → Result X CsvFault → Bool → Bool → Type 0
-TellsEnd (Ok _) old new = new ≡ true
-TellsEnd (Err Header) old new = new ≡ true
-TellsEnd (Err (Record n)) old new = new ≡ true
-TellsEnd (Err (Field n)) old new = new ≡ true
-TellsEnd (Err Read) old new = new ≡ old
-TellsEnd (Err Turns) old new = new ≡ old
-TellsEnd (Err OutOfMemory) old new = (new ≡ true) ⊎ (new ≡ old)
+-- what reading an input tells of its reads
+abbrev pub rows_told : {X : Type 0} → Result X CsvFault → Told
+rows_told (Ok rows) = Ended
+rows_told (Err fault) = fault_told fault

@@ -1,9 +1,11 @@
+-- What contracts of public calls cite: the rows of a text, what a fault says, and the packets of rows.
 pub mod Fields
 pub mod Headers
 pub mod CsvRows
 pub mod Devices
-pub mod Standing
 pub mod Orders
 pub mod Partitions
 pub mod Gathering
 pub mod Numbered
+-- The inside of reading a text.
+pub mod Standing

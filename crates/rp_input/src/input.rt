@@ -1,9 +1,9 @@
 //! All bytes of an input, and their rows.
-ghost use Rattle.std.specs.Prelude.{◌≡◌, ◌≤◌, length, IfOk, IfErr, IfSome, OnOk, Err, true};
-ghost use Rattle.std.specs.Io.KnownBytes.{Consumes, IsAtEnd};
-ghost use Rattle.rp_io.specs.Devices.{MakesCalls, after_calls};
+ghost use Rattle.std.specs.Prelude.{IfOk, IfErr, IfSome};
+ghost use Rattle.std.specs.Io.KnownBytes.{Consumes};
+ghost use Rattle.rp_io.specs.Reading.{ReadsWithin};
 ghost use Rattle.rp_input.specs.CsvRows.{AreRowsOf};
-ghost use Rattle.rp_input.specs.Devices.{IsInputFault, IsOfDevice, TellsEnd, TellsFailure};
+ghost use Rattle.rp_input.specs.Devices.{IsInputFault, IsOfDevice, rows_told};
 
 use crate::rows::{CsvFault, rows_of};
 use rp_io::Intake;
@@ -22,11 +22,9 @@ pub fn read_rows<R: Intake>(
 ) -> Result<Vec<Row>, CsvFault>
     ensures ok { IfOk result (λ rows. IfSome (R.remaining reader.old) (λ text. AreRowsOf table.now text rows.items)) }
     ensures err { IfErr result (λ fault. IfSome (R.remaining reader.old) (λ text. IsInputFault table.now text fault)) }
-    ensures end { TellsEnd result (R.ended reader.old) (R.ended reader.new) }
-    ensures failures { TellsFailure result (R.failures reader.old) (R.failures reader.new) }
-    ensures turns { result ≡ Err CsvFault.Turns → R.calls reader.new ≡ after_calls reads (R.calls reader.old) }
-    ensures gave { result ≡ Err CsvFault.Turns → IfSome (R.remaining reader.old) (λ text. reads ≤ length text) }
-    ensures within { MakesCalls 0 reads (R.calls reader.old) (R.calls reader.new) }
+    ensures reads { ReadsWithin reads (rows_told result)
+        (R.calls reader.old) (R.calls reader.new) (R.failures reader.old) (R.failures reader.new)
+        (R.ended reader.old) (R.ended reader.new) (R.remaining reader.old) (R.remaining reader.new) }
 {
     let text = read_all(alloc, reader, reads)?;
     rows_of(alloc, &text, table)
@@ -35,13 +33,10 @@ pub fn read_rows<R: Intake>(
 /// All bytes of an input, by at most so many calls.
 fn read_all<R: Intake>(alloc: Global, reader: &mut R, reads: u64) -> Result<Vec<u8>, CsvFault>
     ensures ok { IfOk result (λ bytes. Consumes (R.remaining reader.old) (R.remaining reader.new) bytes.items) }
-    ensures at_end { OnOk result (IsAtEnd (R.remaining reader.new)) }
     ensures device { IfErr result (λ fault. IsOfDevice fault) }
-    ensures end { TellsEnd result (R.ended reader.old) (R.ended reader.new) }
-    ensures failures { TellsFailure result (R.failures reader.old) (R.failures reader.new) }
-    ensures turns { result ≡ Err CsvFault.Turns → R.calls reader.new ≡ after_calls reads (R.calls reader.old) }
-    ensures gave { result ≡ Err CsvFault.Turns → IfSome (R.remaining reader.old) (λ text. reads ≤ length text) }
-    ensures within { MakesCalls 0 reads (R.calls reader.old) (R.calls reader.new) }
+    ensures reads { ReadsWithin reads (rows_told result)
+        (R.calls reader.old) (R.calls reader.new) (R.failures reader.old) (R.failures reader.new)
+        (R.ended reader.old) (R.ended reader.new) (R.remaining reader.old) (R.remaining reader.new) }
 {
     let mut bytes = Vec::new(alloc);
     let mut chunk = Vec::new(alloc);

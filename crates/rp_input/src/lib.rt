@@ -19,8 +19,6 @@ mod partition;
 mod records;
 mod rows;
 mod taking;
-#[cfg(test)]
-mod tests;
 mod texts;
 
 pub use input::read_rows;

@@ -5,7 +5,7 @@ ghost use Rattle.rp_input.specs.Numbered.{AreNumbered, part_packets};
 
 use crate::order::order_rows;
 use crate::partition::partitions;
-use rp_codec::Packet;
+use rp_feed::Packet;
 use rp_query::Query;
 use rp_value::{Cells, Row};
 use std::alloc::{AllocError, Global};

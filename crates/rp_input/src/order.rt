@@ -15,6 +15,7 @@ pub fn order_rows(query: &Query, rows: &mut Vec<Row>) -> Result<(), AllocError>
     ensures ok { OnOk result (IsOrdered (data_of query.now).order.items rows.old.items rows.new.items) }
     ensures err { OnErr result (rows.new.items ≡ rows.old.items) }
 {
+    // Values are in one order, so that the comparison of rows is a strict weak order, as sorting wants it.
     law_value_order();
     let order = query.order();
     rows.sort_by(|left, right| compare_rows(order, left, right))
@@ -24,6 +25,7 @@ pub fn order_rows(query: &Query, rows: &mut Vec<Row>) -> Result<(), AllocError>
 pub fn law_orders()
     ensures { OrderExists }
 {
+    // Values are in one order, so that rows can be sorted by columns.
     law_value_order();
 }
 
@@ -56,6 +58,7 @@ fn compare_cells(left: Option<&Value>, right: Option<&Value>) -> Ordering
     ensures { result ≡ value_order (unwrap_or (option_copied left.entry) Null)
         (unwrap_or (option_copied right.entry) Null) }
 {
+    // `cmp` of values is the order that the clause speaks of, and null is equal to itself.
     law_value_order();
     match (left, right) {
         (Some(left), Some(right)) => left.cmp(right),

@@ -11,7 +11,7 @@ use rp_value::{Row, Table};
 use std::alloc::{AllocError, AllocFailed, Global};
 use thiserror::Error;
 
-/// The most records that an input may have beside its header.
+/// The most records that an input may have beside its header, as `specs/CsvRows` has it.
 pub const MAX_RECORDS: u64 = 1_099_511_627_776;
 
 /// Why an input is no rows of a table: the first reason, in the order of its text.

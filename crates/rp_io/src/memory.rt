@@ -49,6 +49,13 @@ impl<'a> MemoryInput<'a> {
     {
         self.calls
     }
+
+    /// Whether a call has told the end: it gave no byte where the buffer had room.
+    pub fn ended(&self) -> bool
+        ensures { result ≡ self.now.ended }
+    {
+        self.ended
+    }
 }
 
 impl Intake for MemoryInput<'_> {

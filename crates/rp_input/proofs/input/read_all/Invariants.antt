@@ -1,14 +1,12 @@
 use Rattle.std.proofs.Common.{◌≡◌, ◌-◌, length}
 use Rattle.std.specs.Io.KnownBytes.{Consumes}
-use Rattle.rp_io.specs.Devices.{AsManyBytesAsReads, after_calls}
+use Rattle.rp_io.proofs.SoFar.{ReadsSoFar}
 use Rattle.rp_input.proofs.input.read_all.Given as goal
 
 abbrev pub invariant-loop-read : goal.invariant-loop-read
 invariant-loop-read g l = record {
   consumes : Consumes (g.R.Intake.remaining l.fn.reader) (g.R.Intake.remaining l.reader) l.bytes.items;
-  goes : g.R.Intake.failures l.reader ≡ g.R.Intake.failures l.fn.reader;
-  calls : g.R.Intake.calls l.reader ≡ after_calls l._read (g.R.Intake.calls l.fn.reader);
-  ended : g.R.Intake.ended l.reader ≡ g.R.Intake.ended l.fn.reader;
-  gives : AsManyBytesAsReads l.reads (l.reads - l._read) (g.R.Intake.remaining l.fn.reader) (g.R.Intake.remaining l.reader);
+  reads : ReadsSoFar l.reads (l.reads - l._read) (g.R.Intake.calls l.fn.reader) (g.R.Intake.calls l.reader) (g.R.Intake.failures l.fn.reader) (g.R.Intake.failures l.reader)
+      (g.R.Intake.ended l.fn.reader) (g.R.Intake.ended l.reader) (g.R.Intake.remaining l.fn.reader) (g.R.Intake.remaining l.reader);
   room : length l.chunk.items ≡ 65536;
 }

@@ -1,9 +1,8 @@
 use Rattle.std.proofs.Common.{◌≡◌, ◌≤◌, ◌+◌, ◌∷◌, [], true, false, rules, arith}
 use Rattle.csv.specs.Records.{fields_of}
 use Rattle.rp_value.specs.RowLists.{rows_added}
-use Rattle.rp_input.specs.CsvRows.{IsTextFault}
+use Rattle.rp_input.specs.CsvRows.{IsTextFault, most_records}
 use Rattle.rp_input.specs.Headers.{NamesColumns}
-use Rattle.rp_input.specs.declared.rows.TheConstants.{MAX_RECORDS}
 use Rattle.rp_input.proofs.TakenRecords.{all_taken, fault_taken, first_taken, limit_taken, no_header, other_header, taken_more}
 use Rattle.rp_input.proofs.rows.rows_of.Goals as goal
 
@@ -33,7 +32,7 @@ returns-then-not-branch-3-clause-ok c =
     let t = c.loop-number.invariant in
     let found : c.in_ok-take_record-2.field-0 ≡ false = search rules in
     let all = rw found at (c.in_ok-take_record-2.ensures c.args.text.now (t.header ∷ t.records) t.stands) in
-    let small : c.loop-number.number ≤ MAX_RECORDS + 1 = omega arith in
+    let small : c.loop-number.number ≤ most_records + 1 = omega arith in
     rw c.in_ok-into_rows.ensures (all_taken c.args.table.now c.args.text.now (rows_added c.loop-number.taking.rows) c.loop-number.number c.loop-number.reader t small all)
 
 pub returns-in_err-fields-clause-err : goal.returns-in_err-fields-clause-err
@@ -41,7 +40,7 @@ returns-in_err-fields-clause-err c =
     let t = c.loop-number.invariant in
     let found : c.in_ok-take_record-2.field-0 ≡ true = search rules in
     let at = rw found at (c.in_ok-take_record-2.ensures c.args.text.now (t.header ∷ t.records) t.stands) in
-    let small : c.loop-number.number ≤ MAX_RECORDS = omega arith in
+    let small : c.loop-number.number ≤ most_records = omega arith in
     let is : IsTextFault c.args.table.now c.args.text.now c.in_err-fields.field-0.0 = fault_taken c.args.table.now c.args.text.now (rows_added c.loop-number.taking.rows) c.loop-number.number c.loop-number.reader t c.take_record-in-loop-number.new.reader (fields_of c.take_record-in-loop-number.new.fields) c.in_err-fields.field-0.0 small at c.in_err-fields.ensures.err in
     search (rules, is)
 
@@ -58,7 +57,7 @@ returns-then-branch-clause-err c =
     let t = c.loop-number.invariant in
     let found : c.in_ok-take_record-3.field-0 ≡ true = search rules in
     let at = rw found at (c.in_ok-take_record-3.ensures c.args.text.now (t.header ∷ t.records) t.stands) in
-    let last : c.loop-number.number ≡ MAX_RECORDS + 1 = omega arith in
+    let last : c.loop-number.number ≡ most_records + 1 = omega arith in
     limit_taken c.args.table.now c.args.text.now (rows_added c.loop-number.taking.rows) c.loop-number.number c.loop-number.reader t c.take_record-2.new.reader (fields_of c.take_record-2.new.fields) at last
 
 pub returns-clause-ok : goal.returns-clause-ok
@@ -66,5 +65,5 @@ returns-clause-ok c =
     let t = c.loop-number.invariant in
     let found : c.in_ok-take_record-3.field-0 ≡ false = search rules in
     let all = rw found at (c.in_ok-take_record-3.ensures c.args.text.now (t.header ∷ t.records) t.stands) in
-    let small : c.loop-number.number ≤ MAX_RECORDS + 1 = omega arith in
+    let small : c.loop-number.number ≤ most_records + 1 = omega arith in
     rw c.in_ok-into_rows-2.ensures (all_taken c.args.table.now c.args.text.now (rows_added c.loop-number.taking.rows) c.loop-number.number c.loop-number.reader t small all)
