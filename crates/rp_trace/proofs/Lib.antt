@@ -4,3 +4,4 @@ pub mod Trees
 pub mod ReadForms
 pub mod LineReplies
 pub mod RepliesSoFar
+pub mod LineFaults

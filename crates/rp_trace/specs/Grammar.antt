@@ -7,7 +7,7 @@ use Rattle.rp_words.specs.declared.form.Form.TheFolds.{fold-Form}
 use Rattle.rp_words.specs.Bounds.{is_allowed}
 use Rattle.rp_words.specs.Variables.{are_below}
 use Rattle.rp_trace.specs.Bytes.{space, upper_a}
-use Rattle.rp_trace.specs.declared.letters.TheConstants.{VARIABLES}
+use Rattle.rp_trace.specs.Limits.{letter_count}
 
 -- A pattern as plain data: its form without where its parts lie in memory. The grammar has variables, `()`, concatenation, `|` and
 -- `*`, and any form beyond these is Other, which no text derives.
@@ -56,7 +56,7 @@ pub data Derives : Level → List ℕ → Tree → Type 0 where
   both : {s s' : List ℕ} {t t' : Tree} → Derives Factors s t → Derives Sequences s' t' → Derives Sequences (s ++ s') (Both t t')
   one_primary : {s : List ℕ} {t : Tree} → Derives Primaries s t → Derives Factors s t
   starred : {s : List ℕ} {t : Tree} → Derives Primaries s t → Derives Factors (s ++ codes "*") (Star t)
-  letter : (v : ℕ) → v < VARIABLES → Derives Primaries ((v + upper_a) ∷ []) (Letter v)
+  letter : (v : ℕ) → v < letter_count → Derives Primaries ((v + upper_a) ∷ []) (Letter v)
   nothing : Derives Primaries (codes "()") Nothing
   group : {s : List ℕ} {t : Tree} → Derives Alternatives s t → Derives Primaries (codes "(" ++ (s ++ codes ")")) t
 
@@ -67,4 +67,4 @@ symbols_of text = filter (λ b. not (b == space)) text
 -- The form is one that a `Pattern` may have (bounds in order and within their limits, and 1 to MAX_PARTS parts in a PERMUTE), and each of its variables is one of the
 -- letters A to Z.
 abbrev pub IsLettered : Form → Type 0
-IsLettered form = IsTrue (is_allowed form) × (are_below VARIABLES form ≡ true)
+IsLettered form = IsTrue (is_allowed form) × (are_below letter_count form ≡ true)

@@ -4,7 +4,7 @@ use Rattle.std.specs.Prelude.{◌≢◌, ℕ, ◌+◌, ◌-◌, ◌^◌, ◌<◌
 use Rattle.std.proofs.Common.{arith}
 use Rattle.rp_words.specs.declared.word.Label.{Label}
 use Rattle.rp_words.specs.declared.word.Seen.TheVariants.{Open}
-use Rattle.rp_trace.specs.declared.letters.TheConstants.{MAX_LINE}
+use Rattle.rp_trace.specs.Limits.{longest_line}
 use Rattle.rp_trace.specs.LetterTest.{admits_letter, label_test, letter_at, letter_test, seen_if}
 
 seen_if-decided : (b : Bool) → seen_if b ≢ Open
@@ -18,5 +18,5 @@ label_test-decided (Some label) letter = seen_if-decided (admits_letter label.va
 pub letter_test-decided : (line : List ℕ) (start : ℕ) (labels : List Label) → letter_test line start labels ≢ Open
 letter_test-decided line start labels = label_test-decided (slice_get labels (length labels - 1)) (letter_at line (start + length labels - 1))
 
-pub short_fits : (n : ℕ) → n ≤ MAX_LINE → n < 2 ^ 64 - 1
+pub short_fits : (n : ℕ) → n ≤ longest_line → n < 2 ^ 64 - 1
 short_fits n short = omega arith

@@ -9,7 +9,7 @@ use Rattle.rp_words.specs.declared.word.End.TheVariants.{Closed}
 use Rattle.rp_words.specs.declared.form.Form.{Form}
 use Rattle.rp_words.specs.Words.{words}
 use Rattle.rp_trace.specs.Bytes.{lower_a, lower_z, upper_a}
-use Rattle.rp_trace.specs.declared.letters.TheConstants.{MAX_LINE}
+use Rattle.rp_trace.specs.Limits.{longest_line}
 use Rattle.rp_trace.specs.LetterTest.{letter_test}
 use Rattle.rp_search.specs.Found.{Found, Match, Waits, NoMatch, found}
 
@@ -17,9 +17,9 @@ use Rattle.rp_search.specs.Found.{Found, Match, Waits, NoMatch, found}
 abbrev pub is_letter : ℕ → Bool
 is_letter byte = nat_le lower_a byte && nat_le byte lower_z
 
--- whether a line's match is looked for: it has at most MAX_LINE bytes, each a letter
+-- whether a line's match is looked for: it has no more bytes than the longest, each a letter
 abbrev pub is_looked_at : List ℕ → Bool
-is_looked_at line = nat_le (length line) MAX_LINE && list_all is_letter line
+is_looked_at line = nat_le (length line) longest_line && list_all is_letter line
 
 -- the letters of a match's variables, or `empty` where it maps no row
 abbrev pub match_text : List Label → List ℕ

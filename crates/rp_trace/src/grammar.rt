@@ -2,7 +2,7 @@
 ghost use Rattle.std.specs.Prelude.{◌≡◌, ℕ, ◌+◌, ◌<◌, ◌≤◌, List, [], ◌∷◌, length, IfOk, IfSome, IfNone};
 ghost use Rattle.rp_words.specs.PatternForm.{form_of};
 ghost use Rattle.rp_trace.specs.Bytes.{upper_a};
-ghost use Rattle.rp_trace.specs.declared.letters.TheConstants.{VARIABLES};
+ghost use Rattle.rp_trace.specs.Limits.{letter_count};
 ghost use Rattle.rp_trace.specs.Grammar.{Tree, Alternatives, Sequences, Factors, Primaries, Derives, IsLettered, symbols_of, tree_of};
 ghost use Rattle.rp_trace.specs.Reading.{IsSymbolPlace, LeavesSymbols, Lacks, ReadsForm, StopsAt, begins_primary};
 
@@ -167,8 +167,8 @@ fn after_mark(symbols: &[u8], mark: u8) -> Option<&[u8]>
 /// The variable whose letter the symbols begin with, and what follows.
 fn letter(symbols: &[u8]) -> Option<(usize, &[u8])>
     ensures some { IfSome result (λ read. symbols.now ≡ (read.0 + upper_a) ∷ read.1.now) }
-    ensures range { IfSome result (λ read. read.0 < VARIABLES) }
-    ensures none { IfNone result ((var : ℕ) → var < VARIABLES → Lacks (var + upper_a) symbols.now) }
+    ensures range { IfSome result (λ read. read.0 < letter_count) }
+    ensures none { IfNone result ((var : ℕ) → var < letter_count → Lacks (var + upper_a) symbols.now) }
 {
     let (first, rest) = symbols.split_first()?;
     if *first < b'A' || *first > b'Z' {

@@ -1,7 +1,7 @@
 //! A line as the rows of a partition.
 ghost use Rattle.std.specs.Prelude.{◌≡◌, ◌≤◌, length};
 ghost use Rattle.rp_trace.specs.LetterTest.{admits_letter};
-ghost use Rattle.rp_trace.specs.declared.letters.TheConstants.{MAX_LINE};
+ghost use Rattle.rp_trace.specs.Limits.{longest_line};
 
 use rp_search::Tests;
 use rp_words::{End, Label, Seen};
@@ -13,13 +13,13 @@ pub struct Letters<'a> {
     line: &'a [u8],
     /// How many calls of `enter` were made, up to 2^64 - 1, where the count stays.
     entries: u64,
-    ghost short: { length line.now ≤ MAX_LINE },
+    ghost short: { length line.now ≤ longest_line },
 }
 
-/// The longest line whose match is looked for, in bytes.
+/// The longest line whose match is looked for, in bytes, as `specs/Limits` has it.
 pub const MAX_LINE: usize = 4096;
 
-/// The variables of a pattern are the letters A to Z.
+/// The variables of a pattern are the letters A to Z, as `specs/Limits` has it.
 pub const VARIABLES: usize = 26;
 
 /// The variable that admits every row.
@@ -31,7 +31,7 @@ impl<'a> Letters<'a> {
 
     /// The rows of a line, none of which was entered yet.
     pub fn new(line: &'a [u8]) -> Self
-        requires { length line.now ≤ MAX_LINE }
+        requires { length line.now ≤ longest_line }
         ensures { line_of result ≡ line.entry.now }
     {
         Letters { line, entries: 0 }

@@ -8,15 +8,15 @@
 //! run_trace(alloc, &mut reader, &mut writer, &pattern, READS)?;
 //! ```
 //!
-//! Which texts are patterns is said by `specs/Grammar`, and what is written for a line by `specs/Replies`.
+//! Which texts are patterns is said by `specs/Grammar`, what is written for a line by `specs/Replies`, and the limits by
+//! `specs/Limits`.
 #![tactic(auto)]
 
 mod grammar;
 mod letters;
 mod matching;
-#[cfg(test)]
-mod tests;
 mod trace;
 
 pub use grammar::{TracePatternFault, trace_pattern};
+pub use matching::BUDGET;
 pub use trace::{TraceFault, run_trace};

@@ -1,11 +1,11 @@
 //! The matches of lines of letters.
 ghost use Rattle.std.specs.Prelude.{◌≡◌, ℕ, ◌<◌, ◌≤◌, ◌++◌, true, length, IfOk, IfSome, OnOk, OnErr, All};
-ghost use Rattle.std.specs.Io.KnownBytes.{IsAtEnd};
 ghost use Rattle.rp_words.specs.PatternForm.{form_of};
 ghost use Rattle.rp_words.specs.Variables.{are_below};
 ghost use Rattle.rp_io.specs.Counts.{raised};
-ghost use Rattle.rp_io.specs.Devices.{MakesCalls};
-ghost use Rattle.rp_trace.specs.declared.letters.TheConstants.{MAX_LINE, VARIABLES};
+ghost use Rattle.rp_io.specs.Reading.{ReadsWithin};
+ghost use Rattle.rp_trace.specs.Faults.{run_told};
+ghost use Rattle.rp_trace.specs.Limits.{letter_count, longest_line};
 ghost use Rattle.rp_trace.specs.Replies.{WritesFront, WritesReplies};
 ghost use Rattle.rp_trace.specs.Replies.{is_letter, is_looked_at, last_reply, match_text, reply_text, reply_to, search_text};
 
@@ -50,20 +50,16 @@ pub fn run_trace<R: Intake, W: Outlet>(
     pattern: &Pattern,
     reads: u64,
 ) -> Result<(), TraceFault>
-    requires { are_below VARIABLES (form_of pattern.now) ≡ true }
+    requires { are_below letter_count (form_of pattern.now) ≡ true }
     ensures written { OnOk result (WritesReplies
         (form_of pattern.now) (R.remaining reader.old) (W.contents writer.old) (W.contents writer.new)) }
     ensures front { OnErr result (WritesFront
         (form_of pattern.now) (R.remaining reader.old) (W.contents writer.old) (W.contents writer.new)) }
-    ensures end { OnOk result (IsAtEnd (R.remaining reader.new) × (R.ended reader.new ≡ true)) }
-    ensures no_failure { OnOk result
-        ((R.failures reader.new ≡ R.failures reader.old) × (W.failures writer.new ≡ W.failures writer.old)) }
-    ensures read { result ≡ Err TraceFault.Read → R.failures reader.new ≡ raised (R.failures reader.old) }
+    ensures reads { ReadsWithin reads (run_told result)
+        (R.calls reader.old) (R.calls reader.new) (R.failures reader.old) (R.failures reader.new)
+        (R.ended reader.old) (R.ended reader.new) (R.remaining reader.old) (R.remaining reader.new) }
+    ensures no_failure { OnOk result (W.failures writer.new ≡ W.failures writer.old) }
     ensures write { result ≡ Err TraceFault.Write → W.failures writer.new ≡ raised (W.failures writer.old) }
-    ensures reads { result ≡ Err TraceFault.Turns → MakesCalls reads reads (R.calls reader.old) (R.calls reader.new) }
-    ensures untold { result ≡ Err TraceFault.Turns → R.ended reader.new ≡ R.ended reader.old }
-    ensures gave { result ≡ Err TraceFault.Turns → IfSome (R.remaining reader.old) (λ input. reads ≤ length input) }
-    ensures within { MakesCalls 0 reads (R.calls reader.old) (R.calls reader.new) }
 {
     let mut lines = Lines::new(alloc, reads, MAX_LINE + 1);
     let mut line = Vec::new(alloc);
@@ -84,7 +80,7 @@ fn push_last(
     pattern: &Pattern,
     part: &[u8],
 ) -> Result<(), AllocError>
-    requires { are_below VARIABLES (form_of pattern.now) ≡ true }
+    requires { are_below letter_count (form_of pattern.now) ≡ true }
     ensures { OnOk result (text.new.items ≡ text.old.items ++ last_reply (form_of pattern.now) part.now) }
 {
     if part.is_empty() {
@@ -100,7 +96,7 @@ fn push_reply(
     pattern: &Pattern,
     line: &[u8],
 ) -> Result<(), AllocError>
-    requires { are_below VARIABLES (form_of pattern.now) ≡ true }
+    requires { are_below letter_count (form_of pattern.now) ≡ true }
     ensures { OnOk result (text.new.items ≡ text.old.items ++ reply_to (form_of pattern.now) line.now) }
 {
     push_answer(alloc, text, pattern, line)?;
@@ -114,7 +110,7 @@ fn push_answer(
     pattern: &Pattern,
     line: &[u8],
 ) -> Result<(), AllocError>
-    requires { are_below VARIABLES (form_of pattern.now) ≡ true }
+    requires { are_below letter_count (form_of pattern.now) ≡ true }
     ensures { OnOk result (text.new.items ≡ text.old.items ++ reply_text (form_of pattern.now) line.now) }
 {
     if !is_looked_at(line) {
@@ -134,14 +130,15 @@ fn push_match<L: Ledger>(
     line: &[u8],
     blank: Blank,
 ) -> Result<(), AllocError>
-    requires lettered { are_below VARIABLES (form_of pattern.now) ≡ true }
+    requires lettered { are_below letter_count (form_of pattern.now) ≡ true }
     requires some { 0 < length line.now }
-    requires short { length line.now ≤ MAX_LINE }
+    requires short { length line.now ≤ longest_line }
     requires name { blank.name ≡ L.name }
     requires parts { blank.parts ≡ L.parts }
     requires counts { 0 < blank.parts }
     ensures { OnOk result (text.new.items ≡ text.old.items ++ search_text (form_of pattern.now) line.now) }
 {
+    // The labels of a pattern's words are of its variables, so that each is a letter.
     law_labels();
     let mut steps = Steps::<L>::new(blank);
     let mut letters = Letters::new(line);
@@ -154,7 +151,7 @@ fn push_match<L: Ledger>(
 
 /// Adds the letters of a match's labels.
 fn push_labels(text: &mut Vec<u8>, labels: &[Label]) -> Result<(), AllocError>
-    requires { All (λ label. label.var < VARIABLES) labels.now }
+    requires { All (λ label. label.var < letter_count) labels.now }
     ensures { OnOk result (text.new.items ≡ text.old.items ++ match_text labels.now) }
 {
     if labels.is_empty() {

@@ -1,23 +1,24 @@
-use Rattle.std.proofs.Common.{rules, ◌≡◌, ◌++◌, refl, ap, ◌∙◌}
+use Rattle.std.proofs.Common.{rules, ◌≡◌, ◌++◌, Err, refl, ap, sym, inr, ◌∙◌}
 use Rattle.rp_words.specs.PatternForm.{form_of}
 use Rattle.rp_io.specs.Pending.{coming}
 use Rattle.rp_trace.specs.Replies.{last_reply, reply_to}
-use Rattle.rp_io.proofs.Calls.{UsesCalls-all, UsesCalls-at_most, UsesCalls-none, UsesCalls-trans}
 use Rattle.rp_io.proofs.Cutting.{on_err_from}
 use Rattle.rp_trace.proofs.RepliesSoFar.{AppendsFront-none, Replied-start, Replied-more, Replied-moved, Replied-last, Replied-end, Replied-fault}
-use Rattle.rp_io.proofs.Giving.{AsManyBytesAsReads-start, AsManyBytesAsReads-trans}
-use Rattle.rp_io.proofs.Told.{told_more}
+use Rattle.rp_io.proofs.SoFar.{no_reads, reads_end, reads_ended, reads_fail, reads_more, reads_stop}
+use Rattle.rp_io.proofs.Told.{told_last, told_more}
+use Rattle.rp_io.specs.Reading.{line_told}
+use Rattle.rp_io.specs.Reading.Told.{Other}
+use Rattle.rp_trace.specs.Faults.{run_told, trace_fault}
+use Rattle.rp_trace.specs.declared.trace.TraceFault.TheVariants.{OutOfMemory, Write}
+use Rattle.rp_trace.proofs.LineFaults.{next_told}
 use Rattle.rp_trace.proofs.trace.run_trace.Goals as goal
 
 pub loop-text-init : goal.loop-text-init
 loop-text-init g c = record {
   replied = Replied-start (form_of c.args.pattern.now) (g.R.Intake.remaining c.args.reader.now) (g.W.Outlet.contents c.args.writer.now) _ c.new-text.result.items c.new-lines.ensures.pending c.new-text.ensures.items;
   kept = c.new-lines.ensures.kept;
-  read = refl;
   write = refl;
-  ended = refl;
-  gives = rw c.new-lines.ensures.reads (AsManyBytesAsReads-start c.args.reads (g.R.Intake.remaining c.args.reader.now));
-  calls = UsesCalls-none _ _ _ _ c.new-lines.ensures.reads refl;
+  reads = no_reads c.args.reads c.new-lines.result.reads _ _ _ _ c.new-lines.ensures.reads;
 }
 
 pub returns-in_err-next-clause-front : goal.returns-in_err-next-clause-front
@@ -43,11 +44,9 @@ loop-text-preserved g c =
     record {
       replied = Replied-moved form input next contents now (g.W.Outlet.contents c.write_block.new.writer) c.push_reply.new.text.items c.write_block.new.text.items more c.in_ok-write_block.ensures.ok;
       kept = c.in_ok-next.ensures.kept ∙ c.loop-text.invariant.kept;
-      read = c.in_ok-next.ensures.failures ∙ c.loop-text.invariant.read;
       write = c.in_ok-write_block.ensures.no_failure ∙ c.loop-text.invariant.write;
-      ended = told_more _ _ _ (search rules) c.in_ok-next.ensures.told ∙ c.loop-text.invariant.ended;
-      gives = AsManyBytesAsReads-trans _ _ _ _ _ _ c.loop-text.invariant.gives (c.in_ok-next.ensures.gives (search rules));
-      calls = UsesCalls-trans _ _ _ _ _ _ c.loop-text.invariant.calls c.in_ok-next.ensures.calls;
+      reads = reads_more _ _ _ _ _ _ _ _ _ _ c.loop-text.invariant.reads _ _ _ _ _ c.in_ok-next.ensures.calls
+          c.in_ok-next.ensures.failures (told_more _ _ _ (search rules) c.in_ok-next.ensures.told) (c.in_ok-next.ensures.gives (search rules));
     }
 
 pub returns-in_err-write_block-clause-front : goal.returns-in_err-write_block-clause-front
@@ -89,22 +88,39 @@ returns-clause-written g c =
     c.loop-text.invariant.replied takes text (rw c.as_slice-3.ensures.value at c.in_ok-write_all.ensures.ok)
 
 pub returns-in_err-next-clause-reads : goal.returns-in_err-next-clause-reads
-returns-in_err-next-clause-reads g c = λ is. UsesCalls-all _ _ _ _ (c.in_err-next.ensures.reads (search rules)) (UsesCalls-trans _ _ _ _ _ _ c.loop-text.invariant.calls c.in_err-next.ensures.calls)
+returns-in_err-next-clause-reads g c =
+    let fault = c.in_err-next.field-0.0 in
+    let is : c.from_residual.result ≡ Err (trace_fault fault) = search rules in
+    let told : run_told c.from_residual.result ≡ line_told fault = ap run_told is ∙ sym (next_told fault) in
+    rw told (reads_fail _ _ _ _ _ _ _ _ _ _ c.loop-text.invariant.reads _ _ _ _ _ c.in_err-next.ensures.calls
+    fault c.in_err-next.ensures.failures c.in_err-next.ensures.told
+    (λ late. c.in_err-next.ensures.reads (rw late refl)) (λ late. c.in_err-next.ensures.gives (inr (rw late refl))))
 
-pub returns-in_err-next-clause-within : goal.returns-in_err-next-clause-within
-returns-in_err-next-clause-within g c = UsesCalls-at_most _ _ _ _ (UsesCalls-trans _ _ _ _ _ _ c.loop-text.invariant.calls c.in_err-next.ensures.calls)
+pub returns-in_err-push_reply-clause-reads : goal.returns-in_err-push_reply-clause-reads
+returns-in_err-push_reply-clause-reads g c =
+    let told : run_told c.from_residual-in_err-push_reply.result ≡ Other = let is : c.from_residual-in_err-push_reply.result ≡ Err OutOfMemory = search rules in ap run_told is in
+    rw told (reads_stop _ _ _ _ _ _ _ _ _ _ (reads_more _ _ _ _ _ _ _ _ _ _ c.loop-text.invariant.reads _ _ _ _ _ c.in_ok-next.ensures.calls
+    c.in_ok-next.ensures.failures (told_more _ _ _ (search rules) c.in_ok-next.ensures.told) (c.in_ok-next.ensures.gives (search rules))))
 
-pub returns-in_err-push_reply-clause-within : goal.returns-in_err-push_reply-clause-within
-returns-in_err-push_reply-clause-within g c = UsesCalls-at_most _ _ _ _ (UsesCalls-trans _ _ _ _ _ _ c.loop-text.invariant.calls c.in_ok-next.ensures.calls)
+pub returns-in_err-write_block-clause-reads : goal.returns-in_err-write_block-clause-reads
+returns-in_err-write_block-clause-reads g c =
+    let told : run_told c.from_residual-in_err-write_block.result ≡ Other = let is : c.from_residual-in_err-write_block.result ≡ Err Write = search rules in ap run_told is in
+    rw told (reads_stop _ _ _ _ _ _ _ _ _ _ (reads_more _ _ _ _ _ _ _ _ _ _ c.loop-text.invariant.reads _ _ _ _ _ c.in_ok-next.ensures.calls
+    c.in_ok-next.ensures.failures (told_more _ _ _ (search rules) c.in_ok-next.ensures.told) (c.in_ok-next.ensures.gives (search rules))))
 
-pub returns-in_err-write_block-clause-within : goal.returns-in_err-write_block-clause-within
-returns-in_err-write_block-clause-within g c = UsesCalls-at_most _ _ _ _ (UsesCalls-trans _ _ _ _ _ _ c.loop-text.invariant.calls c.in_ok-next.ensures.calls)
+pub returns-in_err-push_last-clause-reads : goal.returns-in_err-push_last-clause-reads
+returns-in_err-push_last-clause-reads g c =
+    let told : run_told c.from_residual-in_err-push_last.result ≡ Other = let is : c.from_residual-in_err-push_last.result ≡ Err OutOfMemory = search rules in ap run_told is in
+    rw told (reads_ended _ _ _ _ _ _ _ _ _ (reads_end _ _ _ _ _ _ _ _ _ _ c.loop-text.invariant.reads _ _ _ _ _ c.in_ok-next.ensures.calls
+    c.in_ok-next.ensures.failures (told_last _ _ _ (search rules) c.in_ok-next.ensures.told) (c.in_ok-next.ensures.end (search rules))))
 
-pub returns-in_err-push_last-clause-within : goal.returns-in_err-push_last-clause-within
-returns-in_err-push_last-clause-within g c = UsesCalls-at_most _ _ _ _ (UsesCalls-trans _ _ _ _ _ _ c.loop-text.invariant.calls c.in_ok-next.ensures.calls)
+pub returns-in_err-write_all-clause-reads : goal.returns-in_err-write_all-clause-reads
+returns-in_err-write_all-clause-reads g c =
+    let told : run_told c.from_residual-in_err-write_all.result ≡ Other = let is : c.from_residual-in_err-write_all.result ≡ Err Write = search rules in ap run_told is in
+    rw told (reads_ended _ _ _ _ _ _ _ _ _ (reads_end _ _ _ _ _ _ _ _ _ _ c.loop-text.invariant.reads _ _ _ _ _ c.in_ok-next.ensures.calls
+    c.in_ok-next.ensures.failures (told_last _ _ _ (search rules) c.in_ok-next.ensures.told) (c.in_ok-next.ensures.end (search rules))))
 
-pub returns-in_err-write_all-clause-within : goal.returns-in_err-write_all-clause-within
-returns-in_err-write_all-clause-within g c = UsesCalls-at_most _ _ _ _ (UsesCalls-trans _ _ _ _ _ _ c.loop-text.invariant.calls c.in_ok-next.ensures.calls)
-
-pub returns-clause-within : goal.returns-clause-within
-returns-clause-within g c = UsesCalls-at_most _ _ _ _ (UsesCalls-trans _ _ _ _ _ _ c.loop-text.invariant.calls c.in_ok-next.ensures.calls)
+pub returns-clause-reads : goal.returns-clause-reads
+returns-clause-reads g c =
+    reads_end _ _ _ _ _ _ _ _ _ _ c.loop-text.invariant.reads _ _ _ _ _ c.in_ok-next.ensures.calls
+    c.in_ok-next.ensures.failures (told_last _ _ _ (search rules) c.in_ok-next.ensures.told) (c.in_ok-next.ensures.end (search rules))

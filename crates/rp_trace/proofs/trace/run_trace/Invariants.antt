@@ -1,7 +1,7 @@
 use Rattle.std.proofs.Common.{◌≡◌}
 use Rattle.rp_words.specs.PatternForm.{form_of}
-use Rattle.rp_io.specs.Devices.{AsManyBytesAsReads, UsesCalls}
 use Rattle.rp_io.specs.Pending.{coming, most_lines_to_come}
+use Rattle.rp_io.proofs.SoFar.{ReadsSoFar}
 use Rattle.rp_trace.proofs.RepliesSoFar.{Replied}
 use Rattle.rp_trace.proofs.trace.run_trace.Given as goal
 
@@ -9,11 +9,9 @@ abbrev pub invariant-loop-text : goal.invariant-loop-text
 invariant-loop-text g l = record {
   replied : Replied (form_of l.pattern) (g.R.Intake.remaining l.fn.reader) (coming l.lines (g.R.Intake.remaining l.reader)) (g.W.Outlet.contents l.fn.writer) (g.W.Outlet.contents l.writer) l.text.items;
   kept : l.lines.kept ≡ 4097;
-  read : g.R.Intake.failures l.reader ≡ g.R.Intake.failures l.fn.reader;
   write : g.W.Outlet.failures l.writer ≡ g.W.Outlet.failures l.fn.writer;
-  ended : g.R.Intake.ended l.reader ≡ g.R.Intake.ended l.fn.reader;
-  gives : AsManyBytesAsReads l.reads l.lines.reads (g.R.Intake.remaining l.fn.reader) (g.R.Intake.remaining l.reader);
-  calls : UsesCalls l.reads l.lines.reads (g.R.Intake.calls l.fn.reader) (g.R.Intake.calls l.reader);
+  reads : ReadsSoFar l.reads l.lines.reads (g.R.Intake.calls l.fn.reader) (g.R.Intake.calls l.reader) (g.R.Intake.failures l.fn.reader) (g.R.Intake.failures l.reader)
+      (g.R.Intake.ended l.fn.reader) (g.R.Intake.ended l.reader) (g.R.Intake.remaining l.fn.reader) (g.R.Intake.remaining l.reader);
 }
 
 abbrev pub decreases-loop-text : goal.decreases-loop-text

@@ -2,18 +2,14 @@
 ghost use Rattle.std.specs.Prelude.{◌≡◌, ◌≤◌, length, true};
 ghost use Rattle.rp_words.specs.PatternForm.{form_of};
 ghost use Rattle.rp_words.specs.Variables.{are_below};
-ghost use Rattle.rp_trace.specs.declared.letters.TheConstants.{VARIABLES};
+ghost use Rattle.rp_trace.specs.Limits.{letter_count};
 
-use crate::grammar::{TracePatternFault, trace_pattern};
-use crate::matching::BUDGET;
-use crate::tests::memory::{Sink, Source};
-use crate::trace::{TraceFault, run_trace};
-use rp_io::{Port, READS};
+use rp_io::{MemoryInput, MemoryOutput, Port, READS};
+use rp_trace::{BUDGET, TraceFault, TracePatternFault, run_trace, trace_pattern};
 use rp_words::Pattern;
 use std::alloc::{AllocError, Global};
+use std::process::Abort;
 use std::test::Fail;
-
-mod memory;
 
 /// No call has this number.
 const NEVER: u64 = 0;
@@ -29,7 +25,7 @@ const REPLIES: &str = "ABAC\nnone\nC\nnone\nrefused\n";
 struct Ran {
     result: Result<(), TraceFault>,
     calls: u64,
-    sink: Sink,
+    sink: MemoryOutput,
 }
 
 /// Which calls of the devices fail, and how many reads are allowed.
@@ -53,10 +49,10 @@ fn run_once(
     lines: &[u8],
     limits: Limits,
 ) -> Result<Ran, AllocError>
-    requires { are_below VARIABLES (form_of pattern.now) ≡ true }
+    requires { are_below letter_count (form_of pattern.now) ≡ true }
 {
-    let mut source = Source::new(lines, 3, limits.read);
-    let mut sink = Sink::new(alloc, 10_000, 2, limits.write)?;
+    let mut source = MemoryInput::new(lines, 3, limits.read);
+    let mut sink = MemoryOutput::new(alloc, 10_000, 2, limits.write)?;
     let result = run_trace(alloc, &mut source, &mut sink, pattern, limits.reads);
     let calls = source.calls();
     Ok(Ran {
@@ -73,7 +69,7 @@ fn run_lines(
     lines: &[u8],
     limits: Limits,
 ) -> Result<Ran, AllocError>
-    requires { are_below VARIABLES (form_of pattern.now) ≡ true }
+    requires { are_below letter_count (form_of pattern.now) ≡ true }
 {
     let ran = run_once(alloc, pattern, lines, limits)?;
     if ran.result == Err(TraceFault::OutOfMemory) {
@@ -84,7 +80,7 @@ fn run_lines(
 
 /// A pattern that was refused memory is read again.
 fn pattern_of(alloc: Global, text: &str) -> Result<Pattern, TracePatternFault>
-    ensures { (pattern : Pattern) → result ≡ Ok pattern → are_below VARIABLES (form_of pattern) ≡ true }
+    ensures { (pattern : Pattern) → result ≡ Ok pattern → are_below letter_count (form_of pattern) ≡ true }
 {
     match trace_pattern(alloc, text) {
         Ok(pattern) => Ok(pattern),
@@ -102,25 +98,33 @@ fn trace_letters(rt: HostRuntime) -> Result<(), Fail> {
     Ok(())
 }
 
-#[test]
-fn other_lines(rt: HostRuntime) -> Result<(), Fail> {
-    for (text, lines, replies) in [
-        ("A*", "b\n", "empty\n"),
-        ("A*", "aab\n", "AA\n"),
-        ("AB", "ab\n", "AB\n"),
-        ("Z Z", "qx\nq\n", "ZZ\nnone\n"),
-        ("A | A B", "ab\n", "A\n"),
-        ("( ) C", "c", "C\n"),
-        ("C", "", ""),
-        ("C", "\n", "none\n"),
-        ("C", "c\r\n", "refused\n"),
-    ] {
-        let pattern = pattern_of(rt.alloc(), text)?;
-        let ran = run_lines(rt.alloc(), &pattern, lines.as_bytes(), ALL)?;
+/// Patterns, lines and their replies.
+const OTHER_LINES: [(&str, &str, &str); 9] = [
+    ("A*", "b\n", "empty\n"),
+    ("A*", "aab\n", "AA\n"),
+    ("AB", "ab\n", "AB\n"),
+    ("Z Z", "qx\nq\n", "ZZ\nnone\n"),
+    ("A | A B", "ab\n", "A\n"),
+    ("( ) C", "c", "C\n"),
+    ("C", "", ""),
+    ("C", "\n", "none\n"),
+    ("C", "c\r\n", "refused\n"),
+];
+
+/// Whether each pattern's lines have these replies.
+fn all_replied(rt: &impl Abort, alloc: Global, cases: &[(&str, &str, &str)]) -> Result<(), Fail> {
+    for (text, lines, replies) in cases {
+        let pattern = pattern_of(alloc, text)?;
+        let ran = run_lines(alloc, &pattern, lines.as_bytes(), ALL)?;
         assert_eq!(rt; ran.result, Ok(()));
-        assert_eq!(rt; ran.sink.bytes(), replies.as_bytes(), "{text} on {lines}");
+        assert!(rt; ran.sink.bytes() == replies.as_bytes(), "{text} on {lines}");
     }
     Ok(())
+}
+
+#[test]
+fn other_lines(rt: HostRuntime) -> Result<(), Fail> {
+    all_replied(&rt, rt.alloc(), &OTHER_LINES)
 }
 
 #[test]
@@ -139,10 +143,10 @@ fn longest_line(rt: HostRuntime) -> Result<(), Fail> {
 
 /// A run that reads and writes in large pieces, and at most `reads` times.
 fn run_wide(alloc: Global, pattern: &Pattern, lines: &[u8], reads: u64) -> Result<Ran, AllocError>
-    requires { are_below VARIABLES (form_of pattern.now) ≡ true }
+    requires { are_below letter_count (form_of pattern.now) ≡ true }
 {
-    let mut source = Source::new(lines, 100_000, NEVER);
-    let mut sink = Sink::new(alloc, 100_000, 7_000, NEVER)?;
+    let mut source = MemoryInput::new(lines, 100_000, NEVER);
+    let mut sink = MemoryOutput::new(alloc, 100_000, 7_000, NEVER)?;
     let result = run_trace(alloc, &mut source, &mut sink, pattern, reads);
     let calls = source.calls();
     Ok(Ran {
@@ -224,8 +228,8 @@ fn blocks(rt: HostRuntime) -> Result<(), Fail> {
 fn first_block(rt: HostRuntime) -> Result<(), Fail> {
     let pattern = pattern_of(rt.alloc(), "C")?;
     let lines = repeated(rt.alloc(), b"1\n", 50_000)?;
-    let mut source = Source::new(lines.as_slice(), 100_000, NEVER);
-    let mut sink = Sink::new(rt.alloc(), 100_000, 100_000, 1)?;
+    let mut source = MemoryInput::new(lines.as_slice(), 100_000, NEVER);
+    let mut sink = MemoryOutput::new(rt.alloc(), 100_000, 100_000, 1)?;
     let result = run_trace(rt.alloc(), &mut source, &mut sink, &pattern, 10);
     if result != Err(TraceFault::OutOfMemory) {
         assert_eq!(rt; result, Err(TraceFault::Write));
@@ -287,26 +291,38 @@ fn reads_allowed(rt: HostRuntime) -> Result<(), Fail> {
     Ok(())
 }
 
-/// Of a last part without LF nothing is read once the end was told.
-#[test]
-fn reads_of_last_part(rt: HostRuntime) -> Result<(), Fail> {
-    let pattern = pattern_of(rt.alloc(), PATTERN)?;
-    for (lines, reads, wanted) in [
-        ("", 0, Err(TraceFault::Turns)),
-        ("", 1, Ok(())),
-        ("abac", 2, Err(TraceFault::Turns)),
-        ("abac", 3, Ok(())),
-    ] {
+/// The last part of an input, how many reads are allowed, and what the run comes to.
+const LAST_PARTS: [(&str, u64, Result<(), TraceFault>); 4] = [
+    ("", 0, Err(TraceFault::Turns)),
+    ("", 1, Ok(())),
+    ("abac", 2, Err(TraceFault::Turns)),
+    ("abac", 3, Ok(())),
+];
+
+/// Whether each run comes to this, by as many reads as are allowed.
+fn all_read(
+    rt: &impl Abort,
+    alloc: Global,
+    cases: &[(&str, u64, Result<(), TraceFault>)],
+) -> Result<(), Fail> {
+    let pattern = pattern_of(alloc, PATTERN)?;
+    for (lines, reads, wanted) in cases {
         let limits = Limits {
             read: NEVER,
             write: NEVER,
-            reads,
+            reads: *reads,
         };
-        let ran = run_lines(rt.alloc(), &pattern, lines.as_bytes(), limits)?;
-        assert_eq!(rt; ran.result, wanted, "{lines} in {reads}");
-        assert_eq!(rt; ran.calls, reads);
+        let ran = run_lines(alloc, &pattern, lines.as_bytes(), limits)?;
+        assert!(rt; ran.result == *wanted, "{lines} in {reads}");
+        assert_eq!(rt; ran.calls, *reads);
     }
     Ok(())
+}
+
+/// Of a last part without LF nothing is read once the end was told.
+#[test]
+fn reads_of_last_part(rt: HostRuntime) -> Result<(), Fail> {
+    all_read(&rt, rt.alloc(), &LAST_PARTS)
 }
 
 #[test]
@@ -349,37 +365,40 @@ fn streams(rt: HostRuntime) -> Result<(), Fail> {
     Ok(())
 }
 
-#[test]
-fn expected_places(rt: HostRuntime) -> Result<(), Fail> {
-    for (text, place) in [
-        ("A)", 1),
-        ("", 0),
-        ("  ", 2),
-        ("*", 0),
-        ("a", 0),
-        ("A\tB", 1),
-        ("A**", 2),
-        ("A*?", 2),
-        ("A+", 1),
-        ("A |", 3),
-        ("(A|)", 3),
-        ("(A", 2),
-        (" A B )", 5),
-        ("A B)", 3),
-        ("A||B", 2),
-        ("A | | B", 4),
-        ("*A", 0),
-        ("|A", 0),
-        ("(*)", 1),
-        ("( | A)", 2),
-        ("()*)", 3),
-        ("((A)", 4),
-        ("A (B ", 5),
-        ("Ab", 1),
-        ("A é", 2),
-    ] {
-        match pattern_of(rt.alloc(), text) {
-            Err(TracePatternFault::Expected(offset)) => assert_eq!(rt; offset, place, "{text}"),
+/// Texts that are no patterns, and the byte from which on.
+const EXPECTED: [(&str, usize); 25] = [
+    ("A)", 1),
+    ("", 0),
+    ("  ", 2),
+    ("*", 0),
+    ("a", 0),
+    ("A\tB", 1),
+    ("A**", 2),
+    ("A*?", 2),
+    ("A+", 1),
+    ("A |", 3),
+    ("(A|)", 3),
+    ("(A", 2),
+    (" A B )", 5),
+    ("A B)", 3),
+    ("A||B", 2),
+    ("A | | B", 4),
+    ("*A", 0),
+    ("|A", 0),
+    ("(*)", 1),
+    ("( | A)", 2),
+    ("()*)", 3),
+    ("((A)", 4),
+    ("A (B ", 5),
+    ("Ab", 1),
+    ("A é", 2),
+];
+
+/// Whether each text is refused at this byte.
+fn all_expected(rt: &impl Abort, alloc: Global, cases: &[(&str, usize)]) -> Result<(), Fail> {
+    for (text, place) in cases {
+        match pattern_of(alloc, text) {
+            Err(TracePatternFault::Expected(offset)) => assert!(rt; offset == *place, "{text}"),
             _ => assert!(rt; false, "{text}"),
         }
     }
@@ -387,11 +406,23 @@ fn expected_places(rt: HostRuntime) -> Result<(), Fail> {
 }
 
 #[test]
-fn accepted(rt: HostRuntime) -> Result<(), Fail> {
-    for text in ["()", "( )", "A B", "((A)*|B)C", " A*B | Z "] {
-        let _pattern = pattern_of(rt.alloc(), text)?;
+fn expected_places(rt: HostRuntime) -> Result<(), Fail> {
+    all_expected(&rt, rt.alloc(), &EXPECTED)
+}
+
+const PATTERNS: [&str; 5] = ["()", "( )", "A B", "((A)*|B)C", " A*B | Z "];
+
+/// Whether each text is a pattern.
+fn all_accepted(alloc: Global, texts: &[&str]) -> Result<(), Fail> {
+    for text in texts {
+        let _pattern = pattern_of(alloc, text)?;
     }
     Ok(())
+}
+
+#[test]
+fn accepted(rt: HostRuntime) -> Result<(), Fail> {
+    all_accepted(rt.alloc(), &PATTERNS)
 }
 
 /// How often the program reads, and the turns of one run of a search.
