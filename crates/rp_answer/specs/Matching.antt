@@ -1,5 +1,6 @@
 -- How a matcher's parts stand to each other, and what a poll comes to.
-use Rattle.std.specs.Prelude.{◌≡◌, ◌≤◌, ◌<◌, ◌⊎◌, false}
+use Rattle.std.specs.Prelude.{◌≡◌, ℕ, ◌≤◌, ◌<◌, ◌⊎◌, false, Result, IfOk}
+use Rattle.std.specs.declared.alloc.AllocError.{AllocError}
 use Rattle.rp_query.specs.declared.query.QueryData.{QueryData}
 use Rattle.rp_known.specs.Known.{Known, count}
 use Rattle.rp_known.specs.Plans.{first_read}
@@ -8,7 +9,7 @@ use Rattle.rp_walker.specs.declared.record.MatcherState.{MatcherState}
 use Rattle.rp_walker.specs.declared.walker.Walker.{Walker}
 use Rattle.rp_walker.specs.Records.{horizon_of}
 use Rattle.rp_walker.specs.Walking.{record_of, Stands}
-use Rattle.rp_walker.specs.Polls.{left_in, entered_by, Answers, GivenBy, StopsAtLast}
+use Rattle.rp_walker.specs.Polls.{left_in, entered_by, Answers, GivenBy, StopsAtLast, TurnsAreCounted, PollTakes, IdleTakes}
 use Rattle.rp_answer.specs.declared.kept.Kept.{Kept}
 use Rattle.rp_answer.specs.Kept.{kept_rows}
 use Rattle.rp_answer.specs.MatcherData.{MatcherData}
@@ -44,3 +45,9 @@ pub record PollComesTo (q : QueryData) (k : Known) (old new : MatcherState) (ans
   pub answers : Answers q k old new answer
   pub given : GivenBy old new answer
   pub stops : StopsAtLast q k old new answer
+
+-- What a poll counts: no more turns than its budget, as many at least as its answer says, and no more rows entered than turns.
+abbrev pub PollCounts : ℕ → MatcherState → ℕ → ℕ → ℕ → ℕ → Result Poll AllocError → Type 0
+PollCounts budget old steps steps' entered entered' result =
+    TurnsAreCounted budget steps steps' entered entered'
+    × IfOk result (PollTakes budget steps steps') × IfOk result (IdleTakes old steps steps')

@@ -47,10 +47,10 @@ impl Model for Matcher {
 impl Matcher {
     ghost use Rattle.rp_words.specs.PatternForm.{form_of};
     ghost use Rattle.rp_words.specs.Turns.{all_turns};
-    ghost use Rattle.rp_walker.specs.Polls.{GoesAlong, StartsAgain, TurnsAreCounted, PollTakes, PollLowers};
+    ghost use Rattle.rp_walker.specs.Polls.{GoesAlong, StartsAgain, PollLowers};
     ghost use Rattle.rp_walker.specs.Records.{first_state, horizon_of};
     ghost use Rattle.rp_walker.specs.Walking.{CanGoOn};
-    ghost use Rattle.rp_answer.specs.Matching.{PollComesTo};
+    ghost use Rattle.rp_answer.specs.Matching.{PollComesTo, PollCounts};
 
     /// A matcher of no row yet.
     pub fn new(alloc: Global, query: Query) -> Matcher
@@ -125,6 +125,7 @@ impl Matcher {
     {
         rp_known::law_legs();
         law_walkers();
+        // It brings in that the query is sound.
         let _plan = self.query.plan();
         self.rows.push(row)
     }
@@ -140,16 +141,17 @@ impl Matcher {
     {
         rp_known::law_legs();
         law_walkers();
+        // It brings in that the query is sound.
         let _plan = self.query.plan();
         self.rows.close();
     }
 
     /// Takes at most `budget` turns, until an item comes or nothing is left to give. A turn is one choice taken up, one
     /// start row ended, one row of a match looked at or one look past the last known row: `Paused` comes after just
-    /// `budget` turns, and an item after one at least.
+    /// `budget` turns, an item after one at least, and so does `Idle` while the answer goes on.
     /// A budget of 0 answers `Paused`, changes nothing and takes no memory. After `AllocError` the same item is still
-    /// to come, and the record's search begins again; after any other answer to a budget of 1 or more the rows below
-    /// the horizon are dropped.
+    /// to come, the record's search begins again, and no row is dropped; after any other answer to a budget of 1 or more
+    /// the rows below the horizon are dropped.
     pub fn poll<L: Ledger>(&mut self, budget: u32, steps: &mut Steps<L>) -> Result<Poll, AllocError>
         ensures query { self.new.query ≡ self.old.query }
         ensures count { count self.new.known ≡ count self.old.known }
@@ -162,8 +164,8 @@ impl Matcher {
         ensures rows { (p : Known) → AgreesFrom self.old.state.first self.old.known p →
             AgreesFrom self.new.state.first self.new.known p }
         ensures held { OnOk result (1 ≤ budget → HoldsNoMore self.new.query self.new.known self.new.state) }
-        ensures turns { TurnsAreCounted budget steps.old steps.new self.old.entered self.new.entered }
-        ensures takes { IfOk result (PollTakes budget steps.old steps.new) }
+        ensures kept { OnErr result (self.new.known ≡ self.old.known) }
+        ensures turns { PollCounts budget self.old.state steps.old steps.new self.old.entered self.new.entered result }
         ensures nothing { budget ≡ 0 → (result ≡ Ok Poll.Paused) × (self.new ≡ self.old) × (steps.new ≡ steps.old) }
     {
         if budget == 0 {
@@ -192,8 +194,9 @@ fn drop_rows(query: &Query, rows: &mut Kept, walker: &mut Walker)
 {
     law_walkers();
     rp_walker::law_left();
+    // It brings in that the query is sound.
     let _plan = query.plan();
     let horizon = walker.horizon(query, rows);
     rows.forget(horizon);
-    walker.dropped(rows.first());
+    walker.keep_from(rows.first());
 }

@@ -8,7 +8,7 @@ use std::marker::Model;
 ///
 /// Only a tester raises it, and there is no copy of it: who hands it to a tester and doesn't take it back has lost the
 /// count. Contracts see it as its number, and no program reads it.
-#[derive(Debug, Drop)]
+#[derive(Drop)]
 pub struct Entries {
     count: u64,
 }

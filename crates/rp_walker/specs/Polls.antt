@@ -1,5 +1,5 @@
 -- What a poll comes to.
-use Rattle.std.specs.Prelude.{◌≡◌, ℕ, ◌+◌, ◌-◌, ◌^◌, ◌<◌, ◌≤◌, ◌⊎◌, Bool, true, false, length, Some, slice_get}
+use Rattle.std.specs.Prelude.{◌≡◌, ℕ, ◌+◌, ◌-◌, ◌^◌, ◌<◌, ◌≤◌, ◌⊎◌, Bool, true, false, ⊤, length, Some, slice_get}
 use Rattle.rp_query.specs.declared.query.QueryData.{QueryData}
 use Rattle.rp_query.specs.declared.item.Item.{Item}
 use Rattle.rp_known.specs.Known.{Known}
@@ -42,6 +42,12 @@ abbrev pub PollTakes : ℕ → ℕ → ℕ → Poll → Type 0
 PollTakes budget steps steps' (ItemPoll k x) = steps < steps'
 PollTakes budget steps steps' IdlePoll = steps ≤ steps'
 PollTakes budget steps steps' PausedPoll = steps' ≡ steps + budget
+
+-- An idle poll counts one turn at least, as long as the answer goes on and places can tell a further item.
+abbrev pub IdleTakes : MatcherState → ℕ → ℕ → Poll → Type 0
+IdleTakes old steps steps' (ItemPoll k x) = ⊤
+IdleTakes old steps steps' IdlePoll = old.over ≡ false → old.given < 2 ^ 128 - 1 → steps < steps'
+IdleTakes old steps steps' PausedPoll = ⊤
 
 -- a paused poll takes its budget off what is left, an item one turn at least, and an idle poll doesn't raise it
 abbrev pub PollLowers : ℕ → ℕ → ℕ → Poll → Type 0

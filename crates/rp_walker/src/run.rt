@@ -1,5 +1,5 @@
 //! Searches over lent rows.
-ghost use Rattle.std.specs.Prelude.{◌≡◌, ◌+◌, ◌<◌, ◌≤◌, length, IfOk, OnOk};
+ghost use Rattle.std.specs.Prelude.{◌≡◌, ◌+◌, ◌<◌, ◌≤◌, length, IfOk, OnOk, IsOk, IsSome};
 ghost use Rattle.rp_query.specs.QueryView.{data_of};
 ghost use Rattle.rp_query.specs.declared.query.QueryData.{QueryData};
 ghost use Rattle.rp_known.specs.Known.{Known, known_in, count};
@@ -23,7 +23,7 @@ pub struct Run {
     pub(crate) totals: Totals,
 }
 
-/// A search for the query's pattern from a row, by the run of an earlier row where there is one.
+/// A search for the query's pattern from a row, by the run of an earlier row where there is one: then no memory is taken.
 #[inline(always)]
 pub(crate) fn begin<R: Rows>(
     alloc: Global,
@@ -35,9 +35,9 @@ pub(crate) fn begin<R: Rows>(
     requires one { 1 ≤ start }
     requires known { start ≤ length (R.known rows.now) }
     requires spare { IsSpare (data_of query.now) spare }
-    ensures { IfOk result (Searches (data_of query.now) (known_in R.known R.ending rows.now) start) }
+    ensures searches { IfOk result (Searches (data_of query.now) (known_in R.known R.ending rows.now) start) }
+    ensures reuses { IsSome spare → IsOk result }
 {
-    let _end = rows.end();
     match spare {
         Some(run) => Ok(begin_again(run, start)),
         None => {
@@ -80,6 +80,7 @@ pub(crate) fn run_on<R: Rows, L: Ledger>(
     ensures turns { TurnsAreCounted budget steps.old steps.new entered.old entered.new }
 {
     rp_search::law_search();
+    // It brings in that the query is sound.
     let _plan = query.plan();
     let mut search = run.search;
     let mut tester = Tester::new(

@@ -12,7 +12,7 @@ ghost use Rattle.rp_walker.specs.Steps.{Moves};
 ghost use Rattle.rp_search.specs.Fits.{left_by};
 ghost use Rattle.rp_walker.specs.Stages.{left_with, asked_by, IsGoing, Searches, Gives, MatchTotalled, Serves, IsSpare, StageStands};
 ghost use Rattle.rp_walker.specs.Walking.{KeepsGoing, GoesOnWell, stands_by, Stands, CanGoOn, record_of};
-ghost use Rattle.rp_walker.specs.Polls.{left_in, entered_by, TurnsAreCounted, PollTakes, GivenBy, PollLowers, Polled, Answers, StopsAtLast, GoesAlong, StartsAgain};
+ghost use Rattle.rp_walker.specs.Polls.{left_in, entered_by, TurnsAreCounted, PollTakes, IdleTakes, GivenBy, PollLowers, Polled, Answers, StopsAtLast, GoesAlong, StartsAgain};
 
 use crate::ahead::Ahead;
 use crate::giving::{ahead_of, is_hidden, make_item, next_of, place_of};
@@ -39,6 +39,125 @@ pub struct Walker {
     stage: Stage,
     /// How many rows its searches have entered. It is lent to each, and nothing is decided by it.
     entered: Entries,
+}
+
+#[tactic(auto, unfolding(crate::specs::Walking::record_of, crate::specs::Walking::Stands, crate::specs::Polls::left_in, crate::specs::Polls::entered_by))]
+impl Walker {
+    /// A walker that has known nothing.
+    pub fn new(alloc: Global) -> Walker
+        ensures record { record_of result ≡ first_state }
+        ensures entered { entered_by result ≡ 0 }
+        ensures stands { (q : QueryData) (p : Known) → Stands q p result }
+    {
+        Walker {
+            alloc,
+            state: MatcherState {
+                first: 1,
+                at: 1,
+                matches: 0,
+                covered: 0,
+                here: 0,
+                given: 0,
+                over: false,
+            },
+            stage: Stage::Begin(None),
+            entered: Entries::new(),
+        }
+    }
+
+    /// A walker that goes on from a record.
+    pub fn resume(alloc: Global, state: MatcherState) -> Walker
+        ensures record { record_of result ≡ state }
+        ensures entered { entered_by result ≡ 0 }
+        ensures stands { (q : QueryData) (p : Known) → CanGoOn q state → Stands q p result }
+    {
+        Walker {
+            alloc,
+            state,
+            stage: Stage::Begin(None),
+            entered: Entries::new(),
+        }
+    }
+
+    /// The record.
+    pub fn state(&self) -> MatcherState
+        ensures { result ≡ record_of self.now }
+    {
+        self.state
+    }
+
+    /// Rows were dropped: those from this one on are kept.
+    pub fn keep_from(&mut self, first: u64)
+        ensures record { record_of self.new ≡ record (record_of self.old) { first = first } }
+        ensures stands { (q : QueryData) (p : Known) →
+            ((record_of self.old).over ≡ false → first ≤ first_read q (record_of self.old).at) →
+            Stands q p self.old → Stands q p self.new }
+        ensures left { (q : QueryData) (p : Known) → left_in q p self.new ≡ left_in q p self.old }
+        ensures entered { entered_by self.new ≡ entered_by self.old }
+    {
+        self.state.first = first;
+    }
+
+    /// The first row that is still read.
+    pub fn horizon<R: Rows>(&self, query: &Query, rows: &R) -> u64
+        ensures { result
+            ≡ horizon_of (data_of query.now) (known_in R.known R.ending rows.now) (record_of self.now) }
+    {
+        if self.state.over {
+            return rows.last() + 1;
+        }
+        self.state.at.saturating_sub(query.reach()).max(1)
+    }
+
+    /// Takes at most `budget` turns, until an item comes or nothing is left to give. A turn is one choice taken up, one
+    /// start row ended, one row of a match looked at or one look past the last known row: `Paused` comes after just
+    /// `budget` turns, an item after one at least, and so does `Idle` while the answer goes on.
+    /// A budget of 0 answers `Paused`, changes nothing and takes no memory. After `AllocError` the same item is still
+    /// to come, and the search begins again from its start row.
+    pub fn poll<R: Rows, L: Ledger>(
+        &mut self,
+        query: &Query,
+        rows: &R,
+        budget: u32,
+        steps: &mut Steps<L>,
+    ) -> Result<Poll, AllocError>
+        requires stands { Stands (data_of query.now) (known_in R.known R.ending rows.now) self.old }
+        ensures stands { Stands (data_of query.now) (known_in R.known R.ending rows.now) self.new }
+        ensures answers { IfOk result (Answers (data_of query.now) (known_in R.known R.ending rows.now)
+            (record_of self.old) (record_of self.new)) }
+        ensures moves { GoesAlong (data_of query.now) (known_in R.known R.ending rows.now)
+            (record_of self.old) (record_of self.new) }
+        ensures stops { IfOk result (StopsAtLast (data_of query.now) (known_in R.known R.ending rows.now)
+            (record_of self.old) (record_of self.new)) }
+        ensures first { (record_of self.new).first ≡ (record_of self.old).first }
+        ensures given { IfOk result (GivenBy (record_of self.old) (record_of self.new)) }
+        ensures out_of_memory { OnErr result (StartsAgain (data_of query.now) (known_in R.known R.ending rows.now)
+            (record_of self.old).given (record_of self.new)
+            (left_in (data_of query.now) (known_in R.known R.ending rows.now) self.new)) }
+        ensures lowers { IfOk result (PollLowers budget
+            (left_in (data_of query.now) (known_in R.known R.ending rows.now) self.old)
+            (left_in (data_of query.now) (known_in R.known R.ending rows.now) self.new)) }
+        ensures turns { TurnsAreCounted budget steps.old steps.new (entered_by self.old) (entered_by self.new) }
+        ensures takes { IfOk result (PollTakes budget steps.old steps.new) }
+        ensures idles { IfOk result (IdleTakes (record_of self.old) steps.old steps.new) }
+        ensures nothing { budget ≡ 0 → (result ≡ Ok Poll.Paused) × (self.new ≡ self.old) × (steps.new ≡ steps.old) }
+    {
+        if budget == 0 {
+            return Ok(Poll::Paused);
+        }
+        if self.state.over {
+            return Ok(Poll::Idle);
+        }
+        rp_known::law_known();
+        rp_known::law_legs();
+        law_steps();
+        // It brings in that the query is sound.
+        let _plan = query.plan();
+        let mut entered = mem::replace(&mut self.entered, Entries::new());
+        let answer = self.go_on(query, rows, budget, &mut entered, steps);
+        self.entered = entered;
+        answer
+    }
 }
 
 impl Walker {
@@ -84,6 +203,7 @@ impl Walker {
         ensures keeps { IfOk result (KeepsGoing 1 (data_of query.now) (known_in R.known R.ending rows.now)
             self.old.state (GivingStage found ahead) self.new) }
     {
+        // It brings in that row numbers have room for one more.
         let _last = rows.last();
         let place = place_of(&self.state);
         match make_item(self.alloc, query, rows, place, &found, ahead.next)? {
@@ -187,6 +307,7 @@ impl Walker {
             self.old.state (GivingStage found ahead) self.new) }
         ensures steps { steps.new ≡ steps.old + 1 }
     {
+        // It brings in that row numbers have room for one more.
         let _last = rows.last();
         steps.tick();
         if ahead.next == ahead.end {
@@ -269,7 +390,6 @@ impl Walker {
         ensures { KeepsGoing 1 (data_of query.now) (known_in R.known R.ending rows.now)
             self.old.state self.old.stage self.new result }
     {
-        let _query = query;
         match rows.end() {
             End::Open => Step::Idle,
             End::Closed => self.end_with(Item::End, 0),
@@ -364,6 +484,7 @@ impl Walker {
             Moves (data_of query.now) (known_in R.known R.ending rows.now) self.old.state self.new.state }
         ensures turns { TurnsAreCounted budget steps.old steps.new entered.old entered.new }
         ensures takes { IfOk result (PollTakes budget steps.old steps.new) }
+        ensures idles { IfOk result (IdleTakes self.old.state steps.old steps.new) }
     {
         rp_known::law_legs();
         let mut left = budget;
@@ -380,122 +501,5 @@ impl Walker {
             }
         }
         Ok(Poll::Paused)
-    }
-}
-
-#[tactic(auto, unfolding(crate::specs::Walking::record_of, crate::specs::Walking::Stands, crate::specs::Polls::left_in, crate::specs::Polls::entered_by))]
-impl Walker {
-    /// A walker that has known nothing.
-    pub fn new(alloc: Global) -> Walker
-        ensures record { record_of result ≡ first_state }
-        ensures entered { entered_by result ≡ 0 }
-        ensures stands { (q : QueryData) (p : Known) → Stands q p result }
-    {
-        Walker {
-            alloc,
-            state: MatcherState {
-                first: 1,
-                at: 1,
-                matches: 0,
-                covered: 0,
-                here: 0,
-                given: 0,
-                over: false,
-            },
-            stage: Stage::Begin(None),
-            entered: Entries::new(),
-        }
-    }
-
-    /// A walker that goes on from a record.
-    pub fn resume(alloc: Global, state: MatcherState) -> Walker
-        ensures record { record_of result ≡ state }
-        ensures entered { entered_by result ≡ 0 }
-        ensures stands { (q : QueryData) (p : Known) → CanGoOn q state → Stands q p result }
-    {
-        Walker {
-            alloc,
-            state,
-            stage: Stage::Begin(None),
-            entered: Entries::new(),
-        }
-    }
-
-    /// The record.
-    pub fn state(&self) -> MatcherState
-        ensures { result ≡ record_of self.now }
-    {
-        self.state
-    }
-
-    /// Rows were dropped: this is the first that is kept now.
-    pub fn dropped(&mut self, first: u64)
-        ensures record { record_of self.new ≡ record (record_of self.old) { first = first } }
-        ensures stands { (q : QueryData) (p : Known) →
-            ((record_of self.old).over ≡ false → first ≤ first_read q (record_of self.old).at) →
-            Stands q p self.old → Stands q p self.new }
-        ensures left { (q : QueryData) (p : Known) → left_in q p self.new ≡ left_in q p self.old }
-        ensures entered { entered_by self.new ≡ entered_by self.old }
-    {
-        self.state.first = first;
-    }
-
-    /// The first row that is still read.
-    pub fn horizon<R: Rows>(&self, query: &Query, rows: &R) -> u64
-        ensures { result
-            ≡ horizon_of (data_of query.now) (known_in R.known R.ending rows.now) (record_of self.now) }
-    {
-        if self.state.over {
-            return rows.last() + 1;
-        }
-        self.state.at.saturating_sub(query.reach()).max(1)
-    }
-
-    /// Takes at most `budget` turns, until an item comes or nothing is left to give. A turn is one choice taken up, one
-    /// start row ended, one row of a match looked at or one look past the last known row: `Paused` comes after just
-    /// `budget` turns, and an item after one at least.
-    /// A budget of 0 answers `Paused`, changes nothing and takes no memory. After `AllocError` the same item is still
-    /// to come, and the search begins again from its start row.
-    pub fn poll<R: Rows, L: Ledger>(
-        &mut self,
-        query: &Query,
-        rows: &R,
-        budget: u32,
-        steps: &mut Steps<L>,
-    ) -> Result<Poll, AllocError>
-        requires stands { Stands (data_of query.now) (known_in R.known R.ending rows.now) self.old }
-        ensures stands { Stands (data_of query.now) (known_in R.known R.ending rows.now) self.new }
-        ensures answers { IfOk result (Answers (data_of query.now) (known_in R.known R.ending rows.now)
-            (record_of self.old) (record_of self.new)) }
-        ensures moves { GoesAlong (data_of query.now) (known_in R.known R.ending rows.now)
-            (record_of self.old) (record_of self.new) }
-        ensures stops { IfOk result (StopsAtLast (data_of query.now) (known_in R.known R.ending rows.now)
-            (record_of self.old) (record_of self.new)) }
-        ensures first { (record_of self.new).first ≡ (record_of self.old).first }
-        ensures given { IfOk result (GivenBy (record_of self.old) (record_of self.new)) }
-        ensures out_of_memory { OnErr result (StartsAgain (data_of query.now) (known_in R.known R.ending rows.now)
-            (record_of self.old).given (record_of self.new)
-            (left_in (data_of query.now) (known_in R.known R.ending rows.now) self.new)) }
-        ensures lowers { IfOk result (PollLowers budget
-            (left_in (data_of query.now) (known_in R.known R.ending rows.now) self.old)
-            (left_in (data_of query.now) (known_in R.known R.ending rows.now) self.new)) }
-        ensures turns { TurnsAreCounted budget steps.old steps.new (entered_by self.old) (entered_by self.new) }
-        ensures takes { IfOk result (PollTakes budget steps.old steps.new) }
-        ensures nothing { budget ≡ 0 → (result ≡ Ok Poll.Paused) × (self.new ≡ self.old) × (steps.new ≡ steps.old) }
-    {
-        if budget == 0 {
-            return Ok(Poll::Paused);
-        }
-        if self.state.over {
-            return Ok(Poll::Idle);
-        }
-        rp_known::law_known();
-        rp_known::law_legs();
-        law_steps();
-        let _plan = query.plan();
-        let mut entered = mem::replace(&mut self.entered, Entries::new());
-        let answer = self.go_on(query, rows, budget, &mut entered, steps);
-        self.entered = entered;
-        answer
     }
 }

@@ -21,7 +21,7 @@ returns-clause-held c =
     let n = c.forget.new.self in
     let e = c.forget.ensures in
     let r : MatcherState = record_of c.args.walker.now in
-    holds_no_more (data_of c.args.query.now) k n r (record_of c.dropped.new.self) c.horizon-horizon.result (c.dropped.ensures.«record» ∙ ap (λ f. record r { first = f }) c.first.ensures) (same_count k n e.low e.rows e.last e.end)
+    holds_no_more (data_of c.args.query.now) k n r (record_of c.keep_from.new.self) c.horizon-horizon.result (c.keep_from.ensures.«record» ∙ ap (λ f. record r { first = f }) c.first.ensures) (same_count k n e.low e.rows e.last e.end)
     c.horizon-horizon.ensures e.all
 
 pub returns-clause-ready : goal.returns-clause-ready
@@ -33,12 +33,12 @@ returns-clause-ready c =
     let r : MatcherState = record_of c.args.walker.now in
     let agree = drops_agree k n e.low e.rows e.last e.end in
     let bound = forget_bound q k n r c.horizon-horizon.result e.not_past c.horizon-horizon.ensures c.requires.needed in
-    let dropped = c.dropped.ensures in
+    let dropped = c.keep_from.ensures in
     let now = ap (λ (x : MatcherState). x.first) dropped.«record» in
     let at = ap (λ (x : MatcherState). x.at) dropped.«record» in
     let over = ap (λ (x : MatcherState). x.over) dropped.«record» in
     let first = now ∙ c.first.ensures in
-    let is_bound : (record_of c.dropped.new.self).over ≡ false → n.first ≤ first_read q (record_of c.dropped.new.self).at =
+    let is_bound : (record_of c.keep_from.new.self).over ≡ false → n.first ≤ first_read q (record_of c.keep_from.new.self).at =
     λ going. subst (λ i. n.first ≤ first_read q i) (sym at) (bound (sym over ∙ going)) in
     record {
       stands = dropped.stands q (known_by n) (λ going. subst (λ f. f ≤ first_read q r.at) (sym c.first.ensures) (bound going)) (stands_dropped c.law_walkers.ensures.stay q k n c.args.walker.now c.plan-plan.ensures.sound agree bound c.requires.stands);
@@ -55,5 +55,5 @@ returns-clause-left c =
     let r : MatcherState = record_of c.args.walker.now in
     let agree = drops_agree k n e.low e.rows e.last e.end in
     let bound = forget_bound q k n r c.horizon-horizon.result e.not_past c.horizon-horizon.ensures c.requires.needed in
-    c.dropped.ensures.left q (known_by n)
+    c.keep_from.ensures.left q (known_by n)
     ∙ c.law_left.ensures.same q (known_by k) (known_by n) c.args.walker.now c.plan-plan.ensures.sound (λ going. agrees_later n.first (first_read q r.at) (known_by k) (known_by n) (bound going) agree) c.requires.stands

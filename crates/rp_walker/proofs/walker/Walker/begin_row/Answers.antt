@@ -12,4 +12,4 @@ returns-clause-keeps g c =
     let p = known_in g.R.Rows.known g.R.Rows.ending c.args.rows.now in
     let run = c.in_ok-run.run' in
     if_ok_map (λ r. KeepsGoing r.1 q p w.state (Searching run) c.search.new.self r.0) (λ r. KeepsGoing r.1 q p w.state (Begin c.args.spare) c.search.new.self r.0) c.search.result
-    (λ r k. from_more r.1 q p w.state c.search.new.self (Searching run) (Begin c.args.spare) r.0 (search_begins c.law_search.ensures.bounded q p w.state run c.args.spare c.requires.going c.in_ok-run.ensures) k) c.search.ensures.keeps
+    (λ r k. from_more r.1 q p w.state c.search.new.self (Searching run) (Begin c.args.spare) r.0 (search_begins c.law_search.ensures.bounded q p w.state run c.args.spare c.requires.going c.in_ok-run.ensures.searches) k) c.search.ensures.keeps

@@ -24,6 +24,7 @@ loop-left-init g c =
       counted = omega arith;
       entered = omega arith;
       grows = omega arith;
+      begins = λ _. c.requires.stands.going.going;
     }
 
 pub returns-in-Gave-clause-polled : goal.returns-in-Gave-clause-polled
@@ -92,4 +93,5 @@ loop-left-preserved g c =
       counted = omega (arith, i.counted, c.in_ok-step.ensures.taken.1, c.advance.ensures.turns.0);
       entered = omega (arith, i.entered, c.in_ok-step.ensures.taken.1, c.advance.ensures.turns.0, c.advance.ensures.turns.1);
       grows = omega (arith, i.grows, c.advance.ensures.turns.2);
+      begins = λ all. absurd (omega (arith, all, i.within, c.in_ok-step.ensures.taken.0, c.advance.ensures.turns.0));
     }

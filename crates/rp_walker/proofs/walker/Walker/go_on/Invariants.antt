@@ -1,4 +1,4 @@
-use Rattle.std.proofs.Common.{◌≡◌, ◌+◌, ◌-◌, ◌≤◌}
+use Rattle.std.proofs.Common.{◌≡◌, ◌+◌, ◌-◌, ◌≤◌, false}
 use Rattle.rp_query.specs.QueryView.{data_of}
 use Rattle.rp_known.specs.Known.{known_in}
 use Rattle.rp_walker.specs.Records.{IsWithin}
@@ -20,6 +20,7 @@ invariant-loop-left g l = record {
   counted : l.steps + l.left ≡ l.fn.steps + l.fn.budget;
   entered : l.entered + l.left ≤ l.fn.entered + l.fn.budget;
   grows : l.fn.entered ≤ l.entered;
+  begins : l.left ≡ l.fn.budget → l.self.state.over ≡ false;
 }
 
 abbrev pub decreases-loop-left : goal.decreases-loop-left
