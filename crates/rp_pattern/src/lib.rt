@@ -26,6 +26,3 @@ pub use rp_words::{
     End, Form, Label, MAX_BOUND, MAX_PARTS, Mark, Pattern, Seen, Word, law_labels, law_words,
     permutations,
 };
-
-#[cfg(test)]
-mod tests;

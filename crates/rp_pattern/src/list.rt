@@ -116,6 +116,3 @@ fn list_word(
     choices.give_up();
     Ok(())
 }
-
-#[cfg(test)]
-mod tests;
