@@ -6,6 +6,3 @@ pub mod Search
 -- The inside of a search.
 pub mod Fits
 pub mod Turned
--- What the tests alone cite.
-pub mod Grid
-pub mod GridDecides

@@ -19,8 +19,6 @@ mod conditions;
 mod laws;
 mod search;
 mod steps;
-#[cfg(test)]
-mod tests;
 
 pub use conditions::Tests;
 pub use laws::{law_found, law_search};

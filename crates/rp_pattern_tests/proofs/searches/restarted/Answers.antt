@@ -1,0 +1,18 @@
+use Rattle.std.proofs.Common.{◌≡◌, ◌∙◌, ap, arith, refl, rules, subst, sym}
+use Rattle.std.specs.List.{AllByRecursion}
+use Rattle.rp_words.specs.LabelLaws.{IsBelow}
+use Rattle.rp_search.specs.Asked.{Asked}
+use Rattle.rp_pattern_tests.proofs.searches.restarted.Goals as goal
+
+pub run-requires-2 : goal.run-requires-2
+run-requires-2 g c =
+    let restart = c.restart.ensures in
+    let first = c.in_ok-first.ensures in
+    let same : c.cut.new.self.known ≡ c.advance.new.self.known = ap (λ (a : Asked). a.known) (c.cut.ensures.subject ∙ first.subject) in
+    let two : c.advance.new.self.known ≡ 2 = search rules in
+    record {
+      known = omega (arith, same, two, restart.start);
+      variables = λ n e row. subst (λ ws. AllByRecursion (IsBelow 2) ws) (sym (restart.pattern.words n e row ∙ first.same.pattern.words n e row)) (c.in_ok-search.ensures.variables n e row);
+      fits = restart.at_start.fits _;
+      entered = c.cut.ensures.none refl 2 ∙ sym restart.at_start.labels;
+    }

@@ -1,0 +1,219 @@
+//! Searches over stages, for the tests.
+ghost use Rattle.std.specs.Prelude.{◌≡◌, ◌<◌, true, [], IfOk, OnOk};
+ghost use Rattle.rp_words.specs.PatternForm.{form_of};
+ghost use Rattle.rp_words.specs.Variables.{are_below};
+ghost use Rattle.rp_search.specs.Search.{CanRun, HasVariablesBelow, IsAtStart, IsSameSearch, RunAnswers, start_of_search};
+
+use super::grid::{Grid, write_letters};
+use rp_search::{Outcome, Search, Steps, Tests, law_search};
+use rp_words::{End, Form, Label, Pattern};
+use std::alloc::{AllocError, Global};
+use std::marker::Brand;
+use std::sync::ledger::{Blank, Ledger};
+
+/// More runs than any test needs.
+pub const MANY: u64 = 100_000;
+
+pub fn a() -> Form {
+    Form::variable(0)
+}
+
+pub fn b() -> Form {
+    Form::variable(1)
+}
+
+pub fn any(alloc: Global, body: Form) -> Result<Form, AllocError> {
+    Form::quantified(alloc, body, 0, None, false)
+}
+
+/// `A* B`
+pub fn any_before_b(alloc: Global) -> Result<Form, AllocError> {
+    Form::concatenation(alloc, any(alloc, a())?, b())
+}
+
+/// `(A | A)* B`
+pub fn two_ways_before_b(alloc: Global) -> Result<Form, AllocError> {
+    let repeated = any(alloc, Form::alternation(alloc, a(), a())?)?;
+    Form::concatenation(alloc, repeated, b())
+}
+
+/// What a search from row 1 did.
+#[derive(Drop)]
+pub struct Played {
+    /// Of each stage the letters of a match, or `none`, `waits` or `paused`.
+    pub outcomes: String,
+    /// Of each stage the labels at each call of `enter`, after a `!` where a refused run was made again, and a `|`.
+    pub calls: String,
+    /// How many runs were made, at each stage from the last refusal on.
+    pub runs: u64,
+    /// How many calls of `enter`.
+    pub entries: u64,
+    /// How many calls of `test`.
+    pub asked: u64,
+    /// How many turns the last run took.
+    pub taken: u32,
+}
+
+/// A search from row 1 over stages, each a known last row and an end, at most `most` runs a stage.
+pub fn play(
+    alloc: Global,
+    form: Form,
+    grid: Grid,
+    stages: &[(u64, End)],
+    budget: u32,
+    most: u64,
+) -> Result<Played, AllocError>
+    requires none { grid.entered.items ≡ [] }
+{
+    counted::<Brand>(Blank::new(1), alloc, form, grid, stages, budget, most)
+}
+
+fn counted<L: Ledger>(
+    blank: Blank,
+    alloc: Global,
+    form: Form,
+    mut grid: Grid,
+    stages: &[(u64, End)],
+    budget: u32,
+    most: u64,
+) -> Result<Played, AllocError>
+    requires name { blank.name ≡ L.name }
+    requires parts { blank.parts ≡ L.parts }
+    requires shared { 0 < blank.parts }
+    requires none { grid.entered.items ≡ [] }
+{
+    let mut played = Played {
+        outcomes: String::new(alloc),
+        calls: String::new(alloc),
+        runs: 0,
+        entries: 0,
+        asked: 0,
+        taken: 0,
+    };
+    if !form.is_allowed() || !form.are_below(2) {
+        return Ok(played);
+    }
+    let mut steps = Steps::<L>::new(blank);
+    let mut search = created(alloc, &Pattern::new(form))?;
+    'stages: for (known, end) in stages {
+        if !grid.advance(*known, *end) {
+            return Ok(played);
+        }
+        law_search();
+        let decided = decide(&mut search, &mut grid, budget, most, &mut steps)?;
+        tell(&decided, search.labels(), &grid, &mut played)?;
+        played.taken = search.turns_taken();
+        grid.forget();
+    }
+    Ok(played)
+}
+
+/// A search from row 1. A refused call is made again.
+pub fn created(alloc: Global, pattern: &Pattern) -> Result<Search, AllocError>
+    requires { are_below 2 (form_of pattern.now) ≡ true }
+    ensures start { IfOk result (λ s. start_of_search s ≡ 1) }
+    ensures variables { IfOk result (HasVariablesBelow 2) }
+    ensures at_start { IfOk result IsAtStart }
+{
+    law_search();
+    match Search::new(alloc, pattern, 1) {
+        Ok(search) => Ok(search),
+        Err(_) => Search::new(alloc, pattern, 1),
+    }
+}
+
+/// What the runs of a stage came to.
+#[derive(Clone, Copy)]
+pub struct Decided {
+    pub outcome: Outcome,
+    /// How many runs were made, from the last refusal on.
+    pub runs: u64,
+    pub began_again: bool,
+}
+
+/// Runs until the search isn't paused, at most `most` times. A refused run is made again, once.
+pub fn decide<L: Ledger>(
+    search: &mut Search,
+    grid: &mut Grid,
+    budget: u32,
+    most: u64,
+    steps: &mut Steps<L>,
+) -> Result<Decided, AllocError>
+    requires can_run { CanRun search.old (⟦<Grid as Tests>⟧.subject grid.old) (⟦<Grid as Tests>⟧.entered grid.old) }
+    ensures answers { IfOk result (λ decided.
+        RunAnswers search.old search.new (⟦<Grid as Tests>⟧.subject grid.old) decided.outcome) }
+    ensures same { OnOk result (IsSameSearch search.old search.new) }
+    ensures subject { OnOk result (⟦<Grid as Tests>⟧.subject grid.new ≡ ⟦<Grid as Tests>⟧.subject grid.old) }
+    ensures can_run { OnOk result
+        (CanRun search.new (⟦<Grid as Tests>⟧.subject grid.new) (⟦<Grid as Tests>⟧.entered grid.new)) }
+{
+    let mut decided = Decided {
+        outcome: Outcome::Paused,
+        runs: 0,
+        began_again: false,
+    };
+    'runs: for _run in 0..most {
+        run_once(search, grid, budget, steps, &mut decided)?;
+        if decided.outcome != Outcome::Paused {
+            return Ok(decided);
+        }
+    }
+    Ok(decided)
+}
+
+fn run_once<L: Ledger>(
+    search: &mut Search,
+    grid: &mut Grid,
+    budget: u32,
+    steps: &mut Steps<L>,
+    decided: &mut Decided,
+) -> Result<(), AllocError>
+    requires paused { decided.old.outcome ≡ Outcome.Paused }
+    requires can_run { CanRun search.old (⟦<Grid as Tests>⟧.subject grid.old) (⟦<Grid as Tests>⟧.entered grid.old) }
+    ensures answers { OnOk result (RunAnswers search.old search.new
+        (⟦<Grid as Tests>⟧.subject grid.old) decided.new.outcome) }
+    ensures same { OnOk result (IsSameSearch search.old search.new) }
+    ensures subject { OnOk result (⟦<Grid as Tests>⟧.subject grid.new ≡ ⟦<Grid as Tests>⟧.subject grid.old) }
+    ensures can_run { OnOk result
+        (CanRun search.new (⟦<Grid as Tests>⟧.subject grid.new) (⟦<Grid as Tests>⟧.entered grid.new)) }
+{
+    match search.run(grid, budget, steps) {
+        Ok(outcome) => {
+            decided.outcome = outcome;
+            decided.runs = decided.runs.saturating_add(1);
+            Ok(())
+        }
+        Err(refused) => {
+            if decided.began_again {
+                return Err(refused);
+            }
+            decided.began_again = true;
+            decided.runs = 0;
+            grid.forget();
+            Ok(())
+        }
+    }
+}
+
+fn tell(
+    decided: &Decided,
+    labels: &[Label],
+    grid: &Grid,
+    played: &mut Played,
+) -> Result<(), AllocError> {
+    match decided.outcome {
+        Outcome::Match => write_letters(labels, &mut played.outcomes)?,
+        Outcome::NoMatch => played.outcomes.push_str("none ")?,
+        Outcome::Waits => played.outcomes.push_str("waits ")?,
+        Outcome::Paused => played.outcomes.push_str("paused ")?,
+    }
+    if decided.began_again {
+        played.calls.push('!')?;
+    }
+    played.calls.push_str(&grid.calls)?;
+    played.calls.push('|')?;
+    played.runs = played.runs.saturating_add(decided.runs);
+    played.entries = grid.entries;
+    played.asked = grid.asked.get();
+    Ok(())
+}

@@ -1,0 +1,147 @@
+//! How many turns a search takes. Each choice that is taken up is one: where parts are joined or chosen from, a row, a
+//! place that takes none, a full word, and that nothing is left. Where a part that begins with a variable is chosen,
+//! excluded, repeated or joined with another behind it, its row is the next choice, and joining it takes none.
+
+use super::grid::Grid;
+use super::script::{MANY, a, any, b, play, two_ways_before_b};
+use rp_words::{End, Form, Seen};
+use std::alloc::{AllocError, Global};
+use std::test::Fail;
+
+/// The row 1, where the answers begin with a row 0, is refused.
+const FIRST_REFUSED: [Seen; 2] = [Seen::True, Seen::NotTrue];
+
+/// The row 1 stays open.
+const FIRST_OPEN: [Seen; 2] = [Seen::True, Seen::Open];
+
+/// The runs of budget 1, so the turns, until a search over the rows 1 to `known` is at its end.
+fn turns(
+    alloc: Global,
+    form: Form,
+    first: &[Seen],
+    second: &[Seen],
+    known: u64,
+    end: End,
+) -> Result<u64, AllocError> {
+    let grid = Grid::answering(alloc, 0, first, second)?;
+    let played = play(alloc, form, grid, &[(known, end)], 1, MANY)?;
+    Ok(played.runs)
+}
+
+#[test]
+fn turns_of_rows_and_choices(rt: HostRuntime) -> Result<(), Fail> {
+    let alloc = rt.alloc();
+    // The row, the word.
+    assert_eq!(rt; turns(alloc, a(), &[], &[], 1, End::Closed)?, 2);
+    // The row, nothing left.
+    assert_eq!(rt; turns(alloc, a(), &FIRST_REFUSED, &[], 1, End::Closed)?, 2);
+    // Joined, A, B, the word.
+    assert_eq!(rt;
+        turns(
+            alloc,
+            Form::concatenation(alloc, a(), b())?,
+            &[],
+            &[],
+            2,
+            End::Closed
+        )?,
+        4
+    );
+    // Chosen from, A, B, the word.
+    let choice = Form::alternation(alloc, a(), b())?;
+    assert_eq!(rt;
+        turns(alloc, choice, &FIRST_REFUSED, &[], 1, End::Closed)?,
+        4
+    );
+    Ok(())
+}
+
+/// Where r rows are left, `(A | A)* B` takes t(r) turns: another iteration or B, the choice of two A, each A and after it
+/// t(r - 1), and B. So t(0) = 5 and t(r) = 5 + 2 t(r - 1), which gives 15, 35, 75. Joining the parts and finding that
+/// nothing is left are two more.
+#[test]
+fn turns_of_refused_iterations(rt: HostRuntime) -> Result<(), Fail> {
+    assert_eq!(rt; refused_turns(rt.alloc(), 1)?, 17);
+    assert_eq!(rt; refused_turns(rt.alloc(), 2)?, 37);
+    assert_eq!(rt; refused_turns(rt.alloc(), 3)?, 77);
+    Ok(())
+}
+
+/// The turns of `(A | A)* B` over so many rows, none of which is a B.
+fn refused_turns(alloc: Global, rows: u64) -> Result<u64, AllocError> {
+    let form = two_ways_before_b(alloc)?;
+    turns(alloc, form, &[], &[Seen::NotTrue; 4], rows, End::Closed)
+}
+
+#[test]
+fn turns_of_quantifiers(rt: HostRuntime) -> Result<(), Fail> {
+    let alloc = rt.alloc();
+    // Three times another iteration or none, two rows, an A past the last row, the word.
+    assert_eq!(rt;
+        turns(alloc, any(alloc, a())?, &[], &[], 2, End::Closed)?,
+        7
+    );
+    // Another iteration or none, A, B, another or none, an A past the last row, the word.
+    let pairs = any(alloc, Form::concatenation(alloc, a(), b())?)?;
+    assert_eq!(rt; turns(alloc, pairs, &[], &[], 2, End::Closed)?, 6);
+    // A required iteration, A, B, the other one, A, B, none after it, the word.
+    let twice = Form::quantified(
+        alloc,
+        Form::concatenation(alloc, a(), b())?,
+        2,
+        Some(2),
+        false,
+    )?;
+    assert_eq!(rt; turns(alloc, twice, &[], &[], 4, End::Closed)?, 8);
+    // A required iteration and its row, twice, another or none, the word.
+    let some = Form::quantified(alloc, a(), 2, Some(3), true)?;
+    assert_eq!(rt; turns(alloc, some, &[], &[], 3, End::Closed)?, 6);
+    Ok(())
+}
+
+#[test]
+fn turns_of_other_forms(rt: HostRuntime) -> Result<(), Fail> {
+    let alloc = rt.alloc();
+    // An order, A, B, the word.
+    let orders = Form::permute(alloc, vec![in alloc; a(), b()]?)?;
+    assert_eq!(rt; turns(alloc, orders, &[], &[], 2, End::Closed)?, 4);
+    // An order, A refused, the next order, B, A, the word.
+    let orders = Form::permute(alloc, vec![in alloc; a(), b()]?)?;
+    assert_eq!(rt;
+        turns(alloc, orders, &FIRST_REFUSED, &[], 2, End::Closed)?,
+        6
+    );
+    // Joined, the exclusion, A, B, the word.
+    let form = Form::concatenation(alloc, Form::exclusion(alloc, a())?, b())?;
+    assert_eq!(rt; turns(alloc, form, &[], &[], 2, End::Closed)?, 5);
+    // The exclusion, A, B, the word.
+    let form = Form::exclusion(alloc, Form::concatenation(alloc, a(), b())?)?;
+    assert_eq!(rt; turns(alloc, form, &[], &[], 2, End::Closed)?, 4);
+    // Joined, the start, joined, A, the end, the word.
+    let whole = Form::concatenation(
+        alloc,
+        Form::PartitionStart,
+        Form::concatenation(alloc, a(), Form::PartitionEnd)?,
+    )?;
+    assert_eq!(rt; turns(alloc, whole, &[], &[], 1, End::Closed)?, 6);
+    Ok(())
+}
+
+#[test]
+fn turns_behind_an_open_test(rt: HostRuntime) -> Result<(), Fail> {
+    let alloc = rt.alloc();
+    // Joined, A, whose test is open, B past the known row.
+    let form = Form::concatenation(alloc, a(), b())?;
+    assert_eq!(rt; turns(alloc, form, &FIRST_OPEN, &[], 1, End::Open)?, 3);
+    // Chosen from, A, the start, which isn't there, B in place of finding nothing behind A, the word.
+    let form = Form::alternation(
+        alloc,
+        Form::concatenation(alloc, a(), Form::PartitionStart)?,
+        b(),
+    )?;
+    assert_eq!(rt; turns(alloc, form, &FIRST_OPEN, &[], 1, End::Open)?, 5);
+    // Joined, A, whose test is open, joined, B, B, a word behind it.
+    let form = Form::concatenation(alloc, a(), Form::concatenation(alloc, b(), b())?)?;
+    assert_eq!(rt; turns(alloc, form, &FIRST_OPEN, &[], 3, End::Open)?, 6);
+    Ok(())
+}
