@@ -17,15 +17,15 @@ use std::test::Fail;
 /// row, after the last row and the close, and after the close alone.
 fn items(alloc: Global, text: &str, numbers: &[i64]) -> Result<String, Fail> {
     let told = drained(alloc, text, numbers, 100_000, false)?;
-    for (budget, each) in [(1, false), (100_000, true), (1, true)] {
-        let again = drained(alloc, text, numbers, budget, each)?;
+    for (budget, each) in &[(1, false), (100_000, true), (1, true)] {
+        let again = drained(alloc, text, numbers, *budget, *each)?;
         if again.as_str() != told.as_str() {
             return Err(Fail::from("other items by another budget"));
         }
     }
     let all = without_bar(alloc, told.as_str())?;
-    for budget in [1, 100_000] {
-        let closed = drained_closed(alloc, text, numbers, budget)?;
+    for budget in &[1, 100_000] {
+        let closed = drained_closed(alloc, text, numbers, *budget)?;
         if without_bar(alloc, closed.as_str())?.as_str() != all.as_str() {
             return Err(Fail::from("other items after the close alone"));
         }
@@ -39,8 +39,8 @@ fn drained_closed(alloc: Global, text: &str, numbers: &[i64], budget: u32) -> Re
     for number in numbers {
         events.push(Event::Row(*number))?;
     }
-    for event in [Event::Close, Event::Drain(budget), Event::Compare] {
-        events.push(event)?;
+    for event in &[Event::Close, Event::Drain(budget), Event::Compare] {
+        events.push(*event)?;
     }
     play(alloc, text, &events)
 }
@@ -72,8 +72,8 @@ fn drained(
             events.push(Event::Compare)?;
         }
     }
-    for event in [Event::Drain(budget), Event::Compare, Event::Close] {
-        events.push(event)?;
+    for event in &[Event::Drain(budget), Event::Compare, Event::Close] {
+        events.push(*event)?;
     }
     events.push(Event::Drain(budget))?;
     events.push(Event::Compare)?;

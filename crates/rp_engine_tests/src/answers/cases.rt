@@ -141,8 +141,8 @@ fn cases_by_a_plain_program(rt: HostRuntime) -> Result<(), Fail> {
     for _round in 0..5 {
         for pattern in 0..24 {
             let text = clause(alloc, &mut dice, pattern)?;
-            for budget in [1, 100_000] {
-                let events = events(alloc, &mut dice, budget)?;
+            for budget in &[1, 100_000] {
+                let events = events(alloc, &mut dice, *budget)?;
                 play(alloc, text.as_str(), &events)?;
             }
         }

@@ -61,8 +61,8 @@ fn ones(alloc: Global, count: usize, last: Event) -> Result<Vec<Event>, Fail> {
 fn exponential_pattern_pauses(rt: HostRuntime) -> Result<(), Fail> {
     let alloc = rt.alloc();
     let text = "MEASURES COUNT(*) AS c PATTERN ((A | A)* B) DEFINE B AS p = 0";
-    for budget in [1, 1_000, 100_000] {
-        let told = play(alloc, text, &ones(alloc, 10, Drain(budget))?)?;
+    for budget in &[1, 1_000, 100_000] {
+        let told = play(alloc, text, &ones(alloc, 10, Drain(*budget))?)?;
         assert_eq!(rt; told.as_str(), "|(1, End)");
     }
     let told = play(alloc, text, &ones(alloc, 40, Poll(1_000))?)?;
@@ -83,7 +83,7 @@ fn hidden_rows_take_turns(rt: HostRuntime) -> Result<(), Fail> {
     for _row in 0..900 {
         events.push(Row(1))?;
     }
-    for event in [
+    for event in &[
         Row(9),
         Next(100_000),
         Poll(100),
@@ -91,7 +91,7 @@ fn hidden_rows_take_turns(rt: HostRuntime) -> Result<(), Fail> {
         Close,
         Drain(100_000),
     ] {
-        events.push(event)?;
+        events.push(*event)?;
     }
     let told = play(alloc, text, &events)?;
     assert_eq!(rt;
@@ -149,7 +149,7 @@ fn rows_kept_after_a_match(rt: HostRuntime) -> Result<(), Fail> {
 #[test]
 fn restart_in_a_match(rt: HostRuntime) -> Result<(), Fail> {
     let text = "MEASURES CLASSIFIER() AS c ALL ROWS PER MATCH PATTERN (A B C D) DEFINE A AS p > 0";
-    for budget in [1, 100_000] {
+    for budget in &[1, 100_000] {
         let told = play(
             rt.alloc(),
             text,
@@ -159,18 +159,18 @@ fn restart_in_a_match(rt: HostRuntime) -> Result<(), Fail> {
                 Row(1),
                 Row(1),
                 Close,
-                Next(budget),
-                Next(budget),
+                Next(*budget),
+                Next(*budget),
                 Save,
-                Next(budget),
-                Next(budget),
+                Next(*budget),
+                Next(*budget),
                 Restart,
                 Row(1),
                 Row(1),
                 Row(1),
                 Row(1),
                 Close,
-                Drain(budget),
+                Drain(*budget),
             ],
         )?;
         assert_eq!(rt;
@@ -261,13 +261,13 @@ fn numbers_far_up(rt: HostRuntime) -> Result<(), Fail> {
 fn a_decided_side(rt: HostRuntime) -> Result<(), Fail> {
     let alloc = rt.alloc();
     let text = "MEASURES COUNT(*) AS c PATTERN (A B | C) DEFINE A AS p = 1 AND NEXT(p) = 2";
-    for (numbers, told) in [
+    for (numbers, told) in &[
         ([5].as_slice(), "(1, 1, 1)|(2, End)"),
         ([super::player::NULL].as_slice(), "|(1, 1, 1)(2, End)"),
         ([1].as_slice(), "|(1, 1, 1)(2, End)"),
         ([1, 2].as_slice(), "(1, 1, 2)|(2, End)"),
     ] {
-        assert_eq!(rt; items(alloc, text, numbers)?.as_str(), told);
+        assert_eq!(rt; items(alloc, text, numbers)?.as_str(), *told);
     }
     let text = "MEASURES COUNT(*) AS c PATTERN (A) DEFINE A AS p = 5 OR NEXT(p) = 2";
     assert_eq!(rt; items(alloc, text, &[5])?.as_str(), "(1, 1, 1)|(2, End)");

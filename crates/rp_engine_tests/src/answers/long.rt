@@ -35,25 +35,41 @@ fn run<L: Ledger>(
     requires parts { blank.parts ≡ L.parts }
     requires shared { 0 < blank.parts }
 {
-    let odd = row_of(alloc, query.table(), 1)?;
-    let even = row_of(alloc, query.table(), 2)?;
+    let in_turn = vec![in alloc;
+        row_of(alloc, query.table(), 1)?,
+        row_of(alloc, query.table(), 2)?,
+    ]?;
     let mut driven = Driven::new(alloc, query, false);
     let mut steps = Steps::<L>::new(blank);
+    feed(&mut driven, &in_turn, rows, each, &mut steps)
+}
+
+/// So many of these rows in turn, and then the close.
+fn feed<L: Ledger>(
+    driven: &mut Driven,
+    in_turn: &[Row],
+    rows: u64,
+    each: bool,
+    steps: &mut Steps<L>,
+) -> Result<Ran, Fail> {
     let mut ran = Ran { items: 0, kept: 0 };
     for number in 0..rows {
-        let row = if number % 2 == 0 {
-            odd.share()?
-        } else {
-            even.share()?
-        };
-        driven.push(row)?;
+        push_one(driven, in_turn, number)?;
         if each {
-            drain(&mut driven, &mut steps, &mut ran)?;
+            drain(driven, steps, &mut ran)?;
         }
     }
     driven.close()?;
-    drain(&mut driven, &mut steps, &mut ran)?;
+    drain(driven, steps, &mut ran)?;
     Ok(ran)
+}
+
+/// The next of the rows in turn.
+fn push_one(driven: &mut Driven, in_turn: &[Row], number: u64) -> Result<(), Fail> {
+    match in_turn.get((number % 2) as usize) {
+        None => Err(Fail::from("two rows in turn")),
+        Some(row) => driven.push(row.share()?),
+    }
 }
 
 fn query_of(alloc: Global, text: &str) -> Result<Query, Fail> {

@@ -1,4 +1,6 @@
 //! How many rows are asked for.
+ghost use Rattle.std.specs.Prelude.{◌≡◌};
+
 use super::support::{Of, entered, label, numbered, plan};
 use rp_eval::{AllRows, Cell, Rows, View, condition, measure};
 use rp_query::{Condition, Edge, Expr, Function, Navigation, RowsOf, Step};

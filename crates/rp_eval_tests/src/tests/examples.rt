@@ -95,35 +95,25 @@ fn judged_as(what: &'static str, condition: Condition, open: Seen, closed: Seen)
     }
 }
 
-/// Rows that have come settle these.
+fn settled_as(what: &'static str, condition: Condition, seen: Seen) -> Case {
+    judged_as(what, condition, seen, seen)
+}
+
+/// Rows that have come settle these, so that the end is the same to them.
 fn settled(alloc: Global) -> Result<Vec<Case>, AllocError> {
-    let no_last = Condition::IsNull(last(A, 1, Step::Ahead(0)));
-    let sum = plus(alloc, first(A), last(B, 0, Step::Ahead(0)))?;
-    let known = [
-        (
-            "PREV(p, 2) IS NULL",
-            Condition::IsNull(prev_2()),
-            Seen::True,
-        ),
-        ("FIRST(A.p) + B.p = 3", is(sum, 3), Seen::True),
-        ("SUM(p) = 3", is(total(2), 3), Seen::True),
-        ("COUNT(A.*) = 1", is(total(3), 1), Seen::True),
-        ("LAST(A.p, 1) IS NULL", no_last, Seen::True),
-        (
-            "NEXT(A.p) = 2",
-            is(last(A, 0, Step::Ahead(1)), 2),
-            Seen::True,
-        ),
-        (
-            "NOT PREV(p, 2) = 1",
-            not(alloc, is(prev_2(), 1))?,
-            Seen::NotTrue,
-        ),
-    ];
     let mut cases = Vec::new(alloc);
-    for (what, condition, seen) in known {
-        cases.push(judged_as(what, condition, seen, seen))?;
-    }
+    let null = Condition::IsNull(prev_2());
+    cases.push(settled_as("PREV(p, 2) IS NULL", null, Seen::True))?;
+    let sum = plus(alloc, first(A), last(B, 0, Step::Ahead(0)))?;
+    cases.push(settled_as("FIRST(A.p) + B.p = 3", is(sum, 3), Seen::True))?;
+    cases.push(settled_as("SUM(p) = 3", is(total(2), 3), Seen::True))?;
+    cases.push(settled_as("COUNT(A.*) = 1", is(total(3), 1), Seen::True))?;
+    let null = Condition::IsNull(last(A, 1, Step::Ahead(0)));
+    cases.push(settled_as("LAST(A.p, 1) IS NULL", null, Seen::True))?;
+    let next = is(last(A, 0, Step::Ahead(1)), 2);
+    cases.push(settled_as("NEXT(A.p) = 2", next, Seen::True))?;
+    let negated = not(alloc, is(prev_2(), 1))?;
+    cases.push(settled_as("NOT PREV(p, 2) = 1", negated, Seen::NotTrue))?;
     Ok(cases)
 }
 
@@ -183,11 +173,10 @@ fn conditions_at_the_second_row(rt: HostRuntime) -> Result<(), Fail> {
     let alloc = rt.alloc();
     let settled = settled(alloc)?;
     let ahead = ahead(alloc)?;
-    for end in [End::Open, End::Closed] {
-        check_all(&rt, alloc, &settled, end)?;
-        check_all(&rt, alloc, &ahead, end)?;
-    }
-    Ok(())
+    check_all(&rt, alloc, &settled, End::Open)?;
+    check_all(&rt, alloc, &settled, End::Closed)?;
+    check_all(&rt, alloc, &ahead, End::Open)?;
+    check_all(&rt, alloc, &ahead, End::Closed)
 }
 
 /// What `SUM(p)`, `p + p`, `CLASSIFIER()` and `MATCH_NUMBER()` are at each of three rows, mapped to A, B and A.

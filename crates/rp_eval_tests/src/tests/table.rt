@@ -674,34 +674,43 @@ fn of_no_row(function: Function) -> &'static str {
     }
 }
 
-/// Each navigation is null, and each aggregate that of no row.
-fn check_no_row(
+/// Each navigation is null at row 2.
+fn check_nulls(
     rt: &impl Abort,
     alloc: Global,
     view: &View<AllRows>,
-    navigations: &[Navigated],
-    aggregates: &[Aggregated],
+    lines: &[Navigated],
 ) -> Result<(), Fail>
     requires from_one { 1 ≤ view.now.start }
     requires on_rows { view.now.start + length view.now.labels.now ≤ length view.now.rows.now.rows.items + 1 }
     requires totals { AreTotals view.now.totals.now view.now.rows.now.rows.items view.now.start view.now.labels.now }
 {
-    for line in navigations {
+    for line in lines {
         let running = shown(alloc, &navigation(line, false), view, 2)?;
-        assert_eq!(rt; running.as_str(), "null", "{}", line.what);
         let whole = shown(alloc, &navigation(line, true), view, 2)?;
-        assert_eq!(rt; whole.as_str(), "null", "FINAL {}", line.what);
+        let are_null = running.as_str() == "null" && whole.as_str() == "null";
+        assert!(rt; are_null, "{}", line.what);
     }
-    for (place, line) in aggregates.iter().enumerate() {
+    Ok(())
+}
+
+/// Each aggregate is that of no row.
+fn check_no_row(
+    rt: &impl Abort,
+    alloc: Global,
+    view: &View<AllRows>,
+    lines: &[Aggregated],
+) -> Result<(), Fail>
+    requires from_one { 1 ≤ view.now.start }
+    requires on_rows { view.now.start + length view.now.labels.now ≤ length view.now.rows.now.rows.items + 1 }
+    requires totals { AreTotals view.now.totals.now view.now.rows.now.rows.items view.now.start view.now.labels.now }
+{
+    for (place, line) in lines.iter().enumerate() {
+        let want = of_no_row(line.function);
         let running = shown(alloc, &aggregate(place, false), view, 2)?;
-        assert_eq!(rt; running.as_str(), of_no_row(line.function), "{}", line.what);
         let whole = shown(alloc, &aggregate(place, true), view, 2)?;
-        assert_eq!(rt;
-            whole.as_str(),
-            of_no_row(line.function),
-            "FINAL {}",
-            line.what
-        );
+        let are_wanted = running.as_str() == want && whole.as_str() == want;
+        assert!(rt; are_wanted, "{}", line.what);
     }
     Ok(())
 }
@@ -722,5 +731,6 @@ fn in_an_empty_match(rt: HostRuntime) -> Result<(), Fail> {
         number: 1,
         totals: &totals,
     };
-    check_no_row(&rt, alloc, &view, &NAVIGATIONS, &AGGREGATES)
+    check_nulls(&rt, alloc, &view, &NAVIGATIONS)?;
+    check_no_row(&rt, alloc, &view, &AGGREGATES)
 }
