@@ -10,7 +10,7 @@ pub enum SkipFault {
     SkipSame,
 }
 
-/// An item of an answer.
+/// An item of an answer: rows of output, and then one skip fault or the partition's end.
 #[derive(Debug, Drop)]
 pub enum Item {
     /// A row of output.

@@ -1,7 +1,12 @@
 //! Queries: what a matcher is given of a clause, its names resolved, and the items of which an answer is made.
 //!
-//! `compile` of the crate rp_check makes a query of a clause's text. What it means is said by definitions of plain data:
-//! `specs/Formulas`, `Scopes`, `Reach` and `SkipRules`; what each query meets, by `specs/Sound`.
+//! A [`Query`] stands between the crates that read clauses and those that match rows: `compile` of the crate rp_check
+//! makes it of a clause's text, and the matcher asks it for its pattern, its table, its columns and its [`Plan`].
+//! Pattern variables are numbered from 0 by first appearance, columns of the table from 1.
+//!
+//! What a query is made of is seen as plain data: `specs/QueryView`, `Formulas`, `Scopes`, `Reach`, `SkipRules` and
+//! `Definitions`. What each query meets is `specs/Sound`, in the words of `Kinds` and `Allowed`: columns and totals
+//! that are named are there, kinds agree, offsets are at most 1,000, and no definition sees the whole match.
 #![tactic(auto)]
 
 mod item;

@@ -1,4 +1,4 @@
-//! Queries.
+//! Queries, and what is computed for their matches.
 
 ghost use Rattle.rp_query.specs.Sound.{IsSound};
 
@@ -31,9 +31,11 @@ pub struct OrderColumn {
 }
 
 /// Where the next search starts after a match, with names resolved.
-#[derive(Debug, Drop)]
+#[derive(Drop)]
 pub enum SkipTo {
+    /// The row after the match's last, also where nothing is written.
     PastLastRow,
+    /// The row after the match's first.
     NextRow,
     /// The first row of these variables.
     First(Variables),
@@ -42,7 +44,7 @@ pub enum SkipTo {
 }
 
 /// What is computed for a match, with names resolved.
-#[derive(Debug, Drop)]
+#[derive(Drop)]
 pub struct Plan {
     /// The measures, in text order.
     pub measures: Vec<Expr>,
@@ -59,10 +61,11 @@ pub struct Plan {
 }
 
 /// What a query is made of, as contracts see it.
-#[derive(Debug, Drop)]
+#[derive(Drop)]
 pub struct QueryData {
     /// The text of the clause.
     pub text: Text,
+    /// The table that it was checked against.
     pub table: Table,
     /// The row pattern, its variables numbered by first appearance.
     pub pattern: Pattern,
@@ -74,11 +77,12 @@ pub struct QueryData {
     pub partition: Vec<usize>,
     /// The columns of ORDER BY.
     pub order: Vec<OrderColumn>,
+    /// What is computed for a match.
     pub plan: Plan,
 }
 
 /// A clause that was checked against a table, its names resolved. A further owner costs a count.
-#[derive(Debug, Drop)]
+#[derive(Drop)]
 pub struct Query {
     parts: Rc<QueryData>,
     ghost sound: { IsSound parts.value },
@@ -104,7 +108,10 @@ impl Query {
     ghost use Rattle.rp_query.specs.Definitions.{definition_of};
     ghost use Rattle.rp_query.specs.QueryView.{data_of};
 
-    /// The query of this data.
+    /// The query of this data. The error says that no memory was left.
+    ///
+    /// It asks that the data is sound, so that nobody above looks again: `specs/Sound`. `compile` of rp_check makes
+    /// such data of a text; data that is put together by hand must be proved to be so.
     pub fn new(alloc: Global, parts: QueryData) -> Result<Query, AllocError>
         requires { IsSound parts }
         ensures { IfOk result (λ query. data_of query ≡ parts) }
