@@ -13,7 +13,7 @@ use Rattle.rp_eval.specs.Partition.{Rows}
 use Rattle.rp_eval.specs.ValueOf.{Setting, judged, seen_as}
 use Rattle.rp_eval.specs.Laws.{LiesOnRows, over, JudgementsStay}
 use Rattle.rp_eval.specs.GoesOn.{GoesOn}
-use Rattle.rp_search.specs.FoundLaws.{SeenStays}
+use Rattle.rp_search.specs.SeenStays.{SeenStays}
 use Rattle.rp_conditions.specs.Tested.{Tested, last_row, seen_by, seen_at, outcome_of}
 use Rattle.rp_query.specs.Definitions.{definition_of}
 use Rattle.rp_query.specs.Sound.{IsSound}

@@ -10,7 +10,8 @@ use Rattle.rp_words.specs.PatternForm.{form_of}
 use Rattle.rp_words.specs.Words.{words}
 use Rattle.rp_words.specs.WordLaws.{WordsExtend, WordsEnd}
 use Rattle.rp_search.specs.Found.{Found, Match, NoMatch, Waits}
-use Rattle.rp_search.specs.FoundLaws.{SeenStays, TestsStay, FoundStays}
+use Rattle.rp_search.specs.FoundLaws.{FoundStays}
+use Rattle.rp_search.specs.SeenStays.{SeenStays, TestsStay}
 use Rattle.rp_query.specs.declared.plan.Condition.{Condition}
 use Rattle.rp_query.specs.declared.query.QueryData.{QueryData}
 use Rattle.rp_query.specs.Definitions.{definition_of}

@@ -10,7 +10,7 @@ use Rattle.rp_pattern.specs.declared.outlook.Outlook.{Outlook}
 use Rattle.rp_words.specs.Later.{IsLater}
 use Rattle.rp_pattern.specs.Choices.{AtRow, start_of, entered, whole, whole_turns, remaining, turns_left, below, turns_left_below, after, turns_left_after, AreFirstOf, AreStrictlyFirstOf, IsSameWhole, IsSameRemaining, IsSplit, IsMappedRow as TakesRow, IsFullWord, IsOpenWord, IsNothing}
 use Rattle.rp_search.specs.Found.{Test, tested, found, Match, NoMatch, Waits}
-use Rattle.rp_search.specs.FoundLaws.{SeenStays, TestsStay}
+use Rattle.rp_search.specs.SeenStays.{SeenStays, TestsStay}
 use Rattle.rp_search.specs.Asked.{rows_from}
 use Rattle.rp_search.specs.Fits.{RefusedUpTo, ChoicesFit, StandsAtRow, Explores}
 use Rattle.rp_search.specs.Turned.{Goes}

@@ -8,7 +8,8 @@ use Rattle.rp_words.specs.declared.word.Seen.TheVariants.{True, NotTrue, Open as
 use Rattle.rp_words.specs.Mapping.{Mapping, Full, Open, labels_of}
 use Rattle.rp_words.specs.WordLaws.{IsFull, BeginsWith, Extends, done, stays, gone, grows}
 use Rattle.rp_search.specs.Found.{Test, first_not_true, tested, status, status_from, Good, Refused, Found, Match, Waits, unless_refused, found}
-use Rattle.rp_search.specs.FoundLaws.{SeenStays, TestsStay, AreShort, from_status, unrefused, Resumes, IsFirstMatch}
+use Rattle.rp_search.specs.FoundLaws.{AreShort, from_status, unrefused, Resumes, IsFirstMatch}
+use Rattle.rp_search.specs.SeenStays.{SeenStays, TestsStay}
 
 first_stays : (a b x y : Seen) → SeenStays a b → SeenStays x y → SeenStays (first_not_true a x) (first_not_true b y)
 first_stays True b x y s t = subst (λ z. SeenStays x (first_not_true z y)) (sym s) t

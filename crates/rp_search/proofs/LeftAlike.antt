@@ -11,7 +11,7 @@ use Rattle.rp_pattern.specs.Outlooks.{turns_ahead}
 use Rattle.rp_search.specs.declared.search.Search.{Search}
 use Rattle.rp_search.specs.Asked.{Asked, AskedExtend, rows_from}
 use Rattle.rp_search.specs.Found.{Test}
-use Rattle.rp_search.specs.FoundLaws.{SeenStays}
+use Rattle.rp_search.specs.SeenStays.{SeenStays}
 use Rattle.rp_search.specs.Fits.{unless_open, left_given}
 
 same_seen : (a b : Seen) → SeenStays a b → SeenStays b a → b ≡ a

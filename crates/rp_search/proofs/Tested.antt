@@ -8,7 +8,7 @@ use Rattle.rp_words.specs.declared.word.Seen.{Seen}
 use Rattle.rp_words.specs.declared.word.Seen.TheVariants.{True, NotTrue, Open as OpenTest}
 use Rattle.rp_words.specs.Mapping.{Mapping, Full, Open, labels_of, preceded}
 use Rattle.rp_search.specs.Found.{Test, first_not_true, tested, status_from, Match, Waits, unless_refused, found}
-use Rattle.rp_search.specs.FoundLaws.{TestsStay}
+use Rattle.rp_search.specs.SeenStays.{TestsStay}
 use Rattle.rp_search.specs.Fits.{IsRefusedWithin, RefusedUpTo}
 use Rattle.rp_search.proofs.FoundLaws.{first_refused, tested_refused, itself_stays, refused_passed}
 

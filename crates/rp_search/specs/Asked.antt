@@ -4,7 +4,7 @@ use Rattle.rp_words.specs.declared.word.Label.{Label}
 use Rattle.rp_words.specs.declared.word.End.{End}
 use Rattle.rp_words.specs.declared.word.Seen.{Seen}
 use Rattle.rp_words.specs.Later.{IsLater}
-use Rattle.rp_search.specs.FoundLaws.{TestsStay}
+use Rattle.rp_search.specs.SeenStays.{TestsStay}
 
 -- What a search asks of the rows of a partition.
 pub record Asked : Type 0 where

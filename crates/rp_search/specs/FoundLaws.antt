@@ -1,22 +1,12 @@
 -- What is found stays over whatever comes later. These laws are this project's own.
-use Rattle.std.specs.Prelude.{◌≡◌, ◌≢◌, ℕ, ◌≤◌, List, [], ◌∷◌, ◌++◌, length, ⊤}
+use Rattle.std.specs.Prelude.{◌≡◌, ◌≢◌, ℕ, ◌≤◌, List, [], ◌∷◌, ◌++◌, length}
 use Rattle.std.specs.List.{AllByRecursion}
 use Rattle.rp_words.specs.declared.word.Label.{Label}
-use Rattle.rp_words.specs.declared.word.Seen.{Seen}
-use Rattle.rp_words.specs.declared.word.Seen.TheVariants.{True, NotTrue, Open as OpenTest}
+use Rattle.rp_words.specs.declared.word.Seen.TheVariants.{True, Open as OpenTest}
 use Rattle.rp_words.specs.Mapping.{Mapping, Full, labels_of}
 use Rattle.rp_words.specs.WordLaws.{BeginsWith, Extends, IsFull}
+use Rattle.rp_search.specs.SeenStays.{TestsStay}
 use Rattle.rp_search.specs.Found.{Test, tested, Status, Good, Refused, Undecided, status, Match, Waits, found}
-
--- what was seen stays: what is true or not true is so later, and what is open may become anything
-abbrev pub SeenStays : Seen → Seen → Type 0
-SeenStays True new = new ≡ True
-SeenStays NotTrue new = new ≡ NotTrue
-SeenStays OpenTest new = ⊤
-
--- what was seen stays, on labels of at most `rows` rows
-abbrev pub TestsStay : ℕ → Test → Test → Type 0
-TestsStay rows old new = (ls : List Label) → length ls ≤ rows → SeenStays (old ls) (new ls)
 
 -- no word maps more rows than that
 abbrev pub AreShort : ℕ → List Mapping → Type 0
