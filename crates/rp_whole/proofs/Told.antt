@@ -1,16 +1,19 @@
 -- What a fault of reading is told as, and what it says.
-use Rattle.std.proofs.Common.{◌≡◌, ℕ, List, Option, Some, None, IfErr, IfSome, OnErr, OnOk, Result, Ok, Err, refl, subst, inl, inr}
+use Rattle.std.proofs.Common.{◌≡◌, ℕ, Bool, List, Option, Some, None, IfErr, IfSome, OnErr, OnOk, Result, Ok, Err, refl, subst, inl, inr}
 use Rattle.std.specs.List.{flat_map}
 use Rattle.rp_value.specs.declared.value.Value.{Value}
 use Rattle.rp_query.specs.declared.query.QueryData.{QueryData}
 use Rattle.rp_input.specs.CsvRows.{AreRowsOf}
-use Rattle.rp_input.specs.Devices.{IsInputFault, TellsFailure}
+use Rattle.rp_io.specs.Reading.{ReadsWithin}
+use Rattle.rp_io.specs.Reading.Told.{Ended}
+use Rattle.rp_io.proofs.SoFar.{reads_ended}
+use Rattle.rp_input.specs.Devices.{IsInputFault, fault_told as csv_told}
 use Rattle.rp_input.specs.Numbered.{AreOrdered}
 use Rattle.rp_input.specs.Partitions.{Part, partitions}
 use Rattle.rp_input.specs.declared.rows.CsvFault.{CsvFault}
 use Rattle.rp_input.specs.declared.rows.CsvFault.TheVariants.{Header, Record, Field, Read, Turns, OutOfMemory}
 use Rattle.rp_whole.specs.AnswerLines.{AreLinesOf, WritesFront, WritesLines, part_lines}
-use Rattle.rp_whole.specs.Faults.{IsOfOutput, LeavesFront, TellsRead, TellsWrite, told_csv}
+use Rattle.rp_whole.specs.Faults.{IsOfOutput, LeavesFront, TellsWrite, fault_told, told_csv, whole_told}
 use Rattle.rp_whole.specs.Writing.{WritesParts, WritesPartsFront}
 use Rattle.rp_whole.specs.declared.fault.WholeFault.{WholeFault}
 use Rattle.rp_whole.specs.declared.fault.WholeFault.TheVariants.{Csv, Write, OutOfMemory as WholeOutOfMemory}
@@ -32,19 +35,24 @@ module _ (q : QueryData) (input old : Option (List ℕ)) where
   wrote_front (Err Write) new of_output front = front
   wrote_front (Err WholeOutOfMemory) new of_output front = inr front
 
-pub told_read : (X Y : Type 0) (why : CsvFault) (old new : ℕ) → TellsFailure {X = X} (Err why) old new → TellsRead {X = Y} (Err (told_csv why)) old new
-told_read X Y Header old new h = h
-told_read X Y (Record n) old new h = h
-told_read X Y (Field n) old new h = h
-told_read X Y Read old new h = h
-told_read X Y Turns old new h = h
-told_read X Y OutOfMemory old new h = h
+module _ (reads calls calls' failures failures' : ℕ) (ended ended' : Bool) (remaining remaining' : Option (List ℕ)) where
+  -- a fault of the input tells of the reads what it told of them before
+  pub input_told : (why : CsvFault) → ReadsWithin reads (csv_told why) calls calls' failures failures' ended ended' remaining remaining'
+      → ReadsWithin reads (fault_told (told_csv why)) calls calls' failures failures' ended ended' remaining remaining'
+  input_told Header all = all
+  input_told (Record n) all = all
+  input_told (Field n) all = all
+  input_told Read all = all
+  input_told Turns all = all
+  input_told OutOfMemory all = all
 
-pub output_read : {Y : Type 0} (r : Result Y WholeFault) (old new : ℕ) → IfErr r IsOfOutput → new ≡ old → TellsRead r old new
-output_read (Ok y) old new of_output h = h
-output_read (Err (Csv why)) old new of_output h = absurd of_output
-output_read (Err Write) old new of_output h = h
-output_read (Err WholeOutOfMemory) old new of_output h = h
+  -- a run that read all of its input, and then ended well or by a fault of the output
+  pub output_told : {Y : Type 0} (r : Result Y WholeFault) → IfErr r IsOfOutput → ReadsWithin reads Ended calls calls' failures failures' ended ended' remaining remaining'
+      → ReadsWithin reads (whole_told r) calls calls' failures failures' ended ended' remaining remaining'
+  output_told (Ok y) of_output all = all
+  output_told (Err (Csv why)) of_output all = absurd of_output
+  output_told (Err Write) of_output all = reads_ended reads calls calls' failures failures' ended ended' remaining remaining' all
+  output_told (Err WholeOutOfMemory) of_output all = reads_ended reads calls calls' failures failures' ended ended' remaining remaining' all
 
 pub told_write : (Y : Type 0) (why : CsvFault) (old : ℕ) → TellsWrite {X = Y} (Err (told_csv why)) old old
 told_write Y Header old = refl
@@ -53,14 +61,6 @@ told_write Y (Field n) old = refl
 told_write Y Read old = refl
 told_write Y Turns old = refl
 told_write Y OutOfMemory old = refl
-
-pub told_turns : (why : CsvFault) → told_csv why ≡ Csv Turns → why ≡ Turns
-told_turns Header is = cc
-told_turns (Record n) is = cc
-told_turns (Field n) is = cc
-told_turns Read is = cc
-told_turns Turns is = refl
-told_turns OutOfMemory is = cc
 
 module _ (q : QueryData) (rows : List (List Value)) (parts : List Part) (are : parts ≡ partitions q.partition.items rows) where
   lines : (text : List ℕ) (ordered : List Part) → AreRowsOf q.table text rows → AreOrdered q.order.items parts ordered → AreLinesOf q text (flat_map (part_lines q) ordered)

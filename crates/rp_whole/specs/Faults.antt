@@ -1,8 +1,10 @@
 -- What a fault of a run says of the input and of the devices.
-use Rattle.std.specs.Prelude.{◌≡◌, ◌≢◌, ◌⊎◌, ⊤, ℕ, List, Option, IfSome, Result, Err}
+use Rattle.std.specs.Prelude.{◌≡◌, ◌≢◌, ◌⊎◌, ⊤, ℕ, List, Option, IfSome, Result, Ok, Err}
 use Rattle.rp_query.specs.declared.query.QueryData.{QueryData}
 use Rattle.rp_io.specs.Counts.{raised}
-use Rattle.rp_input.specs.Devices.{IsInputFault}
+use Rattle.rp_io.specs.Reading.{Told}
+use Rattle.rp_io.specs.Reading.Told.{Ended, Other}
+use Rattle.rp_input.specs.Devices.{IsInputFault, fault_told as csv_told}
 use Rattle.rp_input.specs.declared.rows.CsvFault.{CsvFault}
 use Rattle.rp_input.specs.declared.rows.CsvFault.TheVariants.{Header, Record, Field, Read, Turns, OutOfMemory}
 use Rattle.rp_whole.specs.AnswerLines.{WritesFront}
@@ -25,10 +27,17 @@ LeavesFront q input old new (Csv why) = (why ≢ OutOfMemory) × (new ≡ old) �
 LeavesFront q input old new Write = WritesFront q input old new
 LeavesFront q input old new WholeOutOfMemory = (new ≡ old) ⊎ WritesFront q input old new
 
--- One more read has failed where that is the fault, and else none.
-abbrev pub TellsRead : {X : Type 0} → Result X WholeFault → ℕ → ℕ → Type 0
-TellsRead (Err (Csv Read)) old new = new ≡ raised old
-TellsRead _ old new = new ≡ old
+-- What a fault of a run tells of its reads. A fault of the output comes when all of the input was read, and want of memory may come
+-- before or after.
+abbrev pub fault_told : WholeFault → Told
+fault_told (Csv why) = csv_told why
+fault_told Write = Other
+fault_told WholeOutOfMemory = Other
+
+-- what a run tells of its reads
+abbrev pub whole_told : {X : Type 0} → Result X WholeFault → Told
+whole_told (Ok done) = Ended
+whole_told (Err fault) = fault_told fault
 
 -- One more write has failed where that is the fault, and else none.
 abbrev pub TellsWrite : {X : Type 0} → Result X WholeFault → ℕ → ℕ → Type 0

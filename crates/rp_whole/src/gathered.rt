@@ -2,7 +2,8 @@
 ghost use Rattle.std.specs.Prelude.{◌≡◌, ◌++◌, ◌∷◌, [], OnOk};
 ghost use Rattle.rp_codec.specs.ReplyLines.{item_text};
 
-use rp_codec::{Item, push_item_line};
+use rp_codec::push_item_line;
+use rp_query::Item;
 use rp_value::Cells;
 use std::alloc::{AllocError, Global};
 

@@ -14,8 +14,6 @@ mod closed;
 mod fault;
 mod gathered;
 mod part;
-#[cfg(test)]
-mod tests;
 mod whole;
 
 pub use fault::WholeFault;

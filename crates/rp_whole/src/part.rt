@@ -39,6 +39,7 @@ pub(crate) fn write_part<W: Outlet, L: Ledger>(
     ensures fault { IfErr result IsOfOutput }
     ensures failures { TellsWrite result (W.failures writer.old) (W.failures writer.new) }
 {
+    // A new walker's record fits each partition.
     law_records();
     let mut walker = Walker::new(alloc);
     while write_next(query, part, &mut walker, gathered, writer, steps)? {}

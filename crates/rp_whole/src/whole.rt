@@ -1,11 +1,10 @@
 //! From a CSV input to the lines of its answers.
-ghost use Rattle.std.specs.Prelude.{◌≡◌, ◌<◌, ◌≤◌, length, IfSome, true, IfErr, OnErr, OnOk};
+ghost use Rattle.std.specs.Prelude.{◌≡◌, ◌<◌, IfErr, OnErr, OnOk};
 ghost use Rattle.rp_query.specs.QueryView.{data_of};
-ghost use Rattle.rp_io.specs.Devices.{MakesCalls, after_calls};
+ghost use Rattle.rp_io.specs.Reading.{ReadsWithin};
 ghost use Rattle.rp_input.specs.Gathering.{parts_of};
-ghost use Rattle.rp_input.specs.declared.rows.CsvFault.TheVariants.{Turns};
 ghost use Rattle.rp_whole.specs.AnswerLines.{WritesLines};
-ghost use Rattle.rp_whole.specs.Faults.{IsOfOutput, LeavesFront, TellsRead, TellsWrite};
+ghost use Rattle.rp_whole.specs.Faults.{IsOfOutput, LeavesFront, TellsWrite, whole_told};
 ghost use Rattle.rp_whole.specs.Writing.{WritesParts, WritesPartsFront};
 
 use crate::closed::Part;
@@ -37,13 +36,10 @@ pub fn run_whole<R: Intake, W: Outlet>(
         (WritesLines (data_of query) (R.remaining reader.old) (W.contents writer.old) (W.contents writer.new)) }
     ensures front { IfErr result
         (LeavesFront (data_of query) (R.remaining reader.old) (W.contents writer.old) (W.contents writer.new)) }
-    ensures end { OnOk result (R.ended reader.new ≡ true) }
-    ensures read { TellsRead result (R.failures reader.old) (R.failures reader.new) }
+    ensures reads { ReadsWithin reads (whole_told result)
+        (R.calls reader.old) (R.calls reader.new) (R.failures reader.old) (R.failures reader.new)
+        (R.ended reader.old) (R.ended reader.new) (R.remaining reader.old) (R.remaining reader.new) }
     ensures write { TellsWrite result (W.failures writer.old) (W.failures writer.new) }
-    ensures turns { result ≡ Err (WholeFault.Csv Turns) → R.calls reader.new ≡ after_calls reads (R.calls reader.old) }
-    ensures untold { result ≡ Err (WholeFault.Csv Turns) → R.ended reader.new ≡ R.ended reader.old }
-    ensures gave { result ≡ Err (WholeFault.Csv Turns) → IfSome (R.remaining reader.old) (λ text. reads ≤ length text) }
-    ensures within { MakesCalls 0 reads (R.calls reader.old) (R.calls reader.new) }
 {
     let rows = read_rows(alloc, reader, query.table(), reads)?;
     let parts = partitions(alloc, &query, rows)?;
@@ -70,6 +66,7 @@ fn write_parts<W: Outlet, L: Ledger>(
     ensures fault { IfErr result IsOfOutput }
     ensures failures { TellsWrite result (W.failures writer.old) (W.failures writer.new) }
 {
+    // Any rows can be put into any order: what is still to be written after a fault has lines too.
     law_orders();
     let mut steps = Steps::<L>::new(blank);
     let mut gathered = Gathered::new(alloc);

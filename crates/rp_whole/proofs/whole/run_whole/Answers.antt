@@ -1,9 +1,13 @@
-use Rattle.std.proofs.Common.{◌≡◌, IfSome, subst}
+use Rattle.std.proofs.Common.{◌≡◌, ◌∙◌, Err, IfSome, ap, rules, sym, subst}
 use Rattle.rp_query.specs.QueryView.{data_of}
 use Rattle.rp_input.specs.CsvRows.{AreRowsOf}
 use Rattle.rp_input.specs.Gathering.{parts_of}
 use Rattle.rp_input.specs.Partitions.{partitions}
-use Rattle.rp_whole.proofs.Told.{front_of_lines, wrote_front, wrote_lines}
+use Rattle.rp_whole.proofs.Told.{front_of_lines, input_told, output_told, wrote_front, wrote_lines}
+use Rattle.rp_io.specs.Reading.Told.{Other}
+use Rattle.rp_io.proofs.SoFar.{reads_ended}
+use Rattle.rp_whole.specs.Faults.{told_csv, whole_told}
+use Rattle.rp_whole.specs.declared.fault.WholeFault.TheVariants.{OutOfMemory}
 use Rattle.rp_whole.proofs.whole.run_whole.Goals as goal
 
 pub returns-clause-written : goal.returns-clause-written
@@ -25,3 +29,17 @@ returns-clause-front g c =
     let are : parts_of c.in_ok-parts.parts.items ≡ partitions q.partition.items c.in_ok-rows.rows.items = c.in_ok-parts.ensures in
     wrote_front q input old c.write_parts.result new c.write_parts.ensures.fault
     (front_of_lines q c.in_ok-rows.rows.items (parts_of c.in_ok-parts.parts.items) are c.write_parts.result input old new read c.write_parts.ensures.front)
+
+pub returns-in_err-rows-clause-reads : goal.returns-in_err-rows-clause-reads
+returns-in_err-rows-clause-reads g c =
+    let why = c.in_err-rows.field-0.0 in
+    let is : c.from_residual.result ≡ Err (told_csv why) = search rules in
+    rw is (input_told _ _ _ _ _ _ _ _ _ why c.in_err-rows.ensures.reads)
+
+pub returns-in_err-parts-clause-reads : goal.returns-in_err-parts-clause-reads
+returns-in_err-parts-clause-reads g c =
+    let told : whole_told c.from_residual-in_err-parts.result ≡ Other = let is : c.from_residual-in_err-parts.result ≡ Err OutOfMemory = search rules in ap whole_told is in
+    rw told (reads_ended _ _ _ _ _ _ _ _ _ c.in_ok-rows.ensures.reads)
+
+pub returns-clause-reads : goal.returns-clause-reads
+returns-clause-reads g c = output_told _ _ _ _ _ _ _ _ _ c.write_parts.result c.write_parts.ensures.fault c.in_ok-rows.ensures.reads

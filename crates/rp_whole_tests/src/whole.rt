@@ -1,12 +1,11 @@
 //! Runs over devices in memory. What is expected is worked out by hand.
-mod memory;
-
-use crate::{WholeFault, run_whole};
-use memory::{Sink, Source};
 use rp_check::compile;
 use rp_input::CsvFault;
+use rp_io::{MemoryInput, MemoryOutput};
 use rp_syntax::read_table;
+use rp_whole::{WholeFault, run_whole};
 use std::alloc::{AllocError, Global};
+use std::process::Abort;
 use std::test::Fail;
 
 /// A fall and then a rise.
@@ -28,8 +27,8 @@ const TICKS_ANSWERED: &str = "\
 fn run(
     alloc: Global,
     clause: &str,
-    source: &mut Source,
-    sink: &mut Sink,
+    source: &mut MemoryInput,
+    sink: &mut MemoryOutput,
     reads: u64,
 ) -> Result<Option<WholeFault>, Fail> {
     let table = read_table(alloc, "sym text, t int, p int")?;
@@ -43,15 +42,15 @@ fn run(
 
 /// What is written for an input that comes at most eight bytes at a call.
 fn written(alloc: Global, clause: &str, input: &[u8]) -> Result<String, Fail> {
-    let mut source = Source::new(input, 8, 0);
-    let mut sink = Sink::new(alloc, 4096, 100, 0)?;
+    let mut source = MemoryInput::new(input, 8, 0);
+    let mut sink = MemoryOutput::new(alloc, 4096, 100, 0)?;
     if let Some(fault) = run(alloc, clause, &mut source, &mut sink, 1_000)? {
         return Err(Fail::from(fault));
     }
     text_of(alloc, &sink)
 }
 
-fn text_of(alloc: Global, sink: &Sink) -> Result<String, Fail> {
+fn text_of(alloc: Global, sink: &MemoryOutput) -> Result<String, Fail> {
     let mut bytes = Vec::new(alloc);
     bytes.extend_from_slice(sink.bytes())?;
     match String::from_utf8(bytes) {
@@ -62,8 +61,8 @@ fn text_of(alloc: Global, sink: &Sink) -> Result<String, Fail> {
 
 /// The fault of an input, of which nothing is written.
 fn refused(alloc: Global, input: &[u8]) -> Result<Option<WholeFault>, Fail> {
-    let mut source = Source::new(input, 8, 0);
-    let mut sink = Sink::new(alloc, 4096, 100, 0)?;
+    let mut source = MemoryInput::new(input, 8, 0);
+    let mut sink = MemoryOutput::new(alloc, 4096, 100, 0)?;
     let fault = run(alloc, V, &mut source, &mut sink, 1_000)?;
     if !sink.bytes().is_empty() {
         return Err(Fail::from("a refused input was answered"));
@@ -150,23 +149,28 @@ fn skip_fault(rt: HostRuntime) -> Result<(), Fail> {
     Ok(())
 }
 
-#[test]
-fn refused_inputs(rt: HostRuntime) -> Result<(), Fail> {
-    for (input, fault) in [
-        (b"".as_slice(), CsvFault::Header),
-        (b"sym,p,t\n".as_slice(), CsvFault::Header),
-        (b"sym,t,p\nx,1,z\n".as_slice(), CsvFault::Field(1)),
-        (b"sym,t,p\nx,1\n".as_slice(), CsvFault::Record(1)),
-        (b"sym,t,p\nx,1,2\nx,1,2,3\n".as_slice(), CsvFault::Record(2)),
-        (b"sym,t,p\nx,1,2\n\xff,1,2\n".as_slice(), CsvFault::Field(2)),
-        (
-            b"sym,t,p\nx,1,9223372036854775808\n".as_slice(),
-            CsvFault::Field(1),
-        ),
-    ] {
-        assert_eq!(rt; refused(rt.alloc(), input)?, Some(WholeFault::Csv(fault)));
+/// Inputs that are no rows of the table, and why.
+const REFUSED: [(&[u8], CsvFault); 7] = [
+    (b"", CsvFault::Header),
+    (b"sym,p,t\n", CsvFault::Header),
+    (b"sym,t,p\nx,1,z\n", CsvFault::Field(1)),
+    (b"sym,t,p\nx,1\n", CsvFault::Record(1)),
+    (b"sym,t,p\nx,1,2\nx,1,2,3\n", CsvFault::Record(2)),
+    (b"sym,t,p\nx,1,2\n\xff,1,2\n", CsvFault::Field(2)),
+    (b"sym,t,p\nx,1,9223372036854775808\n", CsvFault::Field(1)),
+];
+
+/// Whether each input is refused for this.
+fn all_refused(rt: &impl Abort, alloc: Global, cases: &[(&[u8], CsvFault)]) -> Result<(), Fail> {
+    for (input, fault) in cases {
+        assert_eq!(rt; refused(alloc, input)?, Some(WholeFault::Csv(*fault)));
     }
     Ok(())
+}
+
+#[test]
+fn refused_inputs(rt: HostRuntime) -> Result<(), Fail> {
+    all_refused(&rt, rt.alloc(), &REFUSED)
 }
 
 /// The input of 51 bytes comes in seven reads of at most eight bytes, and the end in another.
@@ -174,16 +178,16 @@ fn refused_inputs(rt: HostRuntime) -> Result<(), Fail> {
 fn each_read_fails(rt: HostRuntime) -> Result<(), Fail> {
     let alloc = rt.alloc();
     for failing in 1..9 {
-        let mut source = Source::new(TICKS.as_bytes(), 8, failing);
-        let mut sink = Sink::new(alloc, 4096, 100, 0)?;
+        let mut source = MemoryInput::new(TICKS.as_bytes(), 8, failing);
+        let mut sink = MemoryOutput::new(alloc, 4096, 100, 0)?;
         let fault = run(alloc, V, &mut source, &mut sink, 1_000)?;
         assert_eq!(rt; fault, Some(WholeFault::Csv(CsvFault::Read)));
         assert_eq!(rt; source.calls(), failing);
         assert!(rt; sink.bytes().is_empty());
     }
     for reads in 0..8 {
-        let mut source = Source::new(TICKS.as_bytes(), 8, 0);
-        let mut sink = Sink::new(alloc, 4096, 100, 0)?;
+        let mut source = MemoryInput::new(TICKS.as_bytes(), 8, 0);
+        let mut sink = MemoryOutput::new(alloc, 4096, 100, 0)?;
         let fault = run(alloc, V, &mut source, &mut sink, reads)?;
         assert_eq!(rt; fault, Some(WholeFault::Csv(CsvFault::Turns)));
         assert_eq!(rt; source.calls(), reads);
@@ -198,15 +202,15 @@ fn each_write_fails(rt: HostRuntime) -> Result<(), Fail> {
     let alloc = rt.alloc();
     let want = TICKS_ANSWERED.as_bytes();
     for taken in 0..20 {
-        let mut source = Source::new(TICKS.as_bytes(), 1_000, 0);
-        let mut sink = Sink::new(alloc, 4096, 7, taken + 1)?;
+        let mut source = MemoryInput::new(TICKS.as_bytes(), 1_000, 0);
+        let mut sink = MemoryOutput::new(alloc, 4096, 7, taken + 1)?;
         let fault = run(alloc, V, &mut source, &mut sink, 1_000)?;
         assert_eq!(rt; fault, Some(WholeFault::Write));
         assert_eq!(rt; sink.bytes().len() as u64, 7 * taken);
         assert!(rt; want.starts_with(sink.bytes()));
     }
-    let mut source = Source::new(TICKS.as_bytes(), 1_000, 0);
-    let mut sink = Sink::new(alloc, 4096, 7, 21)?;
+    let mut source = MemoryInput::new(TICKS.as_bytes(), 1_000, 0);
+    let mut sink = MemoryOutput::new(alloc, 4096, 7, 21)?;
     assert_eq!(rt; run(alloc, V, &mut source, &mut sink, 1_000)?, None);
     assert!(rt; sink.bytes() == want);
     Ok(())
@@ -232,12 +236,12 @@ fn more_than_a_block(rt: HostRuntime) -> Result<(), Fail> {
     let alloc = rt.alloc();
     let (input, want) = many(alloc)?;
     let want = want.as_str().as_bytes();
-    let mut source = Source::new(input.as_str().as_bytes(), 1_000_000, 0);
-    let mut sink = Sink::new(alloc, want.len(), 1_000_000, 0)?;
+    let mut source = MemoryInput::new(input.as_str().as_bytes(), 1_000_000, 0);
+    let mut sink = MemoryOutput::new(alloc, want.len(), 1_000_000, 0)?;
     assert_eq!(rt; run(alloc, EACH, &mut source, &mut sink, 9)?, None);
     assert!(rt; sink.bytes() == want);
-    let mut source = Source::new(input.as_str().as_bytes(), 1_000_000, 0);
-    let mut sink = Sink::new(alloc, want.len(), 1_000_000, 2)?;
+    let mut source = MemoryInput::new(input.as_str().as_bytes(), 1_000_000, 0);
+    let mut sink = MemoryOutput::new(alloc, want.len(), 1_000_000, 2)?;
     let fault = run(alloc, EACH, &mut source, &mut sink, 9)?;
     assert_eq!(rt; fault, Some(WholeFault::Write));
     assert!(rt; sink.bytes().len() >= 65_536);
@@ -254,13 +258,13 @@ fn refused_whole(rt: HostRuntime) -> Result<(), Fail> {
     let query = compile(alloc, V, &table)?;
     let again = query.share()?;
     let want = TICKS_ANSWERED.as_bytes();
-    let mut sink = Sink::new(alloc, 4096, 100, 0)?;
-    let mut source = Source::new(TICKS.as_bytes(), 1_000, 0);
+    let mut sink = MemoryOutput::new(alloc, 4096, 100, 0)?;
+    let mut source = MemoryInput::new(TICKS.as_bytes(), 1_000, 0);
     match run_whole(alloc, query, &mut source, &mut sink, 9) {
         Err(WholeFault::OutOfMemory) => {
             assert!(rt; want.starts_with(sink.bytes()));
-            let mut sink = Sink::new(alloc, 4096, 100, 0)?;
-            let mut source = Source::new(TICKS.as_bytes(), 1_000, 0);
+            let mut sink = MemoryOutput::new(alloc, 4096, 100, 0)?;
+            let mut source = MemoryInput::new(TICKS.as_bytes(), 1_000, 0);
             run_whole(alloc, again, &mut source, &mut sink, 9)?;
             assert!(rt; sink.bytes() == want);
         }
