@@ -1,9 +1,11 @@
 //! The first faults of clauses, in the order of checks, and the query of one. Expected values were worked out by hand
 //! from the written order.
-use crate::{CheckKind, CompileFault, Condition, Query, compile};
+use rp_check::{CheckKind, CompileFault, compile};
+use rp_query::{Condition, Query};
 use rp_syntax::{TableTextFault, read_table};
 use rp_value::Table;
 use std::alloc::{AllocError, Global};
+use std::process::Abort;
 use std::test::*;
 
 /// The query of a clause over prices, or its fault.
@@ -319,14 +321,18 @@ const FAULTS: [(&str, &str); 81] = [
     ("MEASURES p AS p PATTERN (A) DEFINE A AS p = 1", ""),
 ];
 
-#[test]
-fn first_faults(rt: HostRuntime) -> Result<(), Fail> {
-    let alloc = rt.alloc();
-    for (text, wanted) in FAULTS {
+/// Each of these texts has the first fault that stands beside it.
+fn all_told(rt: &impl Abort, alloc: Global, cases: &[(&str, &str)]) -> Result<(), Fail> {
+    for (text, wanted) in cases {
         let found = first_fault(alloc, text)?;
-        assert!(rt; found.as_str() == wanted, "{text}: {found}");
+        assert!(rt; found.as_str() == *wanted, "{text}: {found}");
     }
     Ok(())
+}
+
+#[test]
+fn first_faults(rt: HostRuntime) -> Result<(), Fail> {
+    all_told(&rt, rt.alloc(), &FAULTS)
 }
 
 /// Prices that fall and rise again.
@@ -343,32 +349,39 @@ fn has_output(query: &Query, wanted: &[&str]) -> bool {
             .all(|(name, want)| name.as_str() == *want)
 }
 
-#[test]
-fn output_and_reach(rt: HostRuntime) -> Result<(), Fail> {
-    let alloc = rt.alloc();
-    for (text, output, reach) in [
-        (FALL_AND_RISE, &["SYM", "N", "A", "LO", "HI"][..], 1),
-        (
-            "PARTITION BY sym ORDER BY t MEASURES MATCH_NUMBER() AS n ALL ROWS PER MATCH PATTERN (A B) DEFINE B AS p < PREV(p, 3) OR p > NEXT(p, 7)",
-            &["SYM", "T", "N", "P"][..],
-            3,
-        ),
-        (
-            "PARTITION BY p ORDER BY t MEASURES LAST(p) - FIRST(p) AS n, PREV(p, 2) AS a ALL ROWS PER MATCH OMIT EMPTY MATCHES PATTERN (A*) DEFINE A AS p > 1",
-            &["P", "T", "N", "A", "SYM"][..],
-            2,
-        ),
-        (
-            "MEASURES p AS m ALL ROWS PER MATCH WITH UNMATCHED ROWS PATTERN (A) DEFINE A AS NEXT(p) = 1",
-            &["M", "SYM", "T", "P"][..],
-            0,
-        ),
-    ] {
+/// Clauses, the names of the columns of each one's output, and its reach.
+const OUTPUTS: [(&str, &[&str], u64); 4] = [
+    (FALL_AND_RISE, &["SYM", "N", "A", "LO", "HI"], 1),
+    (
+        "PARTITION BY sym ORDER BY t MEASURES MATCH_NUMBER() AS n ALL ROWS PER MATCH PATTERN (A B) DEFINE B AS p < PREV(p, 3) OR p > NEXT(p, 7)",
+        &["SYM", "T", "N", "P"],
+        3,
+    ),
+    (
+        "PARTITION BY p ORDER BY t MEASURES LAST(p) - FIRST(p) AS n, PREV(p, 2) AS a ALL ROWS PER MATCH OMIT EMPTY MATCHES PATTERN (A*) DEFINE A AS p > 1",
+        &["P", "T", "N", "A", "SYM"],
+        2,
+    ),
+    (
+        "MEASURES p AS m ALL ROWS PER MATCH WITH UNMATCHED ROWS PATTERN (A) DEFINE A AS NEXT(p) = 1",
+        &["M", "SYM", "T", "P"],
+        0,
+    ),
+];
+
+/// Each of these clauses has the output and the reach that stand beside it.
+fn all_shown(rt: &impl Abort, alloc: Global, cases: &[(&str, &[&str], u64)]) -> Result<(), Fail> {
+    for (text, output, reach) in cases {
         let query = compiled(alloc, text)??;
         assert!(rt; has_output(&query, output), "{text}");
-        assert_eq!(rt; query.reach(), reach);
+        assert_eq!(rt; query.reach(), *reach);
     }
     Ok(())
+}
+
+#[test]
+fn output_and_reach(rt: HostRuntime) -> Result<(), Fail> {
+    all_shown(&rt, rt.alloc(), &OUTPUTS)
 }
 
 #[test]
