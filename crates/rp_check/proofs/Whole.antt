@@ -1,5 +1,6 @@
 -- What was found of a clause is its query.
-use Rattle.std.proofs.Common.{◌≡◌, ◌∙◌, ℕ, Bool, true, false, List, [], ◌++◌, map, refl, ap}
+use Rattle.std.proofs.Common.{◌≡◌, ◌∙◌, ℕ, Bool, true, false, List, [], ◌++◌, map, refl, ap, Result, Ok, Err}
+use Rattle.std.specs.Prelude.{IfOk, IfErr}
 use Rattle.std.proofs.lemmas.List.{append-nil}
 use Rattle.rp_words.specs.declared.form.Form.{Form}
 use Rattle.rp_value.specs.declared.value.Value.TheVariants as value
@@ -13,7 +14,8 @@ use Rattle.rp_check.specs.declared.checking.Planned.{Planned}
 use Rattle.rp_check.specs.declared.fault.CheckFault.{CheckFault}
 use Rattle.rp_query.specs.declared.query.QueryData.{QueryData}
 use Rattle.rp_check.specs.QueryOf.{IsQueryOf, measuring, defining}
-use Rattle.rp_check.specs.Checked.{Tells}
+use Rattle.rp_check.specs.declared.fault.Fault.{Fault}
+use Rattle.rp_check.specs.Checked.{Tells, FirstFaultOr}
 use Rattle.rp_check.specs.Checking.{IsNamed, ArePlaces, IsPlanned, IsMadeOf, spoken}
 use Rattle.rp_check.specs.ClauseFaults.{faults, name_faults, listing_faults, expression_faults, shown_faults}
 use Rattle.rp_check.specs.Context.{naming_of}
@@ -56,7 +58,7 @@ is_query c written columns n l p d named listed planned made = record {
   skip = ap rule_of made.skip ∙ planned.skip;
   conditions = ap (λ v. map condition_formula v.items) made.conditions ∙ planned.conditions;
   definitions = ap (λ v. v.items) made.definitions ∙ rw (← named.variables) listed.definitions;
-  totals = ap (λ v. map plain_total v.items) made.totals ∙ planned.totals;
+  totals = ap (λ v. map plain_total v.value.items) made.totals ∙ planned.totals;
 }
 
 pub allowed_pattern : (c : ClauseTree) (written : List ℕ) (columns : List Column) (n : Named) (l : Places) (p : Planned) (d : QueryData)
@@ -89,3 +91,17 @@ module _ (c : ClauseTree) (columns : List Column) (n : Named) where
       none_in_both (name_faults c) _ none
       (none_in_both (listing_faults (variables_of c.pattern) columns c) _ (rw (← is.variables) listed)
       (none_in_both (expression_faults (measuring c columns) (defining c columns) c) _ (rw (← same_context c columns n false is, ← same_context c columns n true is) planned) shown))
+
+-- what an answer or the first fault says, clause by clause
+module _ {X : Type 0} (fs : List Fault) (P : X → Type 0) where
+  pub none_told : (r : Result X CheckFault) → FirstFaultOr fs P r → IfOk r (λ (x : X). fs ≡ [])
+  none_told (Ok x) told = told.0
+  none_told (Err e) told = tt
+
+  pub right_given : (r : Result X CheckFault) → FirstFaultOr fs P r → IfOk r P
+  right_given (Ok x) told = told.1
+  right_given (Err e) told = tt
+
+  pub first_told : (r : Result X CheckFault) → FirstFaultOr fs P r → IfErr r (λ e. Tells e fs)
+  first_told (Ok x) told = tt
+  first_told (Err e) told = told

@@ -46,7 +46,7 @@ pub record IsPlanned (measuring defining : Context) (c : ClauseTree) (p : Planne
   pub skip : rule_of p.skip ≡ rule_meant measuring c.skip
   pub conditions : map condition_formula p.conditions.items
       ≡ formulas defining (totals_of measuring (terms_of_measures c.measures)) (terms_of_definitions c.definitions)
-  pub totals : map plain_total p.totals.items
+  pub totals : map plain_total p.totals.value.items
       ≡ totals_of measuring (terms_of_measures c.measures) ++ totals_of defining (terms_of_definitions c.definitions)
 
 -- the data is put together of what was found
@@ -64,4 +64,4 @@ pub record IsMadeOf (c : ClauseTree) (written : List ℕ) (columns : List Column
   pub skip : d.plan.skip ≡ p.skip
   pub conditions : d.plan.conditions ≡ p.conditions
   pub definitions : d.plan.definitions ≡ l.definitions
-  pub totals : d.plan.totals.value ≡ p.totals
+  pub totals : d.plan.totals ≡ p.totals

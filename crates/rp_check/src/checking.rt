@@ -1,6 +1,7 @@
 //! A clause is checked, and becomes a query.
 
 ghost use Rattle.std.specs.Prelude.{◌≡◌, [], true, false, IfOk, IfErr};
+ghost use Rattle.rp_query.specs.Sound.{IsSound};
 ghost use Rattle.rp_syntax.specs.Clauses.{clause_tree};
 ghost use Rattle.rp_check.specs.Checked.{FirstFaultOr, Tells};
 ghost use Rattle.rp_check.specs.ClauseFaults.{faults, name_faults, listing_faults, expression_faults, shown_faults, unmatched_faults};
@@ -51,11 +52,13 @@ pub(crate) struct Planned {
     pub(crate) measures: Vec<Expr>,
     pub(crate) conditions: Vec<Condition>,
     pub(crate) skip: SkipTo,
-    pub(crate) totals: Vec<Total>,
+    pub(crate) totals: Rc<Vec<Total>>,
 }
 
-fn name_all(alloc: Global, clause: &Clause) -> Result<Named, CheckFault>
-    ensures { FirstFaultOr (name_faults (clause_tree clause.now)) (IsNamed (clause_tree clause.now)) result }
+/// What the pattern and SUBSET name, or their first fault.
+fn name_all(alloc: Global, clause: &Clause) -> Result<Box<Named>, CheckFault>
+    ensures { FirstFaultOr (name_faults (clause_tree clause.now)) (λ n. IsNamed (clause_tree clause.now) n.value)
+        result }
 {
     let mut variables = Vec::new(alloc);
     let form = read(alloc, &mut variables, &clause.pattern)?;
@@ -69,22 +72,27 @@ fn name_all(alloc: Global, clause: &Clause) -> Result<Named, CheckFault>
     let classes = classes(alloc, variables.as_slice())?;
     let classes = Rc::new(alloc, classes)?;
     let pattern = Pattern::new(form);
-    Ok(Named {
-        pattern,
-        variables,
-        sets,
-        classes,
-    })
+    let named = Box::new(
+        alloc,
+        Named {
+            pattern,
+            variables,
+            sets,
+            classes,
+        },
+    )?;
+    Ok(named)
 }
 
+/// Where the names of PARTITION BY, ORDER BY and DEFINE stand, or their first fault.
 fn list_all(
     alloc: Global,
     variables: &[Text],
     columns: &[Column],
     clause: &Clause,
-) -> Result<Places, CheckFault>
+) -> Result<Box<Places>, CheckFault>
     ensures { FirstFaultOr (listing_faults variables.now columns.now (clause_tree clause.now))
-        (ArePlaces variables.now columns.now (clause_tree clause.now)) result }
+        (λ l. ArePlaces variables.now columns.now (clause_tree clause.now) l.value) result }
 {
     let partition = partition_columns(alloc, columns, clause.partition.as_slice())?;
     let order = order_columns(
@@ -95,24 +103,29 @@ fn list_all(
     )?;
     allow_definitions(variables, clause.definitions.as_slice())?;
     let definitions = definition_places(alloc, variables, clause.definitions.as_slice())?;
-    Ok(Places {
-        partition,
-        order,
-        definitions,
-    })
+    let places = Box::new(
+        alloc,
+        Places {
+            partition,
+            order,
+            definitions,
+        },
+    )?;
+    Ok(places)
 }
 
+/// The expressions of MEASURES and DEFINE and the skip's variable, resolved, or their first fault.
 fn plan_all(
     alloc: Global,
     sets: &[NamedSet],
     columns: &[Column],
     classes: &Rc<Vec<Value>>,
     clause: &Clause,
-) -> Result<Planned, CheckFault>
+) -> Result<Box<Planned>, CheckFault>
     ensures { let measuring = spoken sets.now columns.now classes.now false in
         let defining = spoken sets.now columns.now classes.now true in
         FirstFaultOr (expression_faults measuring defining (clause_tree clause.now))
-        (IsPlanned measuring defining (clause_tree clause.now)) result }
+        (λ p. IsPlanned measuring defining (clause_tree clause.now) p.value) result }
 {
     let measuring = Names {
         sets,
@@ -129,13 +142,18 @@ fn plan_all(
     let mut totals = Vec::new(alloc);
     let measures = measures(alloc, &measuring, &mut totals, clause.measures.as_slice())?;
     let conditions = conditions(alloc, &defining, &mut totals, clause.definitions.as_slice())?;
+    let totals = Rc::new(alloc, totals)?;
     let skip = skip_to(alloc, &measuring, &clause.skip)?;
-    Ok(Planned {
-        measures,
-        conditions,
-        skip,
-        totals,
-    })
+    let planned = Box::new(
+        alloc,
+        Planned {
+            measures,
+            conditions,
+            skip,
+            totals,
+        },
+    )?;
+    Ok(planned)
 }
 
 /// Rows that no match has aren't given beside rows that aren't shown.
@@ -177,20 +195,38 @@ pub fn check(alloc: Global, clause: Clause, table: &Table) -> Result<Query, Chec
     ensures query { IfOk result (λ query. IsQueryOf (clause_tree clause) clause.text table.now (data_of query)) }
     ensures refused { IfErr result (λ fault. Tells fault (faults (clause_tree clause) table.now)) }
 {
-    let columns = table.columns();
-    let named = name_all(alloc, &clause)?;
-    let places = list_all(alloc, named.variables.as_slice(), columns, &clause)?;
-    let planned = plan_all(
-        alloc,
-        named.sets.as_slice(),
-        columns,
-        &named.classes,
-        &clause,
-    )?;
-    allow_output(columns, &clause)?;
-    let data = assembled(alloc, clause, table, named, places, planned)?;
+    query_of(alloc, &clause, table)
+}
+
+/// The same, of a clause that is lent.
+fn query_of(alloc: Global, clause: &Clause, table: &Table) -> Result<Query, CheckFault>
+    ensures { FirstFaultOr (faults (clause_tree clause.now) table.now)
+        (λ query. IsQueryOf (clause_tree clause.now) clause.now.text table.now (data_of query)) result }
+{
+    let data = checked(alloc, clause, table)?;
     let query = Query::new(alloc, data)?;
     Ok(query)
+}
+
+/// The data of the clause's query, or the first of the clause's faults.
+fn checked(alloc: Global, clause: &Clause, table: &Table) -> Result<QueryData, CheckFault>
+    ensures { FirstFaultOr (faults (clause_tree clause.now) table.now)
+        (λ d. IsQueryOf (clause_tree clause.now) clause.now.text table.now d × IsSound d) result }
+{
+    let columns = table.columns();
+    let named = name_all(alloc, clause)?;
+    let known = &*named;
+    let places = list_all(alloc, known.variables.as_slice(), columns, clause)?;
+    let planned = plan_all(
+        alloc,
+        known.sets.as_slice(),
+        columns,
+        &known.classes,
+        clause,
+    )?;
+    allow_output(columns, clause)?;
+    let data = assembled(alloc, clause, table, named, places, planned)?;
+    Ok(data)
 }
 
 /// Which rows a match gives.
@@ -208,13 +244,14 @@ fn rows_shown(rows: RowsPerMatch) -> RowsShown
 /// The data of the query, of what was found.
 fn assembled(
     alloc: Global,
-    clause: Clause,
+    clause: &Clause,
     table: &Table,
-    named: Named,
-    places: Places,
-    planned: Planned,
+    named: Box<Named>,
+    places: Box<Places>,
+    planned: Box<Planned>,
 ) -> Result<QueryData, AllocError>
-    ensures { IfOk result (IsMadeOf (clause_tree clause) clause.text table.now named places planned) }
+    ensures { IfOk result
+        (IsMadeOf (clause_tree clause.now) clause.now.text table.now named.value places.value planned.value) }
 {
     let output = output_names(
         alloc,
@@ -224,19 +261,22 @@ fn assembled(
         clause.measures.as_slice(),
         table.columns(),
     )?;
-    let reach = whole_reach(planned.measures.as_slice(), planned.conditions.as_slice());
+    let text = clause.text.share()?;
     let table = table.share()?;
-    let totals = Rc::new(alloc, planned.totals)?;
+    let named = Box::into_inner(named);
+    let places = Box::into_inner(places);
+    let planned = Box::into_inner(planned);
+    let reach = whole_reach(planned.measures.as_slice(), planned.conditions.as_slice());
     let plan = Plan {
         measures: planned.measures,
         rows: rows_shown(clause.rows),
         skip: planned.skip,
         conditions: planned.conditions,
         definitions: places.definitions,
-        totals,
+        totals: planned.totals,
     };
     Ok(QueryData {
-        text: clause.text,
+        text,
         table,
         pattern: named.pattern,
         output,

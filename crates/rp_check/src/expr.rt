@@ -3,7 +3,7 @@
 ghost use Rattle.std.specs.Prelude.{◌≡◌, true, Some, map, pos, List};
 ghost use Rattle.rp_value.specs.Arithmetic.{fitted};
 ghost use Rattle.rp_syntax.specs.Paths.{path_of};
-ghost use Rattle.rp_syntax.specs.Terms.{Term, Literal, Navigation, Aggregated, MatchNumber, Classifier, Negative, Not, IsNull, Operate, term_of, from_left, from_right, operand_of};
+ghost use Rattle.rp_syntax.specs.Terms.{Term, Number, Literal, Navigation, Aggregated, MatchNumber, Classifier, Negative, Not, IsNull, Operate, term_of, from_left, from_right, operand_of};
 ghost use Rattle.rp_query.specs.Formulas.{PlainTotal, plain_total, value_formula};
 ghost use Rattle.rp_query.specs.Formulas as formula;
 ghost use Rattle.rp_check.specs.Context.{Context, context_of};
@@ -12,7 +12,7 @@ ghost use Rattle.rp_check.specs.Checked.{Checks, Resolves};
 
 use crate::fault::{CheckFault, CheckKind};
 use crate::names::Names;
-use crate::operand::{inverted, negative, null_test, operated};
+use crate::operand::{inverted, negative, null_test, operated, valued};
 use crate::place::{allow_scope, is_final, navigation, require, totalled};
 use crate::resolved::Resolved;
 use rp_query::{Expr, Total};
@@ -30,8 +30,23 @@ fn number_literal(value: u64) -> Expr
     }
 }
 
+/// A number.
+fn number(
+    alloc: Global,
+    names: &Names,
+    totals: &Vec<Total>,
+    at: usize,
+    value: u64,
+) -> Result<Resolved, CheckFault>
+    ensures { Checks (context_of names.now) (map plain_total totals.now.items) (Number at value)
+        result (map plain_total totals.now.items) }
+{
+    Ok(valued(alloc, number_literal(value), Kind::Int)?)
+}
+
 /// A text.
 fn text_literal(
+    alloc: Global,
     names: &Names,
     totals: &Vec<Total>,
     at: usize,
@@ -41,7 +56,7 @@ fn text_literal(
         result (map plain_total totals.now.items) }
 {
     let text = text.share()?;
-    Ok(Resolved::Value(Expr::Literal(Value::Text(text)), Kind::Text))
+    Ok(valued(alloc, Expr::Literal(Value::Text(text)), Kind::Text)?)
 }
 
 /// A column or a navigation.
@@ -55,7 +70,7 @@ fn placed(
         result (map plain_total totals.new.items) }
 {
     let (place, kind) = navigation(alloc, names, totals, path)?;
-    Ok(Resolved::Value(Expr::Navigation(place), kind))
+    Ok(valued(alloc, Expr::Navigation(place), kind)?)
 }
 
 /// The aggregate of this number.
@@ -80,26 +95,36 @@ fn aggregate(
     let number = totals.len();
     let is_final = is_final(written.scope);
     totals.push(total)?;
-    Ok(Resolved::Value(numbered(number, is_final), kind))
+    Ok(valued(alloc, numbered(number, is_final), kind)?)
 }
 
 /// `MATCH_NUMBER()`
-fn match_number(names: &Names, totals: &Vec<Total>, at: usize) -> Result<Resolved, CheckFault>
+fn match_number(
+    alloc: Global,
+    names: &Names,
+    totals: &Vec<Total>,
+    at: usize,
+) -> Result<Resolved, CheckFault>
     ensures { Checks (context_of names.now) (map plain_total totals.now.items) (MatchNumber at)
         result (map plain_total totals.now.items) }
 {
     require(!names.in_define, CheckKind::MeasureOnly, at)?;
-    Ok(Resolved::Value(Expr::MatchNumber, Kind::Int))
+    Ok(valued(alloc, Expr::MatchNumber, Kind::Int)?)
 }
 
 /// `CLASSIFIER()`
-fn classifier(names: &Names, totals: &Vec<Total>, at: usize) -> Result<Resolved, CheckFault>
+fn classifier(
+    alloc: Global,
+    names: &Names,
+    totals: &Vec<Total>,
+    at: usize,
+) -> Result<Resolved, CheckFault>
     ensures { Checks (context_of names.now) (map plain_total totals.now.items) (Classifier at)
         result (map plain_total totals.now.items) }
 {
     require(!names.in_define, CheckKind::MeasureOnly, at)?;
     let classes = names.classes.clone()?;
-    Ok(Resolved::Value(Expr::Classifier(classes), Kind::Text))
+    Ok(valued(alloc, Expr::Classifier(classes), Kind::Text)?)
 }
 
 /// Operands with operators between them, grouped from the right. The nearest on the left stands last.
@@ -131,12 +156,12 @@ pub(crate) fn resolve(
         result (map plain_total totals.new.items) }
 {
     match expr {
-        Written::Number { value, .. } => Ok(Resolved::Value(number_literal(*value), Kind::Int)),
-        Written::Text { at, text } => text_literal(names, totals, *at, text),
+        Written::Number { at, value } => number(alloc, names, totals, *at, *value),
+        Written::Text { at, text } => text_literal(alloc, names, totals, *at, text),
         Written::Navigation(path) => placed(alloc, names, totals, path),
         Written::Aggregate(written) => aggregate(alloc, names, totals, written),
-        Written::MatchNumber(at) => match_number(names, totals, *at),
-        Written::Classifier(at) => classifier(names, totals, *at),
+        Written::MatchNumber(at) => match_number(alloc, names, totals, *at),
+        Written::Classifier(at) => classifier(alloc, names, totals, *at),
         Written::Negative { at, body } => {
             let body = resolve(alloc, names, totals, &**body)?;
             negative(alloc, *at, body)

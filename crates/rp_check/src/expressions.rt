@@ -33,7 +33,7 @@ fn measured(
 {
     let found = resolve(alloc, names, totals, expr)?;
     match value(found) {
-        Some(expr) => Ok(expr),
+        Some(expr) => Ok(Box::into_inner(expr)),
         None => Err(fault(CheckKind::KindMismatch, at)),
     }
 }
@@ -52,7 +52,7 @@ fn defined(
 {
     let found = resolve(alloc, names, totals, expr)?;
     match condition(found) {
-        Some(condition) => Ok(condition),
+        Some(condition) => Ok(Box::into_inner(condition)),
         None => Err(fault(CheckKind::KindMismatch, at)),
     }
 }

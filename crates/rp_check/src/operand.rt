@@ -21,9 +21,9 @@ use rp_value::{Comparison, Kind, Value};
 use std::alloc::{AllocError, Global};
 
 /// The expression of a value.
-pub(crate) fn value(operand: Resolved) -> Option<Expr>
+pub(crate) fn value(operand: Resolved) -> Option<Box<Expr>>
     ensures { MatchOption result (may_be_value (sort_known operand) ≡ false)
-        (λ e. (may_be_value (sort_known operand) ≡ true) × (value_formula e ≡ formula_in operand)) }
+        (λ e. (may_be_value (sort_known operand) ≡ true) × (value_formula e.value ≡ formula_in operand)) }
 {
     match operand {
         Resolved::Value(expr, _) => Some(expr),
@@ -32,9 +32,9 @@ pub(crate) fn value(operand: Resolved) -> Option<Expr>
 }
 
 /// The expression of a whole number.
-fn number(operand: Resolved) -> Option<Expr>
+fn number(operand: Resolved) -> Option<Box<Expr>>
     ensures { MatchOption result (may_be_number (sort_known operand) ≡ false)
-        (λ e. (may_be_number (sort_known operand) ≡ true) × (value_formula e ≡ formula_in operand)) }
+        (λ e. (may_be_number (sort_known operand) ≡ true) × (value_formula e.value ≡ formula_in operand)) }
 {
     match operand {
         Resolved::Value(expr, Kind::Int) => Some(expr),
@@ -44,9 +44,9 @@ fn number(operand: Resolved) -> Option<Expr>
 }
 
 /// The condition, if it is one.
-pub(crate) fn condition(operand: Resolved) -> Option<Condition>
+pub(crate) fn condition(operand: Resolved) -> Option<Box<Condition>>
     ensures { MatchOption result (may_be_condition (sort_known operand) ≡ false)
-        (λ c. (may_be_condition (sort_known operand) ≡ true) × (condition_formula c ≡ formula_in operand)) }
+        (λ c. (may_be_condition (sort_known operand) ≡ true) × (condition_formula c.value ≡ formula_in operand)) }
 {
     match operand {
         Resolved::Value(_, _) => None,
@@ -54,41 +54,58 @@ pub(crate) fn condition(operand: Resolved) -> Option<Condition>
     }
 }
 
-fn calculated(
-    alloc: Global,
-    operation: Operation,
-    left: Expr,
-    right: Expr,
-) -> Result<Expr, AllocError>
-    ensures { IfOk result
-        (λ e. value_formula e ≡ formula.Arithmetic operation (value_formula left) (value_formula right)) }
+/// An expression of this kind.
+pub(crate) fn valued(alloc: Global, expr: Expr, kind: Kind) -> Result<Resolved, AllocError>
+    ensures { IfOk result (Is (Valued kind) (value_formula expr)) }
 {
-    let left = Box::new(alloc, left)?;
-    let right = Box::new(alloc, right)?;
-    Ok(Expr::Arithmetic(operation, left, right))
+    let expr = Box::new(alloc, expr)?;
+    Ok(Resolved::Value(expr, kind))
 }
 
-fn negated(alloc: Global, body: Condition) -> Result<Condition, AllocError>
-    ensures { IfOk result (λ c. condition_formula c ≡ formula.Not (condition_formula body)) }
+/// A condition.
+fn truth(alloc: Global, condition: Condition) -> Result<Resolved, AllocError>
+    ensures { IfOk result (Is Truth (condition_formula condition)) }
 {
-    let body = Box::new(alloc, body)?;
-    Ok(Condition::Not(body))
+    let condition = Box::new(alloc, condition)?;
+    Ok(Resolved::Condition(condition))
 }
 
-fn both(alloc: Global, left: Condition, right: Condition) -> Result<Condition, AllocError>
-    ensures { IfOk result (λ c. condition_formula c ≡ formula.And (condition_formula left) (condition_formula right)) }
+fn calculated(operation: Operation, left: Box<Expr>, right: Box<Expr>) -> Expr
+    ensures { value_formula result
+        ≡ formula.Arithmetic operation (value_formula left.value) (value_formula right.value) }
 {
-    let left = Box::new(alloc, left)?;
-    let right = Box::new(alloc, right)?;
-    Ok(Condition::And(left, right))
+    Expr::Arithmetic(operation, left, right)
 }
 
-fn either(alloc: Global, left: Condition, right: Condition) -> Result<Condition, AllocError>
-    ensures { IfOk result (λ c. condition_formula c ≡ formula.Or (condition_formula left) (condition_formula right)) }
+fn negated(body: Box<Condition>) -> Condition
+    ensures { condition_formula result ≡ formula.Not (condition_formula body.value) }
 {
-    let left = Box::new(alloc, left)?;
-    let right = Box::new(alloc, right)?;
-    Ok(Condition::Or(left, right))
+    Condition::Not(body)
+}
+
+fn both(left: Box<Condition>, right: Box<Condition>) -> Condition
+    ensures { condition_formula result ≡ formula.And (condition_formula left.value) (condition_formula right.value) }
+{
+    Condition::And(left, right)
+}
+
+fn either(left: Box<Condition>, right: Box<Condition>) -> Condition
+    ensures { condition_formula result ≡ formula.Or (condition_formula left.value) (condition_formula right.value) }
+{
+    Condition::Or(left, right)
+}
+
+fn weighed(comparison: Comparison, left: Box<Expr>, right: Box<Expr>) -> Condition
+    ensures { condition_formula result
+        ≡ formula.Compare comparison (value_formula left.value) (value_formula right.value) }
+{
+    Condition::Compare(comparison, Box::into_inner(left), Box::into_inner(right))
+}
+
+fn is_null(body: Box<Expr>) -> Condition
+    ensures { condition_formula result ≡ formula.IsNull (value_formula body.value) }
+{
+    Condition::IsNull(Box::into_inner(body))
 }
 
 /// A calculation with two whole numbers.
@@ -109,7 +126,7 @@ fn arithmetic(
     let Some(right) = number(right) else {
         return Err(fault(CheckKind::KindMismatch, at));
     };
-    Ok(Resolved::Value(calculated(alloc, operation, left, right)?, Kind::Int))
+    Ok(valued(alloc, calculated(operation, left, right), Kind::Int)?)
 }
 
 /// AND of two conditions.
@@ -129,7 +146,7 @@ fn conjunction(
     let Some(right) = condition(right) else {
         return Err(fault(CheckKind::KindMismatch, at));
     };
-    Ok(Resolved::Condition(both(alloc, left, right)?))
+    Ok(truth(alloc, both(left, right))?)
 }
 
 /// OR of two conditions.
@@ -149,7 +166,7 @@ fn disjunction(
     let Some(right) = condition(right) else {
         return Err(fault(CheckKind::KindMismatch, at));
     };
-    Ok(Resolved::Condition(either(alloc, left, right)?))
+    Ok(truth(alloc, either(left, right))?)
 }
 
 fn is_number(operand: &Resolved) -> bool
@@ -181,6 +198,7 @@ fn are_comparable(left: &Resolved, right: &Resolved) -> bool
 
 /// A comparison of two whole numbers or two texts.
 fn compared(
+    alloc: Global,
     at: usize,
     comparison: Comparison,
     left: Resolved,
@@ -197,7 +215,7 @@ fn compared(
     let Some(right) = value(right) else {
         return Err(fault(CheckKind::KindMismatch, at));
     };
-    Ok(Resolved::Condition(Condition::Compare(comparison, left, right)))
+    Ok(truth(alloc, weighed(comparison, left, right))?)
 }
 
 /// An operator between two operands.
@@ -215,12 +233,19 @@ pub(crate) fn operated(
     match operation.operator {
         Operator::Or => disjunction(alloc, operation.at, left, right),
         Operator::And => conjunction(alloc, operation.at, left, right),
-        Operator::Equals => compared(operation.at, Comparison::Equal, left, right),
-        Operator::NotEquals => compared(operation.at, Comparison::NotEqual, left, right),
-        Operator::Less => compared(operation.at, Comparison::Less, left, right),
-        Operator::LessOrEquals => compared(operation.at, Comparison::LessOrEqual, left, right),
-        Operator::Greater => compared(operation.at, Comparison::Greater, left, right),
+        Operator::Equals => compared(alloc, operation.at, Comparison::Equal, left, right),
+        Operator::NotEquals => compared(alloc, operation.at, Comparison::NotEqual, left, right),
+        Operator::Less => compared(alloc, operation.at, Comparison::Less, left, right),
+        Operator::LessOrEquals => compared(
+            alloc,
+            operation.at,
+            Comparison::LessOrEqual,
+            left,
+            right,
+        ),
+        Operator::Greater => compared(alloc, operation.at, Comparison::Greater, left, right),
         Operator::GreaterOrEquals => compared(
+            alloc,
             operation.at,
             Comparison::GreaterOrEqual,
             left,
@@ -241,8 +266,8 @@ pub(crate) fn negative(alloc: Global, at: usize, body: Resolved) -> Result<Resol
     let Some(body) = number(body) else {
         return Err(fault(CheckKind::KindMismatch, at));
     };
-    let zero = Expr::Literal(Value::Int(0));
-    Ok(Resolved::Value(calculated(alloc, Operation::Minus, zero, body)?, Kind::Int))
+    let zero = Box::new(alloc, Expr::Literal(Value::Int(0)))?;
+    Ok(valued(alloc, calculated(Operation::Minus, zero, body), Kind::Int)?)
 }
 
 /// NOT of a condition.
@@ -253,7 +278,7 @@ pub(crate) fn inverted(alloc: Global, at: usize, body: Resolved) -> Result<Resol
     let Some(body) = condition(body) else {
         return Err(fault(CheckKind::KindMismatch, at));
     };
-    Ok(Resolved::Condition(negated(alloc, body)?))
+    Ok(truth(alloc, negated(body))?)
 }
 
 /// IS NULL or IS NOT NULL of a value.
@@ -269,9 +294,9 @@ pub(crate) fn null_test(
     let Some(body) = value(body) else {
         return Err(fault(CheckKind::KindMismatch, at));
     };
-    let test = Condition::IsNull(body);
+    let test = Box::new(alloc, is_null(body))?;
     if negate {
-        return Ok(Resolved::Condition(negated(alloc, test)?));
+        return Ok(truth(alloc, negated(test))?);
     }
     Ok(Resolved::Condition(test))
 }
