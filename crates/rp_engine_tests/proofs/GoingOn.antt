@@ -14,7 +14,6 @@ use Rattle.rp_search.specs.Search.{SearchFitsStays, labels_of_search, start_of_s
 use Rattle.rp_conditions.specs.Tested.{Tested, asked_of}
 use Rattle.rp_conditions.specs.Outlives.{TestsGoOn, over}
 use Rattle.rp_engine_tests.specs.Searched.{StandsOver}
-use Rattle.rp_conditions.proofs.Outliving.{goes_on_from}
 
 goes_on_from : (first first' : ℕ) (p p' : Rows) (e e' : End) → first ≤ first' → GoesOn first p e p' e' → GoesOn first' p e p' e'
 goes_on_from first first' p p' e e' le g = record { later = g.later; same = λ row from known. g.same row (omega arith) known }
