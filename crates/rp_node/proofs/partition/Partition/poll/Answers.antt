@@ -1,0 +1,56 @@
+use Rattle.std.proofs.Common.{subst}
+use Rattle.rp_query.specs.QueryView.{data_of}
+use Rattle.rp_known.specs.Known.{Known}
+use Rattle.rp_walker.specs.Polls.{Answers, GoesAlong, StopsAtLast}
+use Rattle.rp_walker.specs.Walking.{record_of}
+use Rattle.rp_node.specs.Joined.{held_of}
+use Rattle.rp_node.proofs.Rows.{known_alike}
+use Rattle.rp_node.proofs.Feeds.{Feeds}
+use Rattle.rp_node.proofs.Dropping.{still_polled, polled_err, polled_ok}
+use Rattle.rp_node.proofs.partition.Partition.poll.Goals as goal
+
+pub returns-then-budget-eq0-clause-polled : goal.returns-then-budget-eq0-clause-polled
+returns-then-budget-eq0-clause-polled g c = still_polled (data_of c.args.query.now) (held_of c.args.self.now)
+
+pub returns-in_err-answer-clause-polled : goal.returns-in_err-answer-clause-polled
+returns-in_err-answer-clause-polled g c =
+    let q = data_of c.args.query.now in
+    let fed = c.args.self.now.feed in
+    let laws : Feeds = record {
+      added = c.law_rows.ensures.added;
+      dropped = c.law_rows.ensures.dropped;
+      stays = c.law_rows.ensures.stays_taken;
+      ordered = c.law_rows.ensures.ordered_after_row;
+      kept = c.law_rows.ensures.ordered_after_drop;
+      one = c.law_front.ensures.one;
+      grows = c.law_front.ensures.grows;
+      front_stays = c.law_front.ensures.stays;
+    } in
+    let known = known_alike c.new-rows.result.feed.now fed c.new-rows.result.end c.new-rows.ensures.feed c.new-rows.ensures.end in
+    polled_err laws q fed (record_of c.args.self.now.walker) (record_of c.poll.new.self) (λ whole. c.law_schedules.ensures.fits q whole c.plan-plan.ensures.sound) c.poll.ensures.first
+    c.from_residual.result c.from_residual.ensures.0
+    (subst (λ (k : Known). GoesAlong q k (record_of c.args.self.now.walker) (record_of c.poll.new.self)) known c.poll.ensures.moves)
+    c.in_err-answer.ensures.out_of_memory.given
+
+pub returns-clause-polled : goal.returns-clause-polled
+returns-clause-polled g c =
+    let q = data_of c.args.query.now in
+    let fed = c.args.self.now.feed in
+    let laws : Feeds = record {
+      added = c.law_rows.ensures.added;
+      dropped = c.law_rows.ensures.dropped;
+      stays = c.law_rows.ensures.stays_taken;
+      ordered = c.law_rows.ensures.ordered_after_row;
+      kept = c.law_rows.ensures.ordered_after_drop;
+      one = c.law_front.ensures.one;
+      grows = c.law_front.ensures.grows;
+      front_stays = c.law_front.ensures.stays;
+    } in
+    let known = known_alike c.new-rows.result.feed.now fed c.new-rows.result.end c.new-rows.ensures.feed c.new-rows.ensures.end in
+    polled_ok laws q fed (record_of c.args.self.now.walker) (record_of c.poll.new.self) (λ whole. c.law_schedules.ensures.fits q whole c.plan-plan.ensures.sound) c.poll.ensures.first
+    c.in_ok-answer.answer (held_of c.drop_rows.new.self)
+    (subst (λ (k : Known). GoesAlong q k (record_of c.args.self.now.walker) (record_of c.poll.new.self)) known c.poll.ensures.moves)
+    (subst (λ (k : Known). Answers q k (record_of c.args.self.now.walker) (record_of c.poll.new.self) c.in_ok-answer.answer) known c.in_ok-answer.ensures.answers)
+    c.in_ok-answer.ensures.given
+    (subst (λ (k : Known). StopsAtLast q k (record_of c.args.self.now.walker) (record_of c.poll.new.self) c.in_ok-answer.answer) known c.in_ok-answer.ensures.stops)
+    c.drop_rows.ensures.state c.drop_rows.ensures.taken c.drop_rows.ensures.closed c.drop_rows.ensures.fits

@@ -1,0 +1,80 @@
+-- What the inner calls for a packet do to a node's map.
+use Rattle.std.specs.Prelude.{◌≡◌, ◌≢◌, ◌≤◌, ℕ, List, Result, Ok, Some, OnOk, OnErr, IfOk, slice_get}
+use Rattle.std.specs.Map.{values_of}
+use Rattle.std.specs.declared.vec.Vec.{Vec}
+use Rattle.std.specs.declared.alloc.Global.{Global}
+use Rattle.std.specs.declared.alloc.AllocError.{AllocError}
+use Rattle.indexmap.specs.IndexMap.{insert_entry, set_value_at}
+use Rattle.rp_value.specs.declared.value.Value.{Value}
+use Rattle.rp_query.specs.declared.query.QueryData.{QueryData}
+use Rattle.rp_feed.specs.declared.answer.Taken.TheVariants.{New}
+use Rattle.rp_feed.specs.Fed.{fed_from}
+use Rattle.rp_feed.specs.Answers.{Answer, after, memory_aside}
+use Rattle.rp_feed.specs.declared.packet.Packet.{Packet}
+use Rattle.rp_walker.specs.declared.poll.Poll.{Poll}
+use Rattle.rp_walker.specs.declared.poll.Poll.TheVariants.{Paused as PausedPoll}
+use Rattle.rp_walker.specs.Polls.{entered_by, PollLowers, PollTakes, TurnsAreCounted}
+use Rattle.rp_schedules.specs.Records.{fresh, with_fed, or_fresh}
+use Rattle.rp_node.specs.declared.partition.Partition.{Partition}
+use Rattle.rp_node.specs.Joined.{Joined, held_of, work_of}
+use Rattle.rp_node.specs.NodeSeen.{Map, AllJoined, entries_by, same_key, entry_at, with_entry, or_no_work}
+use Rattle.rp_node.specs.Accepting.{feed_answer, fed_with}
+use Rattle.rp_node.specs.Polling.{HoldsNoMore, PolledTo}
+
+-- a partition takes a packet
+pub record TakenBy (q : QueryData) (packet : Packet) (before later : Partition) (result : Answer) : Type 0 where
+  pub joined : Joined q later
+  pub answer : memory_aside result ≡ feed_answer before.feed packet
+  pub feed : later.feed ≡ after result (fed_with packet before.feed) before.feed
+  pub walker : later.walker ≡ before.walker
+
+-- the partition at a place takes it
+pub record TakenAt (q : QueryData) (packet : Packet) (es : Map) (place : ℕ) (new : Map) (result : Answer) : Type 0 where
+  pub before : Partition
+  pub later : Partition
+  pub there : slice_get (values_of es) place ≡ Some before
+  pub now : new ≡ set_value_at es place later
+  pub taken : TakenBy q packet before later result
+
+-- a partition that has taken it alone is added
+pub record IsAdded (q : QueryData) (packet : Packet) (es : Map) (key : Vec Value Global) (new : Map) (result : Answer) : Type 0 where
+  pub is : result ≡ Ok New
+  pub later : Partition
+  pub joined : Joined q later
+  pub held : held_of later ≡ with_fed fresh (fed_with packet fresh.feed)
+  pub entered : entered_by later.walker ≡ 0
+  pub now : new ≡ insert_entry (λ j k. same_key j.items k.items) es key later
+
+pub record AddedAs (q : QueryData) (packet : Packet) (es : Map) (key : Vec Value Global) (new : Map) (result : Answer) : Type 0 where
+  pub answer : memory_aside result ≡ feed_answer (fed_from 1) packet
+  pub added : OnOk result (IsAdded q packet es key new result)
+  pub refused : OnErr result (new ≡ es)
+
+-- what a poll of the partition at a place comes to
+pub record PolledPlace (q : QueryData) (es : Map) (place : ℕ) (new : Map) (budget steps steps' : ℕ) (result : Result Poll AllocError) : Type 0 where
+  pub before : Partition
+  pub later : Partition
+  pub there : slice_get (values_of es) place ≡ Some before
+  pub now : new ≡ set_value_at es place later
+  pub joined : Joined q later
+  pub polled : PolledTo q (held_of before) (held_of later) result
+  pub lowers : IfOk result (PollLowers budget (work_of q before).left (work_of q later).left)
+  pub turns : TurnsAreCounted budget steps steps' (work_of q before).entered (work_of q later).entered
+  pub takes : IfOk result (PollTakes budget steps steps')
+  pub held : OnOk result (1 ≤ budget → HoldsNoMore q (held_of later))
+  pub none : budget ≡ 0 → (result ≡ Ok PausedPoll) × (later ≡ before) × (steps' ≡ steps)
+
+-- the key's record has taken it
+pub record MapTaken (q : QueryData) (packet : Packet) (key : List Value) (es new : Map) : Type 0 where
+  pub records : entries_by held_of new
+      ≡ with_entry key (with_fed (or_fresh (entry_at (entries_by held_of es) key)) (fed_with packet (or_fresh (entry_at (entries_by held_of es) key)).feed)) (entries_by held_of es)
+  pub left : ℕ
+  pub work : entries_by (work_of q) new
+      ≡ with_entry key (record { left = left; entered = (or_no_work (entry_at (entries_by (work_of q) es) key)).entered }) (entries_by (work_of q) es)
+
+-- the partition of a key takes it
+pub record MapTakes (q : QueryData) (packet : Packet) (key : List Value) (es new : Map) (result : Answer) : Type 0 where
+  pub answer : memory_aside result ≡ feed_answer (or_fresh (entry_at (entries_by held_of es) key)).feed packet
+  pub joined : AllJoined q new
+  pub taken : result ≡ Ok New → MapTaken q packet key es new
+  pub unchanged : result ≢ Ok New → new ≡ es

@@ -1,0 +1,30 @@
+//! A node: it takes the rows of many partitions in any order, and gives the items of each partition's answer as early as
+//! they are certain.
+//!
+//! ```text
+//! let mut node = Node::new(alloc, query);
+//! node.accept(packet)?;                         // Taken::New, Repeat or Old, or why it is refused
+//! match node.poll(key, 1_000, &mut steps)? {
+//!     Poll::Item(place, item) => .., // the next item of this partition's answer
+//!     Poll::Paused => ..,            // the budget is used up: poll again
+//!     Poll::Idle => ..,              // nothing more is certain until a packet comes
+//! }
+//! let bytes = node.save()?;                     // Node::restart(alloc, query, &bytes) goes on from here
+//! ```
+//!
+//! What contracts see of a node is `specs/NodeSeen`; what packets do `specs/Accepting`, and polls `specs/Polling`.
+#![tactic(auto)]
+
+mod fault;
+mod keys;
+mod node;
+mod partition;
+mod part_rows;
+mod restart;
+mod resume;
+mod save;
+
+pub use fault::{NodeFault, RestartFault, RestartRefused};
+pub use node::Node;
+pub use rp_feed::{Packet, Taken};
+pub use rp_walker::Poll;

@@ -1,0 +1,320 @@
+//! Partitions by key.
+ghost use Rattle.std.specs.Prelude.{◌≡◌, ◌≢◌, ◌⊎◌, ◌<◌, ◌≤◌, [], Ok, Err, Some, IfErr, IfOk, OnOk, slice_get};
+ghost use Rattle.indexmap.specs.IndexMap.{index_map_len, values};
+ghost use Rattle.rp_query.specs.QueryView.{data_of};
+ghost use Rattle.rp_feed.specs.declared.answer.Taken.TheVariants.{New};
+ghost use Rattle.rp_feed.specs.declared.packet.Packet.TheVariants.{Row as RowPacket, Close as ClosePacket};
+ghost use Rattle.rp_walker.specs.Polls.{PollLowers, PollTakes, TurnsAreCounted};
+ghost use Rattle.rp_node.specs.declared.partition.Partition.{Partition as ThePartition};
+ghost use Rattle.rp_node.specs.Joined.{Joined};
+ghost use Rattle.rp_node.specs.NodeSeen.{AllBounded, AllJoined, work_at};
+ghost use Rattle.rp_node.specs.Accepting.{Accepted, packet_answer};
+ghost use Rattle.rp_node.specs.Polling.{HoldsNoMoreAt, NodePolls};
+ghost use Rattle.rp_checkpoint.specs.Checkpoints.{checkpoint, restored};
+ghost use Rattle.rp_node.specs.Keeping.{kept_of};
+ghost use Rattle.rp_node.specs.Restarting.{IsRefused, RestartsTo};
+ghost use Rattle.rp_node.specs.Taking.{AddedAs, MapTakes, PolledPlace, TakenAt};
+
+use crate::fault::{NodeFault, RestartRefused, told, told_poll};
+use crate::keys::{key_fault, key_of, row_fault};
+use crate::partition::Partition;
+use crate::restart::restored;
+use crate::save::kept;
+use indexmap::IndexMap;
+use rp_query::Query;
+use rp_checkpoint::checkpoint_of;
+use rp_feed::Packet;
+use rp_feed::{FeedFault, Taken};
+use rp_search::Steps;
+use rp_value::{Cells, Row, Value};
+use rp_walker::Poll;
+use std::alloc::{AllocError, Global};
+use std::marker::Model;
+use std::sync::ledger::Ledger;
+
+/// A node of one query: what was taken of each partition, and where the walk over its rows stands.
+///
+/// Contracts see it as its query and a record of each key, and beside it the turns that are left (`NodeSeen`).
+#[derive(Drop)]
+pub struct Node {
+    alloc: Global,
+    query: Query,
+    partitions: IndexMap<Vec<Value>, Partition>,
+}
+
+impl Model for Node {
+    ghost use Rattle.rp_query.specs.QueryView.{data_of};
+    ghost use Rattle.rp_node.specs.NodeSeen.{AllJoined, NodeSeen, node_by, node_code};
+
+    ghost Value = { NodeSeen };
+
+    ghost coded = { node_code };
+
+    ghost view = { λ n. node_by (data_of n.query) n.partitions.entries };
+
+    ghost invariant = { λ n. AllJoined (data_of n.query) n.partitions.entries };
+}
+
+impl Node {
+    /// A node of which nothing was taken.
+    pub fn new(alloc: Global, query: Query) -> Node
+        ensures query { result.query ≡ data_of query }
+        ensures none { result.records ≡ [] }
+        ensures no_work { result.work ≡ [] }
+    {
+        Node {
+            alloc,
+            query,
+            partitions: IndexMap::new(alloc),
+        }
+    }
+
+    /// What is kept of the node, as bytes that a node of the same query goes on from.
+    pub fn save(&self) -> Result<Vec<u8>, AllocError>
+        ensures bytes { IfOk result (λ bytes. bytes.items ≡ checkpoint (kept_of self.now)) }
+        ensures back { IfOk result (λ bytes. restored bytes.items ≡ Ok (kept_of self.now)) }
+    {
+        let kept = kept(self.alloc, &self.query, &self.partitions)?;
+        checkpoint_of(self.alloc, &kept)
+    }
+
+    /// A node that goes on from what an earlier one saved. Where it is refused, the query comes back: for the bytes' fault,
+    /// then `ClauseDiffers`, then `BadState`; want of memory may come before.
+    pub fn restart(alloc: Global, query: Query, bytes: &[u8]) -> Result<Node, RestartRefused>
+        ensures query { IfOk result (λ node. node.query ≡ data_of query) }
+        ensures restarts { IfOk result (λ node. RestartsTo (data_of query) bytes.now node.records) }
+        ensures bounded { IfOk result AllBounded }
+        ensures refused { IfErr result (λ refused. IsRefused (data_of query) bytes.now refused.fault) }
+        ensures returned { IfErr result (λ refused. refused.query ≡ query) }
+    {
+        rp_walker::law_left();
+        match restored(alloc, &query, bytes) {
+            Ok(partitions) => Ok(Node {
+                alloc,
+                query,
+                partitions,
+            }),
+            Err(fault) => Err(RestartRefused { query, fault }),
+        }
+    }
+
+    /// The query, as it was given.
+    pub fn into_query(self) -> Query
+        ensures { data_of result ≡ self.query }
+    {
+        self.query
+    }
+
+    /// Takes a row or a close. `BadRow` comes first, then the feed's order; want of memory may come before either. What
+    /// isn't `New` changes nothing.
+    pub fn accept(&mut self, packet: Packet) -> Result<Taken, NodeFault>
+        ensures answer { (result ≡ Err NodeFault.OutOfMemory) ⊎ (result ≡ packet_answer self.old packet) }
+        ensures taken { result ≡ Ok New → Accepted self.old packet self.new }
+        ensures unchanged { result ≢ Ok New → self.new ≡ self.old }
+        ensures bounded { AllBounded self.new }
+    {
+        match packet {
+            Packet::Row { number, cells } => self.accept_row(number, cells),
+            Packet::Close { key, count } => self.accept_close(key, count),
+        }
+    }
+
+    fn accept_row(&mut self, number: u64, row: Row) -> Result<Taken, NodeFault>
+        ensures answer { (result ≡ Err NodeFault.OutOfMemory) ⊎ (result ≡ packet_answer self.old (RowPacket number row)) }
+        ensures taken { result ≡ Ok New → Accepted self.old (RowPacket number row) self.new }
+        ensures unchanged { result ≢ Ok New → self.new ≡ self.old }
+        ensures bounded { AllBounded self.new }
+    {
+        rp_walker::law_left();
+        if let Some(fault) = row_fault(self.query.table().columns(), row.cells()) {
+            return Err(NodeFault::BadRow(fault));
+        }
+        let key = key_of(self.alloc, &self.query, &row)?;
+        let answer = take_row(
+            self.alloc,
+            &self.query,
+            &mut self.partitions,
+            key,
+            number,
+            row,
+        );
+        told(answer)
+    }
+
+    fn accept_close(&mut self, key: Cells, count: u64) -> Result<Taken, NodeFault>
+        ensures answer { (result ≡ Err NodeFault.OutOfMemory) ⊎ (result ≡ packet_answer self.old (ClosePacket key count)) }
+        ensures taken { result ≡ Ok New → Accepted self.old (ClosePacket key count) self.new }
+        ensures unchanged { result ≢ Ok New → self.new ≡ self.old }
+        ensures bounded { AllBounded self.new }
+    {
+        rp_walker::law_left();
+        if let Some(fault) = key_fault(&self.query, key.as_slice()) {
+            return Err(NodeFault::BadRow(fault));
+        }
+        let answer = take_close(
+            self.alloc,
+            &self.query,
+            &mut self.partitions,
+            key.into_vec(),
+            count,
+        );
+        told(answer)
+    }
+
+    /// Polls the partition of a key: takes at most `budget` turns, until an item comes or nothing is left to give. A
+    /// budget of 0 answers `Paused` where the key is known, and changes nothing. After `OutOfMemory` the same item is
+    /// still to come.
+    pub fn poll<L: Ledger>(
+        &mut self,
+        key: &[Value],
+        budget: u32,
+        steps: &mut Steps<L>,
+    ) -> Result<Poll, NodeFault>
+        ensures query { self.new.query ≡ self.old.query }
+        ensures polls { NodePolls self.old self.new key.now result }
+        ensures lowers { IfOk result (PollLowers budget (work_at self.old key.now).left (work_at self.new key.now).left) }
+        ensures bounded { AllBounded self.new }
+        ensures turns { TurnsAreCounted budget steps.old steps.new
+            (work_at self.old key.now).entered (work_at self.new key.now).entered }
+        ensures takes { IfOk result (PollTakes budget steps.old steps.new) }
+        ensures held { OnOk result (1 ≤ budget → HoldsNoMoreAt self.new key.now) }
+        ensures paused { budget ≡ 0 → (result ≡ Ok Poll.Paused) ⊎ (result ≡ Err NodeFault.UnknownPartition) }
+        ensures nothing { budget ≡ 0 → (self.new ≡ self.old) × (steps.new ≡ steps.old) }
+    {
+        rp_walker::law_left();
+        rp_feed::law_same_rows();
+        match self.partitions.get_index_of(key) {
+            None => Err(NodeFault::UnknownPartition),
+            Some(place) => {
+                let answer = poll_at(&self.query, &mut self.partitions, place, budget, steps);
+                told_poll(answer)
+            }
+        }
+    }
+}
+
+/// Takes a row of the partition of that key, which is new where nothing of it was taken.
+fn take_row(
+    alloc: Global,
+    query: &Query,
+    partitions: &mut IndexMap<Vec<Value>, Partition>,
+    key: Vec<Value>,
+    number: u64,
+    row: Row,
+) -> Result<Taken, FeedFault>
+    requires joined { AllJoined (data_of query.now) partitions.old.entries }
+    ensures takes { MapTakes (data_of query.now) (RowPacket number row) key.items partitions.old.entries partitions.new.entries result }
+{
+    match partitions.get_index_of(key.as_slice()) {
+        Some(place) => take_row_at(query, partitions, place, number, row),
+        None => add_row(alloc, query, partitions, key, number, row),
+    }
+}
+
+/// Takes a row of the partition at a place.
+fn take_row_at(
+    query: &Query,
+    partitions: &mut IndexMap<Vec<Value>, Partition>,
+    place: usize,
+    number: u64,
+    row: Row,
+) -> Result<Taken, FeedFault>
+    requires within { place < index_map_len partitions.old }
+    requires joined { (p : ThePartition) → slice_get (values partitions.old) place ≡ Some p → Joined (data_of query.now) p }
+    ensures takes { TakenAt (data_of query.now) (RowPacket number row) partitions.old.entries place partitions.new.entries result }
+{
+    match partitions.get_index_mut(place) {
+        Some(partition) => partition.take(query, number, row),
+        None => Err(FeedFault::OutOfMemory),
+    }
+}
+
+/// Takes the first row of a partition, and adds the partition where it is accepted.
+fn add_row(
+    alloc: Global,
+    query: &Query,
+    partitions: &mut IndexMap<Vec<Value>, Partition>,
+    key: Vec<Value>,
+    number: u64,
+    row: Row,
+) -> Result<Taken, FeedFault>
+    ensures added { AddedAs (data_of query.now) (RowPacket number row) partitions.old.entries key partitions.new.entries result }
+{
+    let mut partition = Partition::new(alloc);
+    let taken = partition.take(query, number, row)?;
+    match partitions.insert(key, partition) {
+        Ok(_) => Ok(taken),
+        Err(_) => Err(FeedFault::OutOfMemory),
+    }
+}
+
+/// Takes the close of the partition of that key, which is new where nothing of it was taken.
+fn take_close(
+    alloc: Global,
+    query: &Query,
+    partitions: &mut IndexMap<Vec<Value>, Partition>,
+    key: Vec<Value>,
+    count: u64,
+) -> Result<Taken, FeedFault>
+    requires joined { AllJoined (data_of query.now) partitions.old.entries }
+    ensures takes { MapTakes (data_of query.now) (ClosePacket key.items count) key.items partitions.old.entries partitions.new.entries result }
+{
+    match partitions.get_index_of(key.as_slice()) {
+        Some(place) => take_close_at(query, partitions, place, key, count),
+        None => add_close(alloc, query, partitions, key, count),
+    }
+}
+
+/// Takes the close of the partition at a place.
+fn take_close_at(
+    query: &Query,
+    partitions: &mut IndexMap<Vec<Value>, Partition>,
+    place: usize,
+    key: Vec<Value>,
+    count: u64,
+) -> Result<Taken, FeedFault>
+    requires within { place < index_map_len partitions.old }
+    requires joined { (p : ThePartition) → slice_get (values partitions.old) place ≡ Some p → Joined (data_of query.now) p }
+    ensures takes { TakenAt (data_of query.now) (ClosePacket key.items count) partitions.old.entries place partitions.new.entries result }
+{
+    match partitions.get_index_mut(place) {
+        Some(partition) => partition.close(query, key.as_slice(), count),
+        None => Err(FeedFault::OutOfMemory),
+    }
+}
+
+/// Adds a partition of which the close alone is taken.
+fn add_close(
+    alloc: Global,
+    query: &Query,
+    partitions: &mut IndexMap<Vec<Value>, Partition>,
+    key: Vec<Value>,
+    count: u64,
+) -> Result<Taken, FeedFault>
+    ensures added { AddedAs (data_of query.now) (ClosePacket key.items count) partitions.old.entries key partitions.new.entries result }
+{
+    let mut partition = Partition::new(alloc);
+    let taken = partition.close(query, key.as_slice(), count)?;
+    match partitions.insert(key, partition) {
+        Ok(_) => Ok(taken),
+        Err(_) => Err(FeedFault::OutOfMemory),
+    }
+}
+
+/// Polls the partition at a place.
+fn poll_at<L: Ledger>(
+    query: &Query,
+    partitions: &mut IndexMap<Vec<Value>, Partition>,
+    place: usize,
+    budget: u32,
+    steps: &mut Steps<L>,
+) -> Result<Poll, AllocError>
+    requires within { place < index_map_len partitions.old }
+    requires joined { (p : ThePartition) → slice_get (values partitions.old) place ≡ Some p → Joined (data_of query.now) p }
+    ensures polled { PolledPlace (data_of query.now) partitions.old.entries place partitions.new.entries budget steps.old steps.new result }
+{
+    match partitions.get_index_mut(place) {
+        Some(partition) => partition.poll(query, budget, steps),
+        None => Err(AllocError),
+    }
+}
