@@ -1,12 +1,12 @@
 -- What a feed of these places answers, and what it becomes.
-use Rattle.std.proofs.Common.{◌≡◌, ◌≢◌, ℕ, ◌+◌, ◌-◌, ◌<◌, ◌≤◌, max, List, length, get_or, drop, Bool, true, false, cond, ◌||◌, Option, Some, None, Ok, Err, refl, sym, ap, ◌∙◌, subst, arith, eqb, length-drop}
+use Rattle.std.proofs.Common.{◌≡◌, ◌≢◌, ℕ, ◌+◌, ◌-◌, ◌<◌, ◌≤◌, max, List, [], ◌∷◌, length, get_or, drop, Bool, true, false, cond, ◌||◌, Option, Some, None, Ok, Err, refl, sym, ap, ◌∙◌, subst, arith, eqb, length-drop}
 use Rattle.std.specs.Prelude.{nat_le, nat_lt, count_by}
 use Rattle.std.proofs.lemmas.Bool.Decides.{nat_tests}
 use Rattle.rp_value.specs.declared.value.Value.{Value}
 use Rattle.rp_feed.specs.declared.answer.Taken.TheVariants.{New, Repeat, Old}
 use Rattle.rp_feed.specs.declared.answer.FeedFault.TheVariants.{NumberRange, PastClose, Conflict, TooFar, CloseDiffers, CloseBelow}
 use Rattle.rp_feed.specs.Limits.{greatest_number, most_beyond}
-use Rattle.rp_feed.specs.Fed.{Fed, IsFeed, IsFront, IsOrdered, row_at, with_row, front_of, rows_from}
+use Rattle.rp_feed.specs.Fed.{Fed, AreUpTo, CountsAll, IsFeed, IsFront, IsOrdered, row_at, with_row, front_of, rows_from}
 use Rattle.rp_feed.specs.Slots.{Slots, held_from, leading, put_at}
 use Rattle.rp_feed.specs.Consistent.{IsConsistent, EndsBy}
 use Rattle.rp_feed.specs.Answers.{Answer, IsDue, IsDueClose, is_past, held_answer, compared, memory_aside, row_answer, closed_answer, has_above, close_answer}
@@ -30,6 +30,11 @@ answer_within same fed n row nonzero small unpast kept =
     let d : nat_lt n fed.first ≡ false = grind (arith, nat_tests) in
     rw (a, b, unpast, d) refl
 
+up_to-held : (k n : ℕ) (xs : Slots) → n + length xs ≤ k + 1 → AreUpTo k (held_from n xs)
+up_to-held k n [] h = tt
+up_to-held k n (None ∷ xs) h = up_to-held k (n + 1) xs (omega (arith, h))
+up_to-held k n (Some row ∷ xs) h = let l : n ≤ k = omega (arith, h) in (l, up_to-held k (n + 1) xs (omega (arith, h)))
+
 module _ (first ready : ℕ) (slots : Slots) (closed : Option ℕ) (room : IsConsistent first ready slots closed) where
   pub front-is : first - 1 + ready ≡ front_of (fed_of first slots closed)
   front-is = let e = first_missing-held first slots in let l = room.least in let r = room.run in omega arith
@@ -51,7 +56,20 @@ module _ (first ready : ℕ) (slots : Slots) (closed : Option ℕ) (room : IsCon
     ordered = ordered;
     limit = (let f = front-is in let w = run_fits in let g = room.greatest in let l = room.least in omega arith);
     few = subst (λ z. count_by (λ e. nat_lt z e.0) (held_from first slots) ≤ most_beyond) front-is few;
+    near = up_to-held (front_of (fed_of first slots closed) + most_beyond) first slots (let f = front-is in let n = room.near in let l = room.least in omega (arith, f, n, l));
+    range = up_to-held greatest_number first slots (let g = room.greatest in omega (arith, g));
+    ended = counts closed room.within;
   }
+    where
+      counts : (c : Option ℕ) → EndsBy (first + length slots) c → CountsAll c (front_of (fed_of first slots closed)) (held_from first slots)
+      counts None h = tt
+      counts (Some count) h =
+          let f = front-is in
+          let w = run_fits in
+          let l = room.least in
+          let e = h.0 in
+          let reached : front_of (fed_of first slots closed) ≤ count = omega (arith, f, w, l, e) in
+          (h.1, reached, up_to-held count first slots e)
 
   pub is_front : (n : ℕ) → n ≡ first - 1 + ready → IsFront (fed_of first slots closed) n
   is_front n h = subst (λ z. IsFront (fed_of first slots closed) z) (sym (h ∙ front-is)) (front_runs (fed_of first slots closed) ordered)

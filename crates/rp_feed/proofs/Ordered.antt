@@ -21,7 +21,7 @@ row_at-below : (n k : ℕ) (rows : List Numbered) → AscendFrom n rows → k < 
 row_at-below n k [] h l = refl
 row_at-below n k ((m, row) ∷ rows) h l = let i = h.0 in unequal m k (Some row) (row_at rows k) (omega arith) ∙ row_at-below (m + 1) k rows h.1 (omega arith)
 
-missing_least : (n : ℕ) (rows : List Numbered) → n ≤ first_missing n rows
+pub missing_least : (n : ℕ) (rows : List Numbered) → n ≤ first_missing n rows
 missing_least n [] = omega arith
 missing_least n ((m, row) ∷ rows) = go (eqb m n) (missing_least (n + 1) rows)
   where

@@ -87,9 +87,22 @@ pub record IsReached (fed : Fed) (before : ℕ) : Type 0 where
 abbrev pub beyond : Fed → ℕ
 beyond fed = count_by (λ e. nat_lt (front_of fed) e.0) fed.rows
 
--- What is true of every feed: numbers ascend, the front is at most the greatest number, and no more rows beyond it are held
--- than may be.
+-- no number is above this one
+abbrev pub AreUpTo : ℕ → List Numbered → Type 0
+AreUpTo n [] = ⊤
+AreUpTo n ((m, row) ∷ rows) = (m ≤ n) × AreUpTo n rows
+
+-- the close, if it was taken, counts all that was taken: neither the front nor a number is above its count, which is in range
+abbrev pub CountsAll : Option ℕ → ℕ → List Numbered → Type 0
+CountsAll None front rows = ⊤
+CountsAll (Some count) front rows = (count ≤ greatest_number) × (front ≤ count) × AreUpTo count rows
+
+-- What is true of every feed: numbers ascend, the front is at most the greatest number, no more rows beyond it are held than may
+-- be, none is too far above it or too great, and the close counts all.
 pub record IsFeed (fed : Fed) : Type 0 where
   pub ordered : IsOrdered fed
   pub limit : front_of fed ≤ greatest_number
   pub few : beyond fed ≤ most_beyond
+  pub near : AreUpTo (front_of fed + most_beyond) fed.rows
+  pub range : AreUpTo greatest_number fed.rows
+  pub ended : CountsAll fed.closed (front_of fed) fed.rows

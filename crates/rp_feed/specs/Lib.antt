@@ -3,6 +3,7 @@ pub mod Limits
 pub mod Fed
 pub mod Answers
 pub mod FedLaws
+pub mod Again
 -- The inside of a feed: its places and what is true of its fields.
 pub mod Slots
 pub mod Consistent

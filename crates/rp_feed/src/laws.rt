@@ -4,6 +4,7 @@ ghost use Rattle.rp_value.specs.declared.value.Value.{Value as Cell};
 ghost use Rattle.rp_feed.specs.Answers.{NewRowsAreDue, NewClosesAreDue};
 ghost use Rattle.rp_feed.specs.FedLaws.{RowIsAdded, RowsAreDropped, TakenIsAdded, TakenStays, OrderStays, OrderIsKept};
 ghost use Rattle.rp_feed.specs.FedLaws.{FrontIsOne, FrontGrows, FrontStays};
+ghost use Rattle.rp_feed.specs.Again.{FeedsAreTakenAgain, AgainIsTheSame};
 
 use rp_value::Row;
 
@@ -31,6 +32,13 @@ pub fn law_front()
 pub fn law_new()
     ensures row { NewRowsAreDue }
     ensures close { NewClosesAreDue }
+{}
+
+/// The law of what is taken again, as after a restart: a feed that has dropped the same rows takes all rows of another, and
+/// then its close, each as New, and holds the same; and one that takes rows in order and a close as New holds just these.
+pub fn law_again()
+    ensures again { FeedsAreTakenAgain }
+    ensures same { AgainIsTheSame }
 {}
 
 /// The law that rows are the same, as `take` compares them, exactly where their cells are equal.

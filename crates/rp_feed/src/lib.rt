@@ -20,5 +20,5 @@ mod slots;
 
 pub use answer::{FeedFault, MAX_BEYOND, MAX_NUMBER, Taken};
 pub use feed::Feed;
-pub use laws::{law_front, law_new, law_rows, law_same_rows};
+pub use laws::{law_again, law_front, law_new, law_rows, law_same_rows};
 pub use packet::Packet;

@@ -9,7 +9,8 @@ use Rattle.std.specs.declared.vec.Vec.{Vec}
 use Rattle.std.specs.declared.alloc.Global.{Global}
 use Rattle.rp_value.specs.declared.value.Value.{Value}
 use Rattle.rp_input.specs.Gathering.{parts_of, with_row}
-use Rattle.rp_input.specs.Partitions.{Part, key_of, partitions, rows_of_key, same_key}
+use Rattle.rp_query.specs.Keys.{values_in}
+use Rattle.rp_input.specs.Partitions.{Part, partitions, rows_of_key, same_key}
 
 abbrev Entry : Type 0
 Entry = List Value × Vec (List Value) Global
@@ -85,10 +86,10 @@ module _ (laws : IsEquivalence same_key) where
       rw back (ap₂ (λ a b. (k, first ∷ a) ∷ b) (gains ∙ append-nil mine) rest)
 
   -- the partitions of one row more
-  pub partitions_more : (columns : List ℕ) (rows : List (List Value)) (row : List Value) → partitions columns (rows ++ row ∷ []) ≡ with_row (partitions columns rows) (key_of columns row) row
+  pub partitions_more : (columns : List ℕ) (rows : List (List Value)) (row : List Value) → partitions columns (rows ++ row ∷ []) ≡ with_row (partitions columns rows) (values_in columns row) row
   partitions_more columns [] row = refl
   partitions_more columns (first ∷ rows) row =
-      let k = key_of columns first in
-      let key = key_of columns row in
+      let k = values_in columns first in
+      let key = values_in columns row in
       one_more k key first row (rows_of_key columns k rows) (rows_of_key columns k (rows ++ row ∷ [])) (partitions columns rows) (partitions columns (rows ++ row ∷ [])) (same_key k key) refl
-      (filter-append (λ r. same_key k (key_of columns r)) rows (row ∷ [])) (partitions_more columns rows row)
+      (filter-append (λ r. same_key k (values_in columns r)) rows (row ∷ [])) (partitions_more columns rows row)

@@ -10,7 +10,8 @@ use Rattle.std.specs.declared.cmp.Ordering.TheVariants.{Equal}
 use Rattle.std.proofs.lemmas.List.Sorted.{ranks_by}
 use Rattle.rp_value.specs.Order.{value_order}
 use Rattle.rp_value.specs.declared.value.Value.{Value}
-use Rattle.rp_input.specs.Orders.{IsOrdered, column_order, is_before, rows_order, value_at}
+use Rattle.rp_query.specs.Keys.{value_at}
+use Rattle.rp_input.specs.Orders.{IsOrdered, column_order, is_before, rows_order}
 use Rattle.rp_query.specs.declared.query.OrderColumn.{OrderColumn}
 
 pub value_total : (cmp : Value → Value → Ordering) → IsTotalOrder cmp → ((a b : Value) → cmp a b ≡ value_order a b) → IsTotalOrder value_order

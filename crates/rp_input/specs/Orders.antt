@@ -1,18 +1,13 @@
 -- The order of rows by some columns.
-use Rattle.std.specs.Prelude.{ℕ, Bool, List, [], ◌∷◌, if◌then◌else◌, unwrap_or}
+use Rattle.std.specs.Prelude.{ℕ, Bool, List, [], ◌∷◌, if◌then◌else◌}
 use Rattle.std.specs.List.Sorted.{IsSortedBy, IsStableBy}
 use Rattle.std.specs.Ordering.{is_lt, ordering_then}
 use Rattle.std.specs.declared.cmp.Ordering.{Ordering}
 use Rattle.std.specs.declared.cmp.Ordering.TheVariants.{Equal}
 use Rattle.rp_query.specs.declared.query.OrderColumn.{OrderColumn}
+use Rattle.rp_query.specs.Keys.{value_at}
 use Rattle.rp_value.specs.Order.{value_order}
-use Rattle.rp_value.specs.Rows.{cell_at}
 use Rattle.rp_value.specs.declared.value.Value.{Value}
-use Rattle.rp_value.specs.declared.value.Value.TheVariants.{Null}
-
--- the value of a row in a column, from 1
-abbrev pub value_at : ℕ → List Value → Value
-value_at column row = unwrap_or (cell_at row column) Null
 
 -- by one column: null is last, and with the sides exchanged, descending, it is first
 abbrev pub column_order : OrderColumn → List Value → List Value → Ordering

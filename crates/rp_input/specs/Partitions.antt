@@ -1,12 +1,8 @@
 -- The partitions of rows.
-use Rattle.std.specs.Prelude.{ℕ, Bool, not, List, [], ◌∷◌, map, filter}
+use Rattle.std.specs.Prelude.{ℕ, Bool, not, List, [], ◌∷◌, filter}
 use Rattle.rp_value.specs.contracts.cells.CellsPartialEq.TheImpl.{ghosts as cells}
 use Rattle.rp_value.specs.declared.value.Value.{Value}
-use Rattle.rp_input.specs.Orders.{value_at}
-
--- the key of a row: its values in the partition columns
-abbrev pub key_of : List ℕ → List Value → List Value
-key_of columns row = map (λ c. value_at c row) columns
+use Rattle.rp_query.specs.Keys.{values_in}
 
 -- whether two keys are equal, null being equal to null
 abbrev pub same_key : List Value → List Value → Bool
@@ -14,7 +10,7 @@ same_key = cells.eq
 
 -- the rows of a key, as they came
 abbrev pub rows_of_key : List ℕ → List Value → List (List Value) → List (List Value)
-rows_of_key columns key rows = filter (λ row. same_key key (key_of columns row)) rows
+rows_of_key columns key rows = filter (λ row. same_key key (values_in columns row)) rows
 
 -- a key and its rows
 abbrev pub Part : Type 0
@@ -24,5 +20,5 @@ Part = List Value × List (List Value)
 abbrev pub partitions : List ℕ → List (List Value) → List Part
 partitions columns [] = []
 partitions columns (row ∷ rows) =
-    (key_of columns row, row ∷ rows_of_key columns (key_of columns row) rows)
-    ∷ filter (λ part. not (same_key (key_of columns row) part.0)) (partitions columns rows)
+    (values_in columns row, row ∷ rows_of_key columns (values_in columns row) rows)
+    ∷ filter (λ part. not (same_key (values_in columns row) part.0)) (partitions columns rows)

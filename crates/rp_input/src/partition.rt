@@ -2,8 +2,8 @@
 ghost use Rattle.std.specs.Prelude.{◌≡◌, ◌++◌, ◌∷◌, [], None, IfOk, OnOk};
 ghost use Rattle.indexmap.specs.IndexMap.{get};
 ghost use Rattle.rp_query.specs.QueryView.{data_of};
-ghost use Rattle.rp_input.specs.Orders.{value_at as value_is};
-ghost use Rattle.rp_input.specs.Partitions.{key_of as key_is, partitions as partitions_are};
+ghost use Rattle.rp_query.specs.Keys.{value_at as value_is, values_in};
+ghost use Rattle.rp_input.specs.Partitions.{partitions as partitions_are};
 ghost use Rattle.rp_input.specs.Gathering.{parts_of, with_row};
 
 use indexmap::IndexMap;
@@ -81,7 +81,7 @@ fn push(rows: &mut Vec<Row>, row: Row) -> Result<(), AllocError>
 
 /// The key of a row: its values in these columns, in the room of an earlier key.
 fn key_of(room: Vec<Value>, columns: &[usize], row: &Row) -> Result<Cells, AllocError>
-    ensures { IfOk result (λ key. key ≡ key_is columns.now row.now) }
+    ensures { IfOk result (λ key. key ≡ values_in columns.now row.now) }
 {
     let mut values = room;
     values.clear();

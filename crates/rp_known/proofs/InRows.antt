@@ -15,7 +15,7 @@ use Rattle.rp_known.specs.Known.{Known, count}
 use Rattle.rp_known.specs.Skips.{is_of, first_place, last_place, or_here, skipped, start_after}
 use Rattle.rp_known.specs.Items.{items_of}
 use Rattle.rp_known.specs.Walk.{Leg, Goes, Pauses, Ends, after_item, after_items, after_match, after_found, found_at, at_last, searched, leg, ComesTo, here, on}
-use Rattle.rp_known.specs.WalkLaws.{AreKnown, MatchesAreKnown, IsInRows}
+use Rattle.rp_known.specs.WalkLaws.{AreKnown, MatchesAreKnown, IsInRows, LeadsInRows}
 
 -- ---- a skip stays in the match, or goes one row past it
 
@@ -50,41 +50,36 @@ skip_in (Last variables) l ls = last_in (is_of variables) (l ∷ ls)
 
 -- ---- where a leg leads
 
-abbrev LeadsIn : Known → Leg → Type 0
-LeadsIn p (Goes xs next) = IsInRows p next
-LeadsIn p (Pauses xs) = ⊤
-LeadsIn p (Ends xs) = ⊤
-
 module _ (p : Known) (place : Place) (known : place.start ≤ count p) (covered : place.covered ≤ count p) where
-  match_in : (l : Label) (ls : List Label) (o : Option ℕ) → place.start + length (l ∷ ls) ≤ suc (count p) → IsAtMost (length (l ∷ ls)) o → LeadsIn p (after_match place (l ∷ ls) (start_after place.start o))
+  match_in : (l : Label) (ls : List Label) (o : Option ℕ) → place.start + length (l ∷ ls) ≤ suc (count p) → IsAtMost (length (l ∷ ls)) o → LeadsInRows p (after_match place (l ∷ ls) (start_after place.start o))
   match_in l ls None h k = tt
   match_in l ls (Some zero) h k = tt
   match_in l ls (Some (suc i)) h k = (omega (arith, h, k), omega (arith, covered, h))
 
-  found_in : (q : QueryData) (f : Found) → AreKnown place.start (count p) f → LeadsIn p (after_found q place f)
+  pub found_in : (q : QueryData) (f : Found) → AreKnown place.start (count p) f → LeadsInRows p (after_found q place f)
   found_in q Waits h = tt
   found_in q NoMatch h = (omega (arith, known), covered)
   found_in q (Match []) h = (omega (arith, known), omega (arith, covered))
   found_in q (Match (l ∷ ls)) h = match_in l ls (skipped q.plan.skip (l ∷ ls)) h (skip_in q.plan.skip l ls)
 
-item_in : (p : Known) (x : Item) (t : Leg) → LeadsIn p t → LeadsIn p (after_item x t)
+item_in : (p : Known) (x : Item) (t : Leg) → LeadsInRows p t → LeadsInRows p (after_item x t)
 item_in p x (Goes xs next) h = h
 item_in p x (Pauses xs) h = tt
 item_in p x (Ends xs) h = tt
 
-items_in : (p : Known) (xs : List (Option Item)) (t : Leg) → LeadsIn p t → LeadsIn p (after_items xs t)
+items_in : (p : Known) (xs : List (Option Item)) (t : Leg) → LeadsInRows p t → LeadsInRows p (after_items xs t)
 items_in p [] t h = h
 items_in p (Some x ∷ xs) t h = item_in p x (after_items xs t) (items_in p xs t h)
 items_in p (None ∷ xs) t h = tt
 
-last_in_rows : (p : Known) (e : End) → LeadsIn p (at_last e)
+last_in_rows : (p : Known) (e : End) → LeadsInRows p (at_last e)
 last_in_rows p OpenEnd = tt
 last_in_rows p ClosedEnd = tt
 
-leg_in : MatchesAreKnown → (q : QueryData) (p : Known) (place : Place) → IsInRows p place → LeadsIn p (leg q p place)
+leg_in : MatchesAreKnown → (q : QueryData) (p : Known) (place : Place) → IsInRows p place → LeadsInRows p (leg q p place)
 leg_in matches q p place h = go (nat_le place.start (count p)) refl
   where
-    go : (b : Bool) → nat_le place.start (count p) ≡ b → LeadsIn p (cond b (searched q p place (found_at q p place.start)) (at_last p.end))
+    go : (b : Bool) → nat_le place.start (count p) ≡ b → LeadsInRows p (cond b (searched q p place (found_at q p place.start)) (at_last p.end))
     go false e = last_in_rows p p.end
     go true e =
         let known : place.start ≤ count p = grind (arith, nat_tests) in
@@ -93,4 +88,4 @@ leg_in matches q p place h = go (nat_le place.start (count p)) refl
 
 pub walk_in : MatchesAreKnown → (q : QueryData) (p : Known) {from to : Place} {d : ℕ} → ComesTo q p from d to → IsInRows p from → IsInRows p to
 walk_in matches q p here h = h
-walk_in matches q p (on {place = place} is r) h = walk_in matches q p r (subst (LeadsIn p) is (leg_in matches q p place h))
+walk_in matches q p (on {place = place} is r) h = walk_in matches q p r (subst (LeadsInRows p) is (leg_in matches q p place h))

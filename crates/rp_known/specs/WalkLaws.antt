@@ -78,6 +78,18 @@ MatchesAreKnown = (q : QueryData) (p : Known) (start : ℕ) →
 abbrev pub IsInRows : Known → Place → Type 0
 IsInRows p place = (place.start ≤ count p + 1) × (place.covered ≤ count p)
 
+-- a leg that goes on leads to a place in the rows
+abbrev pub LeadsInRows : Known → Leg → Type 0
+LeadsInRows p (Goes xs next) = IsInRows p next
+LeadsInRows p (Pauses xs) = ⊤
+LeadsInRows p (Ends xs) = ⊤
+
+-- What follows a search from a known row leads to a place in the rows.
+abbrev pub SearchesLeadInRows : Type 0
+SearchesLeadInRows = (q : QueryData) (p : Known) (place : Place) (result : Found) →
+    place.start ≤ count p → place.covered ≤ count p → AreKnown place.start (count p) result →
+    LeadsInRows p (after_found q place result)
+
 -- From a place in the rows a walk comes to places in the rows.
 abbrev pub WalkIsInRows : Type 0
 WalkIsInRows = (q : QueryData) (p : Known) (d : ℕ) (from to : Place) →

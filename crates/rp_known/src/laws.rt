@@ -1,6 +1,6 @@
 //! Laws over the definitions alone. A call does nothing, and its caller may then use them.
 ghost use Rattle.rp_known.specs.Earlier.{EarlierBegins, EarlierWalkStays, EarlierLegStays};
-ghost use Rattle.rp_known.specs.WalkLaws.{KnownGrows, WalkStays, LegStays, KnownIsShort, LegsLeadOn, SearchesLeadOn, MatchesAreKnown, FindingsStay, WalkIsInRows, ContinuationsGoOn};
+ghost use Rattle.rp_known.specs.WalkLaws.{KnownGrows, WalkStays, LegStays, KnownIsShort, LegsLeadOn, SearchesLeadOn, MatchesAreKnown, FindingsStay, WalkIsInRows, SearchesLeadInRows, ContinuationsGoOn};
 
 /// The laws of the known answer. What is known of an open partition begins what is known of every continuation, its
 /// answer too; where a walk comes to, it comes to over every continuation; what a start row finds and gives stays; and a
@@ -19,12 +19,13 @@ pub fn law_known()
 }
 
 /// The laws of one leg of the walk: it leads to a later row, if at all, and a match is of known rows, so that a walk
-/// stays in the rows. Over a continuation all rows go on.
+/// stays in the rows, and so does what follows a search. Over a continuation all rows go on.
 pub fn law_legs()
     ensures lead { LegsLeadOn }
     ensures searches { SearchesLeadOn }
     ensures known { MatchesAreKnown }
     ensures in_rows { WalkIsInRows }
+    ensures searches_in_rows { SearchesLeadInRows }
     ensures continuing { ContinuationsGoOn }
 {
     rp_words::law_words();

@@ -5,6 +5,7 @@ pub mod Formulas
 pub mod SkipRules
 pub mod Definitions
 pub mod QueryView
+pub mod Keys
 -- What each query meets.
 pub mod Kinds
 pub mod Allowed

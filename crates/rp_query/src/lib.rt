@@ -4,12 +4,13 @@
 //! makes it of a clause's text, and the matcher asks it for its pattern, its table, its columns and its [`Plan`].
 //! Pattern variables are numbered from 0 by first appearance, columns of the table from 1.
 //!
-//! What a query is made of is seen as plain data: `specs/QueryView`, `Formulas`, `Scopes`, `Reach`, `SkipRules` and
-//! `Definitions`. What each query meets is `specs/Sound`, in the words of `Kinds` and `Allowed`: columns and totals
+//! What a query is made of is seen as plain data: `specs/QueryView`, `Keys`, `Formulas`, `Scopes`, `Reach`, `SkipRules`
+//! and `Definitions`. What each query meets is `specs/Sound`, in the words of `Kinds` and `Allowed`: columns and totals
 //! that are named are there, kinds agree, offsets are at most 1,000, and no definition sees the whole match.
 #![tactic(auto)]
 
 mod item;
+mod key;
 mod plan;
 mod query;
 

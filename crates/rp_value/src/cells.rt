@@ -90,6 +90,17 @@ impl Cells {
         Cells { values }
     }
 
+    /// Cells equal to these. No text is copied: each gets a further owner.
+    pub fn of(alloc: Global, values: &[Value]) -> Result<Cells, AllocError>
+        ensures { IfOk result (λ cells. cells ≡ values.now) }
+    {
+        let mut shared = Vec::with_capacity(alloc, values.len())?;
+        for value in values {
+            shared.push(value.share()?)?;
+        }
+        Ok(Cells { values: shared })
+    }
+
     /// The cells as a slice.
     pub fn as_slice(&self) -> &[Value]
         ensures { result.now ≡ self.now }
@@ -108,11 +119,7 @@ impl Cells {
     pub fn share(&self, alloc: Global) -> Result<Cells, AllocError>
         ensures { IfOk result (λ cells. cells ≡ self.now) }
     {
-        let mut values = Vec::with_capacity(alloc, self.values.len())?;
-        for value in &self.values {
-            values.push(value.share()?)?;
-        }
-        Ok(Cells { values })
+        Cells::of(alloc, self.as_slice())
     }
 
     /// Whether two lists of cells are equal.

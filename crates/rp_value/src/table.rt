@@ -27,6 +27,19 @@ pub struct Column {
     pub kind: Kind,
 }
 
+impl Column {
+    /// An equal column, which shares the name.
+    pub fn share(&self) -> Result<Column, AllocError>
+        ensures { IfOk result (λ column. column ≡ self.now) }
+    {
+        let name = self.name.share()?;
+        Ok(Column {
+            name,
+            kind: self.kind,
+        })
+    }
+}
+
 /// A table: one column or more, whose names differ and have 1 to 128 bytes. Contracts see it
 /// as the list of its columns.
 #[derive(Debug, Drop)]
@@ -100,6 +113,24 @@ impl Table {
             return Err(fault);
         }
         Ok(Row::new(alloc, cells)?)
+    }
+
+    /// Why these are no cells of a row of the table; none: they are.
+    pub fn row_fault(&self, cells: &[Value]) -> Option<RowFault>
+        ensures { result ≡ row_fault (kinds_of self.now) cells.now }
+    {
+        fault_in(self.columns(), cells)
+    }
+
+    /// Equal columns, as a list of their own. The names are shared, and nothing is copied.
+    pub fn to_columns(&self, alloc: Global) -> Result<Vec<Column>, AllocError>
+        ensures { IfOk result (λ columns. columns.items ≡ self.now) }
+    {
+        let mut columns = Vec::with_capacity(alloc, self.columns.len())?;
+        for column in self.columns() {
+            columns.push(column.share()?)?;
+        }
+        Ok(columns)
     }
 
     /// Whether two tables have equal columns in one order.

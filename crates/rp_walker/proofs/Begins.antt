@@ -95,6 +95,7 @@ begins_giving q p w found a run taken few g gives seen totals serves =
       given = refl;
       over = tt;
       first = refl;
+      in_rows = λ h. h;
       stands = stands_going q p (record w { stage = Giving found a }) g (gives, omega (arith, seen), totals, serves);
       lowers = omega (arith, few, gives.low, gives.ordered, gives.high, left_going q p w.state (Giving found a) g.going gives.known, left_going q p w.state (Searching run) g.going gives.known);
       follows = λ within. record { moves = stays_put q p w.state g.going within; is = refl };
@@ -109,6 +110,7 @@ searches_on q p w old new taken g s fewer =
       given = refl;
       over = tt;
       first = refl;
+      in_rows = λ h. h;
       stands = stands_going q p (record w { stage = Searching new }) g s;
       lowers = omega (arith, fewer, left_going q p w.state (Searching old) g.going s.known, left_going q p w.state (Searching new) g.going s.known);
       follows = λ within. record { moves = stays_put q p w.state g.going within; is = refl };
@@ -128,6 +130,7 @@ search_waits q p w old new taken g s found fewer =
       given = refl;
       over = tt;
       first = refl;
+      in_rows = λ h. h;
       stands = stands_going q p (record w { stage = Searching new }) g s;
       lowers = omega (arith, fewer, left_going q p w.state (Searching old) g.going s.known, left_going q p w.state (Searching new) g.going s.known);
       follows = λ within. let h = stops_here q p w.state g none within in record { moves = h.0; is = (refl, h.1) };
@@ -137,7 +140,7 @@ search_waits q p w old new taken g s found fewer =
 
 pub from_more : (taken : ℕ) (q : QueryData) (p : Known) (r : MatcherState) (new : Walker) (stage more : Stage) (step : Step) → left_with q p r stage ≤ left_with q p r more →
     KeepsGoing taken q p r stage new step → KeepsGoing taken q p r more new step
-from_more taken q p r new stage more step h k = record { given = k.given; over = k.over; first = k.first; stands = k.stands; lowers = lower step k.lowers; follows = k.follows }
+from_more taken q p r new stage more step h k = record { given = k.given; over = k.over; first = k.first; stands = k.stands; in_rows = k.in_rows; lowers = lower step k.lowers; follows = k.follows }
   where
     lower : (s : Step) → Lowers taken s (left_with q p r stage) (left_with q p new.state new.stage) → Lowers taken s (left_with q p r more) (left_with q p new.state new.stage)
     lower Went l = omega (arith, h, l)
@@ -172,6 +175,7 @@ waits_past q p w g stands past is_open =
       given = refl;
       over = tt;
       first = refl;
+      in_rows = λ h. h;
       stands = stands_going q p w g stands;
       lowers = omega arith;
       follows = λ within. let h = stops_here q p w.state g none within in record { moves = h.0; is = (refl, h.1) };

@@ -14,7 +14,7 @@ use Rattle.rp_known.specs.declared.place.Place.{Place}
 use Rattle.rp_known.specs.Known.{Known, count}
 use Rattle.rp_known.specs.Items.{item_at, item_rows}
 use Rattle.rp_known.specs.Walk.{Leg, Goes, Ends, after_items, after_found, leg, leg_items, here, on}
-use Rattle.rp_known.specs.WalkLaws.{LeadsOn, SearchesLeadOn}
+use Rattle.rp_known.specs.WalkLaws.{LeadsOn, SearchesLeadOn, LeadsInRows, SearchesLeadInRows}
 use Rattle.rp_walker.specs.Records.{place_of, IsWithin}
 use Rattle.rp_walker.specs.Steps.{IsStop, IsEnd, ended_by, Moves}
 use Rattle.rp_walker.specs.declared.ahead.Ahead.{Ahead}
@@ -91,7 +91,7 @@ module _ (q : QueryData) (p : Known) (place : Place) (result : Found) (a : Ahead
 still_kept : (x y b first : ℕ) → x ≤ y → first ≤ max 1 (x - b) → first ≤ max 1 (y - b)
 still_kept x y b first h k = omega (arith, h, k)
 
-module _ (leads : SearchesLeadOn) (q : QueryData) (p : Known) (w : Walker) (found : Ended) (a : Ahead) (g : IsGoing q w.state) (gives : Gives q p (place_of w.state) (result_of found) a)
+module _ (leads : SearchesLeadOn) (stays : SearchesLeadInRows) (q : QueryData) (p : Known) (w : Walker) (found : Ended) (a : Ahead) (g : IsGoing q w.state) (gives : Gives q p (place_of w.state) (result_of found) a)
     (serves : Serves q (run_of found)) (not_past : a.seen ≤ w.state.here) (all : a.next ≡ a.end) (next : Place) (follows : after_found q (place_of w.state) (result_of found) ≡ Goes [] next) where
   abbrev moved_on : MatcherState
   moved_on = record w.state { at = next.start; matches = next.matches; covered = next.covered; here = 0 }
@@ -132,6 +132,7 @@ module _ (leads : SearchesLeadOn) (q : QueryData) (p : Known) (w : Walker) (foun
         over = tt;
         first = refl;
         stands = stands_going q p (record w { state = moved_on; stage = Begin (Some (run_of found)) }) going_on serves;
+        in_rows = λ h. subst (LeadsInRows p) follows (stays q p (place_of w.state) (result_of found) gives.known h.1 gives.in_rows);
         lowers = omega (arith, left_going q p w.state (Giving found a) g.going gives.known, left_later q p w.state moved_on (Some (run_of found)) g.going later);
         follows = λ within_old. record { moves = moves_on within_old; is = refl };
       }
@@ -167,6 +168,7 @@ module _ (q : QueryData) (p : Known) (w : Walker) (stage : Stage) (x : Item) (k 
         given = refl;
         over = λ l. refl;
         first = refl;
+        in_rows = λ h. h;
         stands = omega (arith, due, g.enough);
         lowers = some;
         follows = λ within_old.
@@ -186,6 +188,7 @@ module _ (q : QueryData) (p : Known) (w : Walker) (stage : Stage) (x : Item) (k 
         given = refl;
         over = tt;
         first = refl;
+        in_rows = λ h. h;
         stands = g.enough;
         lowers = omega arith;
         follows = λ within_old.

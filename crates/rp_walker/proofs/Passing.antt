@@ -21,6 +21,7 @@ module _ (q : QueryData) (p : Known) (w : Walker) (found : Ended) (a : Ahead) (g
         given = refl;
         over = tt;
         first = refl;
+        in_rows = λ h. h;
         stands = stands_going q p (record w { stage = Giving found b }) g (after, enough, totals, serves);
         lowers = omega (arith, more, next, end, left_going q p w.state (Giving found a) g.going gives.known, left_going q p w.state (Giving found b) g.going gives.known);
         follows = λ within. record { moves = stays_put q p w.state g.going within; is = refl };

@@ -10,7 +10,7 @@ use Rattle.rp_walker.specs.declared.stage.Stage.{Stage}
 use Rattle.rp_walker.specs.declared.stage.Step.{Step}
 use Rattle.rp_walker.specs.declared.stage.Step.TheVariants.{Went, Gave, Idle}
 use Rattle.rp_walker.specs.declared.walker.Walker.{Walker}
-use Rattle.rp_walker.specs.Records.{IsWithin, IsLast}
+use Rattle.rp_walker.specs.Records.{IsWithin, IsLast, PlaceStays}
 use Rattle.rp_walker.specs.Steps.{Moves}
 use Rattle.rp_walker.specs.Stages.{IsGoing, StageStands, left_with, StepIs, Lowers}
 
@@ -71,5 +71,6 @@ pub record KeepsGoing (taken : ℕ) (q : QueryData) (p : Known) (old : MatcherSt
   pub over : EndsBy step new.state.over
   pub first : new.state.first ≡ old.first
   pub stands : stands_by new.state.over q p new
+  pub in_rows : PlaceStays p old new.state
   pub lowers : Lowers taken step (left_with q p old stage) (left_with q p new.state new.stage)
   pub follows : IsWithin q p old → Follows q p old new.state step

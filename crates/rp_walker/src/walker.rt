@@ -7,7 +7,7 @@ ghost use Rattle.rp_known.specs.Plans.{first_read};
 ghost use Rattle.rp_known.specs.Walk.{found_at};
 ghost use Rattle.rp_walker.specs.declared.stage.Stage.TheVariants.{Begin as BeginStage, Searching as SearchingStage, Giving as GivingStage};
 ghost use Rattle.rp_walker.specs.Given.{past_row, is_hidden, result_of, run_of};
-ghost use Rattle.rp_walker.specs.Records.{at_place, gave_last, was_last, place_of, first_state, horizon_of, IsWithin};
+ghost use Rattle.rp_walker.specs.Records.{at_place, gave_last, was_last, place_of, first_state, horizon_of, IsWithin, PlaceStays, StaysInRows};
 ghost use Rattle.rp_walker.specs.Steps.{Moves};
 ghost use Rattle.rp_search.specs.Fits.{left_by};
 ghost use Rattle.rp_walker.specs.Stages.{left_with, asked_by, IsGoing, Searches, Gives, MatchTotalled, Serves, IsSpare, StageStands};
@@ -129,7 +129,8 @@ impl Walker {
             (record_of self.old) (record_of self.new) }
         ensures stops { IfOk result (StopsAtLast (data_of query.now) (known_in R.known R.ending rows.now)
             (record_of self.old) (record_of self.new)) }
-        ensures first { (record_of self.new).first ≡ (record_of self.old).first }
+        ensures stays { StaysInRows (known_in R.known R.ending rows.now)
+            (record_of self.old) (record_of self.new) }
         ensures given { IfOk result (GivenBy (record_of self.old) (record_of self.new)) }
         ensures out_of_memory { OnErr result (StartsAgain (data_of query.now) (known_in R.known R.ending rows.now)
             (record_of self.old).given (record_of self.new)
@@ -470,6 +471,7 @@ impl Walker {
         requires stands { GoesOnWell (data_of query.now) (known_in R.known R.ending rows.now) self.old }
         ensures stands { stands_by self.new.state.over
             (data_of query.now) (known_in R.known R.ending rows.now) self.new }
+        ensures in_rows { PlaceStays (known_in R.known R.ending rows.now) self.old.state self.new.state }
         ensures first { self.new.state.first ≡ self.old.state.first }
         ensures given { IfOk result (GivenBy self.old.state self.new.state) }
         ensures kept { OnErr result

@@ -1,5 +1,5 @@
 use Rattle.std.proofs.Common.{◌≡◌, map, take}
-use Rattle.rp_input.specs.Orders.{value_at}
+use Rattle.rp_query.specs.Keys.{value_at}
 use Rattle.rp_input.proofs.partition.key_of.Given as goal
 
 abbrev pub invariant-loop-column : goal.invariant-loop-column

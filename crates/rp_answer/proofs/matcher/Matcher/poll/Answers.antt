@@ -14,11 +14,11 @@ returns-then-budget-eq0-clause-moves g c = let m = c.args.self.now in stays_alon
 pub invariant_of-self : goal.invariant_of-self
 invariant_of-self g c =
     let m = c.self.inside in
-    ready_still c.law_walkers.ensures.can (data_of m.query) m.rows m.walker c.poll.new.self c.poll.ensures.stands c.poll.ensures.first c.self.invariant
+    ready_still c.law_walkers.ensures.can (data_of m.query) m.rows m.walker c.poll.new.self c.poll.ensures.stands c.poll.ensures.stays.first c.self.invariant
 
 pub returns-in_err-answer-clause-rows : goal.returns-in_err-answer-clause-rows
 returns-in_err-answer-clause-rows g c =
-    rw (← c.self.view_is) (λ p are. subst (λ i. AgreesFrom i (known_by c.self.inside.rows) p) (sym c.poll.ensures.first) are)
+    rw (← c.self.view_is) (λ p are. subst (λ i. AgreesFrom i (known_by c.self.inside.rows) p) (sym c.poll.ensures.stays.first) are)
 
 pub returns-in_err-answer-clause-out_of_memory : goal.returns-in_err-answer-clause-out_of_memory
 returns-in_err-answer-clause-out_of_memory g c =
@@ -27,7 +27,7 @@ returns-in_err-answer-clause-out_of_memory g c =
 pub drop_rows-requires : goal.drop_rows-requires
 drop_rows-requires g c =
     let m = c.self.inside in
-    ready_still c.law_walkers.ensures.can (data_of m.query) m.rows m.walker c.poll.new.self c.poll.ensures.stands c.poll.ensures.first c.self.invariant
+    ready_still c.law_walkers.ensures.can (data_of m.query) m.rows m.walker c.poll.new.self c.poll.ensures.stands c.poll.ensures.stays.first c.self.invariant
 
 pub returns-clause-answers : goal.returns-clause-answers
 returns-clause-answers g c =

@@ -27,7 +27,7 @@ returns-in_err-answer-clause-polled g c =
       front_stays = c.law_front.ensures.stays;
     } in
     let known = known_alike c.new-rows.result.feed.now fed c.new-rows.result.end c.new-rows.ensures.feed c.new-rows.ensures.end in
-    polled_err laws q fed (record_of c.args.self.now.walker) (record_of c.poll.new.self) (λ whole. c.law_schedules.ensures.fits q whole c.plan-plan.ensures.sound) c.poll.ensures.first
+    polled_err laws q fed (record_of c.args.self.now.walker) (record_of c.poll.new.self) (λ whole. c.law_schedules.ensures.fits q whole c.plan-plan.ensures.sound) c.poll.ensures.stays.first
     c.from_residual.result c.from_residual.ensures.0
     (subst (λ (k : Known). GoesAlong q k (record_of c.args.self.now.walker) (record_of c.poll.new.self)) known c.poll.ensures.moves)
     c.in_err-answer.ensures.out_of_memory.given
@@ -47,7 +47,7 @@ returns-clause-polled g c =
       front_stays = c.law_front.ensures.stays;
     } in
     let known = known_alike c.new-rows.result.feed.now fed c.new-rows.result.end c.new-rows.ensures.feed c.new-rows.ensures.end in
-    polled_ok laws q fed (record_of c.args.self.now.walker) (record_of c.poll.new.self) (λ whole. c.law_schedules.ensures.fits q whole c.plan-plan.ensures.sound) c.poll.ensures.first
+    polled_ok laws q fed (record_of c.args.self.now.walker) (record_of c.poll.new.self) (λ whole. c.law_schedules.ensures.fits q whole c.plan-plan.ensures.sound) c.poll.ensures.stays.first
     c.in_ok-answer.answer (held_of c.drop_rows.new.self)
     (subst (λ (k : Known). GoesAlong q k (record_of c.args.self.now.walker) (record_of c.poll.new.self)) known c.poll.ensures.moves)
     (subst (λ (k : Known). Answers q k (record_of c.args.self.now.walker) (record_of c.poll.new.self) c.in_ok-answer.answer) known c.in_ok-answer.ensures.answers)

@@ -22,7 +22,7 @@ returns-in-Ok g c =
     subst (λ s. KeepsGoing 1 q p w.state (GivingStage c.args.found c.args.ahead) c.go_to.new.self s) (sym c.go_to.ensures.went)
     (subst (λ n. KeepsGoing 1 q p w.state (GivingStage c.args.found c.args.ahead) n _) (sym c.go_to.ensures.now)
     (subst (λ r. KeepsGoing 1 q p w.state (GivingStage c.args.found c.args.ahead) (record w { state = record w.state { at = c.in-Ok.next.start; matches = c.in-Ok.next.matches; covered = c.in-Ok.next.covered; here = 0 }; stage = BeginStage (Some r) }) Went) (sym c.into_run.ensures)
-    (goes_to c.law_legs.ensures.searches q p w c.args.found c.args.ahead c.requires.going c.requires.gives c.requires.serves c.requires.not_past c.requires.all c.in-Ok.next follows)))
+    (goes_to c.law_legs.ensures.searches c.law_legs.ensures.searches_in_rows q p w c.args.found c.args.ahead c.requires.going c.requires.gives c.requires.serves c.requires.not_past c.requires.all c.in-Ok.next follows)))
 
 pub returns-in-Err : goal.returns-in-Err
 returns-in-Err g c =

@@ -26,6 +26,7 @@ returns-in-None-clause-keeps g c =
       given = refl;
       over = tt;
       first = refl;
+      in_rows = λ h. h;
       stands = stands_going q p (record w { stage = GivingStage c.args.found a }) h (c.requires.gives, omega (arith, c.requires.due), c.requires.totals, c.requires.serves);
       lowers = omega arith;
       follows = λ within. record { moves = stays_put q p w.state h.going within; is = (refl, not_yet q p w.state result a c.requires.gives c.requires.more c.requires.shown c.requires.due within none) };
@@ -46,6 +47,7 @@ returns-in-Some-clause-keeps g c =
       given = refl;
       over = λ l. absurd (never_last q p (place_of w.state) result a.next (subst IsLastIn (sym some) l));
       first = refl;
+      in_rows = λ h. h;
       stands = stands_going q p (record w { state = r; stage = GivingStage c.args.found (past_shown a) }) going (gives_shown q p (place_of w.state) result a c.requires.gives c.requires.more c.requires.shown, omega arith, c.requires.totals, c.requires.serves);
       lowers = omega (arith, c.requires.more, left_going q p w.state (GivingStage c.args.found a) h.going c.requires.gives.known, left_going q p r (GivingStage c.args.found (past_shown a)) h.going c.requires.gives.known);
       follows = λ within.

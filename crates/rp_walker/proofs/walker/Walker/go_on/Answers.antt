@@ -3,6 +3,8 @@ use Rattle.rp_query.specs.QueryView.{data_of}
 use Rattle.rp_known.specs.Known.{known_in}
 use Rattle.rp_walker.specs.declared.stage.Step.TheVariants.{Went, Gave, Idle}
 use Rattle.rp_walker.specs.declared.walker.Walker.{Walker}
+use Rattle.rp_known.specs.WalkLaws.{IsInRows}
+use Rattle.rp_walker.specs.Records.{place_of}
 use Rattle.rp_walker.specs.Steps.{Moves}
 use Rattle.rp_walker.specs.Walking.{KeepsGoing}
 use Rattle.rp_walker.proofs.Steps.{stays_put, stands_going}
@@ -16,6 +18,7 @@ loop-left-init g c =
     let p = known_in g.R.Rows.known g.R.Rows.ending c.args.rows.now in
     record {
       stands = stands_going q p w c.requires.stands.going c.requires.stands.stands;
+      in_rows = λ h. h;
       first = refl;
       given = refl;
       lowered = omega arith;
@@ -74,6 +77,17 @@ returns-in_err-step-clause-moves g c = λ within.
     let same : c.advance.new.self.state ≡ c.loop-left.self.state = ap (λ (w : Walker). w.state) c.in_err-step.ensures.kept in
     subst (λ r. Moves q p c.args.self.now.state r) (sym same) (c.loop-left.invariant.moved within)
 
+pub returns-in_err-step-clause-in_rows : goal.returns-in_err-step-clause-in_rows
+returns-in_err-step-clause-in_rows g c = λ h.
+    let same : c.advance.new.self.state ≡ c.loop-left.self.state = ap (λ (w : Walker). w.state) c.in_err-step.ensures.kept in
+    subst (λ r. IsInRows (known_in g.R.Rows.known g.R.Rows.ending c.args.rows.now) (place_of r)) (sym same) (c.loop-left.invariant.in_rows h)
+
+pub returns-in-Gave-clause-in_rows : goal.returns-in-Gave-clause-in_rows
+returns-in-Gave-clause-in_rows g c = λ h. c.in_ok-step.ensures.keeps.in_rows (c.loop-left.invariant.in_rows h)
+
+pub returns-in-Idle-clause-in_rows : goal.returns-in-Idle-clause-in_rows
+returns-in-Idle-clause-in_rows g c = λ h. c.in_ok-step.ensures.keeps.in_rows (c.loop-left.invariant.in_rows h)
+
 pub loop-left-preserved : goal.loop-left-preserved
 loop-left-preserved g c =
     let i = c.loop-left.invariant in
@@ -85,6 +99,7 @@ loop-left-preserved g c =
     let leads = c.law_legs.ensures.lead in
     record {
       stands = k.stands;
+      in_rows = λ h. k.in_rows (i.in_rows h);
       first = k.first ∙ i.first;
       given = k.given ∙ i.given;
       lowered = omega (arith, i.lowered, i.within, k.lowers);

@@ -1,7 +1,7 @@
 use Rattle.std.proofs.Common.{◌≡◌, ◌+◌, ◌-◌, ◌≤◌, false}
 use Rattle.rp_query.specs.QueryView.{data_of}
 use Rattle.rp_known.specs.Known.{known_in}
-use Rattle.rp_walker.specs.Records.{IsWithin}
+use Rattle.rp_walker.specs.Records.{IsWithin, PlaceStays}
 use Rattle.rp_walker.specs.Steps.{Moves}
 use Rattle.rp_walker.specs.Walking.{stands_by}
 use Rattle.rp_walker.specs.Stages.{left_with}
@@ -10,6 +10,7 @@ use Rattle.rp_walker.proofs.walker.Walker.go_on.Given as goal
 abbrev pub invariant-loop-left : goal.invariant-loop-left
 invariant-loop-left g l = record {
   stands : stands_by l.self.state.over (data_of l.query) (known_in g.R.Rows.known g.R.Rows.ending l.rows) l.self;
+  in_rows : PlaceStays (known_in g.R.Rows.known g.R.Rows.ending l.rows) l.fn.self.state l.self.state;
   first : l.self.state.first ≡ l.fn.self.state.first;
   given : l.self.state.given ≡ l.fn.self.state.given;
   lowered : left_with (data_of l.query) (known_in g.R.Rows.known g.R.Rows.ending l.rows) l.self.state l.self.stage + (l.fn.budget - l.left)

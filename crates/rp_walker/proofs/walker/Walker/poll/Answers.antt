@@ -1,4 +1,4 @@
-use Rattle.std.proofs.Common.{◌≡◌, None, ap, subst}
+use Rattle.std.proofs.Common.{◌≡◌, None, refl, ap, subst}
 use Rattle.rp_query.specs.QueryView.{data_of}
 use Rattle.rp_known.specs.Known.{known_in}
 use Rattle.rp_walker.specs.Records.{IsWithin}
@@ -63,6 +63,18 @@ pub returns-then-self-clause-moves : goal.returns-then-self-clause-moves
 unfolding Stands record_of left_in entered_by
 returns-then-self-clause-moves g c =
     stays_along (data_of c.args.query.now) (known_in g.R.Rows.known g.R.Rows.ending c.args.rows.now) c.args.self.now.state
+
+pub returns-clause-stays : goal.returns-clause-stays
+unfolding Stands record_of left_in entered_by
+returns-clause-stays g c = record { first = c.go_on-answer.ensures.first; place = c.go_on-answer.ensures.in_rows }
+
+pub returns-then-budget-eq0-clause-stays : goal.returns-then-budget-eq0-clause-stays
+unfolding Stands record_of left_in entered_by
+returns-then-budget-eq0-clause-stays g c = record { first = refl; place = λ h. h }
+
+pub returns-then-self-clause-stays : goal.returns-then-self-clause-stays
+unfolding Stands record_of left_in entered_by
+returns-then-self-clause-stays g c = record { first = refl; place = λ h. h }
 
 pub returns-clause-out_of_memory : goal.returns-clause-out_of_memory
 unfolding Stands record_of left_in entered_by

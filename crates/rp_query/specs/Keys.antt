@@ -1,0 +1,33 @@
+-- The keys of partitions.
+use Rattle.std.specs.Prelude.{ℕ, ◌-◌, List, map, Option, None, Some, slice_get, unwrap_or}
+use Rattle.rp_value.specs.declared.table.Column.{Column}
+use Rattle.rp_value.specs.declared.value.Kind.{Kind}
+use Rattle.rp_value.specs.declared.value.Kind.TheVariants.{Int as IntKind}
+use Rattle.rp_value.specs.declared.value.Value.{Value}
+use Rattle.rp_value.specs.declared.value.Value.TheVariants.{Null}
+use Rattle.rp_value.specs.Rows.{cell_at}
+use Rattle.rp_query.specs.declared.query.QueryData.{QueryData}
+
+-- the value of a row in a column, from 1, and null where it has none
+abbrev pub value_at : ℕ → List Value → Value
+value_at column row = unwrap_or (cell_at row column) Null
+
+-- the values of a row in some columns
+abbrev pub values_in : List ℕ → List Value → List Value
+values_in columns row = map (λ column. value_at column row) columns
+
+-- the key of a row: its values in the columns of PARTITION BY (ISO/IEC 9075-2:2016, 7.15)
+abbrev pub key_of : QueryData → List Value → List Value
+key_of q row = values_in q.partition.items row
+
+abbrev kind_or : Option Column → Kind
+kind_or None = IntKind
+kind_or (Some c) = c.kind
+
+-- the kind of a column, from 1; a query names only columns that its table has
+abbrev pub kind_at : List Column → ℕ → Kind
+kind_at columns column = kind_or (slice_get columns (column - 1))
+
+-- the kinds of the columns of PARTITION BY, which the values of a key have
+abbrev pub key_kinds : QueryData → List Kind
+key_kinds q = map (kind_at q.table) q.partition.items
