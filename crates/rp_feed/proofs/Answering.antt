@@ -54,6 +54,7 @@ module _ (first ready : ℕ) (slots : Slots) (closed : Option ℕ) (room : IsCon
   pub is_feed : IsFeed (fed_of first slots closed)
   is_feed = record {
     ordered = ordered;
+    reached = (let f = front-is in let l = room.least in omega (arith, f, l));
     limit = (let f = front-is in let w = run_fits in let g = room.greatest in let l = room.least in omega arith);
     few = subst (λ z. count_by (λ e. nat_lt z e.0) (held_from first slots) ≤ most_beyond) front-is few;
     near = up_to-held (front_of (fed_of first slots closed) + most_beyond) first slots (let f = front-is in let n = room.near in let l = room.least in omega (arith, f, n, l));

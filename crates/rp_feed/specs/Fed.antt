@@ -97,10 +97,11 @@ abbrev pub CountsAll : Option ℕ → ℕ → List Numbered → Type 0
 CountsAll None front rows = ⊤
 CountsAll (Some count) front rows = (count ≤ greatest_number) × (front ≤ count) × AreUpTo count rows
 
--- What is true of every feed: numbers ascend, the front is at most the greatest number, no more rows beyond it are held than may
--- be, none is too far above it or too great, and the close counts all.
+-- What is true of every feed: numbers ascend, what is dropped is below the front, the front is at most the greatest number, no more
+-- rows beyond it are held than may be, none is too far above it or too great, and the close counts all.
 pub record IsFeed (fed : Fed) : Type 0 where
   pub ordered : IsOrdered fed
+  pub reached : fed.first ≤ front_of fed + 1
   pub limit : front_of fed ≤ greatest_number
   pub few : beyond fed ≤ most_beyond
   pub near : AreUpTo (front_of fed + most_beyond) fed.rows

@@ -5,7 +5,8 @@ use Rattle.std.proofs.lemmas.Bool.Decides.{nat_tests}
 use Rattle.rp_feed.specs.Fed.{Fed, IsOrdered, front_of, is_taken, forgotten}
 use Rattle.rp_query.specs.declared.query.QueryData.{QueryData}
 use Rattle.rp_query.specs.Sound.{IsSound}
-use Rattle.rp_known.specs.Known.{Known, count, GoesOnFrom}
+use Rattle.rp_known.specs.Known.{Known, count}
+use Rattle.rp_known.specs.WalkLaws.{GoesOnFrom}
 use Rattle.rp_known.specs.Plans.{first_read}
 use Rattle.rp_walker.specs.declared.poll.Poll.{Poll}
 use Rattle.rp_walker.specs.declared.poll.Poll.TheVariants.{Item as ItemPoll, Idle as IdlePoll, Paused as PausedPoll}
@@ -14,7 +15,7 @@ use Rattle.rp_walker.specs.declared.walker.Walker.{Walker}
 use Rattle.rp_walker.specs.FitLaws.{AgreesFrom}
 use Rattle.rp_walker.specs.LeftLaw.{LeftIsSame}
 use Rattle.rp_walker.specs.Polls.{left_in, Answers, AnswerIs, GivenBy, StopsAtLast, GoesAlong}
-use Rattle.rp_walker.specs.Records.{horizon_of, IsLastStart}
+use Rattle.rp_walker.specs.Records.{horizon_of, IsLastStart, StandsInRows}
 use Rattle.rp_walker.specs.Walking.{record_of, Stands, StandsStays}
 use Rattle.rp_schedules.specs.Schedules.{Gives, Pauses}
 use Rattle.rp_schedules.specs.Records.{Row, Held, Fits, Polls, item, idle, paused, PollFits, RecordsStay, seen_part}
@@ -121,6 +122,11 @@ module _ (laws : Feeds) (q : QueryData) (fed new : Fed) (w : Walker) (is : IsOrd
 
   same_count : IsOrdered new → count (known_by new) ≡ count (known_by fed)
   same_count is' = known_count new is'.least ∙ front_after laws fed new (min horizon (front_of fed + 1)) is within_front forgot ∙ sym (known_count fed is.least)
+
+  pub in_rows_after : IsOrdered new → (r : MatcherState) → r ≡ record (record_of w) { first = new.first } → StandsInRows (known_by fed) (record_of w) → StandsInRows (known_by new) r
+  in_rows_after is' r e h =
+      subst (StandsInRows (known_by new)) (sym e)
+      (omega (arith, h.0, same_count is'), λ going. omega (arith, h.1 going, same_count is'))
 
   pub holds_after : IsOrdered new → (r : MatcherState) → r ≡ record (record_of w) { first = new.first } → HoldsNoMore q (record { feed = new; state = r })
   holds_after is' r e = go (nat_le horizon (front_of fed + 1)) refl

@@ -8,7 +8,8 @@ use Rattle.rp_feed.specs.Fed.{Fed, IsOrdered, IsFront, IsFree, IsReached, front_
 use Rattle.rp_feed.specs.Answers.{IsDue, is_past}
 use Rattle.rp_feed.specs.FedLaws.{RowIsAdded, RowsAreDropped, TakenStays, OrderStays, OrderIsKept, FrontIsOne, FrontGrows, FrontStays}
 use Rattle.rp_eval.specs.Partition.{Rows, row_at}
-use Rattle.rp_known.specs.Known.{count, GoesOnFrom}
+use Rattle.rp_known.specs.Known.{count}
+use Rattle.rp_known.specs.WalkLaws.{GoesOnFrom}
 use Rattle.rp_walker.specs.FitLaws.{AgreesFrom}
 use Rattle.rp_schedules.specs.Records.{IsOf, end_seen, seen_part}
 use Rattle.rp_node.specs.PartRows.{known_rows, known_count, known_by, end_of, end_at}

@@ -1,6 +1,6 @@
 -- What calls make of a node's map.
 use Rattle.std.proofs.Common.{◌≡◌, ◌≢◌, ◌⊎◌, inl, inr, ℕ, zero, suc, ◌≤◌, Bool, true, false, cond, ◌||◌, ◌+◌, arith, List, [], ◌∷◌, None, Some, Result, Ok, Err, refl, sym, ap, ◌∙◌, subst}
-use Rattle.std.specs.Prelude.{slice_get, position, is_some, nat_lt, ◌==◌, OnOk, OnErr, IfOk}
+use Rattle.std.specs.Prelude.{◌↔◌, slice_get, position, is_some, nat_lt, ◌==◌, OnOk, OnErr, IfOk}
 use Rattle.std.specs.Option.{option_map_or}
 use Rattle.std.proofs.lemmas.Bool.Decides.{nat_tests}
 use Rattle.std.specs.declared.alloc.AllocError.{AllocError}
@@ -17,6 +17,7 @@ use Rattle.rp_value.specs.Tables.{kinds_of}
 use Rattle.rp_words.specs.PatternForm.{form_of}
 use Rattle.rp_words.specs.Turns.{all_turns}
 use Rattle.rp_query.specs.declared.query.QueryData.{QueryData}
+use Rattle.rp_query.specs.Keys.{KeysFit}
 use Rattle.rp_feed.specs.declared.answer.Taken.{Taken}
 use Rattle.rp_feed.specs.declared.answer.Taken.TheVariants.{New, Repeat, Old}
 use Rattle.rp_feed.specs.Fed.{Fed, fed_from, front_of}
@@ -35,47 +36,60 @@ use Rattle.rp_walker.specs.Polls.{entered_by, PollLowers, PollTakes, TurnsAreCou
 use Rattle.rp_schedules.specs.Records.{Held, with_fed, or_fresh, fresh}
 use Rattle.rp_node.specs.declared.partition.Partition.{Partition}
 use Rattle.rp_node.specs.PartRows.{known_by, known_count, end_of}
-use Rattle.rp_node.specs.Joined.{Joined, Work, held_of, work_of}
+use Rattle.rp_node.specs.Joined.{Joined, IsOfKey, IsPartition, Work, held_of, work_of}
 use Rattle.rp_node.specs.NodeSeen.{Map, AllJoined, IsBounded, AreBounded, entries_by, node_by, same_key, entry_at, with_entry, or_no_work, work_at}
 use Rattle.rp_node.specs.declared.fault.NodeFault.TheVariants as node
 use Rattle.rp_node.specs.Accepting.{feed_answer, fed_with, packet_fault, packet_key, packet_answer, record_for, told, Accepted}
 use Rattle.rp_node.specs.Polling.{told_poll, HoldsNoMore, HoldsNoMoreAt, PolledTo, PolledAt, IsUnknown, NodePolls}
 use Rattle.rp_node.specs.Taking.{TakenBy, TakenAt, IsAdded, AddedAs, MapTakes, PolledPlace}
+use Rattle.rp_node.proofs.Keys.{packet_keeps, packet_begins}
 use Rattle.rp_node.proofs.Entries.{at_is, at_none, insert_is, set_is, set_same, entry_there}
 
 -- ---- all partitions
 
 pub joined_at : (q : QueryData) (es : Map) (i : ℕ) (p : Partition) → AllJoined q es → slice_get (values_of es) i ≡ Some p → Joined q p
 joined_at q [] i p a h = absurd (cc)
-joined_at q (e ∷ es) zero p a h = let s : e.1 ≡ p = cc in subst (λ z. Joined q z) s a.0
+joined_at q (e ∷ es) zero p a h = let s : e.1 ≡ p = cc in subst (λ z. Joined q z) s a.0.joined
 joined_at q (e ∷ es) (suc i) p a h = joined_at q es i p a.1 h
 
-pub joined_set : (q : QueryData) (es : Map) (i : ℕ) (p : Partition) → AllJoined q es → Joined q p → AllJoined q (set_value_at es i p)
-joined_set q [] i p a j = a
-joined_set q (e ∷ es) zero p a j = (j, a.1)
-joined_set q (e ∷ es) (suc i) p a j = (a.0, joined_set q es i p a.1 j)
+-- the partition at the place of a key is another, whose rows still have the key
+pub joined_set : (q : QueryData) (key : List Value) (es : Map) (i : ℕ) (before p : Partition) → AllJoined q es → IsFirst (λ k. same_key key k.items) es i → slice_get (values_of es) i ≡ Some before → Joined q p
+    → ((k : List Value) → same_key key k ≡ true → IsOfKey q k before.feed.rows → IsOfKey q k p.feed.rows) → AllJoined q (set_value_at es i p)
+joined_set q key [] i before p a first there j keeps = a
+joined_set q key (e ∷ es) zero before p a first there j keeps =
+    let s : e.1 ≡ before = cc in
+    (record { joined = j; of_key = keeps e.0.items first (subst (λ (z : Partition). IsOfKey q e.0.items z.feed.rows) s a.0.of_key) }, a.1)
+joined_set q key (e ∷ es) (suc i) before p a first there j keeps = (a.0, joined_set q key es i before p a.1 first.1 there j keeps)
 
-pub joined_insert : (q : QueryData) (key : Vec Value Global) (p : Partition) (es : Map) → AllJoined q es → Joined q p → AllJoined q (insert_entry (λ j k. same_key j.items k.items) es key p)
-joined_insert q key p [] a j = (j, tt)
-joined_insert q key p (e ∷ es) a j = go (same_key key.items e.0.items) (joined_insert q key p es a.1 j)
+-- one partition more, of a key that had none
+pub joined_insert : (q : QueryData) (key : Vec Value Global) (p : Partition) (es : Map) → AllJoined q es → is_some (lookup (λ k. same_key key.items k.items) es) ≡ false → IsPartition q key.items p
+    → AllJoined q (insert_entry (λ j k. same_key j.items k.items) es key p)
+joined_insert q key p [] a none j = (j, tt)
+joined_insert q key p (e ∷ es) a none j = go (same_key key.items e.0.items) none (joined_insert q key p es a.1)
   where
-    go : (b : Bool) → AllJoined q (insert_entry (λ j k. same_key j.items k.items) es key p) → AllJoined q (cond b ((e.0, p) ∷ es) (e ∷ insert_entry (λ j k. same_key j.items k.items) es key p))
-    go true h = (j, a.1)
-    go false h = (a.0, h)
+    go : (b : Bool) → is_some (cond b (Some e.1) (lookup (λ k. same_key key.items k.items) es)) ≡ false
+        → (is_some (lookup (λ k. same_key key.items k.items) es) ≡ false → IsPartition q key.items p → AllJoined q (insert_entry (λ j k. same_key j.items k.items) es key p))
+        → AllJoined q (cond b ((e.0, p) ∷ es) (e ∷ insert_entry (λ j k. same_key j.items k.items) es key p))
+    go true h later = absurd (cc)
+    go false h later = (a.0, later h j)
 
 -- no partition has more turns left than all starts of its known rows take
 pub all_bounded : LeftIsBounded → (q : QueryData) (es : Map) → AllJoined q es → AreBounded q (entries_by held_of es) (entries_by (work_of q) es)
 all_bounded bounded q [] a = tt
-all_bounded bounded q (e ∷ es) a = (one a.0, all_bounded bounded q es a.1)
+all_bounded bounded q (e ∷ es) a = (one a.0.joined, all_bounded bounded q es a.1)
   where
     one : Joined q e.1 → IsBounded q (held_of e.1) (work_of q e.1)
     one j =
         let b = bounded q (known_by e.1.feed) e.1.walker j.stands in
         record { left = subst (λ n. (work_of q e.1).left ≤ all_turns n (end_of e.1.feed) (form_of q.pattern)) (known_count e.1.feed j.feed.ordered.least) b }
 
+-- keys are the same where their values are equal
+abbrev pub SameKeys : Type 0
+SameKeys = (left right : List Value) → (same_key left right ≡ true) ↔ (left ≡ right)
+
 -- ---- a packet
 
-module _ (q : QueryData) (packet : Packet) (key : Vec Value Global) where
+module _ (exact : SameKeys) (keys : KeysFit) (q : QueryData) (packet : Packet) (key : Vec Value Global) where
   abbrev same : Vec Value Global → Bool
   same k = same_key key.items k.items
 
@@ -89,7 +103,9 @@ module _ (q : QueryData) (packet : Packet) (key : Vec Value Global) where
       let work : entry_at (entries_by (work_of q) es) key.items ≡ Some (work_of q p) = at_is (work_of q) key.items es p there in
       record {
         answer = t.taken.answer ∙ ap (λ o. feed_answer (or_fresh o).feed packet) (sym held);
-        joined = subst (AllJoined q) (sym t.now) (joined_set q es i t.later all t.taken.joined);
+        joined = λ fits is. subst (AllJoined q) (sym t.now)
+            (joined_set q key.items es i p t.later all f.first t.there t.taken.joined
+            (λ k sought of. packet_keeps q packet k p.feed t.later.feed result fits (sym ((exact key.items k).0 sought) ∙ is) t.taken.feed of));
         taken = λ is.
             (let feed : t.later.feed ≡ fed_with packet p.feed = t.taken.feed ∙ ap (λ r. after r (fed_with packet p.feed) p.feed) is in
             let now : held_of t.later ≡ with_fed (or_fresh (entry_at (entries_by held_of es) key.items)) (fed_with packet (or_fresh (entry_at (entries_by held_of es) key.items)).feed) =
@@ -117,9 +133,12 @@ module _ (q : QueryData) (packet : Packet) (key : Vec Value Global) where
 
   -- of a partition that is new
   module _ (es new : Map) where
-    added_joined : (result : Answer) → AllJoined q es → OnOk result (IsAdded q packet es key new result) → OnErr result (new ≡ es) → AllJoined q new
-    added_joined (Ok t) all a r = subst (AllJoined q) (sym a.now) (joined_insert q key a.later es all a.joined)
-    added_joined (Err e) all a r = subst (AllJoined q) (sym r) all
+    added_joined : (result : Answer) → AllJoined q es → is_some (lookup same es) ≡ false → OnOk result (IsAdded q packet es key new result) → OnErr result (new ≡ es) → packet_fault q packet ≡ None → key.items ≡ packet_key q packet → AllJoined q new
+    added_joined (Ok t) all none a r fits is =
+        let feed : a.later.feed ≡ fed_with packet (fed_from 1) = ap (λ (h : Held). h.feed) a.held in
+        let of : IsOfKey q key.items a.later.feed.rows = subst (λ (f : Fed). IsOfKey q key.items f.rows) (sym feed) (packet_begins keys q packet key.items fits is) in
+        subst (AllJoined q) (sym a.now) (joined_insert q key a.later es all none (record { joined = a.joined; of_key = of }))
+    added_joined (Err e) all none a r fits is = subst (AllJoined q) (sym r) all
 
     added_kept : (result : Answer) → result ≢ Ok New → OnOk result (IsAdded q packet es key new result) → OnErr result (new ≡ es) → new ≡ es
     added_kept (Ok t) differs a r = absurd (differs a.is)
@@ -135,7 +154,7 @@ module _ (q : QueryData) (packet : Packet) (key : Vec Value Global) where
         let work : entry_at (entries_by (work_of q) es) key.items ≡ None = at_none (work_of q) key.items es none in
         record {
           answer = t.answer ∙ ap (λ o. feed_answer (or_fresh o).feed packet) (sym held);
-          joined = added_joined result all t.added t.refused;
+          joined = added_joined result all none t.added t.refused;
           taken = λ is.
               (let a = added_when result is t.added in
               record {
@@ -257,7 +276,7 @@ module _ (q : QueryData) (key : List Value) (es new : Map) (i : ℕ) (all : AllJ
   work_after = ap (λ es'. or_no_work (entry_at es' key)) work_set ∙ ap or_no_work (entry_there key (work_of q t.later) (entries_by (work_of q) es) itself)
 
   pub poll_joined : AllJoined q new
-  poll_joined = subst (AllJoined q) (sym t.now) (joined_set q es i t.later all t.joined)
+  poll_joined = subst (AllJoined q) (sym t.now) (joined_set q key es i t.before t.later all first t.there t.joined (λ k sought. t.keeps k))
 
   polled_told : (r : Result Poll AllocError) → PolledTo q (held_of t.before) (held_of t.later) r → PolledAt (node_by q es) (node_by q new) key (told_poll r)
   polled_told r p = record {

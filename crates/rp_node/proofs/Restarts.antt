@@ -10,7 +10,7 @@ use Rattle.rp_query.specs.declared.query.QueryData.{QueryData}
 use Rattle.rp_checkpoint.specs.declared.node_data.PartitionData.{PartitionData}
 use Rattle.rp_schedules.specs.Records.{Held}
 use Rattle.rp_node.specs.declared.partition.Partition.{Partition}
-use Rattle.rp_node.specs.Joined.{held_of}
+use Rattle.rp_node.specs.Joined.{IsPartition, held_of}
 use Rattle.rp_node.specs.NodeSeen.{Map, MapOf, AllJoined, entries_by, same_key, entry_at, with_entry}
 use Rattle.rp_node.specs.Resuming.{is_restorable, Resumed}
 use Rattle.rp_node.specs.Restarting.{is_next, RestoredOne}
@@ -42,5 +42,6 @@ one_restored q es new p sought key part e h k r all now =
     (
       ap (λ b. b && not (is_some (entry_at (entries_by held_of es) p.key))) r.0 ∙ ap not (there q es p sought false e h),
       ap (entries_by held_of) now ∙ insert_is held_of key part es ∙ ap (λ (z : List Value). with_entry z (held_of part) (entries_by held_of es)) k ∙ ap (λ (z : Held). with_entry p.key z (entries_by held_of es)) r.1,
-      subst (AllJoined q) (sym now) (joined_insert q key part es all r.2),
+      subst (AllJoined q) (sym now)
+      (joined_insert q key part es all (subst (λ (z : List Value). is_some (lookup (λ j. same_key z j.items) es) ≡ false) (e ∙ sym k) h) (subst (λ (z : List Value). IsPartition q z part) (sym k) r.2)),
     )

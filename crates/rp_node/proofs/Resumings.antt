@@ -1,14 +1,19 @@
 -- A partition that goes on from what was kept of it.
-use Rattle.std.proofs.Common.{◌≡◌, ℕ, ◌+◌, ◌<◌, ◌≤◌, Bool, true, false, cond, ◌&&◌, ◌||◌, List, [], ◌∷◌, ◌++◌, append_assoc, map, Option, Some, None, refl, sym, ap, ◌∙◌, subst, arith}
-use Rattle.std.specs.Prelude.{nat_lt, nat_le, ⊤}
+use Rattle.std.proofs.Common.{◌≡◌, ℕ, ◌+◌, ◌<◌, ◌≤◌, Bool, true, false, cond, not, ◌&&◌, ◌||◌, List, [], ◌∷◌, ◌++◌, map, Option, Some, None, refl, sym, ap, ◌∙◌, subst, arith}
+use Rattle.std.specs.Prelude.{nat_lt, nat_le, is_some, ⊤}
 use Rattle.std.specs.Cmp.Lexicographic.{pointwise}
 use Rattle.std.proofs.lemmas.Bool.Decides.{nat_tests}
 use Rattle.rp_value.specs.declared.value.Value.{Value}
 use Rattle.rp_value.specs.contracts.value.ValuePartialEq.TheImpl.{eq-value}
+use Rattle.rp_value.specs.declared.row.RowFault.{RowFault}
+use Rattle.rp_value.specs.Rows.{row_fault}
+use Rattle.rp_value.specs.Tables.{kinds_of}
 use Rattle.rp_query.specs.declared.query.QueryData.{QueryData}
+use Rattle.rp_query.specs.Keys.{key_kinds, key_of}
 use Rattle.rp_feed.specs.Limits.{greatest_number}
-use Rattle.rp_feed.specs.Fed.{Fed, Numbered, IsFeed, fed_from, front_of, with_row, with_taken, with_close}
-use Rattle.rp_feed.specs.Answers.{row_answer, close_answer}
+use Rattle.rp_feed.specs.Fed.{Fed, AscendFrom, IsFeed, front_of}
+use Rattle.rp_feed.specs.Again.{AgainIsTheSame, fed_again}
+use Rattle.rp_known.specs.Known.{count}
 use Rattle.rp_known.specs.Plans.{first_read}
 use Rattle.rp_walker.specs.declared.record.MatcherState.{MatcherState}
 use Rattle.rp_walker.specs.declared.walker.Walker.{Walker}
@@ -16,85 +21,54 @@ use Rattle.rp_walker.specs.Walking.{record_of, Stands, CanGoOn}
 use Rattle.rp_checkpoint.specs.HeldRows.{is_above, ascend_above, ascend}
 use Rattle.rp_checkpoint.specs.declared.node_data.HeldRow.{HeldRow}
 use Rattle.rp_checkpoint.specs.declared.node_data.PartitionData.{PartitionData}
-use Rattle.rp_node.specs.PartRows.{known_by}
-use Rattle.rp_node.specs.Joined.{Joined, held_of}
-use Rattle.rp_node.specs.Resuming.{numbered, state_in, fed_in, held_in, is_new, take_all, close_with, close_after, feed_in, has_kinds, fits_all, has_place, restorable_over, is_restorable}
+use Rattle.rp_walker.specs.Records.{StandsInRows}
+use Rattle.rp_node.specs.PartRows.{known_by, known_count}
+use Rattle.rp_node.specs.Joined.{IsPartition, RowsHaveKey, held_of}
+use Rattle.rp_node.specs.NodeSeen.{same_key}
+use Rattle.rp_node.specs.Resuming.{numbered, state_in, fed_in, held_in, feed_in, has_kinds, fits_table, fits_all, has_place, restorable_over, is_restorable}
+use Rattle.rp_node.proofs.Nodes.{SameKeys}
 
 both : (a b : Bool) → a && b ≡ true → (a ≡ true) × (b ≡ true)
 both true b h = (refl, h)
 both false b h = absurd (cc)
 
--- ---- rows that ascend are taken at the end
+-- ---- the feed
 
-abbrev Below : ℕ → List Numbered → Type 0
-Below n [] = ⊤
-Below n ((m, row) ∷ rows) = (m < n) × Below n rows
+least : Option ℕ → ℕ
+least None = 0
+least (Some m) = m + 1
 
-with_last : (n : ℕ) (row : List Value) (acc : List Numbered) → Below n acc → with_row n row acc ≡ acc ++ (n, row) ∷ []
-with_last n row [] b = refl
-with_last n row ((m, other) ∷ acc) b =
-    let l = b.0 in
-    let t : nat_lt n m ≡ false = grind (arith, nat_tests) in
-    ap (λ z. cond z ((n, row) ∷ ((m, other) ∷ acc)) ((m, other) ∷ with_row n row acc)) t ∙ ap (λ z. (m, other) ∷ z) (with_last n row acc b.1)
-
-below_wide : (n k : ℕ) (acc : List Numbered) → n ≤ k → Below n acc → Below k acc
-below_wide n k [] l b = tt
-below_wide n k ((m, row) ∷ acc) l b = let i = b.0 in let j : m < k = omega (arith, i, l) in (j, below_wide n k acc l b.1)
-
-below_more : (n k : ℕ) (row : List Value) (acc : List Numbered) → n < k → Below n acc → Below k (acc ++ (n, row) ∷ [])
-below_more n k row [] l b = (l, tt)
-below_more n k row ((m, other) ∷ acc) l b = let i = b.0 in let j : m < k = omega (arith, i, l) in (j, below_more n k row acc l b.1)
-
-abbrev Before : Option ℕ → List Numbered → Type 0
-Before None acc = acc ≡ []
-Before (Some m) acc = Below (m + 1) acc
-
-below_next : (o : Option ℕ) (n : ℕ) (acc : List Numbered) → is_above o n ≡ true → Before o acc → Below n acc
-below_next None n acc a b = subst (λ (z : List Numbered). Below n z) (sym b) tt
-below_next (Some m) n acc a b = let l : m + 1 ≤ n = grind (arith, nat_tests) in below_wide (m + 1) n acc l b
-
-abbrev so_far : ℕ → List Numbered → Fed
-so_far first rows = record { first = first; rows = rows; closed = None }
-
-nil_right : (xs : List Numbered) → xs ++ [] ≡ xs
-nil_right [] = refl
-nil_right (x ∷ xs) = ap (λ z. x ∷ z) (nil_right xs)
-
-all_taken : (o : Option ℕ) (rs : List HeldRow) (acc : List Numbered) (first : ℕ) (fed : Fed) → Before o acc → ascend_above o rs ≡ true → take_all (so_far first acc) rs ≡ Some fed → fed ≡ so_far first (acc ++ map numbered rs)
-all_taken o [] acc first fed b a e = let i : so_far first acc ≡ fed = cc in sym i ∙ ap (so_far first) (sym (nil_right acc))
-all_taken o (r ∷ rs) acc first fed b a e =
+-- rows that ascend by their numbers, the first from this one on
+ascend_from : (o : Option ℕ) (rs : List HeldRow) → ascend_above o rs ≡ true → AscendFrom (least o) (map numbered rs)
+ascend_from o [] a = tt
+ascend_from o (r ∷ rs) a =
     let up = both (is_above o r.number) (ascend_above (Some r.number) rs) a in
-    let below = below_next o r.number acc up.0 b in
-    go (is_new (row_answer (pointwise eq-value.it) (so_far first acc) r.number r.cells)) e below up.1 (λ acc'. all_taken (Some r.number) rs acc' first fed)
+    (low o r.number up.0, ascend_from (Some r.number) rs up.1)
   where
-    go : (new : Bool) → cond new (take_all (with_taken r.number r.cells (so_far first acc)) rs) None ≡ Some fed → Below r.number acc → ascend_above (Some r.number) rs ≡ true
-        → ((acc' : List Numbered) → Below (r.number + 1) acc' → ascend_above (Some r.number) rs ≡ true → take_all (so_far first acc') rs ≡ Some fed → fed ≡ so_far first (acc' ++ map numbered rs))
-        → fed ≡ so_far first (acc ++ (numbered r ∷ map numbered rs))
-    go false h below up later = absurd (cc)
-    go true h below up later =
-        later (acc ++ numbered r ∷ []) (below_more r.number (r.number + 1) r.cells acc (omega arith) below) up
-        (subst (λ (z : List Numbered). take_all (so_far first z) rs ≡ Some fed) (with_last r.number r.cells acc below) h)
-        ∙ ap (so_far first) (append_assoc acc (numbered r ∷ []) (map numbered rs))
+    low : (p : Option ℕ) (n : ℕ) → is_above p n ≡ true → least p ≤ n
+    low None n h = omega arith
+    low (Some m) n h = grind (arith, nat_tests)
 
 -- the feed holds the rows and the close that were kept
-fed_same : (p : PartitionData) (fed : Fed) → ascend p.rows ≡ true → feed_in p ≡ Some fed → fed ≡ fed_in p
-fed_same p fed up e = go (nat_lt p.first 1 || nat_lt (greatest_number + 1) p.first) e
+fed_same : AgainIsTheSame → (p : PartitionData) (fed : Fed) → ascend p.rows ≡ true → feed_in p ≡ Some fed → fed ≡ fed_in p
+fed_same same p fed up e = go (nat_lt p.first 1 || nat_lt (greatest_number + 1) p.first) e
   where
-    closed : (close : Option ℕ) (g : Fed) → g ≡ so_far p.first (map numbered p.rows) → close_with close g ≡ Some fed → fed ≡ record { first = p.first; rows = map numbered p.rows; closed = close }
-    closed None g same h = let i : g ≡ fed = cc in sym i ∙ same
-    closed (Some count) g same h = by (is_new (close_answer g count)) h
-      where
-        by : (b : Bool) → cond b (Some (with_close count g)) None ≡ Some fed → fed ≡ record { first = p.first; rows = map numbered p.rows; closed = Some count }
-        by false k = absurd (cc)
-        by true k = let i : with_close count g ≡ fed = cc in sym i ∙ ap (λ (f : Fed). with_close count f) same
-
-    taken : (o : Option Fed) → take_all (fed_from p.first) p.rows ≡ o → close_after p.close o ≡ Some fed → fed ≡ fed_in p
-    taken None t h = absurd (cc)
-    taken (Some g) t h = closed p.close g (all_taken None p.rows [] p.first g refl up t) h
-
-    go : (b : Bool) → cond b None (close_after p.close (take_all (fed_from p.first) p.rows)) ≡ Some fed → fed ≡ fed_in p
+    go : (b : Bool) → cond b None (fed_again (pointwise eq-value.it) p.first (map numbered p.rows) p.close) ≡ Some fed → fed ≡ fed_in p
     go true h = absurd (cc)
-    go false h = taken (take_all (fed_from p.first) p.rows) refl h
+    go false h = same (pointwise eq-value.it) p.first (map numbered p.rows) p.close fed (ascend_from None p.rows up) h
+
+-- ---- the key
+
+no_fault : (o : Option RowFault) → not (is_some o) ≡ true → o ≡ None
+no_fault None h = refl
+no_fault (Some f) h = absurd (cc)
+
+pub rows_have_key : SameKeys → (q : QueryData) (key : List Value) (rs : List HeldRow) → fits_all q key rs ≡ true → RowsHaveKey q key (map numbered rs)
+rows_have_key exact q key [] h = tt
+rows_have_key exact q key (r ∷ rs) h =
+    let a = both (fits_table q key r) (fits_all q key rs) h in
+    let b = both (not (is_some (row_fault (kinds_of q.table) r.cells))) (same_key (key_of q r.cells) key) a.0 in
+    (no_fault (row_fault (kinds_of q.table) r.cells) b.0, (exact (key_of q r.cells) key).0 b.1, rows_have_key exact q key rs a.1)
 
 -- ---- the walk goes on
 
@@ -115,17 +89,40 @@ can_go_on q front p h =
         let z : p.first ≤ first_read q p.at = (let t = c.1 in grind (arith, nat_tests)) in
         (x, y, z)
 
-pub resumed : (q : QueryData) (p : PartitionData) (fed : Fed) (w : Walker) → feed_in p ≡ Some fed → ascend p.rows ≡ true → has_kinds q p ≡ true → has_place q (front_of fed) p ≡ true → fits_all q p.key p.rows ≡ true
+-- what is covered is known, and the walk stands in the rows
+stands_in : (q : QueryData) (fed : Fed) (p : PartitionData) → 1 ≤ fed.first → has_place q (front_of fed) p ≡ true → StandsInRows (known_by fed) (state_in p)
+stands_in q fed p one h =
+    let n = known_count fed one in
+    let a = both (nat_le p.here p.given) (nat_le p.covered (front_of fed) && (p.over || (nat_le 1 p.at && (nat_le p.at (front_of fed + 1) && (nat_lt p.matches p.at && nat_le p.first (first_read q p.at)))))) h in
+    let b = both (nat_le p.covered (front_of fed)) (p.over || (nat_le 1 p.at && (nat_le p.at (front_of fed + 1) && (nat_lt p.matches p.at && nat_le p.first (first_read q p.at))))) a.1 in
+    let c : p.covered ≤ front_of fed = (let t = b.0 in grind (arith, nat_tests)) in
+    (omega (arith, c, n), λ going. walks n (ap (λ o. o || (nat_le 1 p.at && (nat_le p.at (front_of fed + 1) && (nat_lt p.matches p.at && nat_le p.first (first_read q p.at))))) (sym going) ∙ b.1))
+  where
+    walks : count (known_by fed) ≡ front_of fed → (nat_le 1 p.at && (nat_le p.at (front_of fed + 1) && (nat_lt p.matches p.at && nat_le p.first (first_read q p.at)))) ≡ true → p.at ≤ count (known_by fed) + 1
+    walks n h =
+        let a = both (nat_le 1 p.at) (nat_le p.at (front_of fed + 1) && (nat_lt p.matches p.at && nat_le p.first (first_read q p.at))) h in
+        let b = both (nat_le p.at (front_of fed + 1)) (nat_lt p.matches p.at && nat_le p.first (first_read q p.at)) a.1 in
+        let x : p.at ≤ front_of fed + 1 = (let t = b.0 in grind (arith, nat_tests)) in
+        omega (arith, x, n)
+
+pub resumed : AgainIsTheSame → SameKeys → (q : QueryData) (p : PartitionData) (fed : Fed) (w : Walker) → feed_in p ≡ Some fed → ascend p.rows ≡ true → has_kinds q p ≡ true → has_place q (front_of fed) p ≡ true → fits_all q p.key p.rows ≡ true
     → IsFeed fed → record_of w ≡ state_in p → (CanGoOn q (state_in p) → Stands q (known_by fed) w)
-    → (is_restorable q p ≡ true) × (held_of (record { feed = fed; walker = w }) ≡ held_in p) × Joined q (record { feed = fed; walker = w })
-resumed q p fed w is up kinds place fits feed state stands =
-    let same = fed_same p fed up is in
+    → (is_restorable q p ≡ true) × (held_of (record { feed = fed; walker = w }) ≡ held_in p) × IsPartition q p.key (record { feed = fed; walker = w })
+resumed again exact q p fed w is up kinds place fits feed state stands =
+    let same = fed_same again p fed up is in
     (
       ap (restorable_over q p) is ∙ rw (kinds, place, fits) refl,
       λ i. record { feed = same i; state = state i },
       record {
-        feed = feed;
-        stands = stands (can_go_on q (front_of fed) p place);
-        first = ap (λ (r : MatcherState). r.first) state ∙ ap (λ (f : Fed). f.first) (sym same);
+        joined = record {
+          feed = feed;
+          stands = stands (can_go_on q (front_of fed) p place);
+          first = ap (λ (r : MatcherState). r.first) state ∙ ap (λ (f : Fed). f.first) (sym same);
+          in_rows = subst (StandsInRows (known_by fed)) (sym state) (stands_in q fed p feed.ordered.least place);
+        };
+        of_key = record {
+          kinds = no_fault (row_fault (key_kinds q) p.key) kinds;
+          have = subst (λ (f : Fed). RowsHaveKey q p.key f.rows) (sym same) (rows_have_key exact q p.key p.rows fits);
+        };
       },
     )

@@ -9,7 +9,7 @@ use Rattle.rp_feed.specs.Fed.{Fed, IsOrdered, IsFeed, with_taken, with_close}
 use Rattle.rp_feed.specs.Answers.{Answer, IsDue, IsDueClose, after, memory_aside, close_answer, closed_answer, has_above}
 use Rattle.rp_query.specs.declared.query.QueryData.{QueryData}
 use Rattle.rp_query.specs.Sound.{IsSound}
-use Rattle.rp_known.specs.Known.{GoesOnFrom}
+use Rattle.rp_known.specs.WalkLaws.{GoesOnFrom}
 use Rattle.rp_known.specs.Plans.{first_read}
 use Rattle.rp_walker.specs.Walking.{record_of, StandsStays, StandsCanGoOn}
 use Rattle.rp_node.specs.declared.partition.Partition.{Partition}
@@ -49,6 +49,7 @@ joined_later stays can q sound p new j is later = record {
         (subst (λ n. n ≤ first_read q (record_of p.walker).at) j.first ((can q (known_by p.feed) p.walker j.stands).going going).2) later.goes)
       j.stands;
   first = j.first ∙ sym later.first;
+  in_rows = (omega (arith, j.in_rows.0, later.goes.later.0), λ going. omega (arith, j.in_rows.1 going, later.goes.later.0));
 }
 
 -- a close takes no memory

@@ -1,16 +1,14 @@
 -- What a node answers to a packet, and what the packet leaves behind.
-use Rattle.std.specs.Prelude.{◌≡◌, ℕ, ◌-◌, slice_get, List, map, Option, None, Some, Result, Ok, Err}
+use Rattle.std.specs.Prelude.{◌≡◌, ℕ, List, Option, Result, Ok, Err}
 use Rattle.std.specs.Option.{option_map_or}
 use Rattle.std.specs.Cmp.Lexicographic.{pointwise}
-use Rattle.rp_value.specs.declared.value.Kind.{Kind}
-use Rattle.rp_value.specs.declared.value.Kind.TheVariants.{Int as IntKind}
 use Rattle.rp_value.specs.declared.value.Value.{Value}
 use Rattle.rp_value.specs.declared.row.RowFault.{RowFault}
-use Rattle.rp_value.specs.declared.table.Column.{Column}
 use Rattle.rp_value.specs.contracts.value.ValuePartialEq.TheImpl.{eq-value}
-use Rattle.rp_value.specs.Rows.{row_fault, cell_at}
+use Rattle.rp_value.specs.Rows.{row_fault}
 use Rattle.rp_value.specs.Tables.{kinds_of}
 use Rattle.rp_query.specs.declared.query.QueryData.{QueryData}
+use Rattle.rp_query.specs.Keys.{key_kinds, key_of}
 use Rattle.rp_feed.specs.declared.answer.Taken.{Taken}
 use Rattle.rp_feed.specs.declared.answer.FeedFault.{FeedFault}
 use Rattle.rp_feed.specs.declared.answer.FeedFault.TheVariants as feed
@@ -18,29 +16,12 @@ use Rattle.rp_feed.specs.Fed.{Fed, with_taken, with_close}
 use Rattle.rp_feed.specs.Answers.{Answer, row_answer, close_answer}
 use Rattle.rp_feed.specs.declared.packet.Packet.{Packet}
 use Rattle.rp_feed.specs.declared.packet.Packet.TheVariants.{Row, Close}
-use Rattle.rp_eval.specs.Partition.{or_null}
 use Rattle.rp_schedules.specs.Records.{Held, with_fed, or_fresh}
 use Rattle.rp_node.specs.declared.fault.NodeFault.{NodeFault}
 use Rattle.rp_node.specs.declared.fault.NodeFault.TheVariants as node
 use Rattle.rp_node.specs.NodeSeen.{NodeSeen, entry_at, with_entry, work_at}
 
 -- ---- the key of a packet
-
--- the cells of a row in the columns of PARTITION BY
-abbrev pub key_of : QueryData → List Value → List Value
-key_of q cells = map (λ column. or_null (cell_at cells column)) q.partition.items
-
-abbrev kind_or : Option Column → Kind
-kind_or None = IntKind
-kind_or (Some c) = c.kind
-
--- the kind of a column, from 1
-abbrev pub kind_at : List Column → ℕ → Kind
-kind_at columns column = kind_or (slice_get columns (column - 1))
-
--- the kinds of the columns of PARTITION BY
-abbrev pub key_kinds : QueryData → List Kind
-key_kinds q = map (kind_at q.table) q.partition.items
 
 abbrev pub packet_key : QueryData → Packet → List Value
 packet_key q (Row number cells) = key_of q cells

@@ -17,7 +17,7 @@ use Rattle.rp_walker.specs.contracts.record.MatcherState.{the_row as state_row}
 use Rattle.rp_schedules.specs.Records.{Held}
 use Rattle.rp_node.specs.declared.partition.Partition.{Partition}
 use Rattle.rp_node.specs.PartRows.{end_of}
-use Rattle.rp_node.specs.Joined.{Joined, Work, held_of, work_of}
+use Rattle.rp_node.specs.Joined.{IsPartition, Work, held_of, work_of}
 
 -- something of each key, in order of first arrival
 abbrev pub Entries : Type 0 → Type 0
@@ -84,7 +84,7 @@ node_by q es = record { query = q; records = entries_by held_of es; work = entri
 
 abbrev pub AllJoined : QueryData → Map → Type 0
 AllJoined q [] = ⊤
-AllJoined q (e ∷ es) = Joined q e.1 × AllJoined q es
+AllJoined q (e ∷ es) = IsPartition q e.0.items e.1 × AllJoined q es
 
 -- ---- the turns that are left
 

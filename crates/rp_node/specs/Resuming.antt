@@ -6,19 +6,18 @@ use Rattle.rp_value.specs.contracts.value.ValuePartialEq.TheImpl.{eq-value}
 use Rattle.rp_value.specs.Rows.{row_fault}
 use Rattle.rp_value.specs.Tables.{kinds_of}
 use Rattle.rp_query.specs.declared.query.QueryData.{QueryData}
-use Rattle.rp_feed.specs.declared.answer.Taken.TheVariants.{New}
+use Rattle.rp_query.specs.Keys.{key_kinds, key_of}
 use Rattle.rp_feed.specs.Limits.{greatest_number}
-use Rattle.rp_feed.specs.Fed.{Fed, Numbered, fed_from, front_of, with_taken, with_close}
-use Rattle.rp_feed.specs.Answers.{Answer, row_answer, close_answer}
+use Rattle.rp_feed.specs.Fed.{Fed, Numbered, front_of}
+use Rattle.rp_feed.specs.Again.{fed_again}
 use Rattle.rp_known.specs.Plans.{first_read}
 use Rattle.rp_walker.specs.declared.record.MatcherState.{MatcherState}
 use Rattle.rp_checkpoint.specs.declared.node_data.HeldRow.{HeldRow}
 use Rattle.rp_checkpoint.specs.declared.node_data.PartitionData.{PartitionData}
 use Rattle.rp_schedules.specs.Records.{Held}
 use Rattle.rp_node.specs.declared.partition.Partition.{Partition}
-use Rattle.rp_node.specs.Joined.{Joined, held_of}
+use Rattle.rp_node.specs.Joined.{IsPartition, held_of}
 use Rattle.rp_node.specs.NodeSeen.{same_key}
-use Rattle.rp_node.specs.Accepting.{key_of, key_kinds}
 
 -- ---- the record in what was kept
 
@@ -36,28 +35,12 @@ held_in p = record { feed = fed_in p; state = state_in p }
 
 -- ---- the rows and the close
 
-abbrev pub is_new : Answer → Bool
-is_new (Ok New) = true
-is_new other = false
-
--- what a feed holds once it has taken all rows, if each is new
-abbrev pub take_all : Fed → List HeldRow → Option Fed
-take_all fed [] = Some fed
-take_all fed (r ∷ rs) = if is_new (row_answer (pointwise eq-value.it) fed r.number r.cells) then take_all (with_taken r.number r.cells fed) rs else None
-
--- and then the close, if there is one
-abbrev pub close_with : Option ℕ → Fed → Option Fed
-close_with None fed = Some fed
-close_with (Some count) fed = if is_new (close_answer fed count) then Some (with_close count fed) else None
-
-abbrev pub close_after : Option ℕ → Option Fed → Option Fed
-close_after close None = None
-close_after close (Some fed) = close_with close fed
-
 -- A feed that has dropped the rows below the first takes each row and the close as new: so numbers are from the first on, in range,
 -- not too far above the front and not above the close.
 abbrev pub feed_in : PartitionData → Option Fed
-feed_in p = if nat_lt p.first 1 || nat_lt (greatest_number + 1) p.first then None else close_after p.close (take_all (fed_from p.first) p.rows)
+feed_in p =
+    if nat_lt p.first 1 || nat_lt (greatest_number + 1) p.first then None
+    else fed_again (pointwise eq-value.it) p.first (map numbered p.rows) p.close
 
 -- ---- the key, the rows' cells, and the place of the walk
 
@@ -90,4 +73,4 @@ is_restorable q p = restorable_over q p (feed_in p)
 -- The partition goes on from its record; it is none where a node may not go on from it.
 abbrev pub Resumed : QueryData → PartitionData → Option Partition → Type 0
 Resumed q p None = is_restorable q p ≡ false
-Resumed q p (Some part) = (is_restorable q p ≡ true) × (held_of part ≡ held_in p) × Joined q part
+Resumed q p (Some part) = (is_restorable q p ≡ true) × (held_of part ≡ held_in p) × IsPartition q p.key part

@@ -1,5 +1,5 @@
 -- What the inner calls for a packet do to a node's map.
-use Rattle.std.specs.Prelude.{◌≡◌, ◌≢◌, ◌≤◌, ℕ, List, Result, Ok, Some, OnOk, OnErr, IfOk, slice_get}
+use Rattle.std.specs.Prelude.{◌≡◌, ◌≢◌, ◌≤◌, ℕ, List, Result, Ok, None, Some, OnOk, OnErr, IfOk, slice_get}
 use Rattle.std.specs.Map.{values_of}
 use Rattle.std.specs.declared.vec.Vec.{Vec}
 use Rattle.std.specs.declared.alloc.Global.{Global}
@@ -8,7 +8,7 @@ use Rattle.indexmap.specs.IndexMap.{insert_entry, set_value_at}
 use Rattle.rp_value.specs.declared.value.Value.{Value}
 use Rattle.rp_query.specs.declared.query.QueryData.{QueryData}
 use Rattle.rp_feed.specs.declared.answer.Taken.TheVariants.{New}
-use Rattle.rp_feed.specs.Fed.{fed_from}
+use Rattle.rp_feed.specs.Fed.{Numbered, fed_from}
 use Rattle.rp_feed.specs.Answers.{Answer, after, memory_aside}
 use Rattle.rp_feed.specs.declared.packet.Packet.{Packet}
 use Rattle.rp_walker.specs.declared.poll.Poll.{Poll}
@@ -16,10 +16,14 @@ use Rattle.rp_walker.specs.declared.poll.Poll.TheVariants.{Paused as PausedPoll}
 use Rattle.rp_walker.specs.Polls.{entered_by, PollLowers, PollTakes, TurnsAreCounted}
 use Rattle.rp_schedules.specs.Records.{fresh, with_fed, or_fresh}
 use Rattle.rp_node.specs.declared.partition.Partition.{Partition}
-use Rattle.rp_node.specs.Joined.{Joined, held_of, work_of}
+use Rattle.rp_node.specs.Joined.{Joined, IsOfKey, held_of, work_of}
 use Rattle.rp_node.specs.NodeSeen.{Map, AllJoined, entries_by, same_key, entry_at, with_entry, or_no_work}
-use Rattle.rp_node.specs.Accepting.{feed_answer, fed_with}
+use Rattle.rp_node.specs.Accepting.{feed_answer, fed_with, packet_fault, packet_key}
 use Rattle.rp_node.specs.Polling.{HoldsNoMore, PolledTo}
+
+-- rows that have a key are left with it
+abbrev pub KeepsKey : QueryData → List Numbered → List Numbered → Type 0
+KeepsKey q before later = (key : List Value) → IsOfKey q key before → IsOfKey q key later
 
 -- a partition takes a packet
 pub record TakenBy (q : QueryData) (packet : Packet) (before later : Partition) (result : Answer) : Type 0 where
@@ -57,6 +61,7 @@ pub record PolledPlace (q : QueryData) (es : Map) (place : ℕ) (new : Map) (bud
   pub there : slice_get (values_of es) place ≡ Some before
   pub now : new ≡ set_value_at es place later
   pub joined : Joined q later
+  pub keeps : KeepsKey q before.feed.rows later.feed.rows
   pub polled : PolledTo q (held_of before) (held_of later) result
   pub lowers : IfOk result (PollLowers budget (work_of q before).left (work_of q later).left)
   pub turns : TurnsAreCounted budget steps steps' (work_of q before).entered (work_of q later).entered
@@ -75,6 +80,6 @@ pub record MapTaken (q : QueryData) (packet : Packet) (key : List Value) (es new
 -- the partition of a key takes it
 pub record MapTakes (q : QueryData) (packet : Packet) (key : List Value) (es new : Map) (result : Answer) : Type 0 where
   pub answer : memory_aside result ≡ feed_answer (or_fresh (entry_at (entries_by held_of es) key)).feed packet
-  pub joined : AllJoined q new
+  pub joined : packet_fault q packet ≡ None → key ≡ packet_key q packet → AllJoined q new
   pub taken : result ≡ Ok New → MapTaken q packet key es new
   pub unchanged : result ≢ Ok New → new ≡ es

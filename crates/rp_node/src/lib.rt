@@ -16,7 +16,6 @@
 #![tactic(auto)]
 
 mod fault;
-mod keys;
 mod node;
 mod partition;
 mod part_rows;

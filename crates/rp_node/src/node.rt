@@ -10,13 +10,12 @@ ghost use Rattle.rp_node.specs.Joined.{Joined};
 ghost use Rattle.rp_node.specs.NodeSeen.{AllBounded, AllJoined, work_at};
 ghost use Rattle.rp_node.specs.Accepting.{Accepted, packet_answer};
 ghost use Rattle.rp_node.specs.Polling.{HoldsNoMoreAt, NodePolls};
-ghost use Rattle.rp_checkpoint.specs.Checkpoints.{checkpoint, restored};
+ghost use Rattle.rp_checkpoint.specs.Checkpoints.{checkpoint};
 ghost use Rattle.rp_node.specs.Keeping.{kept_of};
 ghost use Rattle.rp_node.specs.Restarting.{IsRefused, RestartsTo};
 ghost use Rattle.rp_node.specs.Taking.{AddedAs, MapTakes, PolledPlace, TakenAt};
 
 use crate::fault::{NodeFault, RestartRefused, told, told_poll};
-use crate::keys::{key_fault, key_of, row_fault};
 use crate::partition::Partition;
 use crate::restart::restored;
 use crate::save::kept;
@@ -72,8 +71,12 @@ impl Node {
     /// What is kept of the node, as bytes that a node of the same query goes on from.
     pub fn save(&self) -> Result<Vec<u8>, AllocError>
         ensures bytes { IfOk result (λ bytes. bytes.items ≡ checkpoint (kept_of self.now)) }
-        ensures back { IfOk result (λ bytes. restored bytes.items ≡ Ok (kept_of self.now)) }
+        ensures back { IfOk result (λ bytes. RestartsTo self.now.query bytes.items self.now.records) }
     {
+        rp_feed::law_again();
+        rp_feed::law_same_rows();
+        rp_walker::law_walkers();
+        let _unique = self.partitions.len();
         let kept = kept(self.alloc, &self.query, &self.partitions)?;
         checkpoint_of(self.alloc, &kept)
     }
@@ -126,15 +129,15 @@ impl Node {
         ensures bounded { AllBounded self.new }
     {
         rp_walker::law_left();
-        if let Some(fault) = row_fault(self.query.table().columns(), row.cells()) {
+        if let Some(fault) = self.query.table().row_fault(row.cells()) {
             return Err(NodeFault::BadRow(fault));
         }
-        let key = key_of(self.alloc, &self.query, &row)?;
+        let key = self.query.key(self.alloc, &row)?;
         let answer = take_row(
             self.alloc,
             &self.query,
             &mut self.partitions,
-            key,
+            key.into_vec(),
             number,
             row,
         );
@@ -148,7 +151,7 @@ impl Node {
         ensures bounded { AllBounded self.new }
     {
         rp_walker::law_left();
-        if let Some(fault) = key_fault(&self.query, key.as_slice()) {
+        if let Some(fault) = self.query.key_fault(key.as_slice()) {
             return Err(NodeFault::BadRow(fault));
         }
         let answer = take_close(
@@ -205,6 +208,8 @@ fn take_row(
     requires joined { AllJoined (data_of query.now) partitions.old.entries }
     ensures takes { MapTakes (data_of query.now) (RowPacket number row) key.items partitions.old.entries partitions.new.entries result }
 {
+    rp_feed::law_same_rows();
+    rp_query::law_keys();
     match partitions.get_index_of(key.as_slice()) {
         Some(place) => take_row_at(query, partitions, place, number, row),
         None => add_row(alloc, query, partitions, key, number, row),
@@ -259,6 +264,8 @@ fn take_close(
     requires joined { AllJoined (data_of query.now) partitions.old.entries }
     ensures takes { MapTakes (data_of query.now) (ClosePacket key.items count) key.items partitions.old.entries partitions.new.entries result }
 {
+    rp_feed::law_same_rows();
+    rp_query::law_keys();
     match partitions.get_index_of(key.as_slice()) {
         Some(place) => take_close_at(query, partitions, place, key, count),
         None => add_close(alloc, query, partitions, key, count),

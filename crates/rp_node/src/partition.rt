@@ -10,7 +10,7 @@ ghost use Rattle.rp_walker.specs.Polls.{entered_by, PollLowers, PollTakes, Turns
 ghost use Rattle.rp_schedules.specs.Records.{fresh, Fits};
 ghost use Rattle.rp_node.specs.Joined.{Joined, held_of, work_of};
 ghost use Rattle.rp_node.specs.Polling.{HoldsNoMore, PolledTo};
-ghost use Rattle.rp_node.specs.Taking.{TakenBy};
+ghost use Rattle.rp_node.specs.Taking.{KeepsKey, TakenBy};
 
 use crate::part_rows::PartRows;
 use rp_query::Query;
@@ -93,6 +93,7 @@ impl Partition {
     ) -> Result<Poll, AllocError>
         requires joined { Joined (data_of query.now) self.old }
         ensures joined { Joined (data_of query.now) self.new }
+        ensures keeps { KeepsKey (data_of query.now) self.old.feed.rows self.new.feed.rows }
         ensures polled { PolledTo (data_of query.now) (held_of self.old) (held_of self.new) result }
         ensures lowers { IfOk result (PollLowers budget (work_of (data_of query.now) self.old).left
             (work_of (data_of query.now) self.new).left) }
@@ -119,6 +120,7 @@ impl Partition {
     fn drop_rows(&mut self, query: &Query)
         requires joined { Joined (data_of query.now) self.old }
         ensures joined { Joined (data_of query.now) self.new }
+        ensures keeps { KeepsKey (data_of query.now) self.old.feed.rows self.new.feed.rows }
         ensures state { record_of self.new.walker ≡ record (record_of self.old.walker) { first = self.new.feed.first } }
         ensures taken { (n : ℕ) → is_taken self.new.feed n ≡ is_taken self.old.feed n }
         ensures closed { self.new.feed.closed ≡ self.old.feed.closed }

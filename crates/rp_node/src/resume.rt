@@ -1,12 +1,12 @@
 //! From what was kept of a partition to the partition.
-ghost use Rattle.std.specs.Prelude.{◌≡◌, ◌≤◌, true, IfOk, Some};
+ghost use Rattle.std.specs.Prelude.{◌≡◌, ◌≤◌, true, IfOk, Some, map};
 ghost use Rattle.rp_query.specs.QueryView.{data_of};
 ghost use Rattle.rp_feed.specs.Fed.{front_of, with_taken};
 ghost use Rattle.rp_feed.specs.Limits.{greatest_number};
 ghost use Rattle.rp_feed.specs.Answers.{row_answer};
-ghost use Rattle.rp_node.specs.Resuming.{Resumed, close_with, fits_table, feed_in, fits_all, has_kinds, has_place, is_new, state_in, take_all};
+ghost use Rattle.rp_feed.specs.Again.{close_with, is_new, take_all};
+ghost use Rattle.rp_node.specs.Resuming.{Resumed, fits_table, feed_in, fits_all, has_kinds, has_place, numbered, state_in};
 
-use crate::keys::{key_fault, key_of, row_fault};
 use crate::partition::Partition;
 use rp_query::Query;
 use rp_checkpoint::{HeldRow, PartitionData};
@@ -39,6 +39,8 @@ fn resume_over(
     requires { feed_in kept.now ≡ Some feed }
     ensures { IfOk result (Resumed (data_of query.now) kept.now) }
 {
+    rp_feed::law_again();
+    rp_feed::law_same_rows();
     let _rows = kept.rows.as_slice();
     let front = feed.front();
     if !has_kinds(query, kept) || !has_place(query, kept, front) {
@@ -55,7 +57,7 @@ fn resume_over(
 fn has_kinds(query: &Query, kept: &PartitionData) -> bool
     ensures { result ≡ has_kinds (data_of query.now) kept.now }
 {
-    key_fault(query, kept.key.as_slice()).is_none()
+    query.key_fault(kept.key.as_slice()).is_none()
 }
 
 /// Whether what was given and covered is in bounds, and the walk stands in the rows while the answer goes on.
@@ -92,10 +94,10 @@ fn fits_table(
 ) -> Result<bool, AllocError>
     ensures { IfOk result (λ fits. fits ≡ fits_table (data_of query.now) kept.now.key row.now) }
 {
-    if row_fault(query.table().columns(), row.cells.cells()).is_some() {
+    if query.table().row_fault(row.cells.cells()).is_some() {
         return Ok(false);
     }
-    let key = key_of(alloc, query, &row.cells)?;
+    let key = query.key(alloc, &row.cells)?;
     Ok(key.as_slice() == kept.key.as_slice())
 }
 
@@ -130,7 +132,7 @@ fn feed_of(alloc: Global, kept: &PartitionData) -> Result<Option<Feed>, AllocErr
 
 /// The feed once it has taken all rows, if each is new.
 fn take_all(feed: Feed, rows: &[HeldRow]) -> Result<Option<Feed>, AllocError>
-    ensures { IfOk result (λ all. all ≡ take_all feed rows.now) }
+    ensures { IfOk result (λ all. all ≡ take_all ⟦<Row as PartialEq>⟧.eq feed (map numbered rows.now)) }
 {
     let mut feed = feed;
     for row in rows {

@@ -11,7 +11,7 @@ use indexmap::IndexMap;
 use rp_query::Query;
 use rp_checkpoint::{Columns, HeldRow, HeldRows, NodeData, PartitionData, Partitions};
 use rp_feed::Feed;
-use rp_value::{Cells, Column, Row, Value};
+use rp_value::{Cells, Row, Value};
 use std::alloc::{AllocError, Global};
 
 /// What is kept of a node of these partitions.
@@ -24,27 +24,14 @@ pub(crate) fn kept(
     ensures { IfOk result (λ kept. kept ≡ kept_of (node_by (data_of query.now) partitions.now.entries)) }
 {
     let clause = query.text().share()?;
-    let table = columns(alloc, query.table().columns())?;
+    let columns = query.table().to_columns(alloc)?;
+    let table = Columns::new(columns);
     let partitions = all_kept(alloc, query, partitions)?;
     Ok(NodeData {
         clause,
         table,
         partitions,
     })
-}
-
-fn columns(alloc: Global, table: &[Column]) -> Result<Columns, AllocError>
-    ensures { IfOk result (λ columns. columns ≡ table.now) }
-{
-    let mut columns = Vec::with_capacity(alloc, table.len())?;
-    for column in table {
-        let name = column.name.share()?;
-        columns.push(Column {
-            name,
-            kind: column.kind,
-        })?;
-    }
-    Ok(Columns::new(columns))
 }
 
 fn all_kept(
@@ -74,7 +61,7 @@ fn partition_kept(
 ) -> Result<PartitionData, AllocError>
     ensures { IfOk result (λ kept. kept ≡ partition_kept key.now (held_of partition.now)) }
 {
-    let key = cells(alloc, key)?;
+    let key = Cells::of(alloc, key)?;
     let rows = rows(alloc, &partition.feed)?;
     let state = partition.walker.state();
     Ok(PartitionData {
@@ -91,36 +78,21 @@ fn partition_kept(
     })
 }
 
-fn cells(alloc: Global, key: &[Value]) -> Result<Cells, AllocError>
-    ensures { IfOk result (λ cells. cells ≡ key.now) }
-{
-    let mut values = Vec::with_capacity(alloc, key.len())?;
-    for value in key {
-        values.push(value.share()?)?;
-    }
-    Ok(Cells::new(values))
-}
-
-/// The rows that a feed holds.
+/// The rows that a feed holds. Each gets one further owner.
 fn rows(alloc: Global, feed: &Feed) -> Result<HeldRows, AllocError>
     ensures { IfOk result (λ rows. rows ≡ map held_row feed.now.rows) }
 {
     let _front = feed.front();
-    let pairs = feed.rows(alloc)?;
-    let held = held_rows(alloc, pairs.as_slice())?;
-    Ok(HeldRows::new(held))
+    let rows = held_rows(alloc, feed.rows(alloc)?)?;
+    Ok(HeldRows::new(rows))
 }
 
-fn held_rows(alloc: Global, pairs: &[(u64, Row)]) -> Result<Vec<HeldRow>, AllocError>
-    ensures { IfOk result (λ rows. rows.items ≡ map held_row pairs.now) }
+fn held_rows(alloc: Global, pairs: Vec<(u64, Row)>) -> Result<Vec<HeldRow>, AllocError>
+    ensures { IfOk result (λ rows. rows.items ≡ map held_row pairs.items) }
 {
     let mut rows = Vec::with_capacity(alloc, pairs.len())?;
-    for pair in pairs {
-        let cells = pair.1.share()?;
-        rows.push(HeldRow {
-            number: pair.0,
-            cells,
-        })?;
+    for (number, cells) in pairs {
+        rows.push(HeldRow { number, cells })?;
     }
     Ok(rows)
 }

@@ -1,11 +1,12 @@
 -- The keys of partitions.
-use Rattle.std.specs.Prelude.{ℕ, ◌-◌, List, map, Option, None, Some, slice_get, unwrap_or}
+use Rattle.std.specs.Prelude.{◌≡◌, ℕ, ◌-◌, List, map, Option, None, Some, slice_get, unwrap_or}
 use Rattle.rp_value.specs.declared.table.Column.{Column}
 use Rattle.rp_value.specs.declared.value.Kind.{Kind}
 use Rattle.rp_value.specs.declared.value.Kind.TheVariants.{Int as IntKind}
 use Rattle.rp_value.specs.declared.value.Value.{Value}
 use Rattle.rp_value.specs.declared.value.Value.TheVariants.{Null}
-use Rattle.rp_value.specs.Rows.{cell_at}
+use Rattle.rp_value.specs.Rows.{cell_at, row_fault}
+use Rattle.rp_value.specs.Tables.{kinds_of}
 use Rattle.rp_query.specs.declared.query.QueryData.{QueryData}
 
 -- the value of a row in a column, from 1, and null where it has none
@@ -20,7 +21,7 @@ values_in columns row = map (λ column. value_at column row) columns
 abbrev pub key_of : QueryData → List Value → List Value
 key_of q row = values_in q.partition.items row
 
-abbrev kind_or : Option Column → Kind
+abbrev pub kind_or : Option Column → Kind
 kind_or None = IntKind
 kind_or (Some c) = c.kind
 
@@ -31,3 +32,7 @@ kind_at columns column = kind_or (slice_get columns (column - 1))
 -- the kinds of the columns of PARTITION BY, which the values of a key have
 abbrev pub key_kinds : QueryData → List Kind
 key_kinds q = map (kind_at q.table) q.partition.items
+
+-- The key of a row that fits the table fits the columns of PARTITION BY.
+abbrev pub KeysFit : Type 0
+KeysFit = (q : QueryData) (row : List Value) → row_fault (kinds_of q.table) row ≡ None → row_fault (key_kinds q) (key_of q row) ≡ None

@@ -11,10 +11,12 @@
 
 mod item;
 mod key;
+mod laws;
 mod plan;
 mod query;
 
 pub use item::{Item, SkipFault};
+pub use laws::law_keys;
 pub use plan::{
     Condition, Edge, Expr, Function, Navigation, Operation, RowsOf, Step, Total, Variables,
 };

@@ -132,7 +132,7 @@ module _ (leads : SearchesLeadOn) (stays : SearchesLeadInRows) (q : QueryData) (
         over = tt;
         first = refl;
         stands = stands_going q p (record w { state = moved_on; stage = Begin (Some (run_of found)) }) going_on serves;
-        in_rows = λ h. subst (LeadsInRows p) follows (stays q p (place_of w.state) (result_of found) gives.known h.1 gives.in_rows);
+        in_rows = λ h. (let x : LeadsInRows p (Goes [] next) = subst (LeadsInRows p) follows (stays q p (place_of w.state) (result_of found) gives.known h.0 gives.in_rows) in (x.1, λ going. x.0));
         lowers = omega (arith, left_going q p w.state (Giving found a) g.going gives.known, left_later q p w.state moved_on (Some (run_of found)) g.going later);
         follows = λ within_old. record { moves = moves_on within_old; is = refl };
       }
@@ -168,7 +168,7 @@ module _ (q : QueryData) (p : Known) (w : Walker) (stage : Stage) (x : Item) (k 
         given = refl;
         over = λ l. refl;
         first = refl;
-        in_rows = λ h. h;
+        in_rows = λ h. (h.0, λ going. absurd (cc));
         stands = omega (arith, due, g.enough);
         lowers = some;
         follows = λ within_old.
@@ -188,7 +188,7 @@ module _ (q : QueryData) (p : Known) (w : Walker) (stage : Stage) (x : Item) (k 
         given = refl;
         over = tt;
         first = refl;
-        in_rows = λ h. h;
+        in_rows = λ h. (h.0, λ going. absurd (cc));
         stands = g.enough;
         lowers = omega arith;
         follows = λ within_old.

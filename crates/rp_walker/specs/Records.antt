@@ -6,18 +6,20 @@ use Rattle.rp_query.specs.declared.item.Item.TheVariants.{Row as RowItem, Fault 
 use Rattle.rp_known.specs.declared.place.Place.{Place}
 use Rattle.rp_known.specs.Known.{Known, count}
 use Rattle.rp_known.specs.Plans.{first_read}
-use Rattle.rp_known.specs.WalkLaws.{IsInRows}
 use Rattle.rp_known.specs.Walk.{leg, leg_items, first_place, known, ComesTo}
 use Rattle.rp_walker.specs.declared.record.MatcherState.{MatcherState}
 
 abbrev pub place_of : MatcherState → Place
 place_of r = record { start = r.at; matches = r.matches; covered = r.covered }
 
--- a walk that stands in the rows of a partition, or just past them, still does afterwards
-abbrev pub PlaceStays : Known → MatcherState → MatcherState → Type 0
-PlaceStays p old new = IsInRows p (place_of old) → IsInRows p (place_of new)
+-- what earlier matches cover is known, and while the answer goes on the walk stands in the rows, or just past them
+abbrev pub StandsInRows : Known → MatcherState → Type 0
+StandsInRows p r = (r.covered ≤ count p) × (r.over ≡ false → r.at ≤ count p + 1)
 
--- What no poll leaves: the first row that is kept is the same, and a walk that stands in the rows stands in them.
+abbrev pub PlaceStays : Known → MatcherState → MatcherState → Type 0
+PlaceStays p old new = StandsInRows p old → StandsInRows p new
+
+-- What no poll changes: which row is the first that is kept; and a walk that stands in the rows stands in them.
 pub record StaysInRows (p : Known) (old new : MatcherState) : Type 0 where
   pub first : new.first ≡ old.first
   pub place : PlaceStays p old new

@@ -10,7 +10,7 @@ pub returns : goal.returns
 returns c =
     let q = data_of c.args.query.now in
     let p = c.args.kept.now in
-    resumed q p c.args.feed c.resume-walker.result c.requires
+    resumed c.law_again.ensures.same c.law_same_rows.ensures q p c.args.feed c.resume-walker.result c.requires
     c.as_slice-rows.ensures.ascend
     (sym c.if-not-has_kinds.ensures)
     (subst (λ (n : ℕ). has_place q n p ≡ true) c.front-front.ensures.front (sym c.if-not-has_place.ensures))

@@ -1,9 +1,13 @@
-use Rattle.std.proofs.Common.{List, sym, ◌∙◌, subst}
+use Rattle.std.proofs.Common.{◌≡◌, None, List, refl, sym, ◌∙◌, subst}
 use Rattle.rp_value.specs.declared.value.Value.{Value}
 use Rattle.rp_query.specs.QueryView.{data_of}
+use Rattle.rp_query.specs.declared.query.QueryData.{QueryData}
+use Rattle.rp_feed.specs.declared.packet.Packet.{Packet}
 use Rattle.rp_feed.specs.declared.packet.Packet.TheVariants.{Row as RowPacket}
+use Rattle.rp_node.specs.Accepting.{packet_fault, packet_key}
+use Rattle.rp_node.specs.NodeSeen.{AllJoined}
 use Rattle.rp_node.specs.Taking.{MapTakes}
-use Rattle.rp_node.proofs.Nodes.{all_bounded, accept_taken, row_fits}
+use Rattle.rp_node.proofs.Nodes.{all_bounded, accept_answer, accept_taken, row_fits}
 use Rattle.rp_node.proofs.node.Node.accept_row.Goals as goal
 
 pub returns-in-Some-clause-bounded : goal.returns-in-Some-clause-bounded
@@ -12,14 +16,33 @@ returns-in-Some-clause-bounded c = rw (← c.self.view_is) (all_bounded c.law_le
 pub returns-in_err-key-clause-bounded : goal.returns-in_err-key-clause-bounded
 returns-in_err-key-clause-bounded c = rw (← c.self.view_is) (all_bounded c.law_left.ensures.bounded (data_of c.self.inside.query) c.self.inside.partitions.entries c.self.invariant)
 
+module _ (c : goal.After-take_row-answer) where
+  abbrev q : QueryData
+  q = data_of c.self.inside.query
+
+  abbrev packet : Packet
+  packet = RowPacket c.args.number c.args.row
+
+  fits : packet_fault q packet ≡ None
+  fits = row_fits c.table.result.now q.table c.cells.result.now c.args.row c.table.ensures c.cells.ensures (sym c.row_fault.ensures ∙ c.in_default.is)
+
+  takes : MapTakes q packet (packet_key q packet) c.self.inside.partitions.entries c.take_row-answer.new.partitions.entries c.take_row-answer.result
+  takes =
+      subst (λ (k : List Value). MapTakes q packet k c.self.inside.partitions.entries c.take_row-answer.new.partitions.entries c.take_row-answer.result) (c.into_vec.ensures ∙ c.in_ok-key.ensures)
+      c.take_row-answer.ensures.takes
+
+  all : AllJoined q c.take_row-answer.new.partitions.entries
+  all = takes.joined fits refl
+
+pub invariant_of-self : goal.invariant_of-self
+invariant_of-self c = all c
+
 pub returns-clause-bounded : goal.returns-clause-bounded
-returns-clause-bounded c = all_bounded c.law_left.ensures.bounded (data_of c.self.inside.query) c.take_row-answer.new.partitions.entries c.take_row-answer.ensures.takes.joined
+returns-clause-bounded c = all_bounded c.law_left.ensures.bounded (q c) c.take_row-answer.new.partitions.entries (all c)
+
+pub returns-clause-answer : goal.returns-clause-answer
+returns-clause-answer c = rw (← c.self.view_is) (rw (c.told.ensures) (accept_answer (q c) (packet c) c.self.inside.partitions.entries c.take_row-answer.new.partitions.entries c.take_row-answer.result (fits c) (takes c)))
 
 pub returns-clause-taken : goal.returns-clause-taken
 returns-clause-taken c =
-    let q = data_of c.self.inside.query in
-    let es = c.self.inside.partitions.entries in
-    let new = c.take_row-answer.new.partitions.entries in
-    let fits = row_fits c.columns.result.now q.table c.cells.result.now c.args.row (c.columns.ensures.columns ∙ c.table.ensures) c.cells.ensures (sym c.row_fault.ensures ∙ c.in_default.is) in
-    let takes = subst (λ (k : List Value). MapTakes q (RowPacket c.args.number c.args.row) k es new c.take_row-answer.result) c.in_ok-key.ensures c.take_row-answer.ensures.takes in
-    rw (← c.self.view_is) (λ e. accept_taken q (RowPacket c.args.number c.args.row) es new c.take_row-answer.result fits takes (sym c.told.ensures ∙ e))
+    rw (← c.self.view_is) (λ e. accept_taken (q c) (packet c) c.self.inside.partitions.entries c.take_row-answer.new.partitions.entries c.take_row-answer.result (fits c) (takes c) (sym c.told.ensures ∙ e))

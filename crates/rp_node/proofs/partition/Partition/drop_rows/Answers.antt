@@ -10,7 +10,8 @@ use Rattle.rp_node.specs.PartRows.{known_by}
 use Rattle.rp_known.specs.Known.{Known}
 use Rattle.rp_node.proofs.Rows.{known_alike}
 use Rattle.rp_node.proofs.Feeds.{Feeds}
-use Rattle.rp_node.proofs.Dropping.{Forgets, forgets, needed, bound_after, stands_after, left_after, holds_after, fits_after, within_front}
+use Rattle.rp_node.proofs.Dropping.{Forgets, forgets, needed, bound_after, stands_after, left_after, in_rows_after, holds_after, fits_after, within_front}
+use Rattle.rp_node.proofs.Keys.{dropped_keeps}
 use Rattle.rp_node.proofs.partition.Partition.drop_rows.Goals as goal
 
 feeds : goal.After-keep_from → Feeds
@@ -67,7 +68,11 @@ returns-clause-joined c = record {
         (bound_after (feeds c) (q c) (fed c) (new c) c.args.self.now.walker (ordered c) c.horizon-horizon.result (horizon c) (forgot c) (can c) going))
       (stands_after (feeds c) (q c) (fed c) (new c) c.args.self.now.walker (ordered c) c.horizon-horizon.result (horizon c) (forgot c) (can c) c.law_walkers.ensures.stay c.plan-plan.ensures.sound c.requires.joined.stands);
   first = ap (λ (r : MatcherState). r.first) (state c);
+  in_rows = in_rows_after (feeds c) (q c) (fed c) (new c) c.args.self.now.walker (ordered c) c.horizon-horizon.result (horizon c) (forgot c) (can c) c.front-front.ensures.feed.ordered (record_of c.keep_from.new.self) (state c) c.requires.joined.in_rows;
 }
+
+pub returns-clause-keeps : goal.returns-clause-keeps
+returns-clause-keeps c = dropped_keeps (q c) (min c.horizon-horizon.result (front_of (fed c) + 1)) (fed c) (new c) (forgot c)
 
 pub returns-clause-left : goal.returns-clause-left
 returns-clause-left c =

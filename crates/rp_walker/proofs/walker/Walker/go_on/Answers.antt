@@ -3,8 +3,7 @@ use Rattle.rp_query.specs.QueryView.{data_of}
 use Rattle.rp_known.specs.Known.{known_in}
 use Rattle.rp_walker.specs.declared.stage.Step.TheVariants.{Went, Gave, Idle}
 use Rattle.rp_walker.specs.declared.walker.Walker.{Walker}
-use Rattle.rp_known.specs.WalkLaws.{IsInRows}
-use Rattle.rp_walker.specs.Records.{place_of}
+use Rattle.rp_walker.specs.Records.{StandsInRows}
 use Rattle.rp_walker.specs.Steps.{Moves}
 use Rattle.rp_walker.specs.Walking.{KeepsGoing}
 use Rattle.rp_walker.proofs.Steps.{stays_put, stands_going}
@@ -80,7 +79,7 @@ returns-in_err-step-clause-moves g c = λ within.
 pub returns-in_err-step-clause-in_rows : goal.returns-in_err-step-clause-in_rows
 returns-in_err-step-clause-in_rows g c = λ h.
     let same : c.advance.new.self.state ≡ c.loop-left.self.state = ap (λ (w : Walker). w.state) c.in_err-step.ensures.kept in
-    subst (λ r. IsInRows (known_in g.R.Rows.known g.R.Rows.ending c.args.rows.now) (place_of r)) (sym same) (c.loop-left.invariant.in_rows h)
+    subst (λ r. StandsInRows (known_in g.R.Rows.known g.R.Rows.ending c.args.rows.now) r) (sym same) (c.loop-left.invariant.in_rows h)
 
 pub returns-in-Gave-clause-in_rows : goal.returns-in-Gave-clause-in_rows
 returns-in-Gave-clause-in_rows g c = λ h. c.in_ok-step.ensures.keeps.in_rows (c.loop-left.invariant.in_rows h)
