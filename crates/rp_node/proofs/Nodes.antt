@@ -109,7 +109,7 @@ module _ (exact : SameKeys) (keys : KeysFit) (q : QueryData) (packet : Packet) (
         taken = λ is.
             (let feed : t.later.feed ≡ fed_with packet p.feed = t.taken.feed ∙ ap (λ r. after r (fed_with packet p.feed) p.feed) is in
             let now : held_of t.later ≡ with_fed (or_fresh (entry_at (entries_by held_of es) key.items)) (fed_with packet (or_fresh (entry_at (entries_by held_of es) key.items)).feed) =
-                held_now p t.later feed t.taken.walker ∙ ap (λ o. with_fed (or_fresh o) (fed_with packet (or_fresh o).feed)) (sym held) in
+            held_now p t.later feed t.taken.walker ∙ ap (λ o. with_fed (or_fresh o) (fed_with packet (or_fresh o).feed)) (sym held) in
             record {
               records = ap (entries_by held_of) t.now ∙ set_is held_of key.items t.later es i f.first ∙ ap (λ r. with_entry key.items r (entries_by held_of es)) now;
               left = (work_of q t.later).left;

@@ -38,10 +38,9 @@ not_next q es p sought e h = and_not (is_restorable q p) (is_some (entry_at (ent
 
 pub one_restored : (q : QueryData) (es new : Map) (p : PartitionData) (sought : List Value) (key : Vec Value Global) (part : Partition) → sought ≡ p.key → is_some (lookup (λ k. same_key sought k.items) es) ≡ false
     → key.items ≡ p.key → Resumed q p (Some part) → AllJoined q es → new ≡ insert_entry (λ j k. same_key j.items k.items) es key part → RestoredOne q es p new true
-one_restored q es new p sought key part e h k r all now =
-    (
-      ap (λ b. b && not (is_some (entry_at (entries_by held_of es) p.key))) r.0 ∙ ap not (there q es p sought false e h),
-      ap (entries_by held_of) now ∙ insert_is held_of key part es ∙ ap (λ (z : List Value). with_entry z (held_of part) (entries_by held_of es)) k ∙ ap (λ (z : Held). with_entry p.key z (entries_by held_of es)) r.1,
-      subst (AllJoined q) (sym now)
+one_restored q es new p sought key part e h k r all now = (
+  ap (λ b. b && not (is_some (entry_at (entries_by held_of es) p.key))) r.0 ∙ ap not (there q es p sought false e h),
+  ap (entries_by held_of) now ∙ insert_is held_of key part es ∙ ap (λ (z : List Value). with_entry z (held_of part) (entries_by held_of es)) k ∙ ap (λ (z : Held). with_entry p.key z (entries_by held_of es)) r.1,
+  subst (AllJoined q) (sym now)
       (joined_insert q key part es all (subst (λ (z : List Value). is_some (lookup (λ j. same_key z j.items) es) ≡ false) (e ∙ sym k) h) (subst (λ (z : List Value). IsPartition q z part) (sym k) r.2)),
-    )
+)

@@ -1,6 +1,6 @@
 -- A partition that goes on from what was kept of it.
-use Rattle.std.proofs.Common.{◌≡◌, ℕ, ◌+◌, ◌<◌, ◌≤◌, Bool, true, false, cond, not, ◌&&◌, ◌||◌, List, [], ◌∷◌, ◌++◌, map, Option, Some, None, refl, sym, ap, ◌∙◌, subst, arith}
-use Rattle.std.specs.Prelude.{nat_lt, nat_le, is_some, ⊤}
+use Rattle.std.proofs.Common.{◌≡◌, ℕ, ◌+◌, ◌<◌, ◌≤◌, Bool, true, false, cond, not, ◌&&◌, ◌||◌, List, [], ◌∷◌, map, Option, Some, None, refl, sym, ap, ◌∙◌, subst, arith}
+use Rattle.std.specs.Prelude.{nat_lt, nat_le, is_some}
 use Rattle.std.specs.Cmp.Lexicographic.{pointwise}
 use Rattle.std.proofs.lemmas.Bool.Decides.{nat_tests}
 use Rattle.rp_value.specs.declared.value.Value.{Value}
@@ -34,7 +34,7 @@ both false b h = absurd (cc)
 
 -- ---- the feed
 
-least : Option ℕ → ℕ
+abbrev least : Option ℕ → ℕ
 least None = 0
 least (Some m) = m + 1
 
@@ -109,8 +109,7 @@ pub resumed : AgainIsTheSame → SameKeys → (q : QueryData) (p : PartitionData
     → IsFeed fed → record_of w ≡ state_in p → (CanGoOn q (state_in p) → Stands q (known_by fed) w)
     → (is_restorable q p ≡ true) × (held_of (record { feed = fed; walker = w }) ≡ held_in p) × IsPartition q p.key (record { feed = fed; walker = w })
 resumed again exact q p fed w is up kinds place fits feed state stands =
-    let same = fed_same again p fed up is in
-    (
+    let same = fed_same again p fed up is in (
       ap (restorable_over q p) is ∙ rw (kinds, place, fits) refl,
       λ i. record { feed = same i; state = state i },
       record {

@@ -1,5 +1,5 @@
 -- What is saved passes all checks of a restart, which then has the same records.
-use Rattle.std.proofs.Common.{◌≡◌, ℕ, ◌+◌, ◌-◌, ◌<◌, ◌≤◌, Bool, true, false, cond, not, ◌&&◌, ◌||◌, List, [], ◌∷◌, ◌++◌, append_assoc, map, Option, Some, None, Result, Ok, Err, refl, sym, ap, ◌∙◌, subst, arith}
+use Rattle.std.proofs.Common.{◌≡◌, ℕ, ◌+◌, ◌≤◌, Bool, true, false, cond, not, ◌&&◌, ◌||◌, List, [], ◌∷◌, ◌++◌, append_assoc, map, Option, Some, None, Result, Ok, Err, refl, sym, ap, ◌∙◌, subst, arith}
 use Rattle.std.specs.Prelude.{nat_lt, nat_le, is_some, IfOk, ⊤}
 use Rattle.std.specs.List.{AllByRecursion, IsDistinct}
 use Rattle.std.specs.Map.{keys_of}
@@ -16,7 +16,7 @@ use Rattle.rp_value.specs.Tables.{kinds_of}
 use Rattle.rp_query.specs.declared.query.QueryData.{QueryData}
 use Rattle.rp_query.specs.Keys.{key_kinds, key_of}
 use Rattle.rp_feed.specs.Limits.{greatest_number}
-use Rattle.rp_feed.specs.Fed.{Fed, Numbered, front_of}
+use Rattle.rp_feed.specs.Fed.{Numbered, front_of}
 use Rattle.rp_feed.specs.Again.{FeedsAreTakenAgain, fed_again}
 use Rattle.rp_known.specs.Plans.{first_read}
 use Rattle.rp_walker.specs.Walking.{record_of, CanGoOn, StandsCanGoOn}
@@ -28,7 +28,7 @@ use Rattle.rp_node.specs.PartRows.{known_by, known_count}
 use Rattle.rp_node.specs.Joined.{IsPartition, RowsHaveKey, held_of}
 use Rattle.rp_node.specs.NodeSeen.{Entries, Map, AllJoined, entries_by, node_by, same_key, entry_at, with_entry}
 use Rattle.rp_node.specs.Keeping.{held_row, kept_of, partition_kept}
-use Rattle.rp_node.specs.Resuming.{numbered, held_in, feed_in, has_kinds, has_place, fits_all, fits_table, restorable_over, is_restorable}
+use Rattle.rp_node.specs.Resuming.{numbered, held_in, feed_in, has_place, fits_all, restorable_over, is_restorable}
 use Rattle.rp_node.specs.Restarting.{RestartsTo, is_next, records_from}
 use Rattle.rp_node.proofs.Nodes.{SameKeys}
 
@@ -38,8 +38,10 @@ rows_back : (rows : List Numbered) → map numbered (map held_row rows) ≡ rows
 rows_back [] = refl
 rows_back (r ∷ rows) = ap (λ (rs : List Numbered). r ∷ rs) (rows_back rows)
 
-pub record_back : (key : List Value) (h : Held) → held_in (partition_kept key h) ≡ h
-record_back key h = ap (λ (rows : List Numbered). record { feed = record { first = h.feed.first; rows = rows; closed = h.feed.closed }; state = h.state }) (rows_back h.feed.rows)
+record_back : (key : List Value) (h : Held) → h.state.first ≡ h.feed.first → held_in (partition_kept key h) ≡ h
+record_back key h same =
+    ap (λ (rows : List Numbered). record { feed = record { first = h.feed.first; rows = rows; closed = h.feed.closed }; state = record h.state { first = h.feed.first } }) (rows_back h.feed.rows)
+    ∙ ap (λ n. record { feed = h.feed; state = record h.state { first = n } }) (sym same)
 
 -- ---- a partition passes
 
@@ -64,7 +66,8 @@ module _ (again : FeedsAreTakenAgain) (can : StandsCanGoOn) (exact : SameKeys) (
         let reached = is.joined.feed.reached in
         let low : nat_lt p.feed.first 1 ≡ false = grind (arith, nat_tests) in
         let high : nat_lt (greatest_number + 1) p.feed.first ≡ false = (let l : p.feed.first ≤ greatest_number + 1 = omega (arith, limit, reached) in grind (arith, nat_tests)) in
-        ap (λ b. cond b None (fed_again (pointwise eq-value.it) p.feed.first (map numbered (map held_row p.feed.rows)) p.feed.closed)) (rw (low, high) refl)
+        let none : nat_lt p.feed.first 1 || nat_lt (greatest_number + 1) p.feed.first ≡ false = rw (low, high) refl in
+        ap (λ b. cond b None (fed_again (pointwise eq-value.it) p.feed.first (map numbered (map held_row p.feed.rows)) p.feed.closed)) none
         ∙ ap (λ (rows : List Numbered). fed_again (pointwise eq-value.it) p.feed.first rows p.feed.closed) (rows_back p.feed.rows)
         ∙ again (pointwise eq-value.it) p.feed is.joined.feed
 
@@ -138,6 +141,7 @@ module _ (again : FeedsAreTakenAgain) (can : StandsCanGoOn) (exact : SameKeys) (
 
   pub all_pass : (es : Map) (before : Entries Held) → AllJoined q es → IsDistinct (λ j k. same_key j.items k.items) (keys_of es) → AreNew before (keys_of es)
       → records_from q before (map (λ e. partition_kept e.0 e.1) (entries_by held_of es)) ≡ Some (before ++ entries_by held_of es)
+  unfolding IsDistinct
   all_pass [] before all apart new = ap Some (sym (nil_right before))
     where
       nil_right : (xs : Entries Held) → xs ++ [] ≡ xs
@@ -146,7 +150,7 @@ module _ (again : FeedsAreTakenAgain) (can : StandsCanGoOn) (exact : SameKeys) (
   all_pass (e ∷ es) before all apart new =
       let next : is_next q before (partition_kept e.0.items (held_of e.1)) ≡ true = rw (passes e.0.items e.1 all.0, new.0) refl in
       let put : with_entry e.0.items (held_in (partition_kept e.0.items (held_of e.1))) before ≡ before ++ (e.0.items, held_of e.1) ∷ [] =
-          ap (λ h. with_entry e.0.items h before) (record_back e.0.items (held_of e.1)) ∙ put_last e.0.items (held_of e.1) before new.0 in
+      ap (λ h. with_entry e.0.items h before) (record_back e.0.items (held_of e.1) all.0.joined.first) ∙ put_last e.0.items (held_of e.1) before new.0 in
       ap (λ b. cond b (records_from q (with_entry e.0.items (held_in (partition_kept e.0.items (held_of e.1))) before) (map (λ e. partition_kept e.0 e.1) (entries_by held_of es))) None) next
       ∙ ap (λ (b : Entries Held). records_from q b (map (λ e. partition_kept e.0 e.1) (entries_by held_of es))) put
       ∙ all_pass es (before ++ (e.0.items, held_of e.1) ∷ []) all.1 apart.1 (still_new e.0.items (held_of e.1) before (keys_of es) new.1 apart.0)

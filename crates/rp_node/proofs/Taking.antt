@@ -46,7 +46,7 @@ joined_later stays can q sound p new j is later = record {
   feed = is;
   stands = stays q (known_by p.feed) (known_by new) p.walker sound
       (λ going. goes_from p.feed.first (first_read q (record_of p.walker).at) (known_by p.feed) (known_by new)
-        (subst (λ n. n ≤ first_read q (record_of p.walker).at) j.first ((can q (known_by p.feed) p.walker j.stands).going going).2) later.goes)
+      (subst (λ n. n ≤ first_read q (record_of p.walker).at) j.first ((can q (known_by p.feed) p.walker j.stands).going going).2) later.goes)
       j.stands;
   first = j.first ∙ sym later.first;
   in_rows = (omega (arith, j.in_rows.0, later.goes.later.0), λ going. omega (arith, j.in_rows.1 going, later.goes.later.0));

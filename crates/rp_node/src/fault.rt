@@ -6,9 +6,9 @@ ghost use Rattle.rp_node.specs.Polling.{told_poll};
 ghost use Rattle.rp_node.specs.Restarting.{bytes_fault};
 ghost use Rattle.rp_node.specs.declared.fault.RestartFault.TheVariants.{OutOfMemory as NoMemory};
 
-use rp_query::Query;
 use rp_checkpoint::CheckpointFault;
 use rp_feed::{FeedFault, Taken};
+use rp_query::Query;
 use rp_value::RowFault;
 use rp_walker::Poll;
 use std::alloc::AllocError;

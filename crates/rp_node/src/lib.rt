@@ -17,8 +17,8 @@
 
 mod fault;
 mod node;
-mod partition;
 mod part_rows;
+mod partition;
 mod restart;
 mod resume;
 mod save;

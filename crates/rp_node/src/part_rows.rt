@@ -6,8 +6,8 @@ ghost use Rattle.rp_node.specs.PartRows.{end_at, end_of};
 
 use rp_eval::Rows;
 use rp_feed::Feed;
-use rp_words::End;
 use rp_value::Row;
+use rp_words::End;
 
 /// The rows that a feed holds up to its front. Nothing is copied.
 #[derive(Clone, Copy)]

@@ -13,8 +13,8 @@ ghost use Rattle.rp_node.specs.Polling.{HoldsNoMore, PolledTo};
 ghost use Rattle.rp_node.specs.Taking.{KeepsKey, TakenBy};
 
 use crate::part_rows::PartRows;
-use rp_query::Query;
 use rp_feed::{Feed, FeedFault, Taken};
+use rp_query::Query;
 use rp_search::Steps;
 use rp_value::{Row, Value};
 use rp_walker::{Poll, Walker, law_walkers};
@@ -44,12 +44,7 @@ impl Partition {
     }
 
     /// Takes a row.
-    pub(crate) fn take(
-        &mut self,
-        query: &Query,
-        number: u64,
-        row: Row,
-    ) -> Result<Taken, FeedFault>
+    pub(crate) fn take(&mut self, query: &Query, number: u64, row: Row) -> Result<Taken, FeedFault>
         requires joined { Joined (data_of query.now) self.old }
         ensures taken { TakenBy (data_of query.now) (RowPacket number row) self.old self.new result }
     {

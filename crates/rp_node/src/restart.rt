@@ -11,8 +11,8 @@ use crate::fault::{RestartFault, bytes_fault};
 use crate::partition::Partition;
 use crate::resume::resume;
 use indexmap::IndexMap;
-use rp_query::Query;
 use rp_checkpoint::{NodeData, PartitionData, read_checkpoint};
+use rp_query::Query;
 use rp_value::{Column, Value};
 use std::alloc::{AllocError, Global};
 

@@ -8,9 +8,9 @@ ghost use Rattle.rp_feed.specs.Again.{close_with, is_new, take_all};
 ghost use Rattle.rp_node.specs.Resuming.{Resumed, fits_table, feed_in, fits_all, has_kinds, has_place, numbered, state_in};
 
 use crate::partition::Partition;
-use rp_query::Query;
 use rp_checkpoint::{HeldRow, PartitionData};
 use rp_feed::{Feed, FeedFault, MAX_NUMBER, Taken};
+use rp_query::Query;
 use rp_value::Row;
 use rp_walker::{MatcherState, Walker};
 use std::alloc::{AllocError, Global};

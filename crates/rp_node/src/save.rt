@@ -8,9 +8,9 @@ ghost use Rattle.rp_query.specs.declared.query.QueryData.{QueryData};
 
 use crate::partition::Partition;
 use indexmap::IndexMap;
-use rp_query::Query;
 use rp_checkpoint::{Columns, HeldRow, HeldRows, NodeData, PartitionData, Partitions};
 use rp_feed::Feed;
+use rp_query::Query;
 use rp_value::{Cells, Row, Value};
 use std::alloc::{AllocError, Global};
 
@@ -83,8 +83,9 @@ fn rows(alloc: Global, feed: &Feed) -> Result<HeldRows, AllocError>
     ensures { IfOk result (λ rows. rows ≡ map held_row feed.now.rows) }
 {
     let _front = feed.front();
-    let rows = held_rows(alloc, feed.rows(alloc)?)?;
-    Ok(HeldRows::new(rows))
+    let pairs = feed.rows(alloc)?;
+    let held = held_rows(alloc, pairs)?;
+    Ok(HeldRows::new(held))
 }
 
 fn held_rows(alloc: Global, pairs: Vec<(u64, Row)>) -> Result<Vec<HeldRow>, AllocError>

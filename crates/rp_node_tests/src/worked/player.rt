@@ -2,8 +2,8 @@
 ghost use Rattle.std.specs.Prelude.{◌≡◌, ◌<◌};
 
 use super::text::item_text;
-use rp_node::{Node, NodeFault, Packet, Poll, Taken};
 use rp_check::compile;
+use rp_node::{Node, NodeFault, Packet, Poll, Taken};
 use rp_query::Query;
 use rp_search::Steps;
 use rp_syntax::read_table;

@@ -15,7 +15,7 @@ use Rattle.rp_node.proofs.node.Node.accept_close.Goals as goal
 pub returns-in-Some-clause-bounded : goal.returns-in-Some-clause-bounded
 returns-in-Some-clause-bounded c = rw (← c.self.view_is) (all_bounded c.law_left.ensures.bounded (data_of c.self.inside.query) c.self.inside.partitions.entries c.self.invariant)
 
-module _ (c : goal.After-take_close-answer) where
+module _ (c : goal.After-told) where
   abbrev q : QueryData
   q = data_of c.self.inside.query
 

@@ -7,7 +7,7 @@ use Rattle.rp_feed.specs.declared.packet.Packet.TheVariants.{Row as RowPacket}
 use Rattle.rp_node.specs.Accepting.{packet_fault, packet_key}
 use Rattle.rp_node.specs.NodeSeen.{AllJoined}
 use Rattle.rp_node.specs.Taking.{MapTakes}
-use Rattle.rp_node.proofs.Nodes.{all_bounded, accept_answer, accept_taken, row_fits}
+use Rattle.rp_node.proofs.Nodes.{all_bounded, accept_taken, row_fits}
 use Rattle.rp_node.proofs.node.Node.accept_row.Goals as goal
 
 pub returns-in-Some-clause-bounded : goal.returns-in-Some-clause-bounded
@@ -16,7 +16,7 @@ returns-in-Some-clause-bounded c = rw (← c.self.view_is) (all_bounded c.law_le
 pub returns-in_err-key-clause-bounded : goal.returns-in_err-key-clause-bounded
 returns-in_err-key-clause-bounded c = rw (← c.self.view_is) (all_bounded c.law_left.ensures.bounded (data_of c.self.inside.query) c.self.inside.partitions.entries c.self.invariant)
 
-module _ (c : goal.After-take_row-answer) where
+module _ (c : goal.After-told) where
   abbrev q : QueryData
   q = data_of c.self.inside.query
 
@@ -39,9 +39,6 @@ invariant_of-self c = all c
 
 pub returns-clause-bounded : goal.returns-clause-bounded
 returns-clause-bounded c = all_bounded c.law_left.ensures.bounded (q c) c.take_row-answer.new.partitions.entries (all c)
-
-pub returns-clause-answer : goal.returns-clause-answer
-returns-clause-answer c = rw (← c.self.view_is) (rw (c.told.ensures) (accept_answer (q c) (packet c) c.self.inside.partitions.entries c.take_row-answer.new.partitions.entries c.take_row-answer.result (fits c) (takes c)))
 
 pub returns-clause-taken : goal.returns-clause-taken
 returns-clause-taken c =

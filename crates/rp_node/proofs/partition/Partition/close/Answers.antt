@@ -18,11 +18,13 @@ returns c =
       grows = c.law_front.ensures.grows;
       front_stays = c.law_front.ensures.stays;
     } in
-    record { taken = record {
-      joined = joined_later c.law_walkers.ensures.stay c.law_walkers.ensures.can (data_of c.args.query.now) c.plan-plan.ensures.sound p c.close-taken.new.self c.requires.joined c.front-front.ensures.feed
-          (close_later laws p.feed c.close-taken.new.self c.args.count c.close-taken.result c.requires.joined.feed.ordered
+    record {
+      taken = record {
+        joined = joined_later c.law_walkers.ensures.stay c.law_walkers.ensures.can (data_of c.args.query.now) c.plan-plan.ensures.sound p c.close-taken.new.self c.requires.joined c.front-front.ensures.feed
+            (close_later laws p.feed c.close-taken.new.self c.args.count c.close-taken.result c.requires.joined.feed.ordered
             (λ e. c.law_new.ensures.close p.feed c.args.count (sym c.close-taken.ensures.answer ∙ e)) c.close-taken.ensures.changes);
-      answer = ap memory_aside c.close-taken.ensures.answer ∙ close_no_memory p.feed c.args.count;
-      feed = c.close-taken.ensures.changes;
-      walker = refl;
-    } }
+        answer = ap memory_aside c.close-taken.ensures.answer ∙ close_no_memory p.feed c.args.count;
+        feed = c.close-taken.ensures.changes;
+        walker = refl;
+      };
+    }

@@ -65,7 +65,7 @@ returns-clause-joined c = record {
   feed = c.front-front.ensures.feed;
   stands = c.keep_from.ensures.stands (q c) (known_by (new c))
       (λ going. subst (λ n. n ≤ first_read (q c) (record_of c.args.self.now.walker).at) (sym c.first.ensures)
-        (bound_after (feeds c) (q c) (fed c) (new c) c.args.self.now.walker (ordered c) c.horizon-horizon.result (horizon c) (forgot c) (can c) going))
+      (bound_after (feeds c) (q c) (fed c) (new c) c.args.self.now.walker (ordered c) c.horizon-horizon.result (horizon c) (forgot c) (can c) going))
       (stands_after (feeds c) (q c) (fed c) (new c) c.args.self.now.walker (ordered c) c.horizon-horizon.result (horizon c) (forgot c) (can c) c.law_walkers.ensures.stay c.plan-plan.ensures.sound c.requires.joined.stands);
   first = ap (λ (r : MatcherState). r.first) (state c);
   in_rows = in_rows_after (feeds c) (q c) (fed c) (new c) c.args.self.now.walker (ordered c) c.horizon-horizon.result (horizon c) (forgot c) (can c) c.front-front.ensures.feed.ordered (record_of c.keep_from.new.self) (state c) c.requires.joined.in_rows;
@@ -77,7 +77,7 @@ returns-clause-keeps c = dropped_keeps (q c) (min c.horizon-horizon.result (fron
 pub returns-clause-left : goal.returns-clause-left
 returns-clause-left c =
     let l = c.keep_from.ensures.left (q c) (known_by (new c))
-        ∙ left_after (feeds c) (q c) (fed c) (new c) c.args.self.now.walker (ordered c) c.horizon-horizon.result (horizon c) (forgot c) (can c) c.law_left.ensures.same c.plan-plan.ensures.sound c.requires.joined.stands in
+    ∙ left_after (feeds c) (q c) (fed c) (new c) c.args.self.now.walker (ordered c) c.horizon-horizon.result (horizon c) (forgot c) (can c) c.law_left.ensures.same c.plan-plan.ensures.sound c.requires.joined.stands in
     λ i. record { left = l i; entered = c.keep_from.ensures.entered i }
 
 pub returns-clause-fits : goal.returns-clause-fits

@@ -20,11 +20,13 @@ returns c =
       grows = c.law_front.ensures.grows;
       front_stays = c.law_front.ensures.stays;
     } in
-    record { taken = record {
-      joined = joined_later c.law_walkers.ensures.stay c.law_walkers.ensures.can (data_of c.args.query.now) c.plan-plan.ensures.sound p c.take-taken.new.self c.requires.joined c.front-front.ensures.feed
-          (row_later laws p.feed c.take-taken.new.self c.args.number c.args.row c.take-taken.result c.requires.joined.feed.ordered
+    record {
+      taken = record {
+        joined = joined_later c.law_walkers.ensures.stay c.law_walkers.ensures.can (data_of c.args.query.now) c.plan-plan.ensures.sound p c.take-taken.new.self c.requires.joined c.front-front.ensures.feed
+            (row_later laws p.feed c.take-taken.new.self c.args.number c.args.row c.take-taken.result c.requires.joined.feed.ordered
             (λ e. c.law_new.ensures.row (pointwise eq-value.it) p.feed c.args.number c.args.row (sym c.take-taken.ensures.answer ∙ ap memory_aside e)) c.take-taken.ensures.changes);
-      answer = c.take-taken.ensures.answer;
-      feed = c.take-taken.ensures.changes;
-      walker = refl;
-    } }
+        answer = c.take-taken.ensures.answer;
+        feed = c.take-taken.ensures.changes;
+        walker = refl;
+      };
+    }
