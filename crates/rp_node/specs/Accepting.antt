@@ -1,5 +1,5 @@
 -- What a node answers to a packet, and what the packet leaves behind.
-use Rattle.std.specs.Prelude.{◌≡◌, ℕ, List, Option, Result, Ok, Err}
+use Rattle.std.specs.Prelude.{◌≡◌, ◌⊎◌, ℕ, List, Option, Result, Ok, Err}
 use Rattle.std.specs.Option.{option_map_or}
 use Rattle.std.specs.Cmp.Lexicographic.{pointwise}
 use Rattle.rp_value.specs.declared.value.Value.{Value}
@@ -64,11 +64,23 @@ record_for n packet = or_fresh (entry_at n.records (packet_key n.query packet))
 
 -- the answer to a packet: BadRow where its cells or its key don't fit, else the feed's
 abbrev pub packet_answer : NodeSeen → Packet → Result Taken NodeFault
-packet_answer n packet = option_map_or (λ fault. Err (node.BadRow fault)) (packet_fault n.query packet) (told (feed_answer (record_for n packet).feed packet))
+packet_answer n packet =
+    option_map_or (λ fault. Err (node.BadRow fault)) (packet_fault n.query packet)
+    (told (feed_answer (record_for n packet).feed packet))
 
--- What a packet that is New leaves behind: its key's record has taken it, and the turns left of that partition may have risen.
+-- what is answered to the packet, or that no memory was left
+abbrev pub IsAnswered : NodeSeen → Packet → Result Taken NodeFault → Type 0
+IsAnswered n packet result = (result ≡ Err node.OutOfMemory) ⊎ (result ≡ packet_answer n packet)
+
+-- What a packet that is New leaves behind: its key's record has taken it, and the turns left of that partition
+-- may have risen.
 pub record Accepted (old : NodeSeen) (packet : Packet) (new : NodeSeen) : Type 0 where
   pub query : new.query ≡ old.query
-  pub records : new.records ≡ with_entry (packet_key old.query packet) (with_fed (record_for old packet) (fed_with packet (record_for old packet).feed)) old.records
+  pub records : new.records ≡ with_entry (packet_key old.query packet)
+      (with_fed (record_for old packet) (fed_with packet (record_for old packet).feed)) old.records
   pub left : ℕ
-  pub work : new.work ≡ with_entry (packet_key old.query packet) (record { left = left; entered = (work_at old (packet_key old.query packet)).entered }) old.work
+  pub work : new.work ≡ with_entry (packet_key old.query packet) (record {
+    left =
+        left;
+    entered = (work_at old (packet_key old.query packet)).entered;
+  }) old.work

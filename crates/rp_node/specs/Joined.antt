@@ -23,7 +23,8 @@ pub record Joined (q : QueryData) (p : Partition) : Type 0 where
 -- each row fits the table and has the key in the columns of PARTITION BY
 abbrev pub RowsHaveKey : QueryData → List Value → List Numbered → Type 0
 RowsHaveKey q key [] = ⊤
-RowsHaveKey q key ((n, row) ∷ rows) = (row_fault (kinds_of q.table) row ≡ None) × (key_of q row ≡ key) × RowsHaveKey q key rows
+RowsHaveKey q key ((n, row) ∷ rows) = (row_fault (kinds_of q.table) row ≡ None) × (key_of q row ≡ key)
+    × RowsHaveKey q key rows
 
 -- The key fits the columns of PARTITION BY, and the rows that are held have it.
 pub record IsOfKey (q : QueryData) (key : List Value) (rows : List Numbered) : Type 0 where

@@ -37,8 +37,8 @@ abbrev pub with_entry : {V : Type 0} → List Value → V → Entries V → Entr
 with_entry key v [] = (key, v) ∷ []
 with_entry key v (e ∷ es) = if same_key key e.0 then (e.0, v) ∷ es else e ∷ with_entry key v es
 
--- What contracts see of a node: its query, the record of each key of which a packet was accepted, and beside it, key by key, the
--- turns that its polls have left at most and the rows that its searches have entered.
+-- What contracts see of a node: its query, the record of each key of which a packet was accepted, and beside
+-- it, key by key, the turns that its polls have left at most and the rows that its searches have entered.
 pub record NodeSeen : Type 0 where
   pub query : QueryData
   pub records : Entries Held
@@ -53,10 +53,20 @@ fed_code =
     (λ f. (f.first, (f.rows, f.closed))) (λ t. record { first = t.0; rows = t.1.0; closed = t.1.1 }) (λ _. refl)
 
 abbrev held_code : Coded Held
-held_code = code_by (Fed × MatcherState) (coded× fed_code state_row.coded) (λ h. (h.feed, h.state)) (λ t. record { feed = t.0; state = t.1 }) (λ _. refl)
+held_code =
+    code_by (Fed × MatcherState) (coded× fed_code state_row.coded) (λ h. (h.feed, h.state)) (λ t. record {
+      feed =
+          t.0;
+      state = t.1;
+    }) (λ _. refl)
 
 abbrev work_code : Coded Work
-work_code = code_by (ℕ × ℕ) (coded× coded_ℕ coded_ℕ) (λ w. (w.left, w.entered)) (λ t. record { left = t.0; entered = t.1 }) (λ _. refl)
+work_code =
+    code_by (ℕ × ℕ) (coded× coded_ℕ coded_ℕ) (λ w. (w.left, w.entered)) (λ t. record {
+      left =
+          t.0;
+      entered = t.1;
+    }) (λ _. refl)
 
 abbrev entries_code : {V : Type 0} → Coded V → Coded (Entries V)
 entries_code code = coded_list (coded× (coded_list value_row.coded) code)

@@ -50,7 +50,8 @@ pub record PolledTo {E : Type 0} (q : QueryData) (old new : Held) (result : Resu
   pub polls : (whole : List Row) → Fits q whole old → PollFits q whole old new (act_of result)
   pub given : given_by old new result
   -- where it is idle and the answer isn't over, the walk comes to no later start row
-  pub last : result ≡ Ok IdlePoll → (whole : List Row) → Fits q whole old → new.state.over ≡ false → IsLastStart q (seen_part whole old.feed) new.state.at
+  pub last : result ≡ Ok IdlePoll → (whole : List Row) → Fits q whole old → new.state.over ≡ false
+      → IsLastStart q (seen_part whole old.feed) new.state.at
 
 -- The partition of a key was polled, and all others are as before.
 pub record PolledAt (old new : NodeSeen) (key : List Value) (result : Result Poll NodeFault) : Type 0 where
@@ -66,7 +67,8 @@ pub record IsUnknown (old new : NodeSeen) (key : List Value) : Type 0 where
   pub none : entry_at old.records key ≡ None
   pub kept : new ≡ old
 
--- what a poll of a key comes to: an answer, want of memory, or no packet of that key was accepted; no other fault is told
+-- what a poll of a key comes to: an answer, want of memory, or no packet of that key was accepted; no other
+-- fault is told
 abbrev pub NodePolls : NodeSeen → NodeSeen → List Value → Result Poll NodeFault → Type 0
 NodePolls old new key (Ok answer) = PolledAt old new key (Ok answer)
 NodePolls old new key (Err UnknownPartition) = IsUnknown old new key

@@ -20,7 +20,8 @@ is_next q before p = is_restorable q p && not (is_some (entry_at before p.key))
 -- the records of all partitions after these, if a node may go on from each
 abbrev pub records_from : QueryData → Entries Held → List PartitionData → Option (Entries Held)
 records_from q before [] = Some before
-records_from q before (p ∷ ps) = if is_next q before p then records_from q (with_entry p.key (held_in p) before) ps else None
+records_from q before (p ∷ ps) = if is_next q before p then records_from q (with_entry p.key (held_in p) before) ps
+    else None
 
 -- the clause's text and the table are the query's
 pub record IsOfQuery (q : QueryData) (kept : NodeData) : Type 0 where
@@ -69,7 +70,8 @@ IsRefused q bs OutOfMemory = ⊤
 -- one partition more goes on
 abbrev pub RestoredOne : QueryData → Map → PartitionData → Map → Bool → Type 0
 RestoredOne q es p new true =
-    (is_next q (entries_by held_of es) p ≡ true) × (entries_by held_of new ≡ with_entry p.key (held_in p) (entries_by held_of es)) × AllJoined q new
+    (is_next q (entries_by held_of es) p ≡ true)
+    × (entries_by held_of new ≡ with_entry p.key (held_in p) (entries_by held_of es)) × AllJoined q new
 RestoredOne q es p new false = is_next q (entries_by held_of es) p ≡ false
 
 -- all do, or none

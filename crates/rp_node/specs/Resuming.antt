@@ -25,7 +25,17 @@ abbrev pub numbered : HeldRow → Numbered
 numbered r = (r.number, r.cells)
 
 abbrev pub state_in : PartitionData → MatcherState
-state_in p = record { first = p.first; at = p.at; matches = p.matches; covered = p.covered; here = p.here; given = p.given; over = p.over }
+state_in p =
+    record {
+      first =
+          p.first;
+      at = p.at;
+      matches = p.matches;
+      covered = p.covered;
+      here = p.here;
+      given = p.given;
+      over = p.over;
+    }
 
 abbrev pub fed_in : PartitionData → Fed
 fed_in p = record { first = p.first; rows = map numbered p.rows; closed = p.close }
@@ -35,8 +45,8 @@ held_in p = record { feed = fed_in p; state = state_in p }
 
 -- ---- the rows and the close
 
--- A feed that has dropped the rows below the first takes each row and the close as new: so numbers are from the first on, in range,
--- not too far above the front and not above the close.
+-- A feed that has dropped the rows below the first takes each row and the close as new: so numbers are from the
+-- first on, in range, not too far above the front and not above the close.
 abbrev pub feed_in : PartitionData → Option Fed
 feed_in p =
     if nat_lt p.first 1 || nat_lt (greatest_number + 1) p.first then None
@@ -55,12 +65,13 @@ abbrev pub fits_all : QueryData → List Value → List HeldRow → Bool
 fits_all q key [] = true
 fits_all q key (r ∷ rs) = fits_table q key r && fits_all q key rs
 
--- What was given of the present search was given in all, what is covered is known; and while the answer goes on, the walk stands in the
--- rows or just behind them, fewer matches begin before it than there are rows, and what it reads is kept.
+-- What was given of the present search was given in all, what is covered is known; and while the answer goes
+-- on, the walk stands in the rows or just behind them, fewer matches begin before it than there are rows, and
+-- what it reads is kept.
 abbrev pub has_place : QueryData → ℕ → PartitionData → Bool
 has_place q front p =
-    nat_le p.here p.given && (nat_le p.covered front
-    && (p.over || (nat_le 1 p.at && (nat_le p.at (front + 1) && (nat_lt p.matches p.at && nat_le p.first (first_read q p.at))))))
+    nat_le p.here p.given && (nat_le p.covered front && (p.over || (nat_le 1 p.at
+    && (nat_le p.at (front + 1) && (nat_lt p.matches p.at && nat_le p.first (first_read q p.at))))))
 
 abbrev pub restorable_over : QueryData → PartitionData → Option Fed → Bool
 restorable_over q p None = false

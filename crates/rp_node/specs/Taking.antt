@@ -14,12 +14,16 @@ use Rattle.rp_feed.specs.declared.packet.Packet.{Packet}
 use Rattle.rp_walker.specs.declared.poll.Poll.{Poll}
 use Rattle.rp_walker.specs.declared.poll.Poll.TheVariants.{Paused as PausedPoll}
 use Rattle.rp_walker.specs.Polls.{entered_by, PollLowers, PollTakes, TurnsAreCounted}
-use Rattle.rp_schedules.specs.Records.{fresh, with_fed, or_fresh}
+use Rattle.rp_schedules.specs.Records.{Held, fresh, with_fed, or_fresh}
 use Rattle.rp_node.specs.declared.partition.Partition.{Partition}
 use Rattle.rp_node.specs.Joined.{Joined, IsOfKey, held_of, work_of}
 use Rattle.rp_node.specs.NodeSeen.{Map, AllJoined, entries_by, same_key, entry_at, with_entry, or_no_work}
 use Rattle.rp_node.specs.Accepting.{feed_answer, fed_with, packet_fault, packet_key}
 use Rattle.rp_node.specs.Polling.{HoldsNoMore, PolledTo}
+
+-- the partition at a place is joined
+abbrev pub IsJoinedAt : QueryData → Map → ℕ → Type 0
+IsJoinedAt q es place = (p : Partition) → slice_get (values_of es) place ≡ Some p → Joined q p
 
 -- rows that have a key are left with it
 abbrev pub KeepsKey : QueryData → List Numbered → List Numbered → Type 0
@@ -33,7 +37,8 @@ pub record TakenBy (q : QueryData) (packet : Packet) (before later : Partition) 
   pub walker : later.walker ≡ before.walker
 
 -- the partition at a place takes it
-pub record TakenAt (q : QueryData) (packet : Packet) (es : Map) (place : ℕ) (new : Map) (result : Answer) : Type 0 where
+pub record TakenAt (q : QueryData) (packet : Packet) (es : Map) (place : ℕ) (new : Map)
+    (result : Answer) : Type 0 where
   pub before : Partition
   pub later : Partition
   pub there : slice_get (values_of es) place ≡ Some before
@@ -41,7 +46,8 @@ pub record TakenAt (q : QueryData) (packet : Packet) (es : Map) (place : ℕ) (n
   pub taken : TakenBy q packet before later result
 
 -- a partition that has taken it alone is added
-pub record IsAdded (q : QueryData) (packet : Packet) (es : Map) (key : Vec Value Global) (new : Map) (result : Answer) : Type 0 where
+pub record IsAdded (q : QueryData) (packet : Packet) (es : Map) (key : Vec Value Global) (new : Map)
+    (result : Answer) : Type 0 where
   pub is : result ≡ Ok New
   pub later : Partition
   pub joined : Joined q later
@@ -49,13 +55,15 @@ pub record IsAdded (q : QueryData) (packet : Packet) (es : Map) (key : Vec Value
   pub entered : entered_by later.walker ≡ 0
   pub now : new ≡ insert_entry (λ j k. same_key j.items k.items) es key later
 
-pub record AddedAs (q : QueryData) (packet : Packet) (es : Map) (key : Vec Value Global) (new : Map) (result : Answer) : Type 0 where
+pub record AddedAs (q : QueryData) (packet : Packet) (es : Map) (key : Vec Value Global) (new : Map)
+    (result : Answer) : Type 0 where
   pub answer : memory_aside result ≡ feed_answer (fed_from 1) packet
   pub added : OnOk result (IsAdded q packet es key new result)
   pub refused : OnErr result (new ≡ es)
 
 -- what a poll of the partition at a place comes to
-pub record PolledPlace (q : QueryData) (es : Map) (place : ℕ) (new : Map) (budget steps steps' : ℕ) (result : Result Poll AllocError) : Type 0 where
+pub record PolledPlace (q : QueryData) (es : Map) (place : ℕ) (new : Map) (budget steps steps' : ℕ)
+    (result : Result Poll AllocError) : Type 0 where
   pub before : Partition
   pub later : Partition
   pub there : slice_get (values_of es) place ≡ Some before
@@ -69,17 +77,25 @@ pub record PolledPlace (q : QueryData) (es : Map) (place : ℕ) (new : Map) (bud
   pub held : OnOk result (1 ≤ budget → HoldsNoMore q (held_of later))
   pub none : budget ≡ 0 → (result ≡ Ok PausedPoll) × (later ≡ before) × (steps' ≡ steps)
 
+-- the record of a key, a fresh one where nothing of it was taken, and the work done for it
+abbrev pub held_at : Map → List Value → Held
+held_at es key = or_fresh (entry_at (entries_by held_of es) key)
+
+abbrev pub entered_at : QueryData → Map → List Value → ℕ
+entered_at q es key = (or_no_work (entry_at (entries_by (work_of q) es) key)).entered
+
 -- the key's record has taken it
 pub record MapTaken (q : QueryData) (packet : Packet) (key : List Value) (es new : Map) : Type 0 where
   pub records : entries_by held_of new
-      ≡ with_entry key (with_fed (or_fresh (entry_at (entries_by held_of es) key)) (fed_with packet (or_fresh (entry_at (entries_by held_of es) key)).feed)) (entries_by held_of es)
+      ≡ with_entry key (with_fed (held_at es key) (fed_with packet (held_at es key).feed)) (entries_by held_of es)
   pub left : ℕ
   pub work : entries_by (work_of q) new
-      ≡ with_entry key (record { left = left; entered = (or_no_work (entry_at (entries_by (work_of q) es) key)).entered }) (entries_by (work_of q) es)
+      ≡ with_entry key (record { left = left; entered = entered_at q es key }) (entries_by (work_of q) es)
 
 -- the partition of a key takes it
-pub record MapTakes (q : QueryData) (packet : Packet) (key : List Value) (es new : Map) (result : Answer) : Type 0 where
-  pub answer : memory_aside result ≡ feed_answer (or_fresh (entry_at (entries_by held_of es) key)).feed packet
+pub record MapTakes (q : QueryData) (packet : Packet) (key : List Value) (es new : Map)
+    (result : Answer) : Type 0 where
+  pub answer : memory_aside result ≡ feed_answer (held_at es key).feed packet
   pub joined : packet_fault q packet ≡ None → key ≡ packet_key q packet → AllJoined q new
   pub taken : result ≡ Ok New → MapTaken q packet key es new
   pub unchanged : result ≢ Ok New → new ≡ es

@@ -1,19 +1,17 @@
 //! Partitions by key.
-ghost use Rattle.std.specs.Prelude.{◌≡◌, ◌≢◌, ◌⊎◌, ◌<◌, ◌≤◌, [], Ok, Err, Some, IfErr, IfOk, OnOk, slice_get};
-ghost use Rattle.indexmap.specs.IndexMap.{index_map_len, values};
+ghost use Rattle.std.specs.Prelude.{◌≡◌, ◌≢◌, ◌⊎◌, ◌<◌, ◌≤◌, [], Ok, Err, Some, IfErr, IfOk, OnOk};
+ghost use Rattle.indexmap.specs.IndexMap.{index_map_len};
 ghost use Rattle.rp_query.specs.QueryView.{data_of};
 ghost use Rattle.rp_feed.specs.declared.answer.Taken.TheVariants.{New};
 ghost use Rattle.rp_feed.specs.declared.packet.Packet.TheVariants.{Row as RowPacket, Close as ClosePacket};
 ghost use Rattle.rp_walker.specs.Polls.{PollLowers, PollTakes, TurnsAreCounted};
-ghost use Rattle.rp_node.specs.declared.partition.Partition.{Partition as ThePartition};
-ghost use Rattle.rp_node.specs.Joined.{Joined};
 ghost use Rattle.rp_node.specs.NodeSeen.{AllBounded, AllJoined, work_at};
-ghost use Rattle.rp_node.specs.Accepting.{Accepted, packet_answer};
+ghost use Rattle.rp_node.specs.Accepting.{Accepted, IsAnswered};
 ghost use Rattle.rp_node.specs.Polling.{HoldsNoMoreAt, NodePolls};
 ghost use Rattle.rp_checkpoint.specs.Checkpoints.{checkpoint};
 ghost use Rattle.rp_node.specs.Keeping.{kept_of};
 ghost use Rattle.rp_node.specs.Restarting.{IsRefused, RestartsTo};
-ghost use Rattle.rp_node.specs.Taking.{AddedAs, MapTakes, PolledPlace, TakenAt};
+ghost use Rattle.rp_node.specs.Taking.{AddedAs, IsJoinedAt, MapTakes, PolledPlace, TakenAt};
 
 use crate::fault::{NodeFault, RestartRefused, told, told_poll};
 use crate::partition::Partition;
@@ -80,8 +78,8 @@ impl Node {
         checkpoint_of(self.alloc, &kept)
     }
 
-    /// A node that goes on from what an earlier one saved. Where it is refused, the query comes back: for the bytes' fault,
-    /// then `ClauseDiffers`, then `BadState`; want of memory may come before.
+    /// A node that goes on from what an earlier one saved. Where it is refused, the query comes back: for the
+    /// bytes' fault, then `ClauseDiffers`, then `BadState`; want of memory may come before.
     pub fn restart(alloc: Global, query: Query, bytes: &[u8]) -> Result<Node, RestartRefused>
         ensures query { IfOk result (λ node. node.query ≡ data_of query) }
         ensures restarts { IfOk result (λ node. RestartsTo (data_of query) bytes.now node.records) }
@@ -107,10 +105,10 @@ impl Node {
         self.query
     }
 
-    /// Takes a row or a close. `BadRow` comes first, then the feed's order; want of memory may come before either. What
-    /// isn't `New` changes nothing.
+    /// Takes a row or a close. `BadRow` comes first, then the feed's order; want of memory may come before either.
+    /// What isn't `New` changes nothing: a refused packet leaves no partition, no row and no close.
     pub fn accept(&mut self, packet: Packet) -> Result<Taken, NodeFault>
-        ensures answer { (result ≡ Err NodeFault.OutOfMemory) ⊎ (result ≡ packet_answer self.old packet) }
+        ensures answer { IsAnswered self.old packet result }
         ensures taken { result ≡ Ok New → Accepted self.old packet self.new }
         ensures unchanged { result ≢ Ok New → self.new ≡ self.old }
         ensures bounded { AllBounded self.new }
@@ -122,7 +120,7 @@ impl Node {
     }
 
     fn accept_row(&mut self, number: u64, row: Row) -> Result<Taken, NodeFault>
-        ensures answer { (result ≡ Err NodeFault.OutOfMemory) ⊎ (result ≡ packet_answer self.old (RowPacket number row)) }
+        ensures answer { IsAnswered self.old (RowPacket number row) result }
         ensures taken { result ≡ Ok New → Accepted self.old (RowPacket number row) self.new }
         ensures unchanged { result ≢ Ok New → self.new ≡ self.old }
         ensures bounded { AllBounded self.new }
@@ -144,7 +142,7 @@ impl Node {
     }
 
     fn accept_close(&mut self, key: Cells, count: u64) -> Result<Taken, NodeFault>
-        ensures answer { (result ≡ Err NodeFault.OutOfMemory) ⊎ (result ≡ packet_answer self.old (ClosePacket key count)) }
+        ensures answer { IsAnswered self.old (ClosePacket key count) result }
         ensures taken { result ≡ Ok New → Accepted self.old (ClosePacket key count) self.new }
         ensures unchanged { result ≢ Ok New → self.new ≡ self.old }
         ensures bounded { AllBounded self.new }
@@ -174,7 +172,8 @@ impl Node {
     ) -> Result<Poll, NodeFault>
         ensures query { self.new.query ≡ self.old.query }
         ensures polls { NodePolls self.old self.new key.now result }
-        ensures lowers { IfOk result (PollLowers budget (work_at self.old key.now).left (work_at self.new key.now).left) }
+        ensures lowers { IfOk result (PollLowers budget (work_at self.old key.now).left
+            (work_at self.new key.now).left) }
         ensures bounded { AllBounded self.new }
         ensures turns { TurnsAreCounted budget steps.old steps.new
             (work_at self.old key.now).entered (work_at self.new key.now).entered }
@@ -205,7 +204,8 @@ fn take_row(
     row: Row,
 ) -> Result<Taken, FeedFault>
     requires joined { AllJoined (data_of query.now) partitions.old.entries }
-    ensures takes { MapTakes (data_of query.now) (RowPacket number row) key.items partitions.old.entries partitions.new.entries result }
+    ensures takes { MapTakes (data_of query.now) (RowPacket number row) key.items partitions.old.entries
+        partitions.new.entries result }
 {
     rp_feed::law_same_rows();
     rp_query::law_keys();
@@ -224,8 +224,9 @@ fn take_row_at(
     row: Row,
 ) -> Result<Taken, FeedFault>
     requires within { place < index_map_len partitions.old }
-    requires joined { (p : ThePartition) → slice_get (values partitions.old) place ≡ Some p → Joined (data_of query.now) p }
-    ensures takes { TakenAt (data_of query.now) (RowPacket number row) partitions.old.entries place partitions.new.entries result }
+    requires joined { IsJoinedAt (data_of query.now) partitions.old.entries place }
+    ensures takes { TakenAt (data_of query.now) (RowPacket number row) partitions.old.entries place
+        partitions.new.entries result }
 {
     match partitions.get_index_mut(place) {
         Some(partition) => partition.take(query, number, row),
@@ -242,7 +243,8 @@ fn add_row(
     number: u64,
     row: Row,
 ) -> Result<Taken, FeedFault>
-    ensures added { AddedAs (data_of query.now) (RowPacket number row) partitions.old.entries key partitions.new.entries result }
+    ensures added { AddedAs (data_of query.now) (RowPacket number row) partitions.old.entries key
+        partitions.new.entries result }
 {
     let mut partition = Partition::new(alloc);
     let taken = partition.take(query, number, row)?;
@@ -261,7 +263,8 @@ fn take_close(
     count: u64,
 ) -> Result<Taken, FeedFault>
     requires joined { AllJoined (data_of query.now) partitions.old.entries }
-    ensures takes { MapTakes (data_of query.now) (ClosePacket key.items count) key.items partitions.old.entries partitions.new.entries result }
+    ensures takes { MapTakes (data_of query.now) (ClosePacket key.items count) key.items partitions.old.entries
+        partitions.new.entries result }
 {
     rp_feed::law_same_rows();
     rp_query::law_keys();
@@ -280,8 +283,9 @@ fn take_close_at(
     count: u64,
 ) -> Result<Taken, FeedFault>
     requires within { place < index_map_len partitions.old }
-    requires joined { (p : ThePartition) → slice_get (values partitions.old) place ≡ Some p → Joined (data_of query.now) p }
-    ensures takes { TakenAt (data_of query.now) (ClosePacket key.items count) partitions.old.entries place partitions.new.entries result }
+    requires joined { IsJoinedAt (data_of query.now) partitions.old.entries place }
+    ensures takes { TakenAt (data_of query.now) (ClosePacket key.items count) partitions.old.entries place
+        partitions.new.entries result }
 {
     match partitions.get_index_mut(place) {
         Some(partition) => partition.close(query, key.as_slice(), count),
@@ -297,7 +301,8 @@ fn add_close(
     key: Vec<Value>,
     count: u64,
 ) -> Result<Taken, FeedFault>
-    ensures added { AddedAs (data_of query.now) (ClosePacket key.items count) partitions.old.entries key partitions.new.entries result }
+    ensures added { AddedAs (data_of query.now) (ClosePacket key.items count) partitions.old.entries key
+        partitions.new.entries result }
 {
     let mut partition = Partition::new(alloc);
     let taken = partition.close(query, key.as_slice(), count)?;
@@ -316,8 +321,9 @@ fn poll_at<L: Ledger>(
     steps: &mut Steps<L>,
 ) -> Result<Poll, AllocError>
     requires within { place < index_map_len partitions.old }
-    requires joined { (p : ThePartition) → slice_get (values partitions.old) place ≡ Some p → Joined (data_of query.now) p }
-    ensures polled { PolledPlace (data_of query.now) partitions.old.entries place partitions.new.entries budget steps.old steps.new result }
+    requires joined { IsJoinedAt (data_of query.now) partitions.old.entries place }
+    ensures polled { PolledPlace (data_of query.now) partitions.old.entries place partitions.new.entries budget
+        steps.old steps.new result }
 {
     match partitions.get_index_mut(place) {
         Some(partition) => partition.poll(query, budget, steps),

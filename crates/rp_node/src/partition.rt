@@ -78,8 +78,8 @@ impl Partition {
         taken
     }
 
-    /// Takes at most `budget` turns, until an item comes or nothing is left to give, and drops the rows that aren't read
-    /// any more.
+    /// Takes at most `budget` turns, until an item comes or nothing is left to give, and drops the rows that aren't
+    /// read any more.
     pub(crate) fn poll<L: Ledger>(
         &mut self,
         query: &Query,
@@ -92,7 +92,8 @@ impl Partition {
         ensures polled { PolledTo (data_of query.now) (held_of self.old) (held_of self.new) result }
         ensures lowers { IfOk result (PollLowers budget (work_of (data_of query.now) self.old).left
             (work_of (data_of query.now) self.new).left) }
-        ensures turns { TurnsAreCounted budget steps.old steps.new (entered_by self.old.walker) (entered_by self.new.walker) }
+        ensures turns { TurnsAreCounted budget steps.old steps.new (entered_by self.old.walker)
+            (entered_by self.new.walker) }
         ensures takes { IfOk result (PollTakes budget steps.old steps.new) }
         ensures held { OnOk result (1 ≤ budget → HoldsNoMore (data_of query.now) (held_of self.new)) }
         ensures nothing { budget ≡ 0 → (result ≡ Ok Poll.Paused) × (self.new ≡ self.old) × (steps.new ≡ steps.old) }
@@ -116,7 +117,8 @@ impl Partition {
         requires joined { Joined (data_of query.now) self.old }
         ensures joined { Joined (data_of query.now) self.new }
         ensures keeps { KeepsKey (data_of query.now) self.old.feed.rows self.new.feed.rows }
-        ensures state { record_of self.new.walker ≡ record (record_of self.old.walker) { first = self.new.feed.first } }
+        ensures state { record_of self.new.walker
+            ≡ record (record_of self.old.walker) { first = self.new.feed.first } }
         ensures taken { (n : ℕ) → is_taken self.new.feed n ≡ is_taken self.old.feed n }
         ensures closed { self.new.feed.closed ≡ self.old.feed.closed }
         ensures fits { (whole : List (List Cell)) → Fits (data_of query.now) whole (held_of self.old) →

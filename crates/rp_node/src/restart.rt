@@ -22,7 +22,8 @@ pub(crate) fn restored(
     query: &Query,
     bytes: &[u8],
 ) -> Result<IndexMap<Vec<Value>, Partition>, RestartFault>
-    ensures ok { IfOk result (λ m. RestartsTo (data_of query.now) bytes.now (entries_by held_of m.entries) × AllJoined (data_of query.now) m.entries) }
+    ensures ok { IfOk result (λ m. RestartsTo (data_of query.now) bytes.now (entries_by held_of m.entries)
+        × AllJoined (data_of query.now) m.entries) }
     ensures err { IfErr result (IsRefused (data_of query.now) bytes.now) }
 {
     match read_checkpoint(alloc, bytes) {
@@ -39,7 +40,8 @@ fn restored_from(
     kept: &NodeData,
 ) -> Result<IndexMap<Vec<Value>, Partition>, RestartFault>
     requires { restored bytes.now ≡ Ok kept.now }
-    ensures ok { IfOk result (λ m. RestartsTo (data_of query.now) bytes.now (entries_by held_of m.entries) × AllJoined (data_of query.now) m.entries) }
+    ensures ok { IfOk result (λ m. RestartsTo (data_of query.now) bytes.now (entries_by held_of m.entries)
+        × AllJoined (data_of query.now) m.entries) }
     ensures err { IfErr result (IsRefused (data_of query.now) bytes.now) }
 {
     let _bytes = bytes;
@@ -112,7 +114,8 @@ fn add(
     key: Vec<Value>,
     partition: Partition,
 ) -> Result<(), AllocError>
-    ensures { OnOk result (partitions.new.entries ≡ insert_entry (λ j k. same_key j.items k.items) partitions.old.entries key partition) }
+    ensures { OnOk result (partitions.new.entries ≡ insert_entry (λ j k. same_key j.items k.items)
+        partitions.old.entries key partition) }
 {
     match partitions.insert(key, partition) {
         Ok(_) => Ok(()),

@@ -145,7 +145,8 @@ fn take_all(feed: Feed, rows: &[HeldRow]) -> Result<Option<Feed>, AllocError>
 
 /// Takes a row, and tells whether it is new.
 fn take_new(feed: &mut Feed, row: &HeldRow) -> Result<bool, AllocError>
-    ensures told { IfOk result (λ new. new ≡ is_new (row_answer ⟦<Row as PartialEq>⟧.eq feed.old row.now.number row.now.cells)) }
+    ensures told { IfOk result (λ new.
+        new ≡ is_new (row_answer ⟦<Row as PartialEq>⟧.eq feed.old row.now.number row.now.cells)) }
     ensures taken { IfOk result (λ new. new ≡ true → feed.new ≡ with_taken row.now.number row.now.cells feed.old) }
 {
     let cells = row.cells.share()?;

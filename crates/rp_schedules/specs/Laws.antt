@@ -9,7 +9,8 @@ use Rattle.rp_schedules.specs.Records.{Row, known_of_rows, RecordsStay, Nodes, R
 -- Of every schedule, at each node and key.
 abbrev pub SchedulesGiveFronts : Type 0 → Type 0
 SchedulesGiveFronts Key =
-    (q : QueryData) (whole : Key → List Row) (events : List (Event Key Item)) (w : World Key Standing) (a : ℕ) (key : Key)
+    (q : QueryData) (whole : Key → List Row) (events : List (Event Key Item)) (w : World Key Standing)
+    (a : ℕ) (key : Key)
     → IsSound q → Schedule (known_of_rows q) whole events w → GivesFront (known_of_rows q) whole events w a key
 
 -- A record that fits stays fit.
@@ -25,5 +26,7 @@ RunsGiveFronts Key =
 -- Two nodes give no two items at one place.
 abbrev pub NodesAgree : Type 0 → Type 0
 NodesAgree Key =
-    (q : QueryData) (whole : Key → List Row) (events : List (Event Key Item)) (nodes : Nodes Key) (a b : ℕ) (key : Key) (place : ℕ) (x y : Item)
-    → IsSound q → Runs q whole events nodes → Contains events (Done a key (Gives place x)) → Contains events (Done b key (Gives place y)) → x ≡ y
+    (q : QueryData) (whole : Key → List Row) (events : List (Event Key Item)) (nodes : Nodes Key)
+    (a b : ℕ) (key : Key) (place : ℕ) (x y : Item)
+    → IsSound q → Runs q whole events nodes → Contains events (Done a key (Gives place x))
+        → Contains events (Done b key (Gives place y)) → x ≡ y

@@ -33,8 +33,8 @@ pub record Held : Type 0 where
 abbrev pub fresh : Held
 fresh = record { feed = fed_from 1; state = first_state }
 
--- The feed's rows are the partition's at their numbers, and its close, if it was taken, counts them. No more rows than there are were
--- dropped.
+-- The feed's rows are the partition's at their numbers, and its close, if it was taken, counts them. No more
+-- rows than there are were dropped.
 pub record IsOf (whole : List Row) (feed : Fed) : Type 0 where
   pub ordered : IsOrdered feed
   pub dropped : feed.first ≤ length whole + 1
@@ -61,11 +61,13 @@ pub record StandsFor (r : Held) (s : Standing) : Type 0 where
   pub closed : s.closed ≡ is_some r.feed.closed
   pub given : s.given ≡ r.state.given
 
--- What a poll does to a record that fits: the next item of what is known is given, or none was there, or the poll was paused or
--- found no memory. Only an item raises the number of given items, by one.
+-- What a poll does to a record that fits: the next item of what is known is given, or none was there, or the
+-- poll was paused or found no memory. Only an item raises the number of given items, by one.
 pub data Polls (q : QueryData) (whole : List Row) (old new : Held) : Act Item → Type 0 where
-  item : {x : Item} → slice_get (known q (seen_part whole old.feed)) old.state.given ≡ Some x → new.state.given ≡ old.state.given + 1 → Polls q whole old new (Gives (old.state.given + 1) x)
-  idle : old.state.given ≡ length (known q (seen_part whole old.feed)) → new.state.given ≡ old.state.given → Polls q whole old new Idles
+  item : {x : Item} → slice_get (known q (seen_part whole old.feed)) old.state.given ≡ Some x
+      → new.state.given ≡ old.state.given + 1 → Polls q whole old new (Gives (old.state.given + 1) x)
+  idle : old.state.given ≡ length (known q (seen_part whole old.feed)) → new.state.given ≡ old.state.given
+      → Polls q whole old new Idles
   paused : new.state.given ≡ old.state.given → Polls q whole old new Pauses
 
 -- And the record fits afterwards, with the same numbers taken and the same close.
@@ -93,31 +95,41 @@ dropped_to before r = record { feed = forgotten before r.feed; state = record r.
 abbrev pub Nodes : Type 0 → Type 0
 Nodes Key = World Key (Option Held)
 
--- What calls do, where `whole` has each key's whole partition. A packet that repeats, is old or is refused changes no record, and what
--- is refused is `nothing_done`. A poll that finds no memory may leave another record, which fits and stands for the same.
-pub data Calls {Key : Type 0} (q : QueryData) (whole : Key → List Row) : Nodes Key → Event Key Item → Nodes Key → Type 0 where
+-- the record of a key at a node: a fresh one where nothing was accepted
+abbrev pub record_at : {Key : Type 0} → Nodes Key → ℕ → Key → Held
+record_at w a key = or_fresh (w.now a key)
+
+-- What calls do, where `whole` has each key's whole partition. A packet that repeats, is old or is refused
+-- changes no record, and what is refused is `nothing_done`. A poll that finds no memory may leave another
+-- record, which fits and stands for the same.
+pub data Calls {Key : Type 0} (q : QueryData) (whole : Key → List Row) : Nodes Key → Event Key Item → Nodes Key
+    → Type 0 where
   row_taken : {old new : Nodes Key} {a : ℕ} {key : Key} (k : ℕ) (row : Row)
-      → 1 ≤ k → slice_get (whole key) (k - 1) ≡ Some row → IsFree (or_fresh (old.now a key)).feed k
-      → new.now a key ≡ Some (with_fed (or_fresh (old.now a key)) (with_taken k row (or_fresh (old.now a key)).feed))
+      → 1 ≤ k → slice_get (whole key) (k - 1) ≡ Some row → IsFree (record_at old a key).feed k
+      → new.now a key ≡ Some (with_fed (record_at old a key) (with_taken k row (record_at old a key).feed))
       → StaysElsewhere a key old new → Calls q whole old (Done a key (Takes k)) new
   close_taken : {old new : Nodes Key} {a : ℕ} {key : Key}
-      → new.now a key ≡ Some (with_fed (or_fresh (old.now a key)) (with_close (length (whole key)) (or_fresh (old.now a key)).feed))
+      → new.now a key ≡ Some (with_fed (record_at old a key) (with_close (length (whole key)) (record_at old a key).feed))
       → StaysElsewhere a key old new → Calls q whole old (Done a key Closes) new
   polled : {old new : Nodes Key} {a : ℕ} {key : Key} {act : Act Item}
-      → (Fits q (whole key) (or_fresh (old.now a key)) → PollFits q (whole key) (or_fresh (old.now a key)) (or_fresh (new.now a key)) act)
+      → (Fits q (whole key) (record_at old a key) → PollFits q (whole key) (record_at old a key) (record_at new a key) act)
       → StaysElsewhere a key old new → Calls q whole old (Done a key act) new
   no_memory : {old new : Nodes Key} {a : ℕ} {key : Key}
-      → (Fits q (whole key) (or_fresh (old.now a key)) → PollFits q (whole key) (or_fresh (old.now a key)) (or_fresh (new.now a key)) Pauses)
+      → (Fits q (whole key) (record_at old a key) → PollFits q (whole key) (record_at old a key) (record_at new a key) Pauses)
       → StaysElsewhere a key old new → Calls q whole old (Refused a) new
   saved : {old new : Nodes Key} {a : ℕ} → Saves a old new → Calls q whole old (Saved a) new
-  restarted : {old new : Nodes Key} {a which : ℕ} {state : Key → Option Held} → slice_get (old.saved a) which ≡ Some state → Becomes a state old new → Calls q whole old (Restarted a which) new
+  restarted : {old new : Nodes Key} {a which : ℕ} {state : Key → Option Held}
+      → slice_get (old.saved a) which ≡ Some state → Becomes a state old new
+      → Calls q whole old (Restarted a which) new
   begun_anew : {old new : Nodes Key} {a : ℕ} → Becomes a (λ _. None) old new → Calls q whole old (BegunAnew a) new
   nothing_done : {w : Nodes Key} {a : ℕ} → Calls q whole w (Refused a) w
 
 -- a run of the nodes, from fresh ones
-pub data Runs {Key : Type 0} (q : QueryData) (whole : Key → List Row) : List (Event Key Item) → Nodes Key → Type 0 where
+pub data Runs {Key : Type 0} (q : QueryData) (whole : Key → List Row) : List (Event Key Item) → Nodes Key
+    → Type 0 where
   none : Runs q whole [] (record { now = λ _ _. None; saved = λ _. [] })
-  more : {events : List (Event Key Item)} {e : Event Key Item} {old new : Nodes Key} → Runs q whole events old → Calls q whole old e new → Runs q whole (events ++ e ∷ []) new
+  more : {events : List (Event Key Item)} {e : Event Key Item} {old new : Nodes Key} → Runs q whole events old
+      → Calls q whole old e new → Runs q whole (events ++ e ∷ []) new
 
 -- ---- what runs give
 
@@ -126,22 +138,27 @@ pub record HoldsWhole (whole : List Row) (feed : Fed) : Type 0 where
   pub rows : (k : ℕ) → 1 ≤ k → k ≤ length whole → is_taken feed k ≡ true
   pub close : feed.closed ≡ Some (length whole)
 
--- What a node has given of a key's partition, in all its lives: the first items of the answer on the whole partition, each with its
--- place; and all of them where it holds all rows and the close and a poll is idle.
-pub record RunGivesFront {Key : Type 0} (q : QueryData) (whole : Key → List Row) (events : List (Event Key Item)) (nodes : Nodes Key) (a : ℕ) (key : Key) : Type 0 where
+-- What a node has given of a key's partition, in all its lives: the first items of the answer on the whole
+-- partition, each with its place; and all of them where it holds all rows and the close and a poll is idle.
+pub record RunGivesFront {Key : Type 0} (q : QueryData) (whole : Key → List Row) (events : List (Event Key Item))
+    (nodes : Nodes Key) (a : ℕ) (key : Key) : Type 0 where
   pub count : ℕ
   pub within : count ≤ length (answer_on q (whole key))
-  pub given : (place : ℕ) (x : Item) → Contains events (Done a key (Gives place x)) ↔ IsAtPlace count (answer_on q (whole key)) place x
-  pub all : HoldsWhole (whole key) (or_fresh (nodes.now a key)).feed →
+  pub given : (place : ℕ) (x : Item)
+      → Contains events (Done a key (Gives place x)) ↔ IsAtPlace count (answer_on q (whole key)) place x
+  pub all : HoldsWhole (whole key) (record_at nodes a key).feed →
       (after : Nodes Key) → Calls q whole nodes (Done a key Idles) after → count ≡ length (answer_on q (whole key))
 
--- A fresh record fits, and one that fits goes on fitting with one more row of the partition or its close, and without the rows that
--- its walk doesn't read any more; then the same numbers were taken. Its front is in the partition.
+-- A fresh record fits, and one that fits goes on fitting with one more row of the partition or its close, and
+-- without the rows that its walk doesn't read any more; then the same numbers were taken. Its front is in the
+-- partition.
 pub record RecordsStay (q : QueryData) (whole : List Row) : Type 0 where
   pub fresh_fits : Fits q whole fresh
-  pub row_fits : (r : Held) (k : ℕ) (row : Row) → Fits q whole r → 1 ≤ k → slice_get whole (k - 1) ≡ Some row → IsFree r.feed k
+  pub row_fits : (r : Held) (k : ℕ) (row : Row) → Fits q whole r → 1 ≤ k → slice_get whole (k - 1) ≡ Some row
+      → IsFree r.feed k
       → Fits q whole (with_fed r (with_taken k row r.feed))
   pub close_fits : (r : Held) → Fits q whole r → Fits q whole (with_fed r (with_close (length whole) r.feed))
-  pub rest_fits : (r : Held) (before : ℕ) → Fits q whole r → IsReached r.feed before → (r.state.over ≡ false → before ≤ first_read q r.state.at)
+  pub rest_fits : (r : Held) (before : ℕ) → Fits q whole r → IsReached r.feed before
+      → (r.state.over ≡ false → before ≤ first_read q r.state.at)
       → Fits q whole (dropped_to before r)
   pub front_within : (r : Held) → Fits q whole r → front_of r.feed ≤ length whole

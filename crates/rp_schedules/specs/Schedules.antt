@@ -53,12 +53,15 @@ pub data Act (Item : Type 0) : Type 0 where
   Idles : Act Item
   Pauses : Act Item
 
--- What may be done: a row of the partition or its close is taken. A poll gives the next item of what is known, is idle
--- where there is none, or is paused.
-pub data Step {Row Item : Type 0} (known : KnownAnswer Row Item) (whole : List Row) : Standing → Act Item → Standing → Type 0 where
-  takes : {s : Standing} {k : ℕ} → 1 ≤ k → k ≤ length whole → Step known whole s (Takes k) (record s { taken = with_number k s.taken })
+-- What may be done: a row of the partition or its close is taken. A poll gives the next item of what is known,
+-- is idle where there is none, or is paused.
+pub data Step {Row Item : Type 0} (known : KnownAnswer Row Item) (whole : List Row) : Standing → Act Item → Standing
+    → Type 0 where
+  takes : {s : Standing} {k : ℕ} → 1 ≤ k → k ≤ length whole
+      → Step known whole s (Takes k) (record s { taken = with_number k s.taken })
   closes : {s : Standing} → Step known whole s Closes (record s { closed = true })
-  gives : {s : Standing} {x : Item} → slice_get (known_of known whole s) s.given ≡ Some x → Step known whole s (Gives (s.given + 1) x) (record s { given = s.given + 1 })
+  gives : {s : Standing} {x : Item} → slice_get (known_of known whole s) s.given ≡ Some x
+      → Step known whole s (Gives (s.given + 1) x) (record s { given = s.given + 1 })
   idles : {s : Standing} → s.given ≡ length (known_of known whole s) → Step known whole s Idles s
   pauses : {s : Standing} → Step known whole s Pauses s
 
@@ -98,17 +101,26 @@ pub record Saves {Key State : Type 0} (a : ℕ) (old new : World Key State) : Ty
   pub now : new.now ≡ old.now
 
 -- What may happen, where `whole` has each key's whole partition. A lost packet is no event.
-pub data Happens {Key Row Item : Type 0} (known : KnownAnswer Row Item) (whole : Key → List Row) : World Key Standing → Event Key Item → World Key Standing → Type 0 where
-  done : {old new : World Key Standing} {a : ℕ} {key : Key} {act : Act Item} → Step known (whole key) (old.now a key) act (new.now a key) → StaysElsewhere a key old new → Happens known whole old (Done a key act) new
+pub data Happens {Key Row Item : Type 0} (known : KnownAnswer Row Item) (whole : Key → List Row) : World Key Standing
+    → Event Key Item → World Key Standing → Type 0 where
+  done : {old new : World Key Standing} {a : ℕ} {key : Key} {act : Act Item}
+      → Step known (whole key) (old.now a key) act (new.now a key) → StaysElsewhere a key old new
+      → Happens known whole old (Done a key act) new
   saves : {old new : World Key Standing} {a : ℕ} → Saves a old new → Happens known whole old (Saved a) new
-  restarts : {old new : World Key Standing} {a which : ℕ} {state : Key → Standing} → slice_get (old.saved a) which ≡ Some state → Becomes a state old new → Happens known whole old (Restarted a which) new
-  begins_anew : {old new : World Key Standing} {a : ℕ} → Becomes a (λ _. nothing_taken) old new → Happens known whole old (BegunAnew a) new
+  restarts : {old new : World Key Standing} {a which : ℕ} {state : Key → Standing}
+      → slice_get (old.saved a) which ≡ Some state → Becomes a state old new
+      → Happens known whole old (Restarted a which) new
+  begins_anew : {old new : World Key Standing} {a : ℕ} → Becomes a (λ _. nothing_taken) old new
+      → Happens known whole old (BegunAnew a) new
   refused : {w : World Key Standing} {a : ℕ} → Happens known whole w (Refused a) w
 
 -- a schedule, and where it comes to
-pub data Schedule {Key Row Item : Type 0} (known : KnownAnswer Row Item) (whole : Key → List Row) : List (Event Key Item) → World Key Standing → Type 0 where
+pub data Schedule {Key Row Item : Type 0} (known : KnownAnswer Row Item) (whole : Key → List Row)
+    : List (Event Key Item) → World Key Standing → Type 0 where
   none : Schedule known whole [] at_start
-  more : {events : List (Event Key Item)} {e : Event Key Item} {old new : World Key Standing} → Schedule known whole events old → Happens known whole old e new → Schedule known whole (events ++ e ∷ []) new
+  more : {events : List (Event Key Item)} {e : Event Key Item} {old new : World Key Standing}
+      → Schedule known whole events old → Happens known whole old e new
+      → Schedule known whole (events ++ e ∷ []) new
 
 -- ---- what was given
 
@@ -123,10 +135,13 @@ pub record HoldsAll {Row : Type 0} (whole : List Row) (s : Standing) : Type 0 wh
   pub rows : (k : ℕ) → 1 ≤ k → k ≤ length whole → s.taken k ≡ true
   pub close : s.closed ≡ true
 
--- What a node has given of a key's partition, in all its lives: the first items of the answer, each with its place; and
--- all of them where it holds all rows and the close and a poll is idle.
-pub record GivesFront {Key Row Item : Type 0} (known : KnownAnswer Row Item) (whole : Key → List Row) (events : List (Event Key Item)) (w : World Key Standing) (a : ℕ) (key : Key) : Type 0 where
+-- What a node has given of a key's partition, in all its lives: the first items of the answer, each with its
+-- place; and all of them where it holds all rows and the close and a poll is idle.
+pub record GivesFront {Key Row Item : Type 0} (known : KnownAnswer Row Item) (whole : Key → List Row)
+    (events : List (Event Key Item)) (w : World Key Standing) (a : ℕ) (key : Key) : Type 0 where
   pub count : ℕ
   pub within : count ≤ length (known (whole key) Closed)
-  pub given : (place : ℕ) (x : Item) → Contains events (Done a key (Gives place x)) ↔ IsAtPlace count (known (whole key) Closed) place x
-  pub all : HoldsAll (whole key) (w.now a key) → Step known (whole key) (w.now a key) Idles (w.now a key) → count ≡ length (known (whole key) Closed)
+  pub given : (place : ℕ) (x : Item)
+      → Contains events (Done a key (Gives place x)) ↔ IsAtPlace count (known (whole key) Closed) place x
+  pub all : HoldsAll (whole key) (w.now a key) → Step known (whole key) (w.now a key) Idles (w.now a key)
+      → count ≡ length (known (whole key) Closed)
