@@ -16,6 +16,7 @@
 #![tactic(auto)]
 
 mod fault;
+mod laws;
 mod node;
 mod part_rows;
 mod partition;
@@ -24,6 +25,7 @@ mod resume;
 mod save;
 
 pub use fault::{NodeFault, RestartFault, RestartRefused};
+pub use laws::law_calls;
 pub use node::Node;
 pub use rp_feed::{Packet, Taken};
 pub use rp_walker::Poll;

@@ -1,0 +1,11 @@
+use Rattle.rp_node.proofs.Events.{rows_are_events, closes_are_events, polls_are_events, refused_polls_are_events, restarts_are_one}
+use Rattle.rp_node.proofs.laws.law_calls.Goals as goal
+
+pub returns : goal.returns
+returns c = record {
+  rows = rows_are_events c.law_same_rows.ensures c.law_new.ensures.row;
+  closes = closes_are_events c.law_same_rows.ensures;
+  polls = polls_are_events c.law_same_rows.ensures;
+  refused = refused_polls_are_events c.law_same_rows.ensures;
+  restarts = restarts_are_one;
+}
