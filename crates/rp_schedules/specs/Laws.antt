@@ -29,4 +29,4 @@ NodesAgree Key =
     (q : QueryData) (whole : Key → List Row) (events : List (Event Key Item)) (nodes : Nodes Key)
     (a b : ℕ) (key : Key) (place : ℕ) (x y : Item)
     → IsSound q → Runs q whole events nodes → Contains events (Done a key (Gives place x))
-        → Contains events (Done b key (Gives place y)) → x ≡ y
+    → Contains events (Done b key (Gives place y)) → x ≡ y
