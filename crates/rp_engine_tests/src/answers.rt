@@ -3,10 +3,8 @@ mod cases;
 mod driven;
 mod examples;
 mod long;
-mod plain;
 mod player;
 mod refused;
-pub mod text;
 
 use player::{Event, play};
 use std::alloc::{AllocError, Global};

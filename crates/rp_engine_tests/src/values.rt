@@ -3,10 +3,10 @@ ghost use Rattle.std.specs.Prelude.{◌≡◌, ◌+◌, ◌-◌, ◌^◌, ◌<�
 ghost use Rattle.rp_eval.specs.Entered.{AreTotals};
 ghost use Rattle.rp_eval.specs.Partition.{Rows as Known};
 
-use super::answers::text::write_cell;
 use rp_check::compile;
 use rp_eval::{AllRows, Cell, Rows, Totals, View, measure};
 use rp_query::{Expr, Query};
+use rp_reference::write_cell;
 use rp_syntax::read_table;
 use rp_value::{Text, Value};
 use rp_words::{End, Label};

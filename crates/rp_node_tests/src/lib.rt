@@ -2,4 +2,12 @@
 #![tactic(auto)]
 
 #[cfg(test)]
+mod altered;
+#[cfg(test)]
+mod refused;
+#[cfg(test)]
+mod schedules;
+#[cfg(test)]
+mod support;
+#[cfg(test)]
 mod worked;

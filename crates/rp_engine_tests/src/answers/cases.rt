@@ -3,6 +3,7 @@
 ghost use Rattle.std.specs.Prelude.{◌<◌};
 
 use super::player::{Event, NULL, play};
+use rp_reference::Dice;
 use std::alloc::Global;
 use std::test::Fail;
 
@@ -80,24 +81,6 @@ const MEASURES: [&str; 6] = [
 
 const NUMBERS: [i64; 6] = [1, 2, 3, 1, 2, NULL];
 
-/// Numbers that look random (Knuth's MMIX generator).
-#[derive(Drop)]
-struct Dice {
-    state: u64,
-}
-
-impl Dice {
-    /// A number below `sides`.
-    fn below(&mut self, sides: u64) -> usize
-        requires { 0 < sides }
-        ensures { result < sides }
-    {
-        let product = self.state.wrapping_mul(6_364_136_223_846_793_005);
-        self.state = product.wrapping_add(1_442_695_040_888_963_407);
-        ((self.state >> 33) % sides) as usize
-    }
-}
-
 /// Which rows a match of this pattern gives.
 fn shown(dice: &mut Dice, pattern: usize) -> &'static str {
     if pattern < EXCLUDING {
@@ -137,7 +120,7 @@ fn events(alloc: Global, dice: &mut Dice, budget: u32) -> Result<Vec<Event>, Fai
 #[test]
 fn cases_by_a_plain_program(rt: HostRuntime) -> Result<(), Fail> {
     let alloc = rt.alloc();
-    let mut dice = Dice { state: 1 };
+    let mut dice = Dice::new(1);
     for _round in 0..5 {
         for pattern in 0..24 {
             let text = clause(alloc, &mut dice, pattern)?;

@@ -2,12 +2,11 @@
 ghost use Rattle.std.specs.Prelude.{◌≡◌, ◌<◌};
 
 use super::driven::Driven;
-use super::plain::known_items;
-use super::text::item_text;
 use rp_check::compile;
 use rp_eval::AllRows;
 use rp_known::Item;
 use rp_query::Query;
+use rp_reference::{item_text, known_items};
 use rp_search::Steps;
 use rp_syntax::read_table;
 use rp_value::{Row, Text, Value};
@@ -91,7 +90,7 @@ struct Player {
     saved: MatcherState,
     told: String,
     /// The items alone.
-    items: String,
+    items: Vec<String>,
 }
 
 impl Player {
@@ -108,7 +107,7 @@ impl Player {
             },
             saved,
             told: String::new(alloc),
-            items: String::new(alloc),
+            items: Vec::new(alloc),
         })
     }
 
@@ -173,15 +172,15 @@ impl Player {
     fn tell(&mut self, place: u128, item: &Item) -> Result<(), Fail> {
         let text = item_text(self.alloc, place, item)?;
         self.told.push_str(text.as_str())?;
-        self.items.push_str(text.as_str())?;
+        self.items.push(text)?;
         Ok(())
     }
 
     fn compare(&mut self) -> Result<(), Fail> {
         let known = known_items(self.alloc, &self.query, &self.rows)?;
-        if known.as_str() != self.items.as_str() {
+        if known.as_slice() != self.items.as_slice() {
             let text = self.query.text().as_str();
-            let told = format!(in self.alloc; "{text}: known {known}, given {}", self.items)?;
+            let told = format!(in self.alloc; "{text}: known {known:?}, given {:?}", self.items)?;
             return Err(Fail::from(told));
         }
         Ok(())

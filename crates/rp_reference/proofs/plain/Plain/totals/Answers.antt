@@ -1,7 +1,7 @@
 use Rattle.std.proofs.Common.{take, get_or, false}
 use Rattle.std.proofs.lemmas.List.{take_more}
 use Rattle.rp_words.specs.declared.word.Label.{Label}
-use Rattle.rp_engine_tests.proofs.answers.plain.Plain.totals.Goals as goal
+use Rattle.rp_reference.proofs.plain.Plain.totals.Goals as goal
 
 pub loop-depth-init : goal.loop-depth-init
 loop-depth-init c = c.in_ok-totals.ensures.none c.args.self.now.rows.now.rows.items c.args.start

@@ -4,7 +4,7 @@
 ghost use Rattle.std.specs.Prelude.{◌≡◌, ◌+◌, ◌<◌, ◌≤◌, length, IfOk, OnOk};
 ghost use Rattle.rp_eval.specs.Entered.{AreTotals};
 
-use super::text::row_text;
+use crate::text::row_text;
 use rp_eval::{AllRows, Cell, Rows, Totals, View, condition, measure};
 use rp_pattern::list_words;
 use rp_query::{Query, RowsPerMatch, SkipTo, Variables};
@@ -16,11 +16,11 @@ use std::test::Fail;
 /// More words than a pattern of the tests has over their rows.
 const MANY_WORDS: usize = 100_000;
 
-/// The items that are known, as text.
-pub fn known_items(alloc: Global, query: &Query, rows: &AllRows) -> Result<String, Fail> {
+/// The items that are known, each as text.
+pub fn known_items(alloc: Global, query: &Query, rows: &AllRows) -> Result<Vec<String>, Fail> {
     let plain = Plain { alloc, query, rows };
     let mut given = Given {
-        items: String::new(alloc),
+        items: Vec::new(alloc),
         count: 0,
         matches: 0,
         covered: 0,
@@ -43,7 +43,7 @@ pub fn known_items(alloc: Global, query: &Query, rows: &AllRows) -> Result<Strin
 /// What was given up to a start row.
 #[derive(Drop)]
 struct Given {
-    items: String,
+    items: Vec<String>,
     /// How many items.
     count: u128,
     /// How many matches were found.
@@ -257,7 +257,7 @@ impl<'a> Plain<'a> {
     fn give_word(&self, word: &str, given: &mut Given) -> Result<(), Fail> {
         given.count = given.count.saturating_add(1);
         let text = format!(in self.alloc; "({}, {word})", given.count)?;
-        given.items.push_str(text.as_str())?;
+        given.items.push(text)?;
         Ok(())
     }
 
@@ -279,7 +279,7 @@ impl<'a> Plain<'a> {
         }
         given.count = given.count.saturating_add(1);
         let text = row_text(self.alloc, given.count, number, &cells)?;
-        given.items.push_str(text.as_str())?;
+        given.items.push(text)?;
         Ok(())
     }
 

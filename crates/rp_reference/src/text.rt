@@ -33,7 +33,8 @@ pub fn row_text(
     Ok(text)
 }
 
-fn write_cell(alloc: Global, cell: &Value, text: &mut String) -> Result<(), Fail> {
+/// A cell as it stands in an item.
+pub fn write_cell(alloc: Global, cell: &Value, text: &mut String) -> Result<(), Fail> {
     match cell {
         Value::Null => text.push_str("null")?,
         Value::Int(number) => text.push_str(format!(in alloc; "{number}")?.as_str())?,

@@ -1,0 +1,11 @@
+//! The items of a partition as the definitions say them, for the tests: each word of the pattern is listed, and each total
+//! counted anew. Beside it items as text, and numbers that look random.
+#![tactic(auto)]
+
+mod dice;
+mod plain;
+mod text;
+
+pub use dice::Dice;
+pub use plain::known_items;
+pub use text::{item_text, write_cell};
