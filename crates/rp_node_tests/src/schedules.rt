@@ -58,9 +58,13 @@ fn each_clause(alloc: Global, rounds: u64, seed: u64, clauses: &[&str]) -> Resul
 
 fn each_round(alloc: Global, rounds: u64, seed: u64, query: &Query) -> Result<(), Fail> {
     for round in 0..rounds {
-        schedules::<Brand>(Blank::new(1), alloc, query, seed.wrapping_add(round))?;
+        one_round(alloc, seed.wrapping_add(round), query)?;
     }
     Ok(())
+}
+
+fn one_round(alloc: Global, seed: u64, query: &Query) -> Result<(), Fail> {
+    schedules::<Brand>(Blank::new(1), alloc, query, seed)
 }
 
 /// Schedules over one partition.

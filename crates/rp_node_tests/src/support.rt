@@ -45,14 +45,14 @@ pub fn row_of(
     symbol: &str,
     number: u64,
     p: Value,
-) -> Result<Row, AllocError> {
+) -> Result<Row, Fail> {
     let mut cells = Vec::new(alloc);
     if query.table().columns().len() > 1 {
         cells.push(text_of(alloc, symbol)?)?;
-        cells.push(Value::Int(number as i64))?;
+        cells.push(Value::Int(i64::try_from(number)?))?;
     }
     cells.push(p)?;
-    Row::new(alloc, cells)
+    Ok(Row::new(alloc, cells)?)
 }
 
 /// An object behind its digest, a line feed between them.

@@ -44,19 +44,23 @@ pub enum Event {
 /// What is told of these events.
 pub fn play(alloc: Global, clause: &str, events: &[Event]) -> Result<String, Fail> {
     let query = query_of(alloc, TABLE, clause)?;
-    played::<Brand>(Blank::new(1), alloc, query, events, false)
+    begun(alloc, query, events, false)
 }
 
 /// The same over the table of p alone.
 pub fn play_numbers(alloc: Global, clause: &str, events: &[Event]) -> Result<String, Fail> {
     let query = query_of(alloc, "p int", clause)?;
-    played::<Brand>(Blank::new(1), alloc, query, events, false)
+    begun(alloc, query, events, false)
 }
 
 /// The same as `play`, where a call of the node that is refused memory is made again.
 pub fn play_again(alloc: Global, clause: &str, events: &[Event]) -> Result<String, Fail> {
     let query = query_of(alloc, TABLE, clause)?;
-    played::<Brand>(Blank::new(1), alloc, query, events, true)
+    begun(alloc, query, events, true)
+}
+
+fn begun(alloc: Global, query: Query, events: &[Event], again: bool) -> Result<String, Fail> {
+    played::<Brand>(Blank::new(1), alloc, query, events, again)
 }
 
 fn played<L: Ledger>(
