@@ -94,7 +94,7 @@ impl<'a> Simulated<'a> {
     /// One event. Rows that come in their order are the most, so that a partition grows.
     pub fn act<L: Ledger>(&mut self, dice: &mut Dice, steps: &mut Steps<L>) -> Result<(), Fail> {
         match dice.below(20) {
-            0..=5 => self.take_row(self.held.front().saturating_add(1)),
+            0..=5 => self.take_next(),
             6..=8 => self.take_row(dice.below(MANY_ROWS as u64).saturating_add(1)),
             9 => self.take_other_row(dice.below(MANY_ROWS as u64).saturating_add(1)),
             10 => self.close(),
@@ -117,6 +117,12 @@ impl<'a> Simulated<'a> {
             return self.failed("not all was given");
         }
         Ok(())
+    }
+
+    /// The first row comes that isn't there.
+    fn take_next(&mut self) -> Result<(), Fail> {
+        let next = self.held.front().saturating_add(1);
+        self.take_row(next)
     }
 
     /// The row of this number comes, if there is one.
