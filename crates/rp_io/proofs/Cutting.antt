@@ -101,3 +101,11 @@ when_false P Q false is h = h
 pub on_err_from : {T E P : Type 0} (r : Result T E) → P → OnErr r P
 on_err_from (Ok x) p = tt
 on_err_from (Err e) p = p
+
+lf_in_by : (front rest : List ℕ) → AllByRecursion (λ b. b ≢ 10) (front ++ 10 ∷ rest) → ⊥
+lf_in_by [] rest free = free.0 refl
+lf_in_by (b ∷ front) rest free = lf_in_by front rest free.1
+
+-- bytes with a LF among them aren't free of it
+pub lf_in : (front rest bytes : List ℕ) → bytes ≡ front ++ 10 ∷ rest → IsLfFree bytes → ⊥
+lf_in front rest bytes is free = lf_in_by front rest (recursion_from_All (λ b. b ≢ 10) (front ++ 10 ∷ rest) (subst IsLfFree is free))

@@ -1,4 +1,6 @@
 pub mod Written
+pub mod Writes
+pub mod Kept
 pub mod Giving
 pub mod Cutting
 pub mod Told

@@ -1,7 +1,8 @@
 -- What is read and not yet cut into lines.
-use Rattle.std.specs.Prelude.{ℕ, ◌+◌, ◌-◌, ◌*◌, List, drop, vec_len, Option}
+use Rattle.std.specs.Prelude.{◌≡◌, ℕ, ◌+◌, ◌-◌, ◌*◌, List, ◌∷◌, ◌++◌, drop, vec_len, Option}
 use Rattle.std.specs.Io.KnownBytes.{prepend_known}
 use Rattle.rp_io.specs.declared.lines.Lines.{Lines}
+use Rattle.rp_io.specs.Lines.{line_feed}
 use Rattle.rp_io.specs.declared.lines.TheConstants.{CHUNK}
 
 -- the bytes that are read and not yet cut into lines
@@ -16,3 +17,7 @@ coming lines remaining = prepend_known (pending_of lines) remaining
 -- can give, which is CHUNK each at most.
 abbrev pub most_lines_to_come : Lines → ℕ
 most_lines_to_come lines = lines.reads * CHUNK + (vec_len lines.chunk - lines.taken)
+
+-- A line with its line feed stands among the bytes that are read and not yet cut into lines.
+abbrev pub HasLine : Lines → Type 0
+HasLine lines = (front : List ℕ) × (rest : List ℕ) × (pending_of lines ≡ front ++ line_feed ∷ rest)

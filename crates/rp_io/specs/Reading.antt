@@ -3,7 +3,7 @@
 use Rattle.std.specs.Prelude.{◌≡◌, ◌⊎◌, ◌≤◌, ℕ, Bool, true, List, length, Option, IfSome}
 use Rattle.std.specs.Io.KnownBytes.{IsAtEnd}
 use Rattle.rp_io.specs.Counts.{raised}
-use Rattle.rp_io.specs.Devices.{MakesCalls, after_calls}
+use Rattle.rp_io.specs.Devices.{AsManyBytesAsReads, MakesCalls, UsesCalls, after_calls}
 use Rattle.rp_io.specs.declared.lines.LineFault.{LineFault}
 use Rattle.rp_io.specs.declared.lines.LineFault.TheVariants.{Read, TooManyReads, OutOfMemory}
 
@@ -52,3 +52,26 @@ pub record ReadsWithin (reads : ℕ) (told : Told) (calls calls' failures failur
   pub all_made : told ≡ NoReadsLeft → calls' ≡ after_calls reads calls
   -- and then each has given a byte at least, where the bytes are known
   pub all_gave : told ≡ NoReadsLeft → IfSome remaining (λ input. reads ≤ length input)
+
+-- The reads of a run so far, or of a part of it, after which it goes on: of the reads that are allowed `left` are left, each other has
+-- given a byte, where the bytes are known, none has failed, and none has told the end.
+pub record ReadsSoFar (reads left : ℕ) (calls calls' failures failures' : ℕ) (ended ended' : Bool)
+    (remaining remaining' : Option (List ℕ)) : Type 0 where
+  pub used : UsesCalls reads left calls calls'
+  pub none_failed : failures' ≡ failures
+  pub untold : ended' ≡ ended
+  pub gave : AsManyBytesAsReads reads left remaining remaining'
+
+-- The reads of the part of a run that came to this end, after which `left` of the reads that were allowed are left.
+pub record ReadsStop (told : Told) (reads left : ℕ) (calls calls' failures failures' : ℕ) (ended ended' : Bool)
+    (remaining remaining' : Option (List ℕ)) : Type 0 where
+  pub used : UsesCalls reads left calls calls'
+  -- a failure is counted where it is told, and no other has come
+  pub failure : FailureIsTold told failures failures'
+  -- the end was told by a read where it is told
+  pub end : EndOfReadsIsTold told ended ended'
+  -- then nothing is still to come
+  pub nothing_left : told ≡ Ended → IsAtEnd remaining'
+  -- no reads are left where that is told, and each has given a byte at least, where the bytes are known
+  pub none_left : told ≡ NoReadsLeft → left ≡ 0
+  pub gave : told ≡ NoReadsLeft → AsManyBytesAsReads reads left remaining remaining'

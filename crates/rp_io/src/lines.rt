@@ -32,6 +32,8 @@ const LF: u8 = b'\n';
 pub struct Lines {
     /// What was read last.
     pub chunk: Vec<u8>,
+    /// Where the reader puts it. It is as long as a call may fill, from the first call on.
+    pub room: Vec<u8>,
     /// How many bytes of it were cut off, from the first on.
     pub taken: usize,
     /// How many more calls of the reader may be made.
@@ -40,6 +42,7 @@ pub struct Lines {
     pub kept: usize,
     ghost within: { taken ≤ vec_len chunk },
     ghost bounded: { vec_len chunk ≤ CHUNK },
+    ghost wide: { vec_len room ≤ CHUNK },
 }
 
 impl Lines {
@@ -48,7 +51,7 @@ impl Lines {
     ghost use Rattle.rp_io.specs.Cuts.{Advances, CutsOff};
     ghost use Rattle.rp_io.specs.Devices.{AsManyBytesAsReads, UsesCalls};
     ghost use Rattle.rp_io.specs.Lines.{TakesLast, TakesLine};
-    ghost use Rattle.rp_io.specs.Pending.{pending_of, coming, most_lines_to_come};
+    ghost use Rattle.rp_io.specs.Pending.{HasLine, pending_of, coming, most_lines_to_come};
     ghost use Rattle.rp_io.specs.Telling.{EndIsTold, FailureIsCounted};
 
     /// Nothing is read yet, at most `reads` calls of the reader will be made, and of each line at most `kept` bytes kept.
@@ -59,10 +62,20 @@ impl Lines {
     {
         Lines {
             chunk: Vec::new(alloc),
+            room: Vec::new(alloc),
             taken: 0,
             reads,
             kept,
         }
+    }
+
+    /// Whether a whole line is read, which `next` then takes without a call of the reader.
+    pub fn has_line(&self) -> bool
+        ensures yes { result ≡ true → HasLine self.now }
+        ensures no { result ≡ false → IsLfFree (pending_of self.now) }
+    {
+        let rest = &self.chunk[self.taken..];
+        line_length(rest) < rest.len()
     }
 
     /// Puts the first bytes of the next line into `line`, without its LF, and says whether it had one. Without one it is
@@ -82,6 +95,8 @@ impl Lines {
         ensures falls { result ≡ Ok true → most_lines_to_come self.new < most_lines_to_come self.old }
         ensures few { vec_len line.new ≤ self.old.kept }
         ensures kept { self.new.kept ≡ self.old.kept }
+        ensures unread { HasLine self.old →
+            ((result ≡ Ok true) ⊎ (result ≡ Err LineFault.OutOfMemory)) × (reader.new ≡ reader.old) }
     {
         line.clear();
         loop {
@@ -132,19 +147,32 @@ impl Lines {
         if self.reads == 0 {
             return Err(LineFault::TooManyReads);
         }
+        self.make_room()?;
         self.taken = 0;
-        self.chunk.resize(CHUNK, 0)?;
+        self.chunk.clear();
         self.reads -= 1;
-        match reader.read(self.chunk.as_mut_slice()) {
+        match reader.read(self.room.as_mut_slice()) {
+            Ok(0) => Ok(false),
             Ok(count) => {
-                self.chunk.truncate(count);
-                Ok(count > 0)
+                self.chunk.extend_from_slice(&self.room[..count])?;
+                Ok(true)
             }
-            Err(_) => {
-                self.chunk.clear();
-                Err(LineFault::Read)
-            }
+            Err(_) => Err(LineFault::Read),
         }
+    }
+
+    /// Makes the room as long as a call may fill, once.
+    fn make_room(&mut self) -> Result<(), AllocError>
+        ensures long { OnOk result (vec_len self.new.room ≡ CHUNK) }
+        ensures chunk { self.new.chunk ≡ self.old.chunk }
+        ensures taken { self.new.taken ≡ self.old.taken }
+        ensures reads { self.new.reads ≡ self.old.reads }
+        ensures kept { self.new.kept ≡ self.old.kept }
+    {
+        if self.room.len() == CHUNK {
+            return Ok(());
+        }
+        self.room.resize(CHUNK, 0)
     }
 }
 

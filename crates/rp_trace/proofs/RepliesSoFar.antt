@@ -135,7 +135,3 @@ Replied-fault form (Some xs) (Some ys) (Some a) (Some b) (Some c) text replied w
   where
     middle : (p q r s : List ℕ) → (p ++ (q ++ r)) ++ s ≡ (p ++ q) ++ (r ++ s)
     middle p q r s = simp append_assoc
-
-pub AppendsFront-none : (old : Option (List ℕ)) (text : List ℕ) → AppendsFront old old text
-AppendsFront-none None text = tt
-AppendsFront-none (Some xs) text = ([], text, refl, sym (append-nil xs))

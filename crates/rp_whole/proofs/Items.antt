@@ -11,7 +11,7 @@ use Rattle.rp_walker.specs.Polls.{AnswerIs}
 use Rattle.rp_whole.specs.AnswerLines.{closed}
 use Rattle.rp_whole.specs.Writing.{WritesOn, lines_to_come}
 use Rattle.rp_whole.proofs.ToCome.{next_line, same_lines}
-use Rattle.rp_whole.proofs.Writes.{front_longer, moves_front, moves_more, moves_none}
+use Rattle.rp_io.proofs.Writes.{front_longer, moves_front, moves_more, moves_none}
 
 module _ (q : QueryData) (part : Part) (old new : MatcherState) (place : ℕ) (x : Item) (is : AnswerIs q (closed part.1) old new (ItemPoll place x)) where
   -- the line of the item comes next

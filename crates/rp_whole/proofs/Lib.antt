@@ -1,5 +1,4 @@
 mod ToCome
-mod Writes
 mod Items
 mod Parts
 mod Told

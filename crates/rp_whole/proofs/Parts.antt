@@ -14,7 +14,7 @@ use Rattle.rp_input.specs.Orders.{IsOrdered, OrderExists}
 use Rattle.rp_input.specs.Partitions.{Part}
 use Rattle.rp_whole.specs.AnswerLines.{part_lines}
 use Rattle.rp_whole.specs.Writing.{WritesParts, WritesPartsFront}
-use Rattle.rp_whole.proofs.Writes.{front_longer, front_none, moves_end, moves_front, moves_more, moves_none, moves_part}
+use Rattle.rp_io.proofs.Writes.{front_longer, front_none, moves_end, moves_front, moves_more, moves_none, moves_part}
 
 abbrev pub Kept : Type 0
 Kept = List Value × Vec (List Value) Global

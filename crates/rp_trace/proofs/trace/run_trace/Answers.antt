@@ -3,9 +3,10 @@ use Rattle.rp_words.specs.PatternForm.{form_of}
 use Rattle.rp_io.specs.Pending.{coming}
 use Rattle.rp_trace.specs.Replies.{last_reply, reply_to}
 use Rattle.rp_io.proofs.Cutting.{on_err_from}
-use Rattle.rp_trace.proofs.RepliesSoFar.{AppendsFront-none, Replied-start, Replied-more, Replied-moved, Replied-last, Replied-end, Replied-fault}
+use Rattle.rp_trace.proofs.RepliesSoFar.{Replied-start, Replied-more, Replied-moved, Replied-last, Replied-end, Replied-fault}
 use Rattle.rp_io.proofs.SoFar.{no_reads, reads_end, reads_ended, reads_fail, reads_more, reads_stop}
 use Rattle.rp_io.proofs.Told.{told_last, told_more}
+use Rattle.rp_io.proofs.Writes.{front_none}
 use Rattle.rp_io.specs.Reading.{line_told}
 use Rattle.rp_io.specs.Reading.Told.{Other}
 use Rattle.rp_trace.specs.Faults.{run_told, trace_fault}
@@ -24,12 +25,12 @@ loop-text-init g c = record {
 pub returns-in_err-next-clause-front : goal.returns-in_err-next-clause-front
 returns-in_err-next-clause-front g c =
     on_err_from _ (Replied-fault (form_of c.args.pattern.now) (g.R.Intake.remaining c.args.reader.now) (coming c.loop-text.lines (g.R.Intake.remaining c.loop-text.reader)) (g.W.Outlet.contents c.args.writer.now)
-    (g.W.Outlet.contents c.loop-text.writer) (g.W.Outlet.contents c.loop-text.writer) c.loop-text.text.items c.loop-text.invariant.replied (AppendsFront-none (g.W.Outlet.contents c.loop-text.writer) c.loop-text.text.items))
+    (g.W.Outlet.contents c.loop-text.writer) (g.W.Outlet.contents c.loop-text.writer) c.loop-text.text.items c.loop-text.invariant.replied (front_none (g.W.Outlet.contents c.loop-text.writer) c.loop-text.text.items))
 
 pub returns-in_err-push_reply-clause-front : goal.returns-in_err-push_reply-clause-front
 returns-in_err-push_reply-clause-front g c =
     on_err_from _ (Replied-fault (form_of c.args.pattern.now) (g.R.Intake.remaining c.args.reader.now) (coming c.loop-text.lines (g.R.Intake.remaining c.loop-text.reader)) (g.W.Outlet.contents c.args.writer.now)
-    (g.W.Outlet.contents c.loop-text.writer) (g.W.Outlet.contents c.loop-text.writer) c.loop-text.text.items c.loop-text.invariant.replied (AppendsFront-none (g.W.Outlet.contents c.loop-text.writer) c.loop-text.text.items))
+    (g.W.Outlet.contents c.loop-text.writer) (g.W.Outlet.contents c.loop-text.writer) c.loop-text.text.items c.loop-text.invariant.replied (front_none (g.W.Outlet.contents c.loop-text.writer) c.loop-text.text.items))
 
 pub loop-text-preserved : goal.loop-text-preserved
 loop-text-preserved g c =
@@ -64,7 +65,7 @@ returns-in_err-write_block-clause-front g c =
 pub returns-in_err-push_last-clause-front : goal.returns-in_err-push_last-clause-front
 returns-in_err-push_last-clause-front g c =
     on_err_from _ (Replied-fault (form_of c.args.pattern.now) (g.R.Intake.remaining c.args.reader.now) (coming c.loop-text.lines (g.R.Intake.remaining c.loop-text.reader)) (g.W.Outlet.contents c.args.writer.now)
-    (g.W.Outlet.contents c.loop-text.writer) (g.W.Outlet.contents c.loop-text.writer) c.loop-text.text.items c.loop-text.invariant.replied (AppendsFront-none (g.W.Outlet.contents c.loop-text.writer) c.loop-text.text.items))
+    (g.W.Outlet.contents c.loop-text.writer) (g.W.Outlet.contents c.loop-text.writer) c.loop-text.text.items c.loop-text.invariant.replied (front_none (g.W.Outlet.contents c.loop-text.writer) c.loop-text.text.items))
 
 pub returns-in_err-write_all-clause-front : goal.returns-in_err-write_all-clause-front
 returns-in_err-write_all-clause-front g c =

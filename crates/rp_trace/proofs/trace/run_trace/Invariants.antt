@@ -1,7 +1,7 @@
 use Rattle.std.proofs.Common.{◌≡◌}
 use Rattle.rp_words.specs.PatternForm.{form_of}
 use Rattle.rp_io.specs.Pending.{coming, most_lines_to_come}
-use Rattle.rp_io.proofs.SoFar.{ReadsSoFar}
+use Rattle.rp_io.specs.Reading.{ReadsSoFar}
 use Rattle.rp_trace.proofs.RepliesSoFar.{Replied}
 use Rattle.rp_trace.proofs.trace.run_trace.Given as goal
 

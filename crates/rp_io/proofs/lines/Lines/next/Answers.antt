@@ -1,6 +1,7 @@
-use Rattle.std.proofs.Common.{rules, ◌++◌, ◌∙◌, ap, take}
+use Rattle.std.proofs.Common.{rules, ◌≡◌, ◌++◌, ◌∙◌, ap, sym, take}
 use Rattle.rp_io.specs.Pending.{pending_of, coming}
-use Rattle.rp_io.proofs.Cutting.{cut-whole, cut-part, fill-more, end-part, when_true, when_false}
+use Rattle.rp_io.specs.Pending.{HasLine}
+use Rattle.rp_io.proofs.Cutting.{lf_in, cut-whole, cut-part, fill-more, end-part, when_true, when_false}
 use Rattle.rp_io.proofs.Calls.{UsesCalls-trans}
 use Rattle.rp_io.proofs.Giving.{AsManyBytesAsReads-trans}
 use Rattle.rp_io.proofs.lines.Lines.next.Goals as goal
@@ -40,6 +41,7 @@ loop-self-preserved g c =
       ended = search rules;
       gives = AsManyBytesAsReads-trans _ _ _ _ _ _ c.loop-self.invariant.gives (rw c.in_ok-cut.ensures.reads at c.in_ok-fill.ensures.gives (search rules));
       left = search rules;
+      unread = λ has. absurd (lf_in has.0 has.1 (pending_of c.loop-self.self) (ap pending_of (c.loop-self.invariant.unread has).0 ∙ has.2) part.0);
     }
 
 pub returns-in_err-fill-clause-calls : goal.returns-in_err-fill-clause-calls
@@ -47,3 +49,13 @@ returns-in_err-fill-clause-calls g c = UsesCalls-trans _ _ _ _ _ _ c.loop-self.i
 
 pub returns-then-not-branch-clause-calls : goal.returns-then-not-branch-clause-calls
 returns-then-not-branch-clause-calls g c = UsesCalls-trans _ _ _ _ _ _ c.loop-self.invariant.calls (rw c.in_ok-cut.ensures.reads at c.in_ok-fill.ensures.calls)
+
+pub returns-then-not-branch-clause-unread : goal.returns-then-not-branch-clause-unread
+returns-then-not-branch-clause-unread g c = λ has.
+    let part = when_false _ _ c.in_ok-cut.field-0 c.if-branch.false c.in_ok-cut.ensures.cut in
+    absurd (lf_in has.0 has.1 (pending_of c.loop-self.self) (ap pending_of (c.loop-self.invariant.unread has).0 ∙ has.2) part.0)
+
+pub returns-in_err-fill-clause-unread : goal.returns-in_err-fill-clause-unread
+returns-in_err-fill-clause-unread g c = λ has.
+    let part = when_false _ _ c.in_ok-cut.field-0 c.if-branch.false c.in_ok-cut.ensures.cut in
+    absurd (lf_in has.0 has.1 (pending_of c.loop-self.self) (ap pending_of (c.loop-self.invariant.unread has).0 ∙ has.2) part.0)

@@ -1,6 +1,6 @@
 use Rattle.std.proofs.Common.{◌≡◌, ◌≤◌, vec_len}
 use Rattle.rp_io.specs.Devices.{AsManyBytesAsReads, UsesCalls}
-use Rattle.rp_io.specs.Pending.{coming, most_lines_to_come}
+use Rattle.rp_io.specs.Pending.{HasLine, coming, most_lines_to_come}
 use Rattle.rp_io.proofs.Cutting.{ReadFront}
 use Rattle.rp_io.proofs.lines.Lines.next.Given as goal
 
@@ -14,6 +14,7 @@ invariant-loop-self g l = record {
   ended : g.R.Intake.ended l.reader ≡ g.R.Intake.ended l.fn.reader;
   gives : AsManyBytesAsReads l.fn.self.reads l.self.reads (g.R.Intake.remaining l.fn.reader) (g.R.Intake.remaining l.reader);
   left : most_lines_to_come l.self ≤ most_lines_to_come l.fn.self;
+  unread : HasLine l.fn.self → (l.self ≡ l.fn.self) × (l.reader ≡ l.fn.reader);
 }
 
 abbrev pub decreases-loop-self : goal.decreases-loop-self
