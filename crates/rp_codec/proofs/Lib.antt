@@ -1,3 +1,4 @@
 mod Onto
 mod Plain
 pub mod Texts
+mod PacketTexts

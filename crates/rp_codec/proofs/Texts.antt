@@ -66,7 +66,7 @@ begun : (ts : List Token) → print_from false (begin_array ∷ ts) ≡ codes "[
 unfolding print_from
 begun ts = refl
 
-all_values_print : (vs : List Value) (rest : List Token) → print_from false (values_tokens vs ++ rest) ≡ values_text vs ++ print_from true rest
+pub all_values_print : (vs : List Value) (rest : List Token) → print_from false (values_tokens vs ++ rest) ≡ values_text vs ++ print_from true rest
 unfolding print_from
 all_values_print [] rest = refl
 all_values_print (v ∷ vs) rest =
@@ -97,7 +97,7 @@ unfolding json_on_literals
 fault_print SkipNoRow rest = refl
 fault_print SkipSame rest = refl
 
-cells_print : (vs : List Value) (rest : List Token) → print_from false (begin_object ∷ key (codes "cells") ∷ (values_tokens vs ++ rest)) ≡ codes "{\"cells\":" ++ (values_text vs ++ print_from true rest)
+pub cells_print : (vs : List Value) (rest : List Token) → print_from false (begin_object ∷ key (codes "cells") ∷ (values_tokens vs ++ rest)) ≡ codes "{\"cells\":" ++ (values_text vs ++ print_from true rest)
 unfolding json_on_literals
 cells_print vs rest = ap (λ t. codes "{\"cells\":" ++ t) (all_values_print vs rest)
 

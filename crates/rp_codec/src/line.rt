@@ -13,31 +13,41 @@ use rp_value::{Cells, Value};
 use std::alloc::{AllocError, Global};
 use std::mem;
 
+/// How many bytes a line has room for before it takes more.
+pub(crate) const ROOM: usize = 128;
+
 /// The line of a reply, without its line feed.
 pub fn reply_line(alloc: Global, reply: &Reply) -> Result<String, AllocError>
     ensures text { IfOk result (λ line. string_bytes line ≡ reply_text reply.now) }
     ensures within { IfOk result (λ _. IsWithin reply.now) }
 {
-    let mut text = Vec::with_capacity(alloc, 128)?;
-    push_reply_line(alloc, &mut text, reply)?;
-    string_of(text)
+    let line = reply_bytes(alloc, reply)?;
+    string_of(line)
 }
 
-/// Adds the line of a reply to a text, without its line feed. Where memory is refused, some bytes may be added.
+/// Adds the line of a reply to a text, without its line feed. The line is made apart from the text, so that it costs no
+/// more where the text is long. Where memory is refused, the text stays as it is, or has the whole line.
 pub fn push_reply_line(alloc: Global, text: &mut Vec<u8>, reply: &Reply) -> Result<(), AllocError>
     ensures text { OnOk result (text.new.items ≡ text.old.items ++ reply_text reply.now) }
     ensures within { OnOk result (IsWithin reply.now) }
     ensures kept { (added : List ℕ) × (text.new.items ≡ text.old.items ++ added) }
 {
-    let gathered = mem::replace(text, Vec::new(alloc));
-    let mut writer = Writer::new(gathered);
-    let written = write_reply(alloc, &mut writer, reply);
-    *text = writer.into_inner();
-    written
+    let line = reply_bytes(alloc, reply)?;
+    text.extend_from_slice(line.as_slice())
+}
+
+fn reply_bytes(alloc: Global, reply: &Reply) -> Result<Vec<u8>, AllocError>
+    ensures text { IfOk result (λ line. line.items ≡ reply_text reply.now) }
+    ensures within { IfOk result (λ _. IsWithin reply.now) }
+{
+    let mut writer = Writer::new(Vec::with_capacity(alloc, ROOM)?);
+    write_reply(alloc, &mut writer, reply)?;
+    Ok(writer.into_inner())
 }
 
 /// Adds the line of an item of a partition's answer to a text, without its line feed. The key is lent, since all items
-/// of a partition have it. Where memory is refused, some bytes may be added.
+/// of a partition have it. It costs as much as the room that the text has: a short text of its own is best. Where memory is
+/// refused, some bytes may be added.
 pub fn push_item_line(
     alloc: Global,
     text: &mut Vec<u8>,
@@ -225,7 +235,7 @@ fn write_key(writer: &mut Writer, key: &Cells) -> Result<(), AllocError>
     write_values(writer, key.as_slice())
 }
 
-fn write_values(writer: &mut Writer, values: &[Value]) -> Result<(), AllocError>
+pub(crate) fn write_values(writer: &mut Writer, values: &[Value]) -> Result<(), AllocError>
     ensures ok { OnOk result (writer.new.tokens ≡ writer.old.tokens ++ values_tokens values.now) }
     ensures within { OnOk result (AreCells values.now) }
     ensures before { writer.new.before ≡ writer.old.before }

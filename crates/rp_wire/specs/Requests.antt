@@ -1,9 +1,9 @@
 -- The line of a request, and the request of a line. A line is written without its line feed.
-use Rattle.std.specs.Prelude.{ℕ, List, length, Option, Some, None, is_some, Result, Ok, Err, if◌then◌else◌, nat_lt, codes, ◌++◌, decimal}
+use Rattle.std.specs.Prelude.{ℕ, List, length, Option, Some, None, is_some, Result, Ok, Err, if◌then◌else◌, nat_lt, codes}
 use Rattle.serde_json.specs.Data.{Data, object, no_members, member}
 use Rattle.serde_json.specs.Find.{get}
 use Rattle.rp_feed.specs.declared.packet.Packet.TheVariants as packet
-use Rattle.rp_codec.specs.ReplyLines.{values_text}
+use Rattle.rp_codec.specs.PacketLines.{packet_text, poll_text}
 use Rattle.rp_codec.specs.declared.refusal.Field.{Field}
 use Rattle.rp_codec.specs.declared.refusal.Field.TheVariants as f
 use Rattle.rp_json.specs.Forms.{cells_data, cells_of, short_of, whole_data, whole_of}
@@ -16,11 +16,10 @@ use Rattle.rp_wire.specs.declared.fault.LineFault.TheVariants.{TooLong, NotJson,
 
 -- ---- how a request is written
 
--- {"cells":[..],"row":N}    {"close":N,"key":[..]}    {"budget":N,"poll":[..]}
+-- the line of a packet, or that of a poll
 abbrev pub request_text : Request → List ℕ
-request_text (request.Packet (packet.Row n cells)) = codes "{\"cells\":" ++ (values_text cells ++ (codes ",\"row\":" ++ (decimal n ++ codes "}")))
-request_text (request.Packet (packet.Close key count)) = codes "{\"close\":" ++ (decimal count ++ (codes ",\"key\":" ++ (values_text key ++ codes "}")))
-request_text (request.Poll key budget) = codes "{\"budget\":" ++ (decimal budget ++ (codes ",\"poll\":" ++ (values_text key ++ codes "}")))
+request_text (request.Packet sent) = packet_text sent
+request_text (request.Poll key budget) = poll_text key budget
 
 -- the same as an object
 abbrev pub request_data : Request → Data

@@ -26,5 +26,7 @@ pub use laws::law_replies;
 pub use read_reply::reply_of;
 pub use read_request::request_of;
 pub use request::Request;
-pub use rp_codec::{Field, Item, Packet, Refusal, Reply, SkipFault, Taken, reply_line};
+pub use rp_codec::{
+    Field, Item, Packet, Refusal, Reply, SkipFault, Taken, packet_line, poll_line, reply_line,
+};
 pub use write_request::request_line;
