@@ -1,0 +1,6 @@
+mod Going
+mod Steps
+mod Hearing
+mod Longer
+mod Whole
+mod ReadParts

@@ -1,0 +1,9 @@
+-- What contracts of public calls cite: keys and lines, what is exchanged for which replies, what was exchanged in a run, and what a fault
+-- tells of the devices.
+pub mod Keys
+pub mod Lines
+pub mod Exchange
+pub mod Exchanged
+pub mod Faults
+-- The inside: the replies that are still to come of a reader.
+pub mod Listening

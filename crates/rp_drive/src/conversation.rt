@@ -1,0 +1,192 @@
+//! A conversation with a node, from the first packet to the last reply.
+ghost use Rattle.std.specs.Prelude.{◌≡◌, ◌<◌, ◌∷◌, List, Some, None, IfErr, IfOk, OnErr, OnOk, Ok, false, true};
+ghost use Rattle.std.specs.Io.KnownBytes.{Appends};
+ghost use Rattle.rp_feed.specs.declared.packet.Packet.{Packet as Sent};
+ghost use Rattle.rp_io.specs.Reading.{ReadsWithin};
+ghost use Rattle.rp_query.specs.QueryView.{data_of};
+ghost use Rattle.rp_drive.specs.Exchange.{Packets, Poll, Finished};
+ghost use Rattle.rp_drive.specs.Exchanged.{Ends, EndsInPart, GoesOn, SendsLine, Stops};
+ghost use Rattle.rp_drive.specs.Faults.{TellsWrite, TellsWrites, packet_fault, reads_told};
+ghost use Rattle.rp_drive.specs.Lines.{line_of, replies_in};
+ghost use Rattle.rp_drive.specs.Listening.{Comes, Hears, cut_by, lines_left, replies_left};
+ghost use Rattle.rp_wire.specs.declared.request.Request.TheVariants as request;
+
+use crate::fault::DriveFault;
+use crate::items::write_item;
+use crate::replies::Replies;
+use crate::requests::{packet_key, packet_request, poll_request};
+use rp_io::{Intake, Outlet, write_all};
+use rp_query::Query;
+use rp_value::Cells;
+use rp_wire::{Packet, Reply};
+use std::alloc::Global;
+
+/// Hands packets over to a node, one after another, and writes the items that it gives.
+///
+/// For each packet its line is written and the reply read. Then its partition is polled, with `budget` turns at most a
+/// poll, until the reply is that it is idle. The line of each item that comes goes to `out`, after the node's number and a
+/// space, before anything else is asked. The reader is called at most `reads` times, over a socket about once a reply. A
+/// budget of 0 is of no use: each poll is paused, and made again until no read is left.
+pub fn drive<R: Intake, W: Outlet, O: Outlet>(
+    alloc: Global,
+    query: &Query,
+    reader: &mut R,
+    writer: &mut W,
+    packets: &[Packet],
+    budget: u32,
+    reads: u64,
+    node_number: u64,
+    out: &mut O,
+) -> Result<(), DriveFault>
+    ensures done { OnOk result (Ends (data_of query.now) budget node_number Finished
+        (Packets packets.now) (replies_in (R.remaining reader.old))
+        (W.contents writer.old) (W.contents writer.new) (O.contents out.old) (O.contents out.new)) }
+    ensures stops { IfErr result (λ fault. Stops (data_of query.now) budget node_number fault
+        (Packets packets.now) (replies_in (R.remaining reader.old))
+        (W.contents writer.old) (W.contents writer.new) (O.contents out.old) (O.contents out.new)) }
+    ensures front { OnErr result (EndsInPart (data_of query.now) budget node_number
+        (Packets packets.now) (replies_in (R.remaining reader.old))
+        (W.contents writer.old) (W.contents writer.new) (O.contents out.old) (O.contents out.new)) }
+    ensures reads { ReadsWithin reads (reads_told result)
+        (R.calls reader.old) (R.calls reader.new) (R.failures reader.old) (R.failures reader.new)
+        (R.ended reader.old) (R.ended reader.new) (R.remaining reader.old) (R.remaining reader.new) }
+    ensures write { TellsWrites result (W.failures writer.old) (W.failures writer.new)
+        (O.failures out.old) (O.failures out.new) }
+{
+    let conversation = Conversation {
+        alloc,
+        query,
+        budget,
+        node_number,
+    };
+    let mut replies = Replies::new(alloc, reads);
+    for packet in packets {
+        conversation.hand_over(&mut replies, reader, writer, packet, out)?;
+    }
+    Ok(())
+}
+
+/// What stays the same from the first packet to the last.
+#[derive(Clone, Copy)]
+struct Conversation<'a> {
+    alloc: Global,
+    /// Whose partitions are polled.
+    query: &'a Query,
+    /// How many turns a poll may take.
+    budget: u32,
+    /// What stands before each item.
+    node_number: u64,
+}
+
+impl Conversation<'_> {
+    /// Sends a packet, and polls its partition until it is idle.
+    fn hand_over<R: Intake, W: Outlet, O: Outlet>(
+        &self,
+        replies: &mut Replies,
+        reader: &mut R,
+        writer: &mut W,
+        packet: &Packet,
+        out: &mut O,
+    ) -> Result<(), DriveFault>
+        ensures goes { OnOk result ((rest : List Sent) →
+            GoesOn (data_of self.now.query.now) self.now.budget self.now.node_number
+            (Packets (packet.now ∷ rest)) (Packets rest)
+            (replies_left replies.old (R.remaining reader.old)) (replies_left replies.new (R.remaining reader.new))
+            (W.contents writer.old) (W.contents writer.new) (O.contents out.old) (O.contents out.new)) }
+        ensures stops { IfErr result (λ fault. (rest : List Sent) →
+            Stops (data_of self.now.query.now) self.now.budget self.now.node_number fault
+            (Packets (packet.now ∷ rest)) (replies_left replies.old (R.remaining reader.old))
+            (W.contents writer.old) (W.contents writer.new) (O.contents out.old) (O.contents out.new)) }
+        ensures reads { Hears (cut_by result) replies.old replies.new
+            (R.calls reader.old) (R.calls reader.new) (R.failures reader.old) (R.failures reader.new)
+            (R.ended reader.old) (R.ended reader.new) (R.remaining reader.old) (R.remaining reader.new) }
+        ensures write { TellsWrites result (W.failures writer.old) (W.failures writer.new)
+            (O.failures out.old) (O.failures out.new) }
+    {
+        let key = packet_key(self.alloc, self.query, packet)?;
+        let line = poll_request(self.alloc, &key, self.budget)?;
+        let sent = packet_request(self.alloc, packet)?;
+        let reply = ask(replies, reader, writer, sent.as_slice())?;
+        must_be_taken(&reply)?;
+        'polls: while self.poll(replies, reader, writer, &key, line.as_slice(), out)? {}
+        Ok(())
+    }
+
+    /// Polls a partition once, and says whether to poll it again. An item that comes is written.
+    fn poll<R: Intake, W: Outlet, O: Outlet>(
+        &self,
+        replies: &mut Replies,
+        reader: &mut R,
+        writer: &mut W,
+        key: &Cells,
+        line: &[u8],
+        out: &mut O,
+    ) -> Result<bool, DriveFault>
+        requires { line.now ≡ line_of (request.Poll key.now self.now.budget) }
+        ensures again { result ≡ Ok true → (rest : List Sent) →
+            GoesOn (data_of self.now.query.now) self.now.budget self.now.node_number
+            (Poll key.now rest) (Poll key.now rest)
+            (replies_left replies.old (R.remaining reader.old)) (replies_left replies.new (R.remaining reader.new))
+            (W.contents writer.old) (W.contents writer.new) (O.contents out.old) (O.contents out.new) }
+        ensures idle { result ≡ Ok false → (rest : List Sent) →
+            GoesOn (data_of self.now.query.now) self.now.budget self.now.node_number
+            (Poll key.now rest) (Packets rest)
+            (replies_left replies.old (R.remaining reader.old)) (replies_left replies.new (R.remaining reader.new))
+            (W.contents writer.old) (W.contents writer.new) (O.contents out.old) (O.contents out.new) }
+        ensures stops { IfErr result (λ fault. (rest : List Sent) →
+            Stops (data_of self.now.query.now) self.now.budget self.now.node_number fault
+            (Poll key.now rest) (replies_left replies.old (R.remaining reader.old))
+            (W.contents writer.old) (W.contents writer.new) (O.contents out.old) (O.contents out.new)) }
+        ensures falls { result ≡ Ok true → lines_left replies.new < lines_left replies.old }
+        ensures reads { Hears (cut_by result) replies.old replies.new
+            (R.calls reader.old) (R.calls reader.new) (R.failures reader.old) (R.failures reader.new)
+            (R.ended reader.old) (R.ended reader.new) (R.remaining reader.old) (R.remaining reader.new) }
+        ensures write { TellsWrites result (W.failures writer.old) (W.failures writer.new)
+            (O.failures out.old) (O.failures out.new) }
+    {
+        match ask(replies, reader, writer, line)? {
+            Some(Reply::Item { key, place, item }) => {
+                write_item(self.alloc, self.node_number, &key, place, &item, out)?;
+                Ok(true)
+            }
+            Some(Reply::Paused(_)) => Ok(true),
+            Some(Reply::Idle(_)) => Ok(false),
+            Some(Reply::Refused(_)) => Err(DriveFault::Refused),
+            Some(Reply::Taken(_)) => Err(DriveFault::BadReply),
+            None => Err(DriveFault::BadReply),
+        }
+    }
+}
+
+/// The fault that a reply to a packet's line is, if it isn't that the packet was taken.
+fn must_be_taken(reply: &Option<Reply>) -> Result<(), DriveFault>
+    ensures taken { OnOk result (packet_fault reply.now ≡ None) }
+    ensures fault { IfErr result (λ fault. packet_fault reply.now ≡ Some fault) }
+{
+    match reply {
+        Some(Reply::Taken(_)) => Ok(()),
+        Some(Reply::Refused(_)) => Err(DriveFault::Refused),
+        _ => Err(DriveFault::BadReply),
+    }
+}
+
+/// Sends a line, and waits for the reply.
+fn ask<R: Intake, W: Outlet>(
+    replies: &mut Replies,
+    reader: &mut R,
+    writer: &mut W,
+    line: &[u8],
+) -> Result<Option<Reply>, DriveFault>
+    ensures asked { OnOk result (Appends (W.contents writer.old) (W.contents writer.new) line.now) }
+    ensures stops { IfErr result (λ fault. SendsLine fault (W.contents writer.old) (W.contents writer.new) line.now) }
+    ensures came { IfOk result (Comes
+        (replies_left replies.old (R.remaining reader.old)) (replies_left replies.new (R.remaining reader.new))) }
+    ensures falls { IfOk result (λ reply. (reply ≡ None → ⊥) → lines_left replies.new < lines_left replies.old) }
+    ensures reads { Hears (cut_by result) replies.old replies.new
+        (R.calls reader.old) (R.calls reader.new) (R.failures reader.old) (R.failures reader.new)
+        (R.ended reader.old) (R.ended reader.new) (R.remaining reader.old) (R.remaining reader.new) }
+    ensures write { TellsWrite result (W.failures writer.old) (W.failures writer.new) }
+{
+    write_all(writer, line)?;
+    replies.next(reader)
+}

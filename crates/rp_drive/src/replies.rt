@@ -1,0 +1,79 @@
+//! The replies that come.
+ghost use Rattle.std.specs.Prelude.{◌≡◌, IfOk};
+ghost use Rattle.rp_drive.specs.Lines.{reply_on};
+ghost use Rattle.rp_drive.specs.declared.replies.TheConstants.{KEPT};
+
+use crate::fault::DriveFault;
+use rp_io::{Intake, Lines};
+use rp_wire::{LineFault, MAX_LINE_LEN, Reply, reply_of};
+use std::alloc::{AllocError, Global};
+
+/// How many bytes of a line are kept: one more than a reply may have.
+const KEPT: usize = MAX_LINE_LEN + 1;
+
+/// The replies of a node, a line each.
+#[derive(Drop)]
+pub(crate) struct Replies {
+    alloc: Global,
+    pub(crate) lines: Lines,
+    line: Vec<u8>,
+    /// Whether the input has ended.
+    pub(crate) over: bool,
+    ghost kept: { lines.kept ≡ KEPT },
+}
+
+impl Replies {
+    ghost use Rattle.std.specs.Prelude.{◌≡◌, ◌<◌, [], IfErr, IfOk, None, false};
+    ghost use Rattle.rp_io.specs.Pending.{pending_of};
+    ghost use Rattle.rp_drive.specs.Faults.{IsOfReading};
+    ghost use Rattle.rp_drive.specs.Listening.{Comes, Hears, cut_by, lines_left, replies_left};
+
+    /// No reply yet. At most `reads` calls of the reader will be made.
+    pub(crate) fn new(alloc: Global, reads: u64) -> Replies
+        ensures pending { pending_of result.lines ≡ [] }
+        ensures reads { result.lines.reads ≡ reads }
+        ensures over { result.over ≡ false }
+    {
+        Replies {
+            alloc,
+            lines: Lines::new(alloc, reads, KEPT),
+            line: Vec::new(alloc),
+            over: false,
+        }
+    }
+
+    /// The next reply. There is none where the input has ended, or where its next line is no reply. Once the input has ended
+    /// the reader isn't called again.
+    pub(crate) fn next<R: Intake>(&mut self, reader: &mut R) -> Result<Option<Reply>, DriveFault>
+        ensures came { IfOk result (Comes
+            (replies_left self.old (R.remaining reader.old)) (replies_left self.new (R.remaining reader.new))) }
+        ensures falls { IfOk result (λ reply. (reply ≡ None → ⊥) → lines_left self.new < lines_left self.old) }
+        ensures fault { IfErr result IsOfReading }
+        ensures reads { Hears (cut_by result) self.old self.new
+            (R.calls reader.old) (R.calls reader.new) (R.failures reader.old) (R.failures reader.new)
+            (R.ended reader.old) (R.ended reader.new) (R.remaining reader.old) (R.remaining reader.new) }
+    {
+        if self.over {
+            return Ok(None);
+        }
+        if self.lines.next(reader, &mut self.line)? {
+            return Ok(reply_on(self.alloc, self.line.as_slice())?);
+        }
+        self.over = true;
+        if self.line.is_empty() {
+            return Ok(None);
+        }
+        Ok(reply_on(self.alloc, self.line.as_slice())?)
+    }
+}
+
+/// The reply that a line is.
+fn reply_on(alloc: Global, line: &[u8]) -> Result<Option<Reply>, AllocError>
+    ensures { IfOk result (λ reply. reply ≡ reply_on line.now) }
+{
+    match reply_of(alloc, line) {
+        Ok(reply) => Ok(Some(reply)),
+        Err(LineFault::OutOfMemory) => Err(AllocError),
+        Err(_) => Ok(None),
+    }
+}

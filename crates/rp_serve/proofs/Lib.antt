@@ -1,0 +1,5 @@
+mod Answered
+mod Taken
+mod Serving
+mod ReadParts
+mod Ends
