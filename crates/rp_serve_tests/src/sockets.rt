@@ -1,0 +1,52 @@
+//! Both sides over one connection on loopback.
+use crate::driving::{ITEMS, REPLIES, SENT, packets, query};
+use crate::node::SmallNode;
+use rp_drive::drive;
+use rp_io::{MemoryOutput, Port};
+use rp_serve::serve;
+use std::io::Write;
+use std::net::{Shutdown, TcpListener, TcpStream};
+use std::test::Fail;
+
+/// The replies are written to one end and driven on at the other. Then the lines that came are served, with the same replies.
+#[test]
+fn loopback(rt: HostRuntime) -> Result<(), Fail> {
+    let alloc = rt.alloc();
+    let query = query(alloc)?;
+    let packets = packets(alloc)?;
+    let listener = TcpListener::bind(&rt, "127.0.0.1:0")?;
+    let source = TcpStream::connect(&rt, listener.local_addr()?)?;
+    let (node, _from) = listener.accept()?;
+    let mut replies = &node;
+    replies.write_all(REPLIES.as_bytes())?;
+    let mut reader = Port::new(&source);
+    let mut writer = Port::new(&source);
+    let mut out = MemoryOutput::new(alloc, 4_096, 1_000, 0)?;
+    drive(
+        alloc,
+        &query,
+        &mut reader,
+        &mut writer,
+        packets.as_slice(),
+        50,
+        1_000,
+        1,
+        &mut out,
+    )?;
+    assert!(rt; out.bytes() == ITEMS.as_bytes());
+    source.shutdown(Shutdown::Write)?;
+    let mut lines = Port::new(&node);
+    let mut served = MemoryOutput::new(alloc, 4_096, 1_000, 0)?;
+    let mut small = SmallNode::new(alloc);
+    let count = serve(alloc, &mut lines, &mut served, &mut small, 1_000)?;
+    assert_eq!(rt; count.lines, 5);
+    assert!(rt; served.bytes() == REPLIES.as_bytes());
+    assert_eq!(rt;
+        SENT.as_bytes()
+            .iter()
+            .filter(|byte| **byte == b'\n')
+            .count(),
+        5
+    );
+    Ok(())
+}
