@@ -56,6 +56,7 @@ module _ (q : QueryData) (budget number : ℕ) where
                   (subst (AppendsFront o o') (sym (flat_map-append (item_line number) (exchange q budget due unheard.came).given longer.items))
                   (front_longer o o' (item_lines number (exchange q budget due unheard.came).given) (item_lines number longer.items) (front_all o o' (item_lines number (exchange q budget due unheard.came).given) unheard.given)));
             }
+
         known : (xs : KnownReplies) → xs ≡ all → IfSome xs (λ ys. (later : List (Option Reply)) × (ys ≡ unheard.came ++ later)) → EndsInPart q budget number due all w w' o o'
         known None same are = part [] (subst (λ t. IfSome t (λ ys. ys ≡ unheard.came ++ [])) same tt)
         known (Some ys) same are = part are.0 (subst (λ t. IfSome t (λ zs. zs ≡ unheard.came ++ are.0)) same are.1)
