@@ -1,13 +1,11 @@
 //! Row pattern matching over lines and streams.
 #![tactic(auto)]
 
-mod command;
 mod fault;
-mod help;
 
-use crate::command::{Job, not_utf8, read_command};
 use crate::fault::ProgramFault;
 use rp_check::compile;
+use rp_command::{Job, not_utf8, read_command};
 use rp_io::{Port, READS};
 use rp_syntax::read_table;
 use rp_trace::{run_trace, trace_pattern};

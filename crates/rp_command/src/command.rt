@@ -5,8 +5,8 @@ ghost use Rattle.clap.specs.Words.{IsAmong, IsParsedFrom, IsPlainArg, app_of, ru
 ghost use Rattle.clap.specs.declared.error.kind.ErrorKind.TheVariants.{OutOfMemory, ValueValidation};
 ghost use Rattle.clap.specs.declared.error.Error.{Error};
 ghost use Rattle.clap.specs.declared.parser.matches.ArgMatches.{ArgMatches};
-ghost use Rattle.rowmatch.specs.Commands.{HasValue, are_taken, by_name, faults_by, is_ruled, rows_by, trace_app, whole_app};
-ghost use Rattle.rowmatch.specs.Jobs.{IsCause, IsFaultless, IsRead, NamesJob, name_of};
+ghost use Rattle.rp_command.specs.Commands.{HasValue, are_taken, by_name, faults_by, is_ruled, rows_by, trace_app, whole_app};
+ghost use Rattle.rp_command.specs.Jobs.{IsCause, IsFaultless, IsRead, NamesJob, name_of};
 
 use crate::help;
 use clap::error::ErrorKind;
@@ -220,7 +220,7 @@ fn line_fault(error: Error) -> JobFault
 
 impl From<AllocError> for JobFault {
     ghost use Rattle.std.specs.Prelude.{◌≡◌};
-    ghost use Rattle.rowmatch.specs.declared.command.JobFault.TheVariants.{OutOfMemory};
+    ghost use Rattle.rp_command.specs.declared.command.JobFault.TheVariants.{OutOfMemory};
 
     ghost from_gives = { λ _ fault. fault ≡ OutOfMemory };
 
@@ -231,7 +231,7 @@ impl From<AllocError> for JobFault {
 
 impl<T: Drop> From<AllocFailed<T>> for JobFault {
     ghost use Rattle.std.specs.Prelude.{◌≡◌};
-    ghost use Rattle.rowmatch.specs.declared.command.JobFault.TheVariants.{OutOfMemory};
+    ghost use Rattle.rp_command.specs.declared.command.JobFault.TheVariants.{OutOfMemory};
 
     ghost from_gives = { λ _ fault. fault ≡ OutOfMemory };
 
