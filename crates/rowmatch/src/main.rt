@@ -5,7 +5,7 @@ mod fault;
 
 use crate::fault::ProgramFault;
 use rp_check::compile;
-use rp_command::{Job, not_utf8, read_command};
+use rp_command::{Job, NodeJob, SourceJob, not_utf8, read_command};
 use rp_io::{Port, READS};
 use rp_syntax::read_table;
 use rp_trace::{run_trace, trace_pattern};
@@ -48,6 +48,8 @@ fn run(rt: &HostRuntime) -> Result<(), ProgramFault> {
     match read_command(rt.alloc(), words.as_slice())? {
         Job::Trace { pattern } => trace(rt, pattern.as_str()),
         Job::Whole { table, clause } => whole(rt, table.as_str(), clause.as_str()),
+        Job::Node(job) => node(rt, &job),
+        Job::Source(job) => source(rt, &job),
     }
 }
 
@@ -66,6 +68,14 @@ fn whole(rt: &HostRuntime, table: &str, clause: &str) -> Result<(), ProgramFault
     let mut writer = Port::new(rt.stdout());
     run_whole(rt.alloc(), query, &mut reader, &mut writer, READS)?;
     Ok(())
+}
+
+fn node(_rt: &HostRuntime, _job: &NodeJob) -> Result<(), ProgramFault> {
+    Err(ProgramFault::Listen)
+}
+
+fn source(_rt: &HostRuntime, _job: &SourceJob) -> Result<(), ProgramFault> {
+    Err(ProgramFault::Connect)
 }
 
 /// Why the arguments can't be read: one isn't UTF-8, or memory was refused.

@@ -1,0 +1,153 @@
+-- What holds of each job's command.
+use Rattle.std.proofs.Common.{◌≡◌, arith, codes, false, refl, true}
+use Rattle.clap.specs.Words.{App, IsParsedFrom, app_of, is_simple}
+use Rattle.clap.specs.declared.builder.command.Command.{Command}
+use Rattle.clap.specs.declared.builder.value_parser.ValueParser.TheVariants as parser
+use Rattle.clap.specs.declared.parser.matches.ArgMatches.{ArgMatches}
+use Rattle.rp_command.proofs.Rules.{is_separate, meets_rules}
+use Rattle.rp_command.specs.Commands.{by_place, is_ruled, node_app, source_app, trace_app, whole_app}
+use Rattle.rp_command.specs.Values.{HasValue, MeetsRules, Passes, number_parser}
+
+-- ---- trace
+
+trace_is_simple : is_simple trace_app ≡ true
+unfolding trace_app
+trace_is_simple = refl
+
+pub trace_simple : (a : App) → a ≡ trace_app → is_simple a ≡ true
+trace_simple a e = rw e trace_is_simple
+
+pub trace_ruled : is_ruled trace_app ≡ true
+unfolding trace_app is_ruled
+trace_ruled = refl
+
+trace_separate : is_separate trace_app ≡ true
+unfolding trace_app
+trace_separate = refl
+
+pub trace_meets : (cmd : Command) (m : ArgMatches) → app_of cmd ≡ trace_app → IsParsedFrom cmd m → MeetsRules trace_app m
+trace_meets cmd m is parsed = meets_rules cmd trace_app m is trace_separate parsed
+
+pub trace_pattern : (m : ArgMatches) → MeetsRules trace_app m → HasValue (codes "PATTERN") m
+unfolding trace_app
+trace_pattern m h = (h 0 (by_place (codes "PATTERN")) (omega arith)).0 refl
+
+-- ---- whole
+
+whole_is_simple : is_simple whole_app ≡ true
+unfolding whole_app
+whole_is_simple = refl
+
+pub whole_simple : (a : App) → a ≡ whole_app → is_simple a ≡ true
+whole_simple a e = rw e whole_is_simple
+
+pub whole_ruled : is_ruled whole_app ≡ true
+unfolding whole_app is_ruled
+whole_ruled = refl
+
+whole_separate : is_separate whole_app ≡ true
+unfolding whole_app
+whole_separate = refl
+
+pub whole_meets : (cmd : Command) (m : ArgMatches) → app_of cmd ≡ whole_app → IsParsedFrom cmd m → MeetsRules whole_app m
+whole_meets cmd m is parsed = meets_rules cmd whole_app m is whole_separate parsed
+
+pub whole_table : (m : ArgMatches) → MeetsRules whole_app m → HasValue (codes "table") m
+unfolding whole_app
+whole_table m h = (h 0 (by_place (codes "table")) (omega arith)).0 refl
+
+pub whole_clause : (m : ArgMatches) → MeetsRules whole_app m → HasValue (codes "clause") m
+unfolding whole_app
+whole_clause m h = (h 1 (by_place (codes "clause")) (omega arith)).0 refl
+
+-- ---- node
+
+node_is_simple : is_simple node_app ≡ true
+unfolding node_app
+node_is_simple = refl
+
+pub node_simple : (a : App) → a ≡ node_app → is_simple a ≡ true
+node_simple a e = rw e node_is_simple
+
+pub node_ruled : is_ruled node_app ≡ true
+unfolding node_app is_ruled
+node_ruled = refl
+
+node_separate : is_separate node_app ≡ true
+unfolding node_app
+node_separate = refl
+
+pub node_meets : (cmd : Command) (m : ArgMatches) → app_of cmd ≡ node_app → IsParsedFrom cmd m → MeetsRules node_app m
+node_meets cmd m is parsed = meets_rules cmd node_app m is node_separate parsed
+
+pub node_table : (m : ArgMatches) → MeetsRules node_app m → HasValue (codes "table") m
+unfolding node_app
+node_table m h = (h 0 (by_place (codes "table")) (omega arith)).0 refl
+
+pub node_clause : (m : ArgMatches) → MeetsRules node_app m → HasValue (codes "clause") m
+unfolding node_app
+node_clause m h = (h 1 (by_place (codes "clause")) (omega arith)).0 refl
+
+pub node_listen : (m : ArgMatches) → MeetsRules node_app m → HasValue (codes "listen") m
+unfolding node_app
+node_listen m h = (h 2 (by_place (codes "listen")) (omega arith)).0 refl
+
+pub node_state : (m : ArgMatches) → MeetsRules node_app m → HasValue (codes "state") m
+unfolding node_app
+node_state m h = (h 3 (by_place (codes "state")) (omega arith)).0 refl
+
+pub node_connections : (m : ArgMatches) → MeetsRules node_app m → HasValue (codes "connections") m
+unfolding node_app
+node_connections m h = (h 4 (by_place (codes "connections")) (omega arith)).0 refl
+
+pub node_connections_numeric : (m : ArgMatches) → MeetsRules node_app m → Passes false number_parser (codes "connections") m
+unfolding node_app
+node_connections_numeric m h = (h 4 (by_place (codes "connections")) (omega arith)).1 _ refl
+
+pub node_idle : (m : ArgMatches) → MeetsRules node_app m → Passes false number_parser (codes "idle") m
+unfolding node_app
+node_idle m h = (h 5 (by_place (codes "idle")) (omega arith)).1 _ refl
+
+pub node_verbose : (m : ArgMatches) → MeetsRules node_app m → Passes false parser.Bool (codes "verbose") m
+unfolding node_app
+node_verbose m h = (h 6 (by_place (codes "verbose")) (omega arith)).1 _ refl
+
+-- ---- source
+
+source_is_simple : is_simple source_app ≡ true
+unfolding source_app
+source_is_simple = refl
+
+pub source_simple : (a : App) → a ≡ source_app → is_simple a ≡ true
+source_simple a e = rw e source_is_simple
+
+pub source_ruled : is_ruled source_app ≡ true
+unfolding source_app is_ruled
+source_ruled = refl
+
+source_separate : is_separate source_app ≡ true
+unfolding source_app
+source_separate = refl
+
+pub source_meets : (cmd : Command) (m : ArgMatches) → app_of cmd ≡ source_app → IsParsedFrom cmd m → MeetsRules source_app m
+source_meets cmd m is parsed = meets_rules cmd source_app m is source_separate parsed
+
+pub source_table : (m : ArgMatches) → MeetsRules source_app m → HasValue (codes "table") m
+unfolding source_app
+source_table m h = (h 0 (by_place (codes "table")) (omega arith)).0 refl
+
+pub source_clause : (m : ArgMatches) → MeetsRules source_app m → HasValue (codes "clause") m
+unfolding source_app
+source_clause m h = (h 1 (by_place (codes "clause")) (omega arith)).0 refl
+
+pub source_budget : (m : ArgMatches) → MeetsRules source_app m → HasValue (codes "budget") m
+unfolding source_app
+source_budget m h = (h 2 (by_place (codes "budget")) (omega arith)).0 refl
+
+pub source_budget_numeric : (m : ArgMatches) → MeetsRules source_app m → Passes false number_parser (codes "budget") m
+unfolding source_app
+source_budget_numeric m h = (h 2 (by_place (codes "budget")) (omega arith)).1 _ refl
+
+pub source_addr : (m : ArgMatches) → MeetsRules source_app m → HasValue (codes "ADDR") m
+unfolding source_app
+source_addr m h = (h 3 (by_place (codes "ADDR")) (omega arith)).0 refl

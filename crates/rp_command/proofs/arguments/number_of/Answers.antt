@@ -1,0 +1,8 @@
+use Rattle.std.specs.Str.Parse.{ExplainsUnsignedError, HasUnsignedDigitsIfOk, ParsesUnsigned}
+use Rattle.clap.specs.Words.{found_of}
+use Rattle.rp_command.proofs.Getters.{number_read}
+use Rattle.rp_command.proofs.arguments.number_of.Goals as goal
+
+pub returns : goal.returns
+returns c = number_read _ (λ bs r. ParsesUnsigned 32 10 bs r × ExplainsUnsignedError 10 bs r × HasUnsignedDigitsIfOk bs r)
+    (found_of c.args.matches.now) c.args.id.now c.get_one.result c.get_one.ensures.none c.get_one.ensures.value (λ u x g. g.0) c.requires

@@ -1,0 +1,14 @@
+use Rattle.rp_command.proofs.Apps.{source_addr, source_budget, source_budget_numeric, source_clause, source_table}
+use Rattle.rp_command.proofs.source.source_job.Goals as goal
+
+pub text_of-requires : goal.text_of-requires
+text_of-requires c = source_table _ c.requires
+
+pub text_of-requires-2 : goal.text_of-requires-2
+text_of-requires-2 c = source_clause _ c.requires
+
+pub count_of-requires : goal.count_of-requires
+count_of-requires c = record { value = source_budget _ c.requires; number = source_budget_numeric _ c.requires }
+
+pub texts_of-requires : goal.texts_of-requires
+texts_of-requires c = source_addr _ c.requires

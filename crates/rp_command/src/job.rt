@@ -1,0 +1,82 @@
+//! What the program is asked to do.
+use clap::Error;
+use std::alloc::{AllocError, AllocFailed};
+use thiserror::Error as Fault;
+
+/// What the program is asked to do.
+#[derive(Drop)]
+pub enum Job {
+    /// Matches lines of letters against the pattern.
+    Trace { pattern: String },
+    /// Answers a clause over the rows of a CSV input.
+    Whole { table: String, clause: String },
+    /// Takes rows over connections, and gives the items of their answers.
+    Node(NodeJob),
+    /// Hands the rows of a CSV input to nodes.
+    Source(SourceJob),
+}
+
+/// A node that is served at an address.
+#[derive(Drop)]
+pub struct NodeJob {
+    /// The text of the table.
+    pub table: String,
+    /// The text of the clause.
+    pub clause: String,
+    /// The address to listen at, as `127.0.0.1:7000`.
+    pub listen: String,
+    /// The path of the file that is kept of the node.
+    pub state: String,
+    /// How many connections are served, at least 1.
+    pub connections: u32,
+    /// After how many seconds of silence a connection is ended, at least 1; None where that is never.
+    pub idle: Option<u32>,
+    /// Whether standard error tells what goes on.
+    pub verbose: bool,
+}
+
+/// A source of rows for nodes.
+#[derive(Drop)]
+pub struct SourceJob {
+    /// The text of the table.
+    pub table: String,
+    /// The text of the clause.
+    pub clause: String,
+    /// The most turns that a poll may take, at least 1.
+    pub budget: u32,
+    /// The addresses of the nodes, at least one.
+    pub addresses: Vec<String>,
+}
+
+/// Why the command line names no job.
+#[derive(Debug, Drop, Fault)]
+pub enum JobFault {
+    /// What the command line lacks, or the help or version that was asked for, as clap tells it.
+    #[error("{0}")]
+    Line(Error),
+    /// Memory was refused.
+    #[error("out of memory")]
+    OutOfMemory,
+}
+
+impl From<AllocError> for JobFault {
+    ghost use Rattle.std.specs.Prelude.{◌≡◌};
+    ghost use Rattle.rp_command.specs.declared.job.JobFault.TheVariants.{OutOfMemory};
+
+    ghost from_gives = { λ _ fault. fault ≡ OutOfMemory };
+
+    fn from(_: AllocError) -> JobFault {
+        JobFault::OutOfMemory
+    }
+}
+
+impl<T: Drop> From<AllocFailed<T>> for JobFault {
+    ghost use Rattle.std.specs.Prelude.{◌≡◌};
+    ghost use Rattle.rp_command.specs.declared.job.JobFault.TheVariants.{OutOfMemory};
+
+    ghost from_gives = { λ _ fault. fault ≡ OutOfMemory };
+
+    fn from(_: AllocFailed<T>) -> JobFault {
+        JobFault::OutOfMemory
+    }
+}

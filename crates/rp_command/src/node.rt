@@ -1,0 +1,75 @@
+//! The command `node`.
+ghost use Rattle.std.specs.Prelude.{◌≡◌, false, true, IfOk, codes, map, string_bytes};
+ghost use Rattle.clap.specs.Words.{IsAmong, app_of, kind_of, found_of, rows_of, rule_of};
+ghost use Rattle.clap.specs.declared.error.Error.{Error};
+ghost use Rattle.rp_command.specs.Commands.{are_taken, by_number, faults_by, node_app};
+ghost use Rattle.rp_command.specs.Jobs.{HasNode, IsFaultless, IsRead, name_of};
+ghost use Rattle.rp_command.specs.Values.{MeetsRules};
+
+use crate::arguments::{
+    count_of, flag, flag_of, matched, number_of, number_option, text_of, text_option, with_clause,
+};
+use crate::help;
+use crate::job::{Job, JobFault, NodeJob};
+use clap::{Arg, ArgMatches, Command};
+use std::alloc::{AllocError, Global};
+
+/// The job of the words.
+pub(crate) fn read_node(alloc: Global, words: &[String]) -> Result<Job, JobFault>
+    ensures named { IfOk result (λ job. name_of job ≡ codes "node") }
+    ensures value { IfOk result (IsRead (map string_bytes words.now)) }
+    ensures taken { IfOk result (IsFaultless (map string_bytes words.now)) }
+    ensures cause { (error : Error) → result ≡ Err (JobFault.Line error) →
+        IsAmong (kind_of error) (faults_by node_app (map string_bytes words.now)) }
+    ensures line { (error : Error) → result ≡ Err (JobFault.Line error) →
+        are_taken node_app (map string_bytes words.now) ≡ true → ⊥ }
+{
+    let command = node_command(alloc)?;
+    let matches = matched(command, words)?;
+    let job = node_job(alloc, &matches)?;
+    Ok(Job::Node(job))
+}
+
+/// The values that clap found.
+fn node_job(alloc: Global, matches: &ArgMatches) -> Result<NodeJob, AllocError>
+    requires { MeetsRules node_app matches.now }
+    ensures { IfOk result (HasNode (rows_of (found_of matches.now))) }
+{
+    Ok(NodeJob {
+        table: text_of(alloc, matches, "table")?,
+        clause: text_of(alloc, matches, "clause")?,
+        listen: text_of(alloc, matches, "listen")?,
+        state: text_of(alloc, matches, "state")?,
+        connections: count_of(matches, "connections"),
+        idle: number_of(matches, "idle"),
+        verbose: flag_of(matches, "verbose"),
+    })
+}
+
+/// The command.
+#[tactic(auto, unfolding(crate::specs::Commands::node_app))]
+pub(crate) fn node_command<'a>(alloc: Global) -> Result<Command<'a>, AllocError>
+    ensures { IfOk result (λ command. app_of command ≡ node_app) }
+{
+    let command = Command::new(alloc, "node")
+        .bin_name("rowmatch node")?
+        .about("Takes rows over connections, and gives the items of their answers")
+        .after_help(help::NODE);
+    let about_listen = "Where to listen, as 127.0.0.1:7000";
+    let about_idle = "Ends a connection that is silent for so long";
+    with_clause(command, alloc)?
+        .arg(text_option(alloc, "listen", "ADDR", about_listen))?
+        .arg(text_option(alloc, "state", "FILE", "The file that is kept of the node"))?
+        .arg(connections(alloc))?
+        .arg(number_option(alloc, "idle", "SECONDS", about_idle))?
+        .arg(flag(alloc, "verbose", "Tells on standard error what goes on"))
+}
+
+/// The option that says how many connections to serve.
+fn connections<'a>(alloc: Global) -> Arg<'a>
+    ensures rule { rule_of result ≡ record (by_number (codes "connections")) { required = true } }
+    ensures own { result.global ≡ false }
+{
+    let option = number_option(alloc, "connections", "N", "How many connections to serve");
+    option.required(true)
+}
