@@ -1,5 +1,5 @@
 -- A session so far, and its end.
-use Rattle.std.proofs.Common.{◌≡◌, ◌∙◌, ℕ, ◌+◌, ◌*◌, ◌-◌, append-nil, List, [], ◌∷◌, ◌++◌, length, drop, vec_len, Bool, true, false, Option, Some, None, refl, sym, ap, subst, length-append, inl, inr, arith, ◌⊎◌, if◌then◌else◌, add-zero, length-drop, Result, Ok, Err, IfErr}
+use Rattle.std.proofs.Common.{◌≡◌, ◌∙◌, ℕ, ◌+◌, ◌*◌, ◌-◌, append-nil, List, [], ◌∷◌, ◌++◌, length, drop, vec_len, Bool, true, false, Option, refl, sym, ap, subst, length-append, inl, inr, arith, ◌⊎◌, if◌then◌else◌, add-zero, length-drop, Result, Ok, Err, IfErr}
 use Rattle.std.proofs.lemmas.Grind.{flat_map-append}
 use Rattle.std.specs.Io.KnownBytes.{Appends, prepend_known}
 use Rattle.rp_codec.specs.declared.reply.Reply.{Reply}
@@ -10,10 +10,9 @@ use Rattle.rp_io.specs.Pending.{most_lines_to_come, pending_of}
 use Rattle.rp_io.specs.declared.lines.LineFault.{LineFault}
 use Rattle.rp_io.specs.declared.lines.LineFault.TheVariants.{OutOfMemory as LineMemory}
 use Rattle.rp_io.specs.declared.lines.Lines.{Lines}
-use Rattle.rp_wire.specs.Requests.{asked}
 use Rattle.rp_wire.specs.declared.request.Request.{Request}
 use Rattle.rp_serve.specs.Served.{AnswersAsked, LeavesLine, LineDone, Serves, line_of, reply_lines}
-use Rattle.rp_serve.specs.Sessions.{IsCutShort, IsWrittenBefore, ServesAll, ServesFirst, ServesInPart, StopsServing}
+use Rattle.rp_serve.specs.Sessions.{IsCutShort, IsWrittenBefore, ServesAll, ServesFirst, ServesInPart, StopsAfter}
 use Rattle.rp_serve.specs.declared.fault.ServeFault.{ServeFault}
 use Rattle.rp_serve.specs.declared.fault.ServeFault.TheVariants.{Read, Write, Turns, OutOfMemory}
 use Rattle.rp_serve.proofs.Answered.{serves_one}
@@ -41,26 +40,28 @@ module _ {X : Type 0} (step : X → Request → Reply → X → Type 0) (input :
 
   module _ (coming : Option (List ℕ)) (now : X) (w' : Option (List ℕ)) (text : List ℕ) (count : ℕ) (so_far : Serving step input coming old now w w' text count) where
     -- all that is gathered was written
-    pub serving_first : (w'' : Option (List ℕ)) → Appends w' w'' text → ServesFirst step input old now w w''
+    pub serving_first : (w'' : Option (List ℕ)) → Appends w' w'' text → ServesFirst step input old now w w'' count
     serving_first w'' wrote = record {
       lines = so_far.lines;
       replies = so_far.replies;
       first = are_first input coming so_far.lines so_far.taken;
       serves = so_far.serves;
       written = moves_end w w' w'' (reply_lines so_far.replies) text so_far.moves wrote;
+      counted = so_far.counted;
     }
 
-    pub serving_part : (w'' : Option (List ℕ)) → AppendsFront w' w'' text → ServesInPart step input old now w w''
+    pub serving_part : (w'' : Option (List ℕ)) → AppendsFront w' w'' text → ServesInPart step input old now w w'' count
     serving_part w'' front = record {
       lines = so_far.lines;
       replies = so_far.replies;
       first = are_first input coming so_far.lines so_far.taken;
       serves = so_far.serves;
       written = moves_part w w' w'' (reply_lines so_far.replies) text so_far.moves front;
+      counted = so_far.counted;
     }
 
     -- before the next line came
-    pub serving_stops : (cut_short : X → Request → X → Type 0) (fault : ServeFault) (w'' : Option (List ℕ)) → IsWrittenBefore fault w' w'' text → StopsServing step cut_short fault input old now w w''
+    pub serving_stops : (cut_short : X → Request → X → Type 0) (fault : ServeFault) (w'' : Option (List ℕ)) → IsWrittenBefore fault w' w'' text → StopsAfter step cut_short fault input old now w w'' count
     serving_stops cut_short Read w'' wrote = serving_first w'' wrote
     serving_stops cut_short Turns w'' wrote = serving_first w'' wrote
     serving_stops cut_short Write w'' front = serving_part w'' front
@@ -81,7 +82,7 @@ module _ {X : Type 0} (step : X → Request → Reply → X → Type 0) (input :
       }
 
       -- memory was refused while it was
-      pub serving_cut : (cut_short : X → Request → X → Type 0) (new : X) → LeavesLine step cut_short now line new → IsCutShort step cut_short input old new w w''
+      pub serving_cut : (cut_short : X → Request → X → Type 0) (new : X) → LeavesLine step cut_short now line new → IsCutShort step cut_short input old new w w'' count
       serving_cut cut_short new leaves = record {
         lines = so_far.lines;
         replies = so_far.replies;
@@ -91,6 +92,7 @@ module _ {X : Type 0} (step : X → Request → Reply → X → Type 0) (input :
         serves = so_far.serves;
         leaves = kept leaves;
         written = moves_part w w'' w'' (reply_lines so_far.replies) text' (moves_both w w' w'' (reply_lines so_far.replies) text text' so_far.moves moved) (front_none w'' text');
+        counted = so_far.counted;
       }
         where
           kept : LeavesLine step cut_short now line new → LeavesLine step cut_short now is.whole new

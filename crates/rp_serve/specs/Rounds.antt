@@ -4,7 +4,7 @@ use Rattle.std.specs.declared.vec.Vec.{Vec}
 use Rattle.std.specs.declared.alloc.Global.{Global}
 use Rattle.rp_codec.specs.declared.reply.Reply.{Reply}
 use Rattle.rp_wire.specs.declared.request.Request.{Request}
-use Rattle.rp_serve.specs.Sessions.{ServesAll, StopsServing}
+use Rattle.rp_serve.specs.Sessions.{ServesAll, StopsAfter}
 use Rattle.rp_serve.specs.declared.fault.ServeFault.{ServeFault}
 use Rattle.rp_serve.specs.declared.fault.ServeFault.TheVariants.{Read, Write, Turns, OutOfMemory}
 
@@ -12,10 +12,10 @@ use Rattle.rp_serve.specs.declared.fault.ServeFault.TheVariants.{Read, Write, Tu
 abbrev pub kept_bytes : Option (Vec ℕ Global) → Option (List ℕ)
 kept_bytes saved = option_map (λ bytes. bytes.items) saved
 
--- The session went to the end of its input, or stopped by a fault.
-abbrev pub Session : {X : Type 0} → (X → Request → Reply → X → Type 0) → (X → Request → X → Type 0) → Option ServeFault → Option (List ℕ) → X → X → Option (List ℕ) → Option (List ℕ) → Type 0
-Session step cut_short None input old left w w' = (count : ℕ) × ServesAll step input old left w w' count
-Session step cut_short (Some fault) input old left w w' = StopsServing step cut_short fault input old left w w'
+-- The session went to the end of its input, or stopped by a fault, after so many lines.
+abbrev pub Session : {X : Type 0} → (X → Request → Reply → X → Type 0) → (X → Request → X → Type 0) → Option ServeFault → ℕ → Option (List ℕ) → X → X → Option (List ℕ) → Option (List ℕ) → Type 0
+Session step cut_short None count input old left w w' = ServesAll step input old left w w' count
+Session step cut_short (Some fault) count input old left w w' = StopsAfter step cut_short fault input old left w w' count
 
 -- It was saved as the session left it.
 abbrev pub IsSavedAs : {X : Type 0} → (X → List ℕ → Type 0) → X → Option (List ℕ) → Type 0
@@ -33,7 +33,7 @@ Keeping is_saved goes_back (Some OutOfMemory) left new saved saved' = goes_back 
 
 -- One connection: a session, by its fault if it had one, and what is kept after it.
 pub record IsRound {X : Type 0} (step : X → Request → Reply → X → Type 0) (cut_short : X → Request → X → Type 0) (is_saved : X → List ℕ → Type 0) (goes_back : X → Option (List ℕ) → X → Type 0)
-    (fault : Option ServeFault) (input : Option (List ℕ)) (old new : X) (w w' saved saved' : Option (List ℕ)) : Type 0 where
+    (fault : Option ServeFault) (count : ℕ) (input : Option (List ℕ)) (old new : X) (w w' saved saved' : Option (List ℕ)) : Type 0 where
   pub left : X
-  pub session : Session step cut_short fault input old left w w'
+  pub session : Session step cut_short fault count input old left w w'
   pub keeping : Keeping is_saved goes_back fault left new saved saved'

@@ -1,5 +1,5 @@
 -- What a session did. Where the bytes of an input aren't known, some lines came; where those written aren't known, some were written.
-use Rattle.std.specs.Prelude.{◌≡◌, ◌⊎◌, ⊤, ℕ, List, [], ◌∷◌, ◌++◌, length, Option, Some, None, IfSome}
+use Rattle.std.specs.Prelude.{◌≡◌, ◌⊎◌, ℕ, List, [], ◌∷◌, ◌++◌, length, Option, IfSome}
 use Rattle.std.specs.Io.KnownBytes.{Appends}
 use Rattle.rp_codec.specs.declared.reply.Reply.{Reply}
 use Rattle.rp_io.specs.Devices.{AppendsFront}
@@ -23,23 +23,25 @@ pub record ServesAll {X : Type 0} (step : X → Request → Reply → X → Type
   pub counted : count ≡ length lines
 
 -- The first lines were answered, and their replies written.
-pub record ServesFirst {X : Type 0} (step : X → Request → Reply → X → Type 0) (input : Option (List ℕ)) (old new : X) (w w' : Option (List ℕ)) : Type 0 where
+pub record ServesFirst {X : Type 0} (step : X → Request → Reply → X → Type 0) (input : Option (List ℕ)) (old new : X) (w w' : Option (List ℕ)) (count : ℕ) : Type 0 where
   pub lines : List (List ℕ)
   pub replies : List Reply
   pub first : AreFirst input lines
   pub serves : Serves step old lines replies new
   pub written : Appends w w' (reply_lines replies)
+  pub counted : count ≡ length lines
 
 -- The first lines were answered, and a front of their replies written.
-pub record ServesInPart {X : Type 0} (step : X → Request → Reply → X → Type 0) (input : Option (List ℕ)) (old new : X) (w w' : Option (List ℕ)) : Type 0 where
+pub record ServesInPart {X : Type 0} (step : X → Request → Reply → X → Type 0) (input : Option (List ℕ)) (old new : X) (w w' : Option (List ℕ)) (count : ℕ) : Type 0 where
   pub lines : List (List ℕ)
   pub replies : List Reply
   pub first : AreFirst input lines
   pub serves : Serves step old lines replies new
   pub written : AppendsFront w w' (reply_lines replies)
+  pub counted : count ≡ length lines
 
 -- The first lines were answered, and a front of their replies written; memory was refused while one more was answered.
-pub record IsCutShort {X : Type 0} (step : X → Request → Reply → X → Type 0) (cut_short : X → Request → X → Type 0) (input : Option (List ℕ)) (old new : X) (w w' : Option (List ℕ)) : Type 0 where
+pub record IsCutShort {X : Type 0} (step : X → Request → Reply → X → Type 0) (cut_short : X → Request → X → Type 0) (input : Option (List ℕ)) (old new : X) (w w' : Option (List ℕ)) (count : ℕ) : Type 0 where
   pub lines : List (List ℕ)
   pub replies : List Reply
   pub line : List ℕ
@@ -48,13 +50,19 @@ pub record IsCutShort {X : Type 0} (step : X → Request → Reply → X → Typ
   pub serves : Serves step old lines replies mid
   pub leaves : LeavesLine step cut_short mid line new
   pub written : AppendsFront w w' (reply_lines replies)
+  pub counted : count ≡ length lines
 
--- What a fault says of a session. Where a read failed or is one too many, no reply is missing.
+-- What a fault says of a session that answered so many lines. Where a read failed or is one too many, no reply is missing.
+abbrev pub StopsAfter : {X : Type 0} → (X → Request → Reply → X → Type 0) → (X → Request → X → Type 0) → ServeFault → Option (List ℕ) → X → X → Option (List ℕ) → Option (List ℕ) → ℕ → Type 0
+StopsAfter step cut_short Read input old new w w' count = ServesFirst step input old new w w' count
+StopsAfter step cut_short Turns input old new w w' count = ServesFirst step input old new w w' count
+StopsAfter step cut_short Write input old new w w' count = ServesInPart step input old new w w' count
+StopsAfter step cut_short OutOfMemory input old new w w' count =
+    ServesInPart step input old new w w' count ⊎ IsCutShort step cut_short input old new w w' count
+
+-- What it says whatever their number.
 abbrev pub StopsServing : {X : Type 0} → (X → Request → Reply → X → Type 0) → (X → Request → X → Type 0) → ServeFault → Option (List ℕ) → X → X → Option (List ℕ) → Option (List ℕ) → Type 0
-StopsServing step cut_short Read input old new w w' = ServesFirst step input old new w w'
-StopsServing step cut_short Turns input old new w w' = ServesFirst step input old new w w'
-StopsServing step cut_short Write input old new w w' = ServesInPart step input old new w w'
-StopsServing step cut_short OutOfMemory input old new w w' = ServesInPart step input old new w w' ⊎ IsCutShort step cut_short input old new w w'
+StopsServing step cut_short fault input old new w w' = (count : ℕ) × StopsAfter step cut_short fault input old new w w' count
 
 -- What a fault of reading or writing says of what was gathered: where a read failed or is one too many, all of it was written.
 abbrev pub IsWrittenBefore : ServeFault → Option (List ℕ) → Option (List ℕ) → List ℕ → Type 0

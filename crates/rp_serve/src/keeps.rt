@@ -1,5 +1,5 @@
 //! What answers requests, and can be saved.
-ghost use Rattle.std.specs.Prelude.{ℕ, List, Option, IfOk};
+ghost use Rattle.std.specs.Prelude.{ℕ, List, Option, Some, IfOk};
 ghost use Rattle.std.specs.Option.{ForSome};
 ghost use Rattle.rp_codec.specs.declared.reply.Reply.{Reply as Told};
 ghost use Rattle.rp_serve.specs.Rounds.{kept_bytes};
@@ -27,6 +27,13 @@ pub trait Keeps: Answers {
     fn go_back(self, saved: &Option<Vec<u8>>) -> Result<Self, AllocError>
         requires { ForSome saved.now (λ bytes. can_go_back self bytes.items) }
         ensures { IfOk result (λ node. goes_back self (kept_bytes saved.now) node) };
+
+    /// It can go back to what it is saved as.
+    ghost saved_stays: { (node : Self) (bytes : List ℕ) → is_saved node bytes → can_go_back node bytes };
+
+    /// And it can go back again.
+    ghost back_again: { (old new : Self) (bytes : List ℕ) →
+        can_go_back old bytes → goes_back old (Some bytes) new → can_go_back new bytes };
 
     /// A request leaves what it can go back to.
     ghost keeps: { (old : Self) (request : Asked) (reply : Told) (new : Self) (bytes : List ℕ) →

@@ -6,7 +6,7 @@ ghost use Rattle.rp_io.specs.Pending.{coming, most_lines_to_come};
 ghost use Rattle.rp_io.specs.Reading.{ReadsWithin};
 ghost use Rattle.rp_serve.specs.Faults.{NextReads, TellsWrite, fault_of, reads_told};
 ghost use Rattle.rp_serve.specs.Served.{LeavesLine, LineDone};
-ghost use Rattle.rp_serve.specs.Sessions.{IsWrittenBefore, ServesAll, StopsServing};
+ghost use Rattle.rp_serve.specs.Sessions.{IsWrittenBefore, ServesAll, StopsAfter, StopsServing};
 ghost use Rattle.rp_serve.specs.declared.session.TheConstants.{KEPT};
 
 use crate::answers::Answers;
@@ -40,20 +40,44 @@ pub fn serve<R: Intake, W: Outlet, N: Answers>(
         (R.ended reader.old) (R.ended reader.new) (R.remaining reader.old) (R.remaining reader.new) }
     ensures write { TellsWrite (fault_of result) (W.failures writer.old) (W.failures writer.new) }
 {
+    let mut count = 0u128;
+    match serve_counted(alloc, reader, writer, node, turns, &mut count) {
+        Ok(()) => Ok(Served { lines: count }),
+        Err(fault) => Err(fault),
+    }
+}
+
+/// The same, with the number of the lines that were answered, whether the input ended or not.
+pub(crate) fn serve_counted<R: Intake, W: Outlet, N: Answers>(
+    alloc: Global,
+    reader: &mut R,
+    writer: &mut W,
+    node: &mut N,
+    turns: u64,
+    count: &mut u128,
+) -> Result<(), ServeFault>
+    requires { count.old ≡ 0 }
+    ensures served { OnOk result (ServesAll N.step (R.remaining reader.old) node.old node.new
+        (W.contents writer.old) (W.contents writer.new) count.new) }
+    ensures stops { IfErr result (λ fault. StopsAfter N.step N.cut_short fault (R.remaining reader.old)
+        node.old node.new (W.contents writer.old) (W.contents writer.new) count.new) }
+    ensures reads { ReadsWithin turns (reads_told (fault_of result))
+        (R.calls reader.old) (R.calls reader.new) (R.failures reader.old) (R.failures reader.new)
+        (R.ended reader.old) (R.ended reader.new) (R.remaining reader.old) (R.remaining reader.new) }
+    ensures write { TellsWrite (fault_of result) (W.failures writer.old) (W.failures writer.new) }
+{
     let mut lines = Lines::new(alloc, turns, KEPT);
     let mut line = Vec::new(alloc);
     let mut text = Vec::new(alloc);
-    let mut count = 0u128;
     while next_line(&mut lines, reader, writer, &mut line, &mut text)? {
         answer_line(alloc, node, line.as_slice(), &mut text)?;
-        count += 1;
+        *count += 1;
         write_block(writer, &mut text)?;
     }
     let is_line = answer_last(alloc, node, line.as_slice(), &mut text)?;
+    *count += u128::from(is_line);
     write_all(writer, text.as_slice())?;
-    Ok(Served {
-        lines: count + u128::from(is_line),
-    })
+    Ok(())
 }
 
 /// Takes the next line, and says whether it had a line feed. What is gathered is written before the reader is called.

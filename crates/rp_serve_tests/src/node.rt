@@ -92,6 +92,10 @@ impl Keeps for SmallNode {
 
     ghost goes_back = { λ old saved new. ⊤ };
 
+    ghost saved_stays = { λ node bytes is. tt };
+
+    ghost back_again = { λ old new bytes has back. has };
+
     ghost keeps = { λ old request reply new bytes done has. has };
 
     ghost keeps_cut = { λ old request new bytes cut has. has };

@@ -1,5 +1,5 @@
-use Rattle.std.proofs.Common.{◌≡◌, List, ℕ, Result, Ok, Err, IfOk, subst}
-use Rattle.rp_serve.specs.Sessions.{StopsServing}
+use Rattle.std.proofs.Common.{Result, Ok, Err, IfOk, subst}
+use Rattle.rp_serve.specs.Sessions.{StopsAfter}
 use Rattle.rp_serve.proofs.Ends.{stops_keep}
 use Rattle.rp_serve.proofs.connection.round.Goals as goal
 
@@ -7,14 +7,14 @@ pub gone_back-requires : goal.gone_back-requires
 gone_back-requires g c = λ bytes is.
     stops_keep g.N.Answers.step g.N.Answers.cut_short (λ x. g.N.Keeps.can_go_back x bytes.items)
     (λ old request reply new done has. g.met.N.Keeps.keeps old request reply new bytes.items done has) (λ old request new cut has. g.met.N.Keeps.keeps_cut old request new bytes.items cut has)
-    c.in-Err-Write.field-0 (g.R.Intake.remaining c.args.reader.now) c.args.node c.serve.new.node (g.W.Outlet.contents c.args.writer.now) (g.W.Outlet.contents c.serve.new.writer)
+    c.in-Err-Write.field-0 (g.R.Intake.remaining c.args.reader.now) c.args.node c.serve_counted.new.node (g.W.Outlet.contents c.args.writer.now) (g.W.Outlet.contents c.serve_counted.new.writer) c.serve_counted.new.count
     c.in-Err-Write.ensures.stops (c.requires bytes is)
 
 pub gone_back-requires-in-Err-OutOfMemory : goal.gone_back-requires-in-Err-OutOfMemory
 gone_back-requires-in-Err-OutOfMemory g c = λ bytes is.
     stops_keep g.N.Answers.step g.N.Answers.cut_short (λ x. g.N.Keeps.can_go_back x bytes.items)
     (λ old request reply new done has. g.met.N.Keeps.keeps old request reply new bytes.items done has) (λ old request new cut has. g.met.N.Keeps.keeps_cut old request new bytes.items cut has)
-    c.in-Err-OutOfMemory.field-0 (g.R.Intake.remaining c.args.reader.now) c.args.node c.serve.new.node (g.W.Outlet.contents c.args.writer.now) (g.W.Outlet.contents c.serve.new.writer)
+    c.in-Err-OutOfMemory.field-0 (g.R.Intake.remaining c.args.reader.now) c.args.node c.serve_counted.new.node (g.W.Outlet.contents c.args.writer.now) (g.W.Outlet.contents c.serve_counted.new.writer) c.serve_counted.new.count
     c.in-Err-OutOfMemory.ensures.stops (c.requires bytes is)
 
 -- three facts of a value that is there make a fourth
@@ -25,48 +25,48 @@ of_all (Err e) P Q R S make p q r = tt
 pub returns-in-Ok-clause-round : goal.returns-in-Ok-clause-round
 returns-in-Ok-clause-round g c =
     of_all c.saved_after.result _ _ _ _
-    (λ end node saved fault. rw fault (record {
-      left = c.serve.new.node;
-      session = (c.in-Ok.field-0.lines, c.in-Ok.ensures.served);
+    (λ end node saved told. rw (told.0, told.1) (record {
+      left = c.serve_counted.new.node;
+      session = c.in-Ok.ensures.served;
       keeping = (node, saved);
-    })) c.saved_after.ensures.node c.saved_after.ensures.saved c.saved_after.ensures.fault
+    })) c.saved_after.ensures.node c.saved_after.ensures.saved c.saved_after.ensures.ended
 
 pub returns-in-Err-Read-clause-round : goal.returns-in-Err-Read-clause-round
 returns-in-Err-Read-clause-round g c =
     of_all c.saved_after-in-Err-Read.result _ _ _ _
-    (λ end node saved fault. rw fault (record {
-      left = c.serve.new.node;
-      session = subst (λ f. StopsServing g.N.Answers.step g.N.Answers.cut_short f (g.R.Intake.remaining c.args.reader.now) c.args.node c.serve.new.node (g.W.Outlet.contents c.args.writer.now) (g.W.Outlet.contents c.serve.new.writer))
+    (λ end node saved told. rw (told.0, told.1) (record {
+      left = c.serve_counted.new.node;
+      session = subst (λ f. StopsAfter g.N.Answers.step g.N.Answers.cut_short f (g.R.Intake.remaining c.args.reader.now) c.args.node c.serve_counted.new.node (g.W.Outlet.contents c.args.writer.now) (g.W.Outlet.contents c.serve_counted.new.writer) c.serve_counted.new.count)
           c.in-Err-Read.field-0-is c.in-Err-Read.ensures.stops;
       keeping = (node, saved);
-    })) c.saved_after-in-Err-Read.ensures.node c.saved_after-in-Err-Read.ensures.saved c.saved_after-in-Err-Read.ensures.fault
+    })) c.saved_after-in-Err-Read.ensures.node c.saved_after-in-Err-Read.ensures.saved c.saved_after-in-Err-Read.ensures.ended
 
 pub returns-in-Err-Turns-clause-round : goal.returns-in-Err-Turns-clause-round
 returns-in-Err-Turns-clause-round g c =
     of_all c.saved_after-in-Err-Turns.result _ _ _ _
-    (λ end node saved fault. rw fault (record {
-      left = c.serve.new.node;
-      session = subst (λ f. StopsServing g.N.Answers.step g.N.Answers.cut_short f (g.R.Intake.remaining c.args.reader.now) c.args.node c.serve.new.node (g.W.Outlet.contents c.args.writer.now) (g.W.Outlet.contents c.serve.new.writer))
+    (λ end node saved told. rw (told.0, told.1) (record {
+      left = c.serve_counted.new.node;
+      session = subst (λ f. StopsAfter g.N.Answers.step g.N.Answers.cut_short f (g.R.Intake.remaining c.args.reader.now) c.args.node c.serve_counted.new.node (g.W.Outlet.contents c.args.writer.now) (g.W.Outlet.contents c.serve_counted.new.writer) c.serve_counted.new.count)
           c.in-Err-Turns.field-0-is c.in-Err-Turns.ensures.stops;
       keeping = (node, saved);
-    })) c.saved_after-in-Err-Turns.ensures.node c.saved_after-in-Err-Turns.ensures.saved c.saved_after-in-Err-Turns.ensures.fault
+    })) c.saved_after-in-Err-Turns.ensures.node c.saved_after-in-Err-Turns.ensures.saved c.saved_after-in-Err-Turns.ensures.ended
 
 pub returns-in-Err-Write-clause-round : goal.returns-in-Err-Write-clause-round
 returns-in-Err-Write-clause-round g c =
     of_all c.gone_back.result _ _ _ _
-    (λ end node saved fault. rw fault (record {
-      left = c.serve.new.node;
-      session = subst (λ f. StopsServing g.N.Answers.step g.N.Answers.cut_short f (g.R.Intake.remaining c.args.reader.now) c.args.node c.serve.new.node (g.W.Outlet.contents c.args.writer.now) (g.W.Outlet.contents c.serve.new.writer))
+    (λ end node saved told. rw (told.0, told.1) (record {
+      left = c.serve_counted.new.node;
+      session = subst (λ f. StopsAfter g.N.Answers.step g.N.Answers.cut_short f (g.R.Intake.remaining c.args.reader.now) c.args.node c.serve_counted.new.node (g.W.Outlet.contents c.args.writer.now) (g.W.Outlet.contents c.serve_counted.new.writer) c.serve_counted.new.count)
           c.in-Err-Write.field-0-is c.in-Err-Write.ensures.stops;
       keeping = (node, saved);
-    })) c.gone_back.ensures.node c.gone_back.ensures.saved c.gone_back.ensures.fault
+    })) c.gone_back.ensures.node c.gone_back.ensures.saved c.gone_back.ensures.ended
 
 pub returns-in-Err-OutOfMemory-clause-round : goal.returns-in-Err-OutOfMemory-clause-round
 returns-in-Err-OutOfMemory-clause-round g c =
     of_all c.gone_back-in-Err-OutOfMemory.result _ _ _ _
-    (λ end node saved fault. rw fault (record {
-      left = c.serve.new.node;
-      session = subst (λ f. StopsServing g.N.Answers.step g.N.Answers.cut_short f (g.R.Intake.remaining c.args.reader.now) c.args.node c.serve.new.node (g.W.Outlet.contents c.args.writer.now) (g.W.Outlet.contents c.serve.new.writer))
+    (λ end node saved told. rw (told.0, told.1) (record {
+      left = c.serve_counted.new.node;
+      session = subst (λ f. StopsAfter g.N.Answers.step g.N.Answers.cut_short f (g.R.Intake.remaining c.args.reader.now) c.args.node c.serve_counted.new.node (g.W.Outlet.contents c.args.writer.now) (g.W.Outlet.contents c.serve_counted.new.writer) c.serve_counted.new.count)
           c.in-Err-OutOfMemory.field-0-is c.in-Err-OutOfMemory.ensures.stops;
       keeping = (node, saved);
-    })) c.gone_back-in-Err-OutOfMemory.ensures.node c.gone_back-in-Err-OutOfMemory.ensures.saved c.gone_back-in-Err-OutOfMemory.ensures.fault
+    })) c.gone_back-in-Err-OutOfMemory.ensures.node c.gone_back-in-Err-OutOfMemory.ensures.saved c.gone_back-in-Err-OutOfMemory.ensures.ended

@@ -1,11 +1,10 @@
-use Rattle.std.proofs.Common.{rules, ◌≡◌, sym, subst, Err, ap, ◌∙◌, inl, inr}
+use Rattle.std.proofs.Common.{rules, ◌≡◌, sym, subst, Err}
 use Rattle.std.specs.Io.KnownBytes.{Appends}
 use Rattle.rp_io.proofs.Writes.{front_none}
 use Rattle.rp_io.proofs.Written.{Moves-all}
 use Rattle.rp_io.specs.declared.lines.LineFault.TheVariants.{OutOfMemory as LineMemory}
-use Rattle.rp_serve.specs.Faults.{NextReads, line_fault}
+use Rattle.rp_serve.specs.Faults.{line_fault}
 use Rattle.rp_serve.specs.Sessions.{IsWrittenBefore}
-use Rattle.rp_serve.proofs.ReadParts.{next_came, next_failed, unread}
 use Rattle.rp_serve.proofs.Serving.{if_err_is, only_memory, written_before}
 use Rattle.rp_serve.proofs.session.next_line.Goals as goal
 

@@ -2,7 +2,7 @@ use Rattle.std.proofs.Common.{◌≡◌, ◌+◌, ◌*◌, ◌≤◌}
 use Rattle.rp_io.specs.Pending.{coming, most_lines_to_come}
 use Rattle.rp_io.specs.Reading.{ReadsSoFar}
 use Rattle.rp_serve.proofs.Serving.{Serving}
-use Rattle.rp_serve.proofs.session.serve.Given as goal
+use Rattle.rp_serve.proofs.session.serve_counted.Given as goal
 
 abbrev pub invariant-loop-text : goal.invariant-loop-text
 invariant-loop-text g l = record {

@@ -1,24 +1,23 @@
-use Rattle.std.proofs.Common.{rules, ◌≡◌, ◌∙◌, ◌+◌, ◌*◌, ◌≤◌, length, refl, ap, sym, subst, arith, inl, inr, true, false, List, ℕ, Option, Ok, Err, IfErr, IfOk, if◌then◌else◌}
+use Rattle.std.proofs.Common.{rules, ◌≡◌, ◌∙◌, ◌+◌, length, refl, ap, subst, arith, inr, true, false, Err, if◌then◌else◌}
 use Rattle.rp_io.proofs.SoFar.{end_stops, no_reads, part_stops, reads_all, reads_both, reads_then}
-use Rattle.rp_io.specs.Reading.Told.{Ended, Other}
-use Rattle.rp_io.specs.Pending.{coming, most_lines_to_come, pending_of}
+use Rattle.rp_io.specs.Pending.{coming, pending_of}
 use Rattle.std.specs.Io.KnownBytes.{Appends}
 use Rattle.rp_io.specs.Devices.{AppendsFront}
 use Rattle.rp_serve.specs.Served.{LeavesLine, LineDone}
-use Rattle.rp_serve.specs.Faults.{fault_of, reads_told}
-use Rattle.rp_serve.specs.Sessions.{StopsServing}
+use Rattle.rp_serve.specs.Sessions.{StopsAfter}
 use Rattle.rp_serve.specs.declared.fault.ServeFault.TheVariants.{Write, OutOfMemory}
 use Rattle.rp_serve.proofs.ReadParts.{came_last, came_more}
 use Rattle.rp_serve.proofs.Taken.{takes_last, takes_line}
-use Rattle.rp_serve.proofs.Serving.{Serving, if_err_is, none_pending, serving_all, serving_cut, serving_first, serving_last, serving_more, serving_moved, serving_part, serving_start, serving_stops}
-use Rattle.rp_serve.proofs.session.serve.Goals as goal
+use Rattle.rp_serve.proofs.Serving.{if_err_is, none_pending, serving_all, serving_cut, serving_last, serving_more, serving_moved, serving_part, serving_start, serving_stops}
+use Rattle.rp_serve.proofs.session.serve_counted.Goals as goal
 
 pub loop-text-init : goal.loop-text-init
 loop-text-init g c =
     let lines = none_pending c.new-lines.result c.new-lines.ensures.pending in
     record {
-      serving = serving_start g.N.Answers.step (g.R.Intake.remaining c.args.reader.now) c.args.node.now (g.W.Outlet.contents c.args.writer.now) (pending_of c.new-lines.result) c.new-text.result.items
-          c.new-lines.ensures.pending c.new-text.ensures.items;
+      serving = rw c.requires
+          (serving_start g.N.Answers.step (g.R.Intake.remaining c.args.reader.now) c.args.node.now (g.W.Outlet.contents c.args.writer.now) (pending_of c.new-lines.result) c.new-text.result.items
+          c.new-lines.ensures.pending c.new-text.ensures.items);
       kept = c.new-lines.ensures.kept;
       write = refl;
       reads = no_reads c.args.turns c.new-lines.result.reads _ _ _ _ c.new-lines.ensures.reads;
@@ -41,7 +40,7 @@ returns-in_err-next_line-clause-stops g c =
     let so_far = c.loop-text.invariant.serving in
     let why = c.in_err-next_line.field-0.0 in
     let is : c.from_residual.result ≡ Err why = search rules in
-    if_err_is c.from_residual.result why (λ f. StopsServing step g.N.Answers.cut_short f input old now w w2) is
+    if_err_is c.from_residual.result why (λ f. StopsAfter step g.N.Answers.cut_short f input old now w w2 c.loop-text.count) is
     (serving_stops step input old w before now w1 c.loop-text.text.items c.loop-text.count so_far g.N.Answers.cut_short why w2 c.in_err-next_line.ensures.stops)
 
 pub returns-in_err-answer_line-clause-stops : goal.returns-in_err-answer_line-clause-stops
@@ -63,7 +62,7 @@ returns-in_err-answer_line-clause-stops g c =
     let new = c.answer_line.new.node in
     let leaves = subst (λ l. LeavesLine step g.N.Answers.cut_short now l new) c.as_slice.ensures.value c.in_err-answer_line.ensures.left in
     let is : c.from_residual-in_err-answer_line.result ≡ Err OutOfMemory = search rules in
-    if_err_is c.from_residual-in_err-answer_line.result OutOfMemory (λ f. StopsServing step g.N.Answers.cut_short f input old new w w2) is
+    if_err_is c.from_residual-in_err-answer_line.result OutOfMemory (λ f. StopsAfter step g.N.Answers.cut_short f input old new w w2 c.loop-text.count) is
     (inr (serving_cut step input old w before now w1 c.loop-text.text.items c.loop-text.count so_far after line taken w2 text1 moved g.N.Answers.cut_short new leaves))
 
 pub returns-in_err-write_block-clause-stops : goal.returns-in_err-write_block-clause-stops
@@ -87,7 +86,7 @@ returns-in_err-write_block-clause-stops g c =
     let w3 = g.W.Outlet.contents c.write_block.new.writer in
     let new = c.answer_line.new.node in
     let is : c.from_residual-in_err-write_block.result ≡ Err Write = search rules in
-    if_err_is c.from_residual-in_err-write_block.result Write (λ f. StopsServing step g.N.Answers.cut_short f input old new w w3) is
+    if_err_is c.from_residual-in_err-write_block.result Write (λ f. StopsAfter step g.N.Answers.cut_short f input old new w w3 (c.loop-text.count + 1)) is
     (serving_part step input old w after new w2 c.answer_line.new.text.items (c.loop-text.count + 1) more w3 c.in_err-write_block.ensures.err)
 
 pub loop-text-preserved : goal.loop-text-preserved
@@ -137,7 +136,7 @@ returns-in_err-is_line-clause-stops g c =
     let new = c.answer_last.new.node in
     let left = subst (λ l. (length l ≡ 0 → ⊥) × LeavesLine step g.N.Answers.cut_short now l new) c.as_slice-2.ensures.value c.in_err-is_line.ensures.left in
     let is : c.from_residual-in_err-is_line.result ≡ Err OutOfMemory = search rules in
-    if_err_is c.from_residual-in_err-is_line.result OutOfMemory (λ f. StopsServing step g.N.Answers.cut_short f input old new w w2) is
+    if_err_is c.from_residual-in_err-is_line.result OutOfMemory (λ f. StopsAfter step g.N.Answers.cut_short f input old new w w2 c.loop-text.count) is
     (inr (serving_cut step input old w before now w1 c.loop-text.text.items c.loop-text.count so_far after line (takes_last before after line takes left.0) w2 text1 moved g.N.Answers.cut_short new left.1))
 
 pub returns-in_err-write_all-clause-stops : goal.returns-in_err-write_all-clause-stops
@@ -165,11 +164,12 @@ returns-in_err-write_all-clause-stops g c =
     let none : b ≡ false → (length line ≡ 0) × (node' ≡ now) × (text2 ≡ text1) =
     λ no_line. subst (λ l. (length l ≡ 0) × (node' ≡ now) × (text2 ≡ text1)) part (c.in_ok-is_line.ensures.none (search rules)) in
     let w3 = g.W.Outlet.contents c.write_all.new.writer in
-    let n = c.loop-text.count + (if b then 1 else 0) in
-    let all = serving_last step input old w before now w1 c.loop-text.text.items c.loop-text.count so_far after line takes w2 text1 moved b n node' text2 done none refl in
+    let n = c.loop-text.count + c.from.result in
+    let counted : c.from.result ≡ (if b then 1 else 0) = search rules in
+    let all = serving_last step input old w before now w1 c.loop-text.text.items c.loop-text.count so_far after line takes w2 text1 moved b n node' text2 done none (ap (λ k. c.loop-text.count + k) counted) in
     let front : AppendsFront w2 w3 text2 = rw c.as_slice-3.ensures.value at c.in_err-write_all.ensures.err in
     let is : c.from_residual-in_err-write_all.result ≡ Err Write = search rules in
-    if_err_is c.from_residual-in_err-write_all.result Write (λ f. StopsServing step g.N.Answers.cut_short f input old node' w w3) is
+    if_err_is c.from_residual-in_err-write_all.result Write (λ f. StopsAfter step g.N.Answers.cut_short f input old node' w w3 n) is
     (serving_part step input old w after node' w2 text2 n all w3 front)
 
 pub returns-clause-served : goal.returns-clause-served

@@ -1,6 +1,0 @@
-use Rattle.std.proofs.Common.{◌≡◌, map, take}
-use Rattle.rp_drive.specs.Keys.{value_at}
-use Rattle.rp_drive.proofs.requests.key_of.Given as goal
-
-abbrev pub invariant-loop-column : goal.invariant-loop-column
-invariant-loop-column l = l.values.items ≡ map (λ c. value_at c l.row) (take l.column-index l.columns)
