@@ -2,10 +2,9 @@
 use Rattle.std.proofs.Common.{◌≡◌, ◌∙◌, ℕ, ◌<◌, true, List, [], ◌∷◌, length, map, take, Option, Some, None, option_map, refl, sym, ap, arith, inl, inr, ltb, ◌⊎◌}
 use Rattle.std.proofs.lemmas.Bool.Decides.{nat_tests}
 use Rattle.std.specs.Io.KnownBytes.{prepend_known}
-use Rattle.rp_codec.specs.declared.reply.Reply.{Reply}
 use Rattle.rp_io.proofs.Cutting.{lines-front, lines-last}
 use Rattle.rp_io.proofs.Kept.{kept_none, kept_or_long, kept_some}
-use Rattle.rp_io.specs.Lines.{IsLfFree, TakesLast, TakesLine, lines_of}
+use Rattle.rp_io.specs.Lines.{TakesLast, TakesLine, lines_of}
 use Rattle.rp_drive.specs.Lines.{replies_in, reply_on}
 use Rattle.rp_drive.specs.Listening.{Comes}
 

@@ -5,7 +5,7 @@ use Rattle.rp_io.specs.Reading.Told.{Ended, NoReadsLeft, Other, ReadFailed}
 use Rattle.rp_io.specs.declared.lines.LineFault.{LineFault}
 use Rattle.rp_io.specs.declared.lines.LineFault.TheVariants.{Read as LineRead, TooManyReads, OutOfMemory as LineOutOfMemory}
 use Rattle.rp_io.proofs.Calls.{UsesCalls-trans}
-use Rattle.rp_io.proofs.SoFar.{no_reads, part_stops, reads_all, reads_both, reads_stop, reads_then}
+use Rattle.rp_io.proofs.SoFar.{no_reads, part_stops, reads_all, reads_both, reads_then}
 use Rattle.rp_drive.specs.Faults.{IsOfWriting, line_fault, reads_told}
 use Rattle.rp_drive.specs.Listening.{HearsBy, cut_by}
 use Rattle.rp_drive.specs.declared.fault.DriveFault.{DriveFault}

@@ -12,7 +12,6 @@ use Rattle.rp_query.specs.declared.item.Item.{Item as Given}
 use Rattle.rp_io.specs.Devices.{AppendsFront}
 use Rattle.rp_wire.specs.declared.request.Request.{Request}
 use Rattle.rp_wire.specs.declared.request.Request.TheVariants as request
-use Rattle.std.proofs.Common.{Result, Ok, Err, IfErr}
 use Rattle.rp_drive.specs.Faults.{IsOfReading, IsOfWriting, packet_fault}
 use Rattle.rp_drive.specs.Exchanged.{ComeFirst, Ends, EndsInPart, EndsUnheard, GoesOn, KnownReplies, SendsLine, Stops}
 use Rattle.rp_drive.specs.Lines.{item_line, item_lines, line_of, request_lines}

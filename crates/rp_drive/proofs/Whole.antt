@@ -1,13 +1,11 @@
 -- From the first packet to the end.
-use Rattle.std.proofs.Common.{◌≡◌, ◌∙◌, ℕ, Bool, true, false, List, [], ◌∷◌, ◌++◌, drop, get_or, length, suc, ◌+◌, Option, Some, None, option_map, map, refl, sym, ap, subst, append-nil, if◌then◌else◌, Result, Ok, Err, OnErr, IfErr, IfSome}
-use Rattle.std.specs.Io.KnownBytes.{Appends, prepend_known}
+use Rattle.std.proofs.Common.{◌≡◌, ℕ, Bool, false, List, [], ◌++◌, Option, Some, None, option_map, refl, sym, subst, if◌then◌else◌, Result, Err, IfErr, IfSome}
+use Rattle.std.specs.Io.KnownBytes.{prepend_known}
 use Rattle.rp_query.specs.declared.query.QueryData.{QueryData}
-use Rattle.rp_feed.specs.declared.packet.Packet.{Packet}
 use Rattle.rp_codec.specs.declared.reply.Reply.{Reply}
 use Rattle.rp_io.specs.Devices.{AppendsFront}
-use Rattle.rp_io.specs.Lines.{lines_of}
 use Rattle.rp_drive.specs.Exchanged.{Ends, EndsInPart, EndsUnheard, KnownReplies, Stops}
-use Rattle.rp_drive.specs.Lines.{item_line, item_lines, line_of, replies_in, reply_on, request_lines}
+use Rattle.rp_drive.specs.Lines.{item_line, item_lines, line_of, replies_in, request_lines}
 use Rattle.rp_drive.specs.Exchange.{Due, Ending, Finished, Packets, WasBad, WasRefused, exchange}
 use Rattle.rp_drive.specs.declared.fault.DriveFault.{DriveFault}
 use Rattle.rp_drive.specs.declared.fault.DriveFault.TheVariants.{Read, Write, BadReply, Refused, Turns, OutOfMemory}

@@ -1,9 +1,8 @@
 -- What goes between a source and a node, by the packets that are to be sent and the replies that come.
-use Rattle.std.specs.Prelude.{ℕ, List, [], ◌∷◌, ◌++◌, Option, Some, None}
+use Rattle.std.specs.Prelude.{ℕ, List, [], ◌∷◌, ◌++◌, Option, Some}
 use Rattle.rp_value.specs.declared.value.Value.{Value}
 use Rattle.rp_query.specs.declared.query.QueryData.{QueryData}
 use Rattle.rp_feed.specs.declared.packet.Packet.{Packet}
-use Rattle.rp_feed.specs.declared.packet.Packet.TheVariants as packet
 use Rattle.rp_codec.specs.declared.reply.Reply.{Reply}
 use Rattle.rp_codec.specs.declared.reply.Reply.TheVariants.{Taken, Item, Idle, Paused, Refused}
 use Rattle.rp_drive.specs.Keys.{packet_key}

@@ -1,5 +1,5 @@
 -- The lines of requests, of replies, and of items that are told.
-use Rattle.std.specs.Prelude.{ℕ, List, [], ◌∷◌, ◌++◌, map, codes, decimal, Option, Some, None, option_map, Result, Ok, Err}
+use Rattle.std.specs.Prelude.{ℕ, List, ◌++◌, map, codes, decimal, Option, Some, None, option_map, Result, Ok, Err}
 use Rattle.std.specs.List.{flat_map}
 use Rattle.rp_io.specs.Lines.{lines_of}
 use Rattle.rp_codec.specs.ReplyLines.{reply_text}

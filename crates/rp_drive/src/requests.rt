@@ -1,12 +1,12 @@
 //! The lines that are sent, and the key that a packet is polled by.
 ghost use Rattle.std.specs.Prelude.{◌≡◌, IfOk};
 ghost use Rattle.rp_query.specs.QueryView.{data_of};
-ghost use Rattle.rp_drive.specs.Keys.{key_of as key_is, packet_key, value_at as value_is};
+ghost use Rattle.rp_drive.specs.Keys.{packet_key};
 ghost use Rattle.rp_drive.specs.Lines.{line_of};
 ghost use Rattle.rp_wire.specs.declared.request.Request.TheVariants as request;
 
 use rp_query::Query;
-use rp_value::{Cells, Row, Value};
+use rp_value::Cells;
 use rp_wire::{Packet, packet_line, poll_line};
 use std::alloc::{AllocError, Global};
 
@@ -33,28 +33,7 @@ pub(crate) fn packet_key(alloc: Global, query: &Query, packet: &Packet) -> Resul
     ensures { IfOk result (λ key. key ≡ packet_key (data_of query.now) packet.now) }
 {
     match packet {
-        Packet::Row { cells, .. } => key_of(alloc, query.partition(), cells),
+        Packet::Row { cells, .. } => query.key(alloc, cells),
         Packet::Close { key, .. } => key.share(alloc),
-    }
-}
-
-/// The values of a row in these columns, from 1.
-fn key_of(alloc: Global, columns: &[usize], row: &Row) -> Result<Cells, AllocError>
-    ensures { IfOk result (λ key. key ≡ key_is columns.now row.now) }
-{
-    let mut values = Vec::with_capacity(alloc, columns.len())?;
-    for column in columns {
-        values.push(value_at(*column, row)?)?;
-    }
-    Ok(Cells::new(values))
-}
-
-/// The value of a row in a column, from 1.
-fn value_at(column: usize, row: &Row) -> Result<Value, AllocError>
-    ensures { IfOk result (λ value. value ≡ value_is column row.now) }
-{
-    match row.cell(column) {
-        Some(value) => value.share(),
-        None => Ok(Value::Null),
     }
 }

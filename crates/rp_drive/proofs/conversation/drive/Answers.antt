@@ -1,4 +1,4 @@
-use Rattle.std.proofs.Common.{rules, ◌≡◌, ◌∙◌, ◌∷◌, [], Result, ap, sym, subst, refl, List, ℕ, ◌+◌, suc, Option, drop, length, false, None, Ok, Err, arith, add-one, drop-cons, IfErr}
+use Rattle.std.proofs.Common.{rules, ◌≡◌, ◌∙◌, ◌∷◌, [], Result, ap, sym, subst, refl, List, ℕ, ◌+◌, suc, drop, length, false, None, Ok, Err, arith, add-one, drop-cons}
 use Rattle.std.proofs.lemmas.List.{drop_all}
 use Rattle.rp_query.specs.QueryView.{data_of}
 use Rattle.rp_feed.specs.declared.packet.Packet.{Packet}

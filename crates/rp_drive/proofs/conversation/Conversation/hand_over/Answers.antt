@@ -1,4 +1,4 @@
-use Rattle.std.proofs.Common.{rules, ◌≡◌, ◌∙◌, ◌∷◌, ap, subst, refl, true, false, List, Ok, Err, IfErr, None}
+use Rattle.std.proofs.Common.{rules, ◌≡◌, ◌∙◌, ◌∷◌, subst, refl, Err, None}
 use Rattle.std.specs.Io.KnownBytes.{Appends}
 use Rattle.rp_query.specs.QueryView.{data_of}
 use Rattle.rp_wire.specs.declared.request.Request.TheVariants as request

@@ -1,4 +1,4 @@
-use Rattle.std.proofs.Common.{◌≡◌, ◌∷◌, ℕ, List, None}
+use Rattle.std.proofs.Common.{◌≡◌, ◌∷◌, List, None}
 use Rattle.rp_query.specs.QueryView.{data_of}
 use Rattle.rp_feed.specs.declared.packet.Packet.{Packet}
 use Rattle.rp_drive.specs.Exchanged.{GoesOn}

@@ -1,4 +1,4 @@
-use Rattle.std.proofs.Common.{rules, ◌≡◌, ◌∙◌, ap, subst, List, ℕ, Option, Some, None, IfErr, Ok, Err}
+use Rattle.std.proofs.Common.{rules, ◌≡◌, subst, Some, None, IfErr, Err}
 use Rattle.std.proofs.lemmas.Result.{IfErr-weaker}
 use Rattle.std.specs.Io.KnownBytes.{Appends}
 use Rattle.rp_query.specs.QueryView.{data_of}

@@ -1,4 +1,4 @@
-use Rattle.std.proofs.Common.{rules, ◌≡◌, ◌∙◌, ap, length, arith}
+use Rattle.std.proofs.Common.{rules, ◌≡◌, ◌∙◌, ap, arith}
 use Rattle.std.proofs.lemmas.Bool.Decides.{nat_tests}
 use Rattle.rp_io.specs.Pending.{coming, pending_of}
 use Rattle.rp_drive.specs.Lines.{reply_on}
