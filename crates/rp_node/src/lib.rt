@@ -12,18 +12,25 @@
 //! let bytes = node.save()?;                     // Node::restart(alloc, query, &bytes) goes on from here
 //! ```
 //!
-//! What contracts see of a node is `specs/NodeSeen`; what packets do `specs/Accepting`, and polls `specs/Polling`.
+//! Behind a connection a node answers lines: it is what `rp_serve::serve` and `rp_serve::round` run over. `begin` goes on from
+//! what was saved, or begins with nothing.
+//!
+//! What contracts see of a node is `specs/NodeSeen`; what packets do `specs/Accepting`, polls `specs/Polling`, and requests
+//! `specs/Replies`.
 #![tactic(auto)]
 
+mod beginning;
 mod fault;
 mod laws;
 mod node;
 mod part_rows;
 mod partition;
+mod requests;
 mod restart;
 mod resume;
 mod save;
 
+pub use beginning::{Begun, begin};
 pub use fault::{NodeFault, RestartFault, RestartRefused};
 pub use laws::law_calls;
 pub use node::Node;

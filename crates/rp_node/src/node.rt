@@ -98,6 +98,11 @@ impl Node {
         }
     }
 
+    /// Where its memory comes from.
+    pub(crate) fn alloc(&self) -> Global {
+        self.alloc
+    }
+
     /// The query, as it was given.
     pub fn into_query(self) -> Query
         ensures { data_of result ≡ self.query }

@@ -4,6 +4,8 @@
 #[cfg(test)]
 mod altered;
 #[cfg(test)]
+mod connections;
+#[cfg(test)]
 mod refused;
 #[cfg(test)]
 mod schedules;
