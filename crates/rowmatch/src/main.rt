@@ -2,10 +2,15 @@
 #![tactic(auto)]
 
 mod fault;
+mod node;
+mod source;
+mod state;
 
 use crate::fault::ProgramFault;
+use crate::node::run_node;
+use crate::source::run_source;
 use rp_check::compile;
-use rp_command::{Job, NodeJob, SourceJob, not_utf8, read_command};
+use rp_command::{Job, not_utf8, read_command};
 use rp_io::{Port, READS};
 use rp_syntax::read_table;
 use rp_trace::{run_trace, trace_pattern};
@@ -48,8 +53,8 @@ fn run(rt: &HostRuntime) -> Result<(), ProgramFault> {
     match read_command(rt.alloc(), words.as_slice())? {
         Job::Trace { pattern } => trace(rt, pattern.as_str()),
         Job::Whole { table, clause } => whole(rt, table.as_str(), clause.as_str()),
-        Job::Node(job) => node(rt, &job),
-        Job::Source(job) => source(rt, &job),
+        Job::Node(job) => run_node(rt, &job),
+        Job::Source(job) => run_source(rt, &job),
     }
 }
 
@@ -68,14 +73,6 @@ fn whole(rt: &HostRuntime, table: &str, clause: &str) -> Result<(), ProgramFault
     let mut writer = Port::new(rt.stdout());
     run_whole(rt.alloc(), query, &mut reader, &mut writer, READS)?;
     Ok(())
-}
-
-fn node(_rt: &HostRuntime, _job: &NodeJob) -> Result<(), ProgramFault> {
-    Err(ProgramFault::Listen)
-}
-
-fn source(_rt: &HostRuntime, _job: &SourceJob) -> Result<(), ProgramFault> {
-    Err(ProgramFault::Connect)
 }
 
 /// Why the arguments can't be read: one isn't UTF-8, or memory was refused.

@@ -1,0 +1,151 @@
+"""What the edges of `node` and `source` share: a node that runs, and lines over a connection."""
+import json
+import os
+import shutil
+import signal
+import socket
+import subprocess
+import sys
+import tempfile
+import threading
+
+TABLE = "sym text, t int, p int"
+# a fall and then a rise
+CLAUSE = (
+    "PARTITION BY sym ORDER BY t MEASURES MATCH_NUMBER() AS n, FIRST(p) AS a, LAST(B.p) AS lo, LAST(C.p) AS hi "
+    "PATTERN (A B+ C+) DEFINE B AS p < PREV(p), C AS p > PREV(p)"
+)
+PROGRAM = os.path.abspath(sys.argv[1] if len(sys.argv) > 1 else "crates/rowmatch/out/rowmatch")
+
+
+class Node:
+    """A node of the program, listening at a port of loopback that the system chose."""
+
+    def __init__(self, state, connections=1, clause=CLAUSE, options=(), limit=None, table=TABLE):
+        words = [PROGRAM, "node", "--table", table, "--clause", clause, "--listen", "127.0.0.1:0"]
+        words += ["--state", state, "--connections", str(connections), "--verbose", *options]
+        self.process = subprocess.Popen(words, stdin=subprocess.DEVNULL, stderr=subprocess.PIPE, text=True, preexec_fn=limit)
+        self.told = []
+        self.port = None
+        for line in self.process.stderr:
+            if line.startswith("rowmatch: listening at "):
+                self.port = int(line.rsplit(":", 1)[1])
+                break
+            self.told.append(line)
+        self.reader = threading.Thread(target=self.read_errors, daemon=True)
+        self.reader.start()
+
+    def read_errors(self):
+        for line in self.process.stderr:
+            self.told.append(line)
+
+    def connect(self):
+        connection = socket.create_connection(("127.0.0.1", self.port), timeout=60)
+        connection.setsockopt(socket.IPPROTO_TCP, socket.TCP_NODELAY, 1)
+        return connection
+
+    def kill(self):
+        self.process.send_signal(signal.SIGKILL)
+        self.process.wait()
+
+    def ended(self):
+        """The status, and what was told on standard error after the address."""
+        status = self.process.wait(timeout=120)
+        self.reader.join(timeout=60)
+        return status, "".join(self.told)
+
+
+def read_all(connection):
+    """What comes until the other end ends."""
+    parts = []
+    while True:
+        try:
+            part = connection.recv(65536)
+        except ConnectionResetError:
+            parts.append(b"(reset)")
+            break
+        if not part:
+            break
+        parts.append(part)
+    return b"".join(parts)
+
+
+def talk(node, text):
+    """Sends lines, ends the sending side, and gives what comes until the node ends the connection."""
+    if isinstance(text, str):
+        text = text.encode()
+    with node.connect() as connection:
+        sender = threading.Thread(target=send_all, args=(connection, text))
+        sender.start()
+        replies = read_all(connection)
+        sender.join()
+    return replies.decode()
+
+
+def send_all(connection, text):
+    try:
+        connection.sendall(text)
+        connection.shutdown(socket.SHUT_WR)
+    except OSError:
+        pass
+
+
+def run(*words, stdin=b""):
+    """Status, standard output and standard error of the program."""
+    if isinstance(stdin, str):
+        stdin = stdin.encode()
+    done = subprocess.run([PROGRAM, *words], input=stdin, capture_output=True, timeout=300)
+    return done.returncode, done.stdout.decode(), done.stderr.decode()
+
+
+def row(number, cells):
+    return json.dumps({"cells": cells, "row": number}, separators=(",", ":")) + "\n"
+
+
+def poll(key, budget=100000):
+    return json.dumps({"budget": budget, "poll": key}, separators=(",", ":")) + "\n"
+
+
+def close(count, key):
+    return json.dumps({"close": count, "key": key}, separators=(",", ":")) + "\n"
+
+
+class Checks:
+    """Counts what is as it is wanted, and tells what is not."""
+
+    def __init__(self):
+        self.passed = 0
+        self.failed = 0
+        self.folders = []
+
+    def folder_in(self, path):
+        """A folder of its own there, which goes with the case."""
+        self.folders.append(tempfile.mkdtemp(dir=path))
+        return self.folders[-1]
+
+    def same(self, name, found, wanted):
+        if found == wanted:
+            self.passed += 1
+        else:
+            self.failed += 1
+            print(f"{name}:\n  found  {found!r:.600}\n  wanted {wanted!r:.600}")
+
+    def true(self, name, found, told=""):
+        self.same(name + (f" ({told!r:.300})" if not found else ""), bool(found), True)
+
+
+def main(cases):
+    """Runs each case in a folder of its own, and ends with status 1 where one fails."""
+    checks = Checks()
+    for case in cases:
+        folder = tempfile.mkdtemp()
+        try:
+            case(checks, folder)
+        except Exception as fault:  # a case that breaks off is a failure like another
+            checks.failed += 1
+            print(f"{case.__name__}: {type(fault).__name__}: {fault}")
+        finally:
+            for path in [folder, *checks.folders]:
+                shutil.rmtree(path, ignore_errors=True)
+    print(f"{checks.passed} passed, {checks.failed} failed")
+    sys.exit(1 if checks.failed else 0)

@@ -1,0 +1,169 @@
+#!/usr/bin/env python3
+"""Runs `rowmatch source` against nodes and against peers that break the rules. Usage: .ci/edges/source.py [PROGRAM]"""
+import json
+import os
+import socket
+import subprocess
+import threading
+
+from sockets import CLAUSE, PROGRAM, TABLE, Node, main, poll, row, run, talk
+
+CSV = "sym,t,p\nx,2,8\ny,1,5\nx,1,10\nx,3,6\nx,4,7\nx,6,9\nx,5,9\n"
+ITEMS = [
+    '{"cells":["x",1,10,6,9],"key":["x"],"number":1,"place":"1"}',
+    '{"end":true,"key":["x"],"place":"2"}',
+    '{"end":true,"key":["y"],"place":"1"}',
+]
+TEXTS = ["--table", TABLE, "--clause", CLAUSE]
+
+
+def source(*words, stdin=CSV):
+    return run("source", *TEXTS, *words, stdin=stdin)
+
+
+def two_nodes(checks, folder):
+    """The items of each node are those of `whole`, after its number."""
+    nodes = [Node(f"{folder}/{name}") for name in "ab"]
+    wanted = "".join(f"{number} {item}\n" for number in (1, 2) for item in ITEMS)
+    found = source(*(f"127.0.0.1:{node.port}" for node in nodes))
+    checks.same("two nodes", found, (0, wanted, ""))
+    for node in nodes:
+        checks.same("the node's end", node.ended()[0], 0)
+    # it waited for the end of each: what it sent is in their files
+    again = Node(f"{folder}/a")
+    checks.same("a second time nothing is new", source(f"127.0.0.1:{again.port}"), (0, "", ""))
+    again.ended()
+
+
+def examples(checks, folder):
+    """The files of examples/: the items of `source` are the lines of `whole`."""
+    for name in sorted(os.listdir("examples")):
+        path = f"examples/{name}"
+        if not os.path.isfile(f"{path}/clause"):
+            continue
+        texts = []
+        for part in ("table", "clause"):
+            with open(f"{path}/{part}", encoding="utf-8") as file:
+                texts.append(file.read())
+        with open(f"{path}/input.csv", "rb") as file:
+            data = file.read()
+        options = [f"--table={texts[0]}", f"--clause={texts[1]}"]
+        whole = run("whole", *options, stdin=data)[1]
+        node = Node(f"{folder}/{name}", table=texts[0], clause=texts[1])
+        found = run("source", *options, f"127.0.0.1:{node.port}", stdin=data)
+        checks.same(f"{name}: as `whole`", found, (0, "".join("1 " + line + "\n" for line in whole.splitlines()), ""))
+        node.ended()
+
+
+def killed(checks, folder):
+    """A node with something saved is killed in the middle of a run and begins again from its file. The next run loses nothing."""
+    data = "sym,t,p\n" + "".join(f"s{n % 7},{n},{(n * 37) % 11}\n" for n in range(1, 20_001))
+    whole = run("whole", *TEXTS, stdin=data)[1].splitlines()
+    state = f"{folder}/state"
+    node = Node(state)
+    first = [(n // 7 + 1, n + 1) for n in range(2_000) if (n + 1) % 7 == 1]
+    lines = "".join(row(number, ["s1", t, (t * 37) % 11]) + poll(["s1"]) for number, t in first)
+    given = [line for line in talk(node, lines).splitlines() if "place" in line]
+    checks.true("some items of the first rows", given)
+    node.ended()
+    node = Node(state)
+    runner = subprocess.Popen([PROGRAM, "source", *TEXTS, f"127.0.0.1:{node.port}"], stdin=subprocess.PIPE,
+                              stdout=subprocess.PIPE, stderr=subprocess.PIPE)
+    threading.Thread(target=feed, args=(runner.stdin, data), daemon=True).start()
+    for _ in range(1_000):
+        given.append(runner.stdout.readline().decode().strip())
+    node.kill()
+    given += runner.stdout.read().decode().splitlines()
+    told = runner.stderr.read()
+    runner.wait()
+    checks.true("a node that is gone: the source's fault", (runner.returncode, told) in (
+        (1, b"rowmatch: node 1: bad reply\n"), (3, b"rowmatch: device: read\n"), (3, b"rowmatch: device: write\n")), told)
+    node = Node(state)
+    status, out, told = source(f"127.0.0.1:{node.port}", stdin=data)
+    checks.same("the next run", (status, told), (0, ""))
+    node.ended()
+    given += out.splitlines()
+    # each run prints the items of a key in order, and after the kill some of them come again
+    places = {}
+    for line in (line.removeprefix("1 ") for line in given):
+        item = json.loads(line)
+        checks_once = places.setdefault((item["key"][0], item["place"]), line)
+        if checks_once != line:
+            checks.same("an item that comes again", line, checks_once)
+    checks.same("nothing is lost, nothing is added", sorted(places.values()), sorted(whole))
+
+
+def feed(pipe, data):
+    try:
+        pipe.write(data.encode())
+        pipe.close()
+    except OSError:
+        pass
+
+
+def peer(replies, half=False):
+    """A peer that reads a line for each of these replies, and then ends."""
+    server = socket.create_server(("127.0.0.1", 0))
+
+    def serve():
+        connection, _ = server.accept()
+        with connection, server:
+            lines = connection.makefile("rb")
+            for reply in replies:
+                lines.readline()
+                connection.sendall(reply.encode())
+            if not half:
+                connection.shutdown(socket.SHUT_WR)
+            lines.read()
+
+    threading.Thread(target=serve, daemon=True).start()
+    return f"127.0.0.1:{server.getsockname()[1]}"
+
+
+def bad_peers(checks, folder):
+    one = "sym,t,p\nx,1,10\n"
+    new, idle, end = '{"taken":"new"}\n', '{"idle":["x"]}\n', '{"end":true,"key":["x"],"place":"1"}\n'
+    cases = [
+        ("the worked replies", [new, idle, new, end, idle], (0, "1 " + end, "")),
+        ("a refusal", ['{"refused":"TooFar"}\n'], (1, "", "rowmatch: node 1: refused\n")),
+        ("idle in place of taken", [idle], (1, "", "rowmatch: node 1: bad reply\n")),
+        ("no reply", [], (1, "", "rowmatch: node 1: bad reply\n")),
+        ("no JSON", ["nope\n"], (1, "", "rowmatch: node 1: bad reply\n")),
+        ("taken in place of idle", [new, new], (1, "", "rowmatch: node 1: bad reply\n")),
+        ("an item, and then a refusal", [new, end, '{"refused":"UnknownPartition"}\n'],
+         (1, "1 " + end, "rowmatch: node 1: refused\n")),
+        ("a paused poll is made again", [new, '{"paused":["x"]}\n', idle, new, end, idle], (0, "1 " + end, "")),
+    ]
+    for name, replies, wanted in cases:
+        checks.same(name, source(peer(replies), stdin=one), wanted)
+
+
+def faults(checks, folder):
+    with socket.create_server(("127.0.0.1", 0)) as server:
+        free = server.getsockname()[1]
+    checks.same("nobody listens", source(f"127.0.0.1:{free}"), (3, "", "rowmatch: device: connect\n"))
+    for at in ["", "nowhere", "127.0.0.1", "127.0.0.1:99999"]:
+        checks.same(f"the address {at!r}", source(at), (3, "", "rowmatch: device: connect\n"))
+    checks.same("a field that is no number", source("127.0.0.1:1", stdin="sym,t,p\nx,1,z\n"),
+                (1, "", "rowmatch: csv: Field at record 1\n"))
+    checks.same("no header", source("127.0.0.1:1", stdin=""), (1, "", "rowmatch: csv: Header\n"))
+    status, out, told = source()
+    checks.same("no address", (status, out, told.splitlines()[:1]),
+                (2, "", ["error: the following required arguments were not provided:"]))
+    for budget in ["0", "4294967296", "x"]:
+        status, out, told = source("--budget", budget, "127.0.0.1:1")
+        checks.same(f"the budget {budget}", (status, out), (2, ""))
+    status, out, told = run("source", "--help")
+    checks.same("help", (status, told), (0, ""))
+
+
+def small_budget(checks, folder):
+    """A budget of one turn: each poll is paused many times, and the items are the same."""
+    node = Node(f"{folder}/state")
+    wanted = "".join(f"1 {item}\n" for item in ITEMS)
+    checks.same("a budget of 1", source("--budget", "1", f"127.0.0.1:{node.port}"), (0, wanted, ""))
+    node.ended()
+
+
+if __name__ == "__main__":
+    main([two_nodes, examples, killed, bad_peers, faults, small_budget])
