@@ -12,7 +12,7 @@ ghost use Rattle.rp_whole.specs.Writing.{WritesOn, lines_to_come, part_of};
 use crate::closed::Part;
 use crate::fault::WholeFault;
 use crate::gathered::Gathered;
-use rp_io::{Outlet, write_block};
+use rp_io::{Outlet, write_all, write_block};
 use rp_query::Query;
 use rp_search::Steps;
 use rp_walker::{Poll, Walker, law_records};
@@ -20,7 +20,7 @@ use std::alloc::Global;
 use std::sync::ledger::Ledger;
 
 /// How many turns a poll may take. A poll that uses them up is followed by another.
-const BUDGET: u32 = u32::MAX;
+const BUDGET: u32 = 100_000;
 
 /// Writes the lines of a partition's answer; what makes no block yet stays gathered.
 pub(crate) fn write_part<W: Outlet, L: Ledger>(
@@ -77,7 +77,11 @@ fn write_next<W: Outlet, L: Ledger>(
             write_block(writer, &mut gathered.text)?;
             Ok(true)
         }
-        Poll::Paused => Ok(true),
+        Poll::Paused => {
+            write_all(writer, gathered.text.as_slice())?;
+            gathered.text.clear();
+            Ok(true)
+        }
         Poll::Idle => Ok(false),
     }
 }

@@ -249,6 +249,28 @@ fn more_than_a_block(rt: HostRuntime) -> Result<(), Fail> {
     Ok(())
 }
 
+/// Partition `a` is answered at once. In `b`, whose last part never comes, each start row has twice as many words to be
+/// refused as the row after it: far more turns in all than a poll takes. What was found in `a` is written before they are over.
+#[test]
+fn found_is_written_early(rt: HostRuntime) -> Result<(), Fail> {
+    let alloc = rt.alloc();
+    let clause = "PARTITION BY sym MEASURES COUNT(*) AS c PATTERN ((A | B)* C) DEFINE C AS p = 0";
+    let mut input = String::from_str(alloc, "sym,t,p\na,1,1\na,2,0\n")?;
+    for row in 1..16 {
+        input.push_str(format!(in alloc; "b,{row},1\n")?.as_str())?;
+    }
+    let want = "\
+{\"cells\":[\"a\",2],\"key\":[\"a\"],\"number\":1,\"place\":\"1\"}
+{\"end\":true,\"key\":[\"a\"],\"place\":\"2\"}
+";
+    let mut source = MemoryInput::new(input.as_str().as_bytes(), 1_000, 0);
+    let mut sink = MemoryOutput::new(alloc, 4096, 1_000, 2)?;
+    let fault = run(alloc, clause, &mut source, &mut sink, 9)?;
+    assert_eq!(rt; fault, Some(WholeFault::Write));
+    assert_eq!(rt; text_of(alloc, &sink)?.as_str(), want);
+    Ok(())
+}
+
 // A call that is refused memory, made again, gives what it gives with ample memory.
 
 #[test]
