@@ -5,10 +5,12 @@ mod fault;
 mod node;
 mod source;
 mod state;
+mod texts;
 
 use crate::fault::ProgramFault;
 use crate::node::run_node;
 use crate::source::run_source;
+use crate::texts::with_texts;
 use rp_check::compile;
 use rp_command::{Job, not_utf8, read_command};
 use rp_io::{Port, READS};
@@ -50,6 +52,7 @@ fn run(rt: &HostRuntime) -> Result<(), ProgramFault> {
     for word in all.skip(1) {
         words.push(word)?;
     }
+    let words = with_texts(rt, words.as_slice())?;
     match read_command(rt.alloc(), words.as_slice())? {
         Job::Trace { pattern } => trace(rt, pattern.as_str()),
         Job::Whole { table, clause } => whole(rt, table.as_str(), clause.as_str()),
