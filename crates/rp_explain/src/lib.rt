@@ -1,0 +1,46 @@
+//! What is wrong with a table's text, a clause or a CSV input, where it stands, and what to write in its place; and what a
+//! clause without a fault does.
+//!
+//! Every text is the line that the program prints, then the place with its line and a mark under it, then what is wrong there and
+//! what to write:
+//!
+//!     clause: UnknownColumn at byte 129
+//!       clause, line 7, column 22
+//!        7 |        B AS p < PREV(prise)
+//!          |                      ^^^^^ the table has no column prise
+//!       help: write price
+//!       help: the columns are sym, t, price
+//!
+//! Nothing here decides: the fault is that of `read_table`, `compile` or `rows_of`, and hints are guesses from the words
+//! round its place. Each line ends in LF. The only error is want of memory.
+#![tactic(auto)]
+
+mod advice;
+mod behind;
+mod characters;
+mod clause;
+mod columns;
+mod csv_text;
+mod described;
+mod expected;
+mod field;
+mod first_line;
+mod looks;
+mod meaning;
+mod names;
+mod parts;
+mod pattern_hints;
+mod place;
+mod precedes;
+mod proposed;
+mod reading;
+mod rewriting;
+mod scan;
+mod table_text;
+mod words;
+
+pub use clause::explain_clause;
+pub use csv_text::explain_csv;
+pub use described::describe;
+pub use proposed::propose_table;
+pub use table_text::explain_table;

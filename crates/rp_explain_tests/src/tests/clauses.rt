@@ -1,0 +1,865 @@
+//! Clauses that no clause is.
+use super::{Case, check_told};
+use rp_check::compile;
+use rp_explain::explain_clause;
+use rp_syntax::read_table;
+use std::alloc::Global;
+use std::process::Abort;
+use std::test::Fail;
+
+/// Of what stands round the clause: a clause, the place, and what is told of it.
+const ROUND: [Case; 12] = [
+    (
+        "SELECT * FROM t MATCH_RECOGNIZE (PATTERN (A) DEFINE A AS p = 1)",
+        "line 1, column 1\n",
+        "MEASURES",
+    ),
+    (
+        "WITH x AS (SELECT 1) SELECT",
+        "line 1, column 1\n",
+        "SELECT",
+    ),
+    (
+        "PATTERN (A) DEFINE A AS p = 1;",
+        "line 1, column 30\n",
+        "semicolon",
+    ),
+    (
+        "MATCH_RECOGNIZE (PATTERN (A) DEFINE A AS p = 1) AS mr",
+        "line 1, column 49\n",
+        "alias",
+    ),
+    (
+        "MATCH_RECOGNIZE (PATTERN (A) DEFINE A AS p = 1) mr",
+        "line 1, column 49\n",
+        "alias",
+    ),
+    (
+        "MATCH_RECOGNIZE PATTERN (A) DEFINE A AS p = 1",
+        "line 1, column 17\n",
+        "bracket",
+    ),
+    (
+        "MATCH_RECOGNIZE (PATTERN (A) DEFINE A AS p = 1",
+        "line 1, column 47\n",
+        "never closed",
+    ),
+    ("", "line 1, column 1\n", "empty"),
+    ("\n  \n", "line 1, column 1\n", "empty"),
+    (
+        "# ticks\nPATTERN (A) DEFINE A AS p = 1",
+        "line 1, column 1\n",
+        "--",
+    ),
+    (
+        "/* ticks */ PATTERN (A) DEFINE A AS p = 1",
+        "line 1, column 1\n",
+        "--",
+    ),
+    (
+        "\u{feff}PATTERN (A) DEFINE A AS p = 1",
+        "line 1, column 1\n",
+        "U+FEFF",
+    ),
+];
+
+/// Of the parts: a clause, the place, and what is told of it.
+const PARTS: [Case; 18] = [
+    (
+        "DEFINE A AS p = 1 PATTERN (A)",
+        "line 1, column 1\n",
+        "PATTERN stands before DEFINE",
+    ),
+    (
+        "PATTERN (A)\nMEASURES p AS q\nDEFINE A AS p = 1",
+        "line 2, column 1\n",
+        "order",
+    ),
+    (
+        "PATTERN (A) DEFINE A AS p = 1\nORDER BY t",
+        "line 2, column 1\n",
+        "order",
+    ),
+    ("PATTERN (A)", "line 1, column 12\n", "DEFINE is missing"),
+    (
+        "PATERN (A) DEFINE A AS p = 1",
+        "line 1, column 1\n",
+        "write PATTERN",
+    ),
+    (
+        "PATTERN (A) DEFIN A AS p = 1",
+        "line 1, column 13\n",
+        "write DEFINE",
+    ),
+    (
+        "PARTITION sym PATTERN (A) DEFINE A AS p = 1",
+        "line 1, column 11\n",
+        "BY is missing",
+    ),
+    (
+        "ORDER BY t NULLS LAST PATTERN (A) DEFINE A AS p = 1",
+        "line 1, column 12\n",
+        "ascending",
+    ),
+    (
+        "ORDER BY t DESCENDING PATTERN (A) DEFINE A AS p = 1",
+        "line 1, column 12\n",
+        "DESC",
+    ),
+    (
+        "PARTITION BY sym p PATTERN (A) DEFINE A AS p = 1",
+        "line 1, column 18\n",
+        "comma",
+    ),
+    (
+        "ALL ROW PER MATCH PATTERN (A) DEFINE A AS p = 1",
+        "line 1, column 5\n",
+        "ALL ROWS PER MATCH",
+    ),
+    (
+        "ONE ROW PER MATCHES PATTERN (A) DEFINE A AS p = 1",
+        "line 1, column 13\n",
+        "ONE ROW PER MATCH",
+    ),
+    (
+        "AFTER MATCH SKIP PAST LAST PATTERN (A) DEFINE A AS p = 1",
+        "line 1, column 28\n",
+        "ROW is missing",
+    ),
+    (
+        "AFTER MATCH SKIP TO NEXT PATTERN (A) DEFINE A AS p = 1",
+        "line 1, column 26\n",
+        "ROW is missing",
+    ),
+    (
+        "AFTER MATCH SKIP NEXT ROW PATTERN (A) DEFINE A AS p = 1",
+        "line 1, column 18\n",
+        "SKIP TO NEXT ROW",
+    ),
+    (
+        "PATTERN (A B) SUBSET U = A, B DEFINE A AS p = 1",
+        "line 1, column 26\n",
+        "(UP, DOWN)",
+    ),
+    (
+        "PATTERN (A B) WITHIN INTERVAL '1' HOUR DEFINE A AS p = 1",
+        "line 1, column 15\n",
+        "FIRST(t)",
+    ),
+    (
+        "PARTITON BY sym PATTERN (A) DEFINE A AS p = 1",
+        "line 1, column 1\n",
+        "write PARTITION",
+    ),
+];
+
+/// Of MEASURES: a clause, the place, and what is told of it.
+const MEASURES: [Case; 28] = [
+    (
+        "MEASURES p PATTERN (A) DEFINE A AS p = 1",
+        "line 1, column 12\n",
+        "AS",
+    ),
+    (
+        "MEASURES p, t AS u PATTERN (A) DEFINE A AS p = 1",
+        "line 1, column 11\n",
+        "AS",
+    ),
+    (
+        "MEASURES p low PATTERN (A) DEFINE A AS p = 1",
+        "line 1, column 12\n",
+        "AS is missing",
+    ),
+    (
+        "MEASURES p AS 'low' PATTERN (A) DEFINE A AS p = 1",
+        "line 1, column 15\n",
+        "double quotes",
+    ),
+    (
+        "MEASURES p AS first PATTERN (A) DEFINE A AS p = 1",
+        "line 1, column 15\n",
+        "\"FIRST\"",
+    ),
+    (
+        "MEASURES p AS a t AS b PATTERN (A) DEFINE A AS p = 1",
+        "line 1, column 17\n",
+        "comma",
+    ),
+    (
+        "MEASURES p AS a, PATTERN (A) DEFINE A AS p = 1",
+        "line 1, column 18\n",
+        "last comma",
+    ),
+    (
+        "MEASURES AVG(p) AS m PATTERN (A) DEFINE A AS p = 1",
+        "line 1, column 13\n",
+        "COUNT",
+    ),
+    (
+        "MEASURES CASE WHEN p > 5 THEN 1 ELSE 0 END AS c PATTERN (A) DEFINE A AS p = 1",
+        "line 1, column 15\n",
+        "CLASSIFIER",
+    ),
+    (
+        "MEASURES COUNT(DISTINCT p) AS c PATTERN (A) DEFINE A AS p = 1",
+        "line 1, column 25\n",
+        "MIN and MAX",
+    ),
+    (
+        "MEASURES COUNT() AS c PATTERN (A) DEFINE A AS p = 1",
+        "line 1, column 16\n",
+        "COUNT(*)",
+    ),
+    (
+        "MEASURES COUNT(1) AS c PATTERN (A) DEFINE A AS p = 1",
+        "line 1, column 16\n",
+        "COUNT(*)",
+    ),
+    (
+        "MEASURES COUNT(A) AS c PATTERN (A) DEFINE A AS p = 1",
+        "line 1, column 16\n",
+        "COUNT(A.*)",
+    ),
+    (
+        "MEASURES SUM(p * t) AS s PATTERN (A) DEFINE A AS p = 1",
+        "line 1, column 16\n",
+        "one more column",
+    ),
+    (
+        "MEASURES CLASSIFIER(A) AS c PATTERN (A) DEFINE A AS p = 1",
+        "line 1, column 21\n",
+        "union",
+    ),
+    (
+        "MEASURES CLASSIFIER AS c PATTERN (A) DEFINE A AS p = 1",
+        "line 1, column 21\n",
+        "CLASSIFIER()",
+    ),
+    (
+        "MEASURES MATCH_NUMBER() AS match_number PATTERN (A) DEFINE A AS p = 1",
+        "line 1, column 28\n",
+        "\"MATCH_NUMBER\"",
+    ),
+    (
+        "MEASURES LAST(A).p AS q PATTERN (A) DEFINE A AS p = 1",
+        "line 1, column 17\n",
+        "LAST(A.p)",
+    ),
+    (
+        "MEASURES A AS x PATTERN (A) DEFINE A AS p = 1",
+        "line 1, column 10\n",
+        "A is a variable",
+    ),
+    (
+        "MEASURES SUM(sym) AS s PATTERN (A) DEFINE A AS p = 1",
+        "line 1, column 10\n",
+        "text",
+    ),
+    (
+        "MEASURES p > 5 AS c PATTERN (A) DEFINE A AS p = 1",
+        "line 1, column 10\n",
+        "condition",
+    ),
+    (
+        "MEASURES 1 AS x, 2 AS x PATTERN (A) DEFINE A AS p = 1",
+        "line 1, column 23\n",
+        "another name",
+    ),
+    (
+        "MEASURES SUM(p AS s PATTERN (A) DEFINE A AS p = 1",
+        "line 1, column 16\n",
+        "never closed",
+    ),
+    (
+        "MEASURES LAST(A.prise) AS s PATTERN (A) DEFINE A AS p = 1",
+        "line 1, column 17\n",
+        "write price",
+    ),
+    (
+        "MEASURES FIRST_VALUE(p) AS s PATTERN (A) DEFINE A AS p = 1",
+        "line 1, column 21\n",
+        "FIRST",
+    ),
+    (
+        "MEASURES A.* PATTERN (A) DEFINE A AS p = 1",
+        "line 1, column 12\n",
+        "COUNT(A.*)",
+    ),
+    (
+        "MEASURES p || 'x' AS s PATTERN (A) DEFINE A AS p = 1",
+        "line 1, column 12\n",
+        "joined",
+    ),
+    (
+        "MEASURES FINAL p AS s PATTERN (A) DEFINE A AS p = 1",
+        "line 1, column 16\n",
+        "FINAL LAST(p)",
+    ),
+];
+
+/// Of PATTERN: a clause, the place, and what is told of it.
+const PATTERNS: [Case; 22] = [
+    (
+        "PATTERN A B DEFINE A AS p = 1",
+        "line 1, column 9\n",
+        "brackets",
+    ),
+    (
+        "PATTERN (A, B) DEFINE A AS p = 1",
+        "line 1, column 11\n",
+        "A B",
+    ),
+    (
+        "PATTERN (A{n}) DEFINE A AS p = 1",
+        "line 1, column 12\n",
+        "{3}",
+    ),
+    (
+        "PATTERN (A{,}) DEFINE A AS p = 1",
+        "line 1, column 13\n",
+        "*",
+    ),
+    (
+        "PATTERN (A++) DEFINE A AS p = 1",
+        "line 1, column 12\n",
+        "quantifier",
+    ),
+    (
+        "PATTERN (* A) DEFINE A AS p = 1",
+        "line 1, column 10\n",
+        "behind",
+    ),
+    (
+        "PATTERN ((A B) DEFINE A AS p = 1",
+        "line 1, column 16\n",
+        "line 1, column 9",
+    ),
+    (
+        "PATTERN (A B)) DEFINE A AS p = 1",
+        "line 1, column 14\n",
+        "no bracket is open",
+    ),
+    (
+        "PATTERN (A B)+ DEFINE A AS p = 1",
+        "line 1, column 14\n",
+        "inside",
+    ),
+    (
+        "PATTERN ('A' B) DEFINE A AS p = 1",
+        "line 1, column 10\n",
+        "without quotes",
+    ),
+    (
+        "PATTERN (A 2) DEFINE A AS p = 1",
+        "line 1, column 12\n",
+        "A{3}",
+    ),
+    (
+        "PATTERN (A -> B) DEFINE A AS p = 1",
+        "line 1, column 12\n",
+        "A B",
+    ),
+    (
+        "PATTERN () DEFINE A AS p = 1",
+        "line 1, column 10\n",
+        "(())",
+    ),
+    (
+        "PATTERN (A |) DEFINE A AS p = 1",
+        "line 1, column 13\n",
+        "missing behind |",
+    ),
+    (
+        "PATTERN (A || B) DEFINE A AS p = 1",
+        "line 1, column 13\n",
+        "A | B",
+    ),
+    (
+        "PATTERN (FIRST NEXT+) DEFINE A AS p = 1",
+        "line 1, column 10\n",
+        "\"FIRST\"",
+    ),
+    (
+        "PATTERN (é) DEFINE A AS p = 1",
+        "line 1, column 10\n",
+        "double quotes",
+    ),
+    (
+        "PATTERN (A & B) DEFINE A AS p = 1",
+        "line 1, column 12\n",
+        "side by side",
+    ),
+    (
+        "PATTERN (A{3,2}) DEFINE A AS p = 1",
+        "line 1, column 11\n",
+        "lower one first",
+    ),
+    (
+        "PATTERN (PERMUTE(A,B,C,D,E,F,G,H,I)) DEFINE A AS p = 1",
+        "line 1, column 10\n",
+        "at most 8",
+    ),
+    (
+        "ALL ROWS PER MATCH WITH UNMATCHED ROWS PATTERN ({- A -}) DEFINE A AS p = 1",
+        "line 1, column 49\n",
+        "UNMATCHED",
+    ),
+    (
+        "PATTERN (A[2]) DEFINE A AS p = 1",
+        "line 1, column 11\n",
+        "square",
+    ),
+];
+
+/// Of conditions: a clause, the place, and what is told of it.
+const CONDITIONS: [Case; 70] = [
+    (
+        "PATTERN (A) DEFINE A AS p => 5",
+        "line 1, column 28\n",
+        ">=",
+    ),
+    (
+        "PATTERN (A) DEFINE A AS p == 5",
+        "line 1, column 28\n",
+        "write =",
+    ),
+    (
+        "PATTERN (A) DEFINE A AS p != 5",
+        "line 1, column 27\n",
+        "<>",
+    ),
+    ("PATTERN (A) DEFINE A AS p ≥ 5", "line 1, column 27\n", ">="),
+    (
+        "PATTERN (A) DEFINE A AS p > = 5",
+        "line 1, column 29\n",
+        "blank",
+    ),
+    (
+        "PATTERN (A) DEFINE A AS p > 1 && p < 5",
+        "line 1, column 31\n",
+        "AND",
+    ),
+    (
+        "PATTERN (A) DEFINE A AS p > 1 || p < 5",
+        "line 1, column 31\n",
+        "OR",
+    ),
+    (
+        "PATTERN (A) DEFINE A AS p / 2 > 5",
+        "line 1, column 27\n",
+        "multiply",
+    ),
+    (
+        "PATTERN (A) DEFINE A AS p % 2 = 0",
+        "line 1, column 27\n",
+        "remainder",
+    ),
+    (
+        "PATTERN (A) DEFINE A AS p ** 2 > 5",
+        "line 1, column 28\n",
+        "p * p",
+    ),
+    (
+        "PATTERN (A) DEFINE A AS p ^ 2 > 5",
+        "line 1, column 27\n",
+        "p * p",
+    ),
+    (
+        "PATTERN (A) DEFINE A AS p – 5 > 1",
+        "line 1, column 27\n",
+        "write -",
+    ),
+    (
+        "PATTERN (A) DEFINE A AS p > 0.95 * PREV(p)",
+        "line 1, column 30\n",
+        "cents",
+    ),
+    (
+        "PATTERN (A) DEFINE A AS p > .5",
+        "line 1, column 29\n",
+        "cents",
+    ),
+    (
+        "PATTERN (A) DEFINE A AS p > 1e3",
+        "line 1, column 30\n",
+        "digits",
+    ),
+    (
+        "PATTERN (A) DEFINE A AS p > 1_000",
+        "line 1, column 30\n",
+        "1000",
+    ),
+    (
+        "PATTERN (A) DEFINE A AS p > +5",
+        "line 1, column 29\n",
+        "leave it out",
+    ),
+    (
+        "PATTERN (A) DEFINE A AS p < 9223372036854775808",
+        "line 1, column 29\n",
+        "greatest",
+    ),
+    (
+        "PATTERN (A) DEFINE A AS t - FIRST(t) <= INTERVAL '1' HOUR",
+        "line 1, column 50\n",
+        "seconds",
+    ),
+    (
+        "PATTERN (A) DEFINE A AS t > DATE '2024-01-05'",
+        "line 1, column 34\n",
+        "text",
+    ),
+    (
+        "PATTERN (A) DEFINE A AS t > '2024-01-05'",
+        "line 1, column 27\n",
+        "as text",
+    ),
+    (
+        "PATTERN (A) DEFINE A AS ABS(p - PREV(p)) > 5",
+        "line 1, column 28\n",
+        "both sides",
+    ),
+    (
+        "PATTERN (A) DEFINE A AS LAG(p) < p",
+        "line 1, column 28\n",
+        "PREV(p)",
+    ),
+    (
+        "PATTERN (A) DEFINE A AS NVL(p, 0) > 5",
+        "line 1, column 28\n",
+        "IS NULL",
+    ),
+    (
+        "PATTERN (A) DEFINE A AS ROUND(p) > 5",
+        "line 1, column 30\n",
+        "one more column",
+    ),
+    (
+        "PATTERN (A) DEFINE A AS LOWER(sym) = 'x'",
+        "line 1, column 30\n",
+        "one more column",
+    ),
+    (
+        "PATTERN (A) DEFINE A AS FOO(p) > 5",
+        "line 1, column 28\n",
+        "the functions are",
+    ),
+    (
+        "PATTERN (A) DEFINE A AS p BETWEEN 3 AND 7",
+        "line 1, column 27\n",
+        "p >= 3 AND p <= 7",
+    ),
+    (
+        "PATTERN (A) DEFINE A AS p NOT BETWEEN 3 AND 7",
+        "line 1, column 27\n",
+        "p >= 3",
+    ),
+    (
+        "PATTERN (A) DEFINE A AS sym IN ('a', 'b')",
+        "line 1, column 29\n",
+        "sym = 'a' OR sym = 'b'",
+    ),
+    (
+        "PATTERN (A) DEFINE A AS sym NOT IN ('a', 'b')",
+        "line 1, column 29\n",
+        "OR",
+    ),
+    (
+        "PATTERN (A) DEFINE A AS sym LIKE 'a%'",
+        "line 1, column 29\n",
+        "one more column",
+    ),
+    (
+        "PATTERN (A) DEFINE A AS p = NULL",
+        "line 1, column 29\n",
+        "IS NULL",
+    ),
+    (
+        "PATTERN (A) DEFINE A AS p IS 5",
+        "line 1, column 30\n",
+        "IS NULL",
+    ),
+    (
+        "PATTERN (A) DEFINE A AS TRUE",
+        "line 1, column 25\n",
+        "1 = 1",
+    ),
+    (
+        "PATTERN (A) DEFINE A AS sym = \"x\"",
+        "line 1, column 31\n",
+        "'x'",
+    ),
+    (
+        "PATTERN (A) DEFINE A AS \"p\" < 5",
+        "line 1, column 25\n",
+        "letter for letter",
+    ),
+    (
+        "PATTERN (A) DEFINE A AS sym = ‘x’",
+        "line 1, column 31\n",
+        "U+2018",
+    ),
+    (
+        "PATTERN (A) DEFINE A AS sym = “x”",
+        "line 1, column 31\n",
+        "U+201C",
+    ),
+    (
+        "PATTERN (A) DEFINE A AS `p` < 5",
+        "line 1, column 25\n",
+        "backticks",
+    ),
+    (
+        "PATTERN (A) DEFINE A AS p\u{a0}< 5",
+        "line 1, column 26\n",
+        "U+00A0",
+    ),
+    (
+        "PATTERN (A) DEFINE A AS sym = 'x",
+        "line 1, column 31\n",
+        "never closes",
+    ),
+    (
+        "PATTERN (A) DEFINE A AS sym = 'it's'",
+        "line 1, column 36\n",
+        "twice",
+    ),
+    (
+        "PATTERN (A) DEFINE A AS \"p < 5",
+        "line 1, column 25\n",
+        "never closes",
+    ),
+    (
+        "PATTERN (A) DEFINE A AS p::int = 5",
+        "line 1, column 26\n",
+        "casts",
+    ),
+    (
+        "PATTERN (A) DEFINE A AS A[0].p = 5",
+        "line 1, column 26\n",
+        "PREV",
+    ),
+    (
+        "PATTERN (A) DEFINE A AS p > :limit",
+        "line 1, column 29\n",
+        "parameters",
+    ),
+    (
+        "PATTERN (A) DEFINE A AS p > ?",
+        "line 1, column 29\n",
+        "parameters",
+    ),
+    (
+        "PATTERN (A) DEFINE A AS p > $1",
+        "line 1, column 29\n",
+        "value itself",
+    ),
+    (
+        "PATTERN (A) DEFINE A AS p > (SELECT MAX(p) FROM t)",
+        "line 1, column 37\n",
+        "subqueries",
+    ),
+    (
+        "PATTERN (A) DEFINE A AS PREV(p + t) > 5",
+        "line 1, column 32\n",
+        "PREV(p) + PREV(q)",
+    ),
+    (
+        "PATTERN (A) DEFINE A AS PREV(p, -1) > 5",
+        "line 1, column 33\n",
+        "NEXT(p, 2)",
+    ),
+    (
+        "PATTERN (A) DEFINE A AS PREV(p, 1001) > 5",
+        "line 1, column 33\n",
+        "1000",
+    ),
+    (
+        "PATTERN (A) DEFINE A AS PREV(PREV(p)) > 5",
+        "line 1, column 30\n",
+        "PREV(p, 2)",
+    ),
+    (
+        "PATTERN (A) DEFINE A AS p > ORDER",
+        "line 1, column 29\n",
+        "\"ORDER\"",
+    ),
+    (
+        "PATTERN (A) DEFINE A AS (p > 5",
+        "line 1, column 31\n",
+        "line 1, column 25",
+    ),
+    (
+        "PATTERN (A) DEFINE A AS p >",
+        "line 1, column 28\n",
+        "value is missing",
+    ),
+    (
+        "PATTERN (A) DEFINE A AS CLASSIFIER() = 'A'",
+        "line 1, column 25\n",
+        "MEASURES alone",
+    ),
+    (
+        "PATTERN (A) DEFINE A AS FINAL LAST(p) = 1",
+        "line 1, column 25\n",
+        "leave FINAL out",
+    ),
+    (
+        "PATTERN (A) DEFINE A AS p = '5'",
+        "line 1, column 27\n",
+        "without quotes",
+    ),
+    (
+        "PATTERN (A) DEFINE A AS sym > p",
+        "line 1, column 29\n",
+        "sym is text, p is int",
+    ),
+    (
+        "PATTERN (A) DEFINE A AS sym + 1 > 5",
+        "line 1, column 29\n",
+        "text",
+    ),
+    (
+        "PATTERN (A) DEFINE A AS p",
+        "line 1, column 25\n",
+        "compare",
+    ),
+    (
+        "PATTERN (A) DEFINE A AS p AND t = 1",
+        "line 1, column 27\n",
+        "conditions",
+    ),
+    (
+        "PATTERN (A) DEFINE A AS Z.p > 5",
+        "line 1, column 25\n",
+        "variables are A",
+    ),
+    (
+        "PATTERN (A) DEFINE A AS price.t > 5",
+        "line 1, column 25\n",
+        "A.price",
+    ),
+    (
+        "PATTERN (A B)\nDEFINE\n\tA AS p > 5,\n\tB AS p < PREV(symm)",
+        "line 4, column 16\n",
+        "write sym",
+    ),
+    (
+        "PATTERN (A) DEFINE A AS p > 5 6",
+        "line 1, column 31\n",
+        "side by side",
+    ),
+    (
+        "PATTERN (A) DEFINE A AS p > 5 t",
+        "line 1, column 31\n",
+        "operator",
+    ),
+    (
+        "PATTERN (A) DEFINE A AS p ~ 5",
+        "line 1, column 27\n",
+        "fits",
+    ),
+];
+
+/// Of DEFINE: a clause, the place, and what is told of it.
+const DEFINITIONS: [Case; 12] = [
+    ("PATTERN (A) DEFINE A p > 5", "line 1, column 22\n", "AS"),
+    ("PATTERN (A) DEFINE A = p > 5", "line 1, column 22\n", "AS"),
+    (
+        "PATTERN (A B) DEFINE A AS p > 5 B AS p < 3",
+        "line 1, column 33\n",
+        "comma",
+    ),
+    (
+        "PATTERN (A) DEFINE A AS p > 5,",
+        "line 1, column 31\n",
+        "last comma",
+    ),
+    (
+        "PATTERN (A) DEFINE A AS",
+        "line 1, column 24\n",
+        "condition",
+    ),
+    (
+        "PATTERN (A) DEFINE",
+        "line 1, column 19\n",
+        "definition is missing",
+    ),
+    (
+        "PATTERN (UP DWON+) DEFINE UP AS p > 5, DOWN AS p < 5",
+        "line 1, column 40\n",
+        "write DWON",
+    ),
+    (
+        "PATTERN (A) DEFINE A AS p = 1, A AS p = 2",
+        "line 1, column 32\n",
+        "AND or OR",
+    ),
+    (
+        "PATTERN (A B) SUBSET A = (B) DEFINE A AS p = 1",
+        "line 1, column 22\n",
+        "another name",
+    ),
+    (
+        "AFTER MATCH SKIP TO FIRST B PATTERN (A) DEFINE A AS p = 1",
+        "line 1, column 27\n",
+        "variables are A",
+    ),
+    (
+        "ORDER BY ts PATTERN (A) DEFINE A AS p = 1",
+        "line 1, column 10\n",
+        "columns are",
+    ),
+    (
+        "PARTITION BY sym ORDER BY sym PATTERN (A) DEFINE A AS p = 1",
+        "line 1, column 27\n",
+        "listed already",
+    ),
+];
+
+/// What is told of a clause.
+fn told_of(alloc: Global, clause: &str) -> Result<String, Fail> {
+    let table = read_table(alloc, "sym text, t int, p int, price int")?;
+    match compile(alloc, clause, &table) {
+        Ok(_) => Ok(String::from_str(alloc, "no fault")?),
+        Err(fault) => Ok(explain_clause(alloc, &table, clause, &fault)?),
+    }
+}
+
+fn check_all(rt: &impl Abort, alloc: Global, cases: &[Case]) -> Result<(), Fail> {
+    for (clause, place, word) in cases {
+        let told = told_of(alloc, clause)?;
+        check_told(rt, clause, told.as_str(), place, word);
+    }
+    Ok(())
+}
+
+#[test]
+fn round_the_clause(rt: HostRuntime) -> Result<(), Fail> {
+    check_all(&rt, rt.alloc(), &ROUND)
+}
+
+#[test]
+fn parts(rt: HostRuntime) -> Result<(), Fail> {
+    check_all(&rt, rt.alloc(), &PARTS)
+}
+
+#[test]
+fn measures(rt: HostRuntime) -> Result<(), Fail> {
+    check_all(&rt, rt.alloc(), &MEASURES)
+}
+
+#[test]
+fn patterns(rt: HostRuntime) -> Result<(), Fail> {
+    check_all(&rt, rt.alloc(), &PATTERNS)
+}
+
+#[test]
+fn conditions(rt: HostRuntime) -> Result<(), Fail> {
+    check_all(&rt, rt.alloc(), &CONDITIONS)
+}
+
+#[test]
+fn definitions(rt: HostRuntime) -> Result<(), Fail> {
+    check_all(&rt, rt.alloc(), &DEFINITIONS)
+}
