@@ -101,6 +101,11 @@ fn of_shape(reading: &Reading<'_>) -> Option<Hint> {
     if reading.is_end() || reading.here() == "," {
         return of_missing(reading);
     }
+    of_signs(reading)
+}
+
+/// Constraints, and signs in a name.
+fn of_signs(reading: &Reading<'_>) -> Option<Hint> {
     if is_one_of(reading.here(), "NOT NULL") {
         return said(
             "a table has no constraints",
