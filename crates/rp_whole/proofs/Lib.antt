@@ -1,4 +1,5 @@
 mod ToCome
 mod Items
-mod Parts
+mod InOrder
 mod Told
+mod Wrote

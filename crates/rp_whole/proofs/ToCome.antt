@@ -1,17 +1,17 @@
--- The lines that are still to come.
-use Rattle.std.proofs.Common.{◌≡◌, ◌∙◌, ℕ, zero, suc, ◌+◌, List, [], ◌∷◌, ◌++◌, length, drop, Some, refl, sym, ap, arith, append_assoc, slice_get}
+-- What is still to come.
+use Rattle.std.proofs.Common.{◌≡◌, ◌∙◌, ℕ, zero, suc, ◌+◌, List, [], ◌∷◌, ◌++◌, length, drop, Some, refl, sym, ap, arith, slice_get}
 use Rattle.std.proofs.lemmas.List.{drop_all}
+use Rattle.std.specs.List.{flat_map}
 use Rattle.rp_query.specs.declared.query.QueryData.{QueryData}
 use Rattle.rp_query.specs.declared.item.Item.{Item}
 use Rattle.rp_known.specs.Known.{Known}
 use Rattle.rp_known.specs.WalkLaws.{GoesOnFrom}
 use Rattle.rp_known.specs.Walk.{known}
-use Rattle.rp_codec.specs.ReplyLines.{item_text}
 use Rattle.rp_input.specs.Partitions.{Part}
 use Rattle.rp_walker.specs.FitLaws.{AgreesFrom}
 use Rattle.rp_walker.specs.declared.record.MatcherState.{MatcherState}
-use Rattle.rp_whole.specs.AnswerLines.{closed, lines_from}
-use Rattle.rp_whole.specs.Writing.{lines_to_come}
+use Rattle.rp_whole.specs.AnswerLines.{closed}
+use Rattle.rp_whole.specs.Writing.{Form, bytes_from, bytes_to_come, stops_to_come}
 
 goes_on : (first : ℕ) (p : Known) → GoesOnFrom first p p
 goes_on first p = record { later = (omega arith, λ e. (refl, e)); same = λ row low high. refl }
@@ -25,19 +25,36 @@ drop_next [] n x is = cc
 drop_next (y ∷ xs) zero x is = cc
 drop_next (y ∷ xs) (suc n) x is = drop_next xs n x is
 
--- the line of the next item comes first
-pub next_line : (q : QueryData) (part : Part) (old new : MatcherState) (x : Item) → new.given ≡ old.given + 1 → slice_get (known q (closed part.1)) old.given ≡ Some x
-    → lines_to_come q part old ≡ (item_text part.0 (old.given + 1) x ++ 10 ∷ []) ++ lines_to_come q part new
-next_line q part old new x one is =
-    let items = known q (closed part.1) in
-    let after : suc old.given ≡ new.given = omega arith in
-    let place : suc (old.given + 1) ≡ new.given + 1 = omega arith in
-    ap (lines_from part.0 (old.given + 1)) (drop_next items old.given x is ∙ ap (λ n. x ∷ drop n items) after)
-    ∙ ap (λ n. item_text part.0 (old.given + 1) x ++ 10 ∷ lines_from part.0 n (drop new.given items)) place
-    ∙ sym (append_assoc (item_text part.0 (old.given + 1) x) (10 ∷ []) (lines_to_come q part new))
+module _ (form : Form) (q : QueryData) (part : Part) where
+  module _ (old new : MatcherState) (x : Item) (one : new.given ≡ old.given + 1) (is : slice_get (known q (closed part.1)) old.given ≡ Some x) where
+    -- the next item is the first to come
+    next_item : drop old.given (known q (closed part.1)) ≡ x ∷ drop new.given (known q (closed part.1))
+    next_item =
+        let after : suc old.given ≡ new.given = omega arith in
+        drop_next (known q (closed part.1)) old.given x is ∙ ap (λ n. x ∷ drop n (known q (closed part.1))) after
 
-pub no_lines : (q : QueryData) (part : Part) (r : MatcherState) (given : ℕ) → r.given ≡ given → length (known q (closed part.1)) ≡ given → lines_to_come q part r ≡ []
-no_lines q part r given same all = ap (lines_from part.0 (r.given + 1)) (drop_all r.given (known q (closed part.1)) (omega (arith, same, all)))
+    pub next_bytes : bytes_to_come form q part old ≡ form.bytes part.0 (old.given + 1) x ++ bytes_to_come form q part new
+    next_bytes =
+        let place : suc (old.given + 1) ≡ new.given + 1 = omega arith in
+        ap (bytes_from form part.0 (old.given + 1)) next_item
+        ∙ ap (λ n. form.bytes part.0 (old.given + 1) x ++ bytes_from form part.0 n (drop new.given (known q (closed part.1)))) place
 
-pub same_lines : (q : QueryData) (part : Part) (old new : MatcherState) → new.given ≡ old.given → lines_to_come q part old ≡ lines_to_come q part new
-same_lines q part old new same = ap (λ given. lines_from part.0 (given + 1) (drop given (known q (closed part.1)))) (sym same)
+    pub next_stops : stops_to_come form q part old ≡ form.stops part.0 x ++ stops_to_come form q part new
+    next_stops = ap (flat_map (form.stops part.0)) next_item
+
+  module _ (r : MatcherState) (given : ℕ) (same : r.given ≡ given) (all : length (known q (closed part.1)) ≡ given) where
+    no_items : drop r.given (known q (closed part.1)) ≡ []
+    no_items = drop_all r.given (known q (closed part.1)) (omega (arith, same, all))
+
+    pub no_bytes : bytes_to_come form q part r ≡ []
+    no_bytes = ap (bytes_from form part.0 (r.given + 1)) no_items
+
+    pub no_stops : stops_to_come form q part r ≡ []
+    no_stops = ap (flat_map (form.stops part.0)) no_items
+
+  module _ (old new : MatcherState) (same : new.given ≡ old.given) where
+    pub same_bytes : bytes_to_come form q part old ≡ bytes_to_come form q part new
+    same_bytes = ap (λ given. bytes_from form part.0 (given + 1) (drop given (known q (closed part.1)))) (sym same)
+
+    pub same_stops : stops_to_come form q part old ≡ stops_to_come form q part new
+    same_stops = ap (λ given. flat_map (form.stops part.0) (drop given (known q (closed part.1)))) (sym same)

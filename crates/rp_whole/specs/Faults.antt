@@ -8,6 +8,7 @@ use Rattle.rp_input.specs.Devices.{IsInputFault, fault_told as csv_told}
 use Rattle.rp_input.specs.declared.rows.CsvFault.{CsvFault}
 use Rattle.rp_input.specs.declared.rows.CsvFault.TheVariants.{Header, Record, Field, Read, Turns, OutOfMemory}
 use Rattle.rp_whole.specs.AnswerLines.{WritesFront}
+use Rattle.rp_whole.specs.AnswerRecords.{WritesRecordsFront}
 use Rattle.rp_whole.specs.declared.fault.WholeFault.{WholeFault}
 use Rattle.rp_whole.specs.declared.fault.WholeFault.TheVariants.{Csv, Write, OutOfMemory as WholeOutOfMemory}
 
@@ -20,12 +21,20 @@ told_csv Read = Csv Read
 told_csv Turns = Csv Turns
 told_csv OutOfMemory = WholeOutOfMemory
 
--- Of a refused input nothing is written. A write that fails leaves a front of the lines, and want of memory, which is told as
--- such wherever it comes, nothing or a front of them.
+-- Of a refused input nothing is written. A write that fails leaves a front of what is to be written, and want of memory, which is
+-- told as such wherever it comes, nothing or a front of it.
+abbrev pub Leaves : QueryData → Option (List ℕ) → Option (List ℕ) → Option (List ℕ) → Type 0 → WholeFault → Type 0
+Leaves q input old new front (Csv why) = (why ≢ OutOfMemory) × (new ≡ old) × IfSome input (λ text. IsInputFault q.table text why)
+Leaves q input old new front Write = front
+Leaves q input old new front WholeOutOfMemory = (new ≡ old) ⊎ front
+
+-- what a run that writes lines leaves after a fault
 abbrev pub LeavesFront : QueryData → Option (List ℕ) → Option (List ℕ) → Option (List ℕ) → WholeFault → Type 0
-LeavesFront q input old new (Csv why) = (why ≢ OutOfMemory) × (new ≡ old) × IfSome input (λ text. IsInputFault q.table text why)
-LeavesFront q input old new Write = WritesFront q input old new
-LeavesFront q input old new WholeOutOfMemory = (new ≡ old) ⊎ WritesFront q input old new
+LeavesFront q input old new = Leaves q input old new (WritesFront q input old new)
+
+-- what a run that writes records leaves after a fault
+abbrev pub LeavesRecords : QueryData → Option (List ℕ) → Option (List ℕ) → Option (List ℕ) → WholeFault → Type 0
+LeavesRecords q input old new = Leaves q input old new (WritesRecordsFront q input old new)
 
 -- What a fault of a run tells of its reads. A fault of the output comes when all of the input was read, and want of memory may come
 -- before or after.

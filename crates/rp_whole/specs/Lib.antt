@@ -1,5 +1,6 @@
--- What contracts of public calls cite: the lines of an input's answers, and what a fault says.
+-- What contracts of public calls cite: the lines and records of an input's answers, and what a fault says.
 pub mod AnswerLines
+pub mod AnswerRecords
 pub mod Faults
 -- The inside of writing them.
 pub mod Writing

@@ -13,8 +13,13 @@
 mod closed;
 mod fault;
 mod gathered;
+mod lines;
 mod part;
+mod parts;
+mod records;
+mod stopped;
 mod whole;
 
 pub use fault::WholeFault;
-pub use whole::run_whole;
+pub use stopped::Stopped;
+pub use whole::{run_whole, run_whole_csv};

@@ -1,24 +1,22 @@
-//! From a CSV input to the lines of its answers.
-ghost use Rattle.std.specs.Prelude.{◌≡◌, ◌<◌, IfErr, OnErr, OnOk};
+//! From a CSV input to its answers.
+ghost use Rattle.std.specs.Prelude.{◌≡◌, IfErr, IfOk, OnOk};
 ghost use Rattle.rp_query.specs.QueryView.{data_of};
 ghost use Rattle.rp_io.specs.Reading.{ReadsWithin};
-ghost use Rattle.rp_input.specs.Gathering.{parts_of};
 ghost use Rattle.rp_whole.specs.AnswerLines.{WritesLines};
-ghost use Rattle.rp_whole.specs.Faults.{IsOfOutput, LeavesFront, TellsWrite, whole_told};
-ghost use Rattle.rp_whole.specs.Writing.{WritesParts, WritesPartsFront};
+ghost use Rattle.rp_whole.specs.AnswerRecords.{WritesRecords};
+ghost use Rattle.rp_whole.specs.Faults.{LeavesFront, LeavesRecords, TellsWrite, whole_told};
 
-use crate::closed::Part;
 use crate::fault::WholeFault;
-use crate::gathered::Gathered;
-use crate::part::write_part;
-use rp_input::{law_orders, order_rows, partitions, read_rows};
-use rp_io::{Intake, Outlet, write_all};
+use crate::lines::Lines;
+use crate::parts::write_parts;
+use crate::records::RowRecords;
+use crate::stopped::Stopped;
+use rp_input::{partitions, read_rows};
+use rp_io::{Intake, Outlet};
 use rp_query::Query;
-use rp_search::Steps;
-use rp_value::{Cells, Row};
 use std::alloc::Global;
 use std::marker::Brand;
-use std::sync::ledger::{Blank, Ledger};
+use std::sync::ledger::Blank;
 
 /// Writes the answers of a CSV input: of each partition, by first appearance, the lines of the items of its answer,
 /// with their places from 1.
@@ -43,39 +41,44 @@ pub fn run_whole<R: Intake, W: Outlet>(
 {
     let rows = read_rows(alloc, reader, query.table(), reads)?;
     let parts = partitions(alloc, &query, rows)?;
-    write_parts::<W, Brand>(alloc, &query, parts, writer, Blank::new(1))
+    let mut lines = Lines::new(alloc);
+    write_parts::<W, Lines, Brand>(alloc, &query, parts, &mut lines, writer, Blank::new(1))
 }
 
-/// Writes the lines of partitions, one after another. Turns aren't counted.
+/// Writes the answers of a CSV input as CSV: a header of the names of the output columns, and then of each partition, by
+/// first appearance, a record for each row of its answer. An end is no record. Nor is a skip fault, after which a
+/// partition has no further row: the partitions whose answers ended so are given back, in order.
 ///
-/// The rows of each are put in order just before they are walked, so that the walk finds them in the cache.
-fn write_parts<W: Outlet, L: Ledger>(
+///     sym,t,p         n,a,lo,hi
+///     x,2,8           1,10,6,9
+///     y,1,5
+///     x,1,10
+///     ..              by a clause with PARTITION BY sym ORDER BY t MEASURES MATCH_NUMBER() AS n, ..
+///
+/// A field is in quotes where it holds a comma, a quote or a line end. Null is an empty field, and so is an empty text;
+/// in a record of one column either is written as `""`, since an empty line is no record. An answer of no columns has
+/// `""` for its header and for each row.
+///
+/// All is read before the header is written, as by `run_whole`.
+pub fn run_whole_csv<R: Intake, W: Outlet>(
     alloc: Global,
-    query: &Query,
-    parts: Vec<(Cells, Vec<Row>)>,
+    query: Query,
+    reader: &mut R,
     writer: &mut W,
-    blank: Blank,
-) -> Result<(), WholeFault>
-    requires name { blank.name ≡ L.name }
-    requires parts { blank.parts ≡ L.parts }
-    requires counts { 0 < blank.parts }
-    ensures written { OnOk result (WritesParts (data_of query.now) (parts_of parts.items)
-        (W.contents writer.old) (W.contents writer.new)) }
-    ensures front { OnErr result (WritesPartsFront (data_of query.now) (parts_of parts.items)
-        (W.contents writer.old) (W.contents writer.new)) }
-    ensures fault { IfErr result IsOfOutput }
-    ensures failures { TellsWrite result (W.failures writer.old) (W.failures writer.new) }
+    reads: u64,
+) -> Result<Vec<Stopped>, WholeFault>
+    ensures written { IfOk result (λ stopped. WritesRecords (data_of query) (R.remaining reader.old)
+        (W.contents writer.old) (W.contents writer.new) stopped.items) }
+    ensures front { IfErr result
+        (LeavesRecords (data_of query) (R.remaining reader.old) (W.contents writer.old) (W.contents writer.new)) }
+    ensures reads { ReadsWithin reads (whole_told result)
+        (R.calls reader.old) (R.calls reader.new) (R.failures reader.old) (R.failures reader.new)
+        (R.ended reader.old) (R.ended reader.new) (R.remaining reader.old) (R.remaining reader.new) }
+    ensures write { TellsWrite result (W.failures writer.old) (W.failures writer.new) }
 {
-    // Any rows can be put into any order: what is still to be written after a fault has lines too.
-    law_orders();
-    let mut steps = Steps::<L>::new(blank);
-    let mut gathered = Gathered::new(alloc);
-    for (key, rows) in parts {
-        let mut rows = rows;
-        order_rows(query, &mut rows)?;
-        let part = Part { key, rows };
-        write_part(alloc, query, &part, &mut gathered, writer, &mut steps)?;
-    }
-    write_all(writer, gathered.text.as_slice())?;
-    Ok(())
+    let read = read_rows(alloc, reader, query.table(), reads)?;
+    let parts = partitions(alloc, &query, read)?;
+    let mut records = RowRecords::new(alloc, &query)?;
+    write_parts::<W, RowRecords, Brand>(alloc, &query, parts, &mut records, writer, Blank::new(1))?;
+    Ok(records.into_stopped())
 }

@@ -5,6 +5,8 @@
 #[cfg(test)]
 mod input;
 #[cfg(test)]
+mod records;
+#[cfg(test)]
 mod texts;
 #[cfg(test)]
 mod whole;

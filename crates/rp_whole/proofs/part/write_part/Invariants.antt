@@ -11,8 +11,9 @@ abbrev pub invariant-loop-walker : goal.invariant-loop-walker
 invariant-loop-walker g l = record {
   stands : Stands (data_of l.query) (closed l.part.rows.items) l.walker;
   fits : Fits (data_of l.query) (record_of l.walker) (closed l.part.rows.items);
-  writes : WritesOn (data_of l.query) (part_of l.part) first_state (record_of l.walker)
-      (g.W.Outlet.contents l.fn.writer) l.fn.gathered.text.items (g.W.Outlet.contents l.writer) l.gathered.text.items;
+  writes : WritesOn g.G.Gathered.form (data_of l.query) (part_of l.part) first_state (record_of l.walker)
+      (g.W.Outlet.contents l.fn.writer) (g.G.Gathered.bytes l.fn.gathered) (g.W.Outlet.contents l.writer) (g.G.Gathered.bytes l.gathered)
+      (g.G.Gathered.stopped l.fn.gathered) (g.G.Gathered.stopped l.gathered);
   failures : g.W.Outlet.failures l.writer ≡ g.W.Outlet.failures l.fn.writer;
 }
 

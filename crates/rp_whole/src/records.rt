@@ -1,0 +1,77 @@
+//! Items as records of CSV.
+ghost use Rattle.std.specs.Prelude.{◌≡◌, [], IfOk};
+ghost use Rattle.rp_query.specs.QueryView.{data_of};
+ghost use Rattle.rp_whole.specs.AnswerRecords.{header_text};
+
+use crate::gathered::{BLOCK, Gathered};
+use crate::stopped::Stopped;
+use rp_query::{Item, Query};
+use rp_table::Records;
+use rp_value::Cells;
+use std::alloc::{AllocError, Global};
+
+/// The records of rows, and the partitions whose answers skip faults ended.
+#[derive(Drop)]
+pub(crate) struct RowRecords {
+    alloc: Global,
+    records: Records,
+    stopped: Vec<Stopped>,
+}
+
+impl RowRecords {
+    /// The header alone: the names of the output columns.
+    pub(crate) fn new(alloc: Global, query: &Query) -> Result<RowRecords, AllocError>
+        ensures header { IfOk result (λ rows. rows.records ≡ header_text (data_of query.now)) }
+        ensures stopped { IfOk result (λ rows. rows.stopped.items ≡ []) }
+    {
+        let mut records = Records::new(alloc);
+        records.push_names(query.output())?;
+        Ok(RowRecords {
+            alloc,
+            records,
+            stopped: Vec::new(alloc),
+        })
+    }
+
+    /// The partitions whose answers skip faults ended.
+    pub(crate) fn into_stopped(self) -> Vec<Stopped>
+        ensures { result ≡ self.stopped }
+    {
+        self.stopped
+    }
+}
+
+impl Gathered for RowRecords {
+    ghost use Rattle.rp_whole.specs.Writing.{record_form};
+
+    ghost form = { record_form };
+
+    ghost bytes = { λ rows. rows.records };
+
+    ghost stopped = { λ rows. rows.stopped.items };
+
+    fn push(&mut self, key: &Cells, _place: u128, item: &Item) -> Result<(), AllocError> {
+        match item {
+            Item::Row { number: _, cells } => self.records.push_cells(cells.as_slice()),
+            Item::Fault(fault) => {
+                let key = key.share(self.alloc)?;
+                let fault = *fault;
+                self.stopped.push(Stopped { key, fault })?;
+                Ok(())
+            }
+            Item::End => Ok(()),
+        }
+    }
+
+    fn is_block(&self) -> bool {
+        self.records.holds_bytes(BLOCK)
+    }
+
+    fn take(&mut self) -> Result<Vec<u8>, AllocError> {
+        self.records.take()
+    }
+
+    fn give_back(&mut self, memory: Vec<u8>) {
+        self.records.give_back(memory);
+    }
+}
