@@ -16,7 +16,7 @@ use rp_command::{Job, not_utf8, read_command};
 use rp_io::{Port, READS};
 use rp_syntax::read_table;
 use rp_trace::{run_trace, trace_pattern};
-use rp_whole::run_whole;
+use rp_whole::{Unwatched, run_whole};
 use std::process::ExitCode;
 use std::rt::Env;
 use std::{env, io};
@@ -74,7 +74,14 @@ fn whole(rt: &HostRuntime, table: &str, clause: &str) -> Result<(), ProgramFault
     let query = compile(rt.alloc(), clause, &table)?;
     let mut reader = Port::new(rt.stdin());
     let mut writer = Port::new(rt.stdout());
-    run_whole(rt.alloc(), query, &mut reader, &mut writer, READS)?;
+    run_whole(
+        rt.alloc(),
+        query,
+        &mut reader,
+        &mut writer,
+        &mut Unwatched,
+        READS,
+    )?;
     Ok(())
 }
 

@@ -12,6 +12,7 @@ ghost use Rattle.rp_whole.specs.Writing.{WritesOn, bytes_to_come, stops_to_come,
 use crate::closed::Part;
 use crate::fault::WholeFault;
 use crate::gathered::{Gathered, write_block, write_gathered};
+use crate::watch::Watch;
 use rp_io::Outlet;
 use rp_query::Query;
 use rp_search::Steps;
@@ -23,12 +24,13 @@ use std::sync::ledger::Ledger;
 const BUDGET: u32 = 100_000;
 
 /// Writes the items of a partition's answer; what makes no block yet stays gathered.
-pub(crate) fn write_part<W: Outlet, G: Gathered, L: Ledger>(
+pub(crate) fn write_part<W: Outlet, G: Gathered, V: Watch, L: Ledger>(
     alloc: Global,
     query: &Query,
     part: &Part,
     gathered: &mut G,
     writer: &mut W,
+    watch: &mut V,
     steps: &mut Steps<L>,
 ) -> Result<(), WholeFault>
     ensures written { OnOk result (Moves (W.contents writer.old)
@@ -44,17 +46,19 @@ pub(crate) fn write_part<W: Outlet, G: Gathered, L: Ledger>(
     // A new walker's record fits each partition.
     law_records();
     let mut walker = Walker::new(alloc);
-    while write_next(query, part, &mut walker, gathered, writer, steps)? {}
+    watch.begins(&part.key);
+    while write_next(query, part, &mut walker, gathered, writer, watch, steps)? {}
     Ok(())
 }
 
 /// Writes the next item, or what is gathered where none comes yet, and says whether there may be another one.
-fn write_next<W: Outlet, G: Gathered, L: Ledger>(
+fn write_next<W: Outlet, G: Gathered, V: Watch, L: Ledger>(
     query: &Query,
     part: &Part,
     walker: &mut Walker,
     gathered: &mut G,
     writer: &mut W,
+    watch: &mut V,
     steps: &mut Steps<L>,
 ) -> Result<bool, WholeFault>
     requires stands { Stands (data_of query.now) (closed part.now.rows.items) walker.old }
@@ -84,6 +88,7 @@ fn write_next<W: Outlet, G: Gathered, L: Ledger>(
         }
         Poll::Paused => {
             write_gathered(writer, gathered)?;
+            watch.pauses(&part.key, walker.state().at, BUDGET);
             Ok(true)
         }
         Poll::Idle => Ok(false),

@@ -9,6 +9,7 @@ use crate::closed::Part;
 use crate::fault::WholeFault;
 use crate::gathered::{Gathered, write_gathered};
 use crate::part::write_part;
+use crate::watch::Watch;
 use rp_input::{law_orders, order_rows};
 use rp_io::Outlet;
 use rp_query::Query;
@@ -20,12 +21,13 @@ use std::sync::ledger::{Blank, Ledger};
 /// Writes what is gathered, and then the items of partitions, one after another. Turns aren't counted.
 ///
 /// The rows of each are put in order just before they are walked, so that the walk finds them in the cache.
-pub(crate) fn write_parts<W: Outlet, G: Gathered, L: Ledger>(
+pub(crate) fn write_parts<W: Outlet, G: Gathered, V: Watch, L: Ledger>(
     alloc: Global,
     query: &Query,
     parts: Vec<(Cells, Vec<Row>)>,
     gathered: &mut G,
     writer: &mut W,
+    watch: &mut V,
     blank: Blank,
 ) -> Result<(), WholeFault>
     requires name { blank.name ≡ L.name }
@@ -46,7 +48,7 @@ pub(crate) fn write_parts<W: Outlet, G: Gathered, L: Ledger>(
         let mut rows = rows;
         order_rows(query, &mut rows)?;
         let part = Part { key, rows };
-        write_part(alloc, query, &part, gathered, writer, &mut steps)?;
+        write_part(alloc, query, &part, gathered, writer, watch, &mut steps)?;
     }
     write_gathered(writer, gathered)
 }

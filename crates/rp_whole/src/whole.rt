@@ -11,6 +11,7 @@ use crate::lines::Lines;
 use crate::parts::write_parts;
 use crate::records::RowRecords;
 use crate::stopped::Stopped;
+use crate::watch::Watch;
 use rp_input::{partitions, read_rows};
 use rp_io::{Intake, Outlet};
 use rp_query::Query;
@@ -23,11 +24,12 @@ use std::sync::ledger::Blank;
 ///
 /// All is read before the first line is written, by at most `reads` calls of the reader. Bytes are written in blocks,
 /// so after a fault of the writer or of memory some lines may be missing.
-pub fn run_whole<R: Intake, W: Outlet>(
+pub fn run_whole<R: Intake, W: Outlet, V: Watch>(
     alloc: Global,
     query: Query,
     reader: &mut R,
     writer: &mut W,
+    watch: &mut V,
     reads: u64,
 ) -> Result<(), WholeFault>
     ensures written { OnOk result
@@ -42,7 +44,15 @@ pub fn run_whole<R: Intake, W: Outlet>(
     let rows = read_rows(alloc, reader, query.table(), reads)?;
     let parts = partitions(alloc, &query, rows)?;
     let mut lines = Lines::new(alloc);
-    write_parts::<W, Lines, Brand>(alloc, &query, parts, &mut lines, writer, Blank::new(1))
+    write_parts::<W, Lines, V, Brand>(
+        alloc,
+        &query,
+        parts,
+        &mut lines,
+        writer,
+        watch,
+        Blank::new(1),
+    )
 }
 
 /// Writes the answers of a CSV input as CSV: a header of the names of the output columns, and then of each partition, by
@@ -60,11 +70,12 @@ pub fn run_whole<R: Intake, W: Outlet>(
 /// `""` for its header and for each row.
 ///
 /// All is read before the header is written, as by `run_whole`.
-pub fn run_whole_csv<R: Intake, W: Outlet>(
+pub fn run_whole_csv<R: Intake, W: Outlet, V: Watch>(
     alloc: Global,
     query: Query,
     reader: &mut R,
     writer: &mut W,
+    watch: &mut V,
     reads: u64,
 ) -> Result<Vec<Stopped>, WholeFault>
     ensures written { IfOk result (λ stopped. WritesRecords (data_of query) (R.remaining reader.old)
@@ -79,6 +90,14 @@ pub fn run_whole_csv<R: Intake, W: Outlet>(
     let read = read_rows(alloc, reader, query.table(), reads)?;
     let parts = partitions(alloc, &query, read)?;
     let mut records = RowRecords::new(alloc, &query)?;
-    write_parts::<W, RowRecords, Brand>(alloc, &query, parts, &mut records, writer, Blank::new(1))?;
+    write_parts::<W, RowRecords, V, Brand>(
+        alloc,
+        &query,
+        parts,
+        &mut records,
+        writer,
+        watch,
+        Blank::new(1),
+    )?;
     Ok(records.into_stopped())
 }

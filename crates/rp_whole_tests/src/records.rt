@@ -5,7 +5,7 @@ use rp_io::{MemoryInput, MemoryOutput};
 use rp_query::SkipFault;
 use rp_syntax::read_table;
 use rp_value::{Cells, Text, Value};
-use rp_whole::{Stopped, WholeFault, run_whole_csv};
+use rp_whole::{Stopped, Unwatched, WholeFault, run_whole_csv};
 use std::alloc::{AllocError, Global};
 use std::process::Abort;
 use std::test::Fail;
@@ -27,7 +27,7 @@ fn run(
 ) -> Result<Result<Vec<Stopped>, WholeFault>, Fail> {
     let table = read_table(alloc, "sym text, t int, p int")?;
     let query = compile(alloc, clause, &table)?;
-    Ok(run_whole_csv(alloc, query, source, sink, 1_000))
+    Ok(run_whole_csv(alloc, query, source, sink, &mut Unwatched, 1_000))
 }
 
 /// What is written for an input, and the partitions whose answers skip faults ended.
@@ -212,12 +212,12 @@ fn refused_csv(rt: HostRuntime) -> Result<(), Fail> {
     let want = TICKS_ANSWERED.as_bytes();
     let mut sink = MemoryOutput::new(alloc, 4096, 100, 0)?;
     let mut source = MemoryInput::new(TICKS.as_bytes(), 1_000, 0);
-    match run_whole_csv(alloc, query, &mut source, &mut sink, 9) {
+    match run_whole_csv(alloc, query, &mut source, &mut sink, &mut Unwatched, 9) {
         Err(WholeFault::OutOfMemory) => {
             assert!(rt; want.starts_with(sink.bytes()));
             let mut sink = MemoryOutput::new(alloc, 4096, 100, 0)?;
             let mut source = MemoryInput::new(TICKS.as_bytes(), 1_000, 0);
-            let stopped = run_whole_csv(alloc, again, &mut source, &mut sink, 9)?;
+            let stopped = run_whole_csv(alloc, again, &mut source, &mut sink, &mut Unwatched, 9)?;
             assert!(rt; stopped.is_empty());
             assert!(rt; sink.bytes() == want);
         }

@@ -3,7 +3,8 @@ use rp_check::compile;
 use rp_input::CsvFault;
 use rp_io::{MemoryInput, MemoryOutput};
 use rp_syntax::read_table;
-use rp_whole::{WholeFault, run_whole};
+use rp_value::Cells;
+use rp_whole::{Unwatched, Watch, WholeFault, run_whole};
 use std::alloc::{AllocError, Global};
 use std::process::Abort;
 use std::test::Fail;
@@ -33,7 +34,7 @@ fn run(
 ) -> Result<Option<WholeFault>, Fail> {
     let table = read_table(alloc, "sym text, t int, p int")?;
     let query = compile(alloc, clause, &table)?;
-    match run_whole(alloc, query, source, sink, reads) {
+    match run_whole(alloc, query, source, sink, &mut Unwatched, reads) {
         Ok(()) => Ok(None),
         Err(WholeFault::OutOfMemory) => Err(Fail::from(WholeFault::OutOfMemory)),
         Err(fault) => Ok(Some(fault)),
@@ -250,24 +251,79 @@ fn more_than_a_block(rt: HostRuntime) -> Result<(), Fail> {
 }
 
 /// Partition `a` is answered at once. In `b`, whose last part never comes, each start row has twice as many words to be
-/// refused as the row after it: far more turns in all than a poll takes. What was found in `a` is written before they are over.
-#[test]
-fn found_is_written_early(rt: HostRuntime) -> Result<(), Fail> {
-    let alloc = rt.alloc();
-    let clause = "PARTITION BY sym MEASURES COUNT(*) AS c PATTERN ((A | B)* C) DEFINE C AS p = 0";
+/// refused as the row after it: far more turns in all than a poll takes.
+fn slow(alloc: Global) -> Result<String, AllocError> {
     let mut input = String::from_str(alloc, "sym,t,p\na,1,1\na,2,0\n")?;
     for row in 1..16 {
         input.push_str(format!(in alloc; "b,{row},1\n")?.as_str())?;
     }
+    Ok(input)
+}
+
+const SLOW: &str = "PARTITION BY sym MEASURES COUNT(*) AS c PATTERN ((A | B)* C) DEFINE C AS p = 0";
+
+/// What was found in `a` is written before the search in `b` is over.
+#[test]
+fn found_is_written_early(rt: HostRuntime) -> Result<(), Fail> {
+    let alloc = rt.alloc();
     let want = "\
 {\"cells\":[\"a\",2],\"key\":[\"a\"],\"number\":1,\"place\":\"1\"}
 {\"end\":true,\"key\":[\"a\"],\"place\":\"2\"}
 ";
+    let input = slow(alloc)?;
     let mut source = MemoryInput::new(input.as_str().as_bytes(), 1_000, 0);
     let mut sink = MemoryOutput::new(alloc, 4096, 1_000, 2)?;
-    let fault = run(alloc, clause, &mut source, &mut sink, 9)?;
+    let fault = run(alloc, SLOW, &mut source, &mut sink, 9)?;
     assert_eq!(rt; fault, Some(WholeFault::Write));
     assert_eq!(rt; text_of(alloc, &sink)?.as_str(), want);
+    Ok(())
+}
+
+/// Counts what it is told.
+#[derive(Drop)]
+struct Counts {
+    partitions: u64,
+    pauses: u64,
+    /// The row of the last pause.
+    row: u64,
+    /// How often a pause had other turns than 100,000, or a row below that of the pause before.
+    odd: u64,
+}
+
+impl Watch for Counts {
+    fn begins(&mut self, _key: &Cells) {
+        self.partitions = self.partitions.saturating_add(1);
+    }
+
+    fn pauses(&mut self, _key: &Cells, row: u64, turns: u32) {
+        self.pauses = self.pauses.saturating_add(1);
+        if turns != 100_000 || row < self.row {
+            self.odd = self.odd.saturating_add(1);
+        }
+        self.row = row;
+    }
+}
+
+/// Both partitions are told, and pauses of the second one, whose first row takes more turns than all others.
+#[test]
+fn progress_is_told(rt: HostRuntime) -> Result<(), Fail> {
+    let alloc = rt.alloc();
+    let table = read_table(alloc, "sym text, t int, p int")?;
+    let query = compile(alloc, SLOW, &table)?;
+    let input = slow(alloc)?;
+    let mut source = MemoryInput::new(input.as_str().as_bytes(), 1_000, 0);
+    let mut sink = MemoryOutput::new(alloc, 4096, 1_000, 0)?;
+    let mut counts = Counts {
+        partitions: 0,
+        pauses: 0,
+        row: 0,
+        odd: 0,
+    };
+    run_whole(alloc, query, &mut source, &mut sink, &mut counts, 9)?;
+    assert_eq!(rt; counts.partitions, 2);
+    assert!(rt; counts.pauses > 0);
+    assert!(rt; counts.row > 0);
+    assert_eq!(rt; counts.odd, 0);
     Ok(())
 }
 
@@ -282,12 +338,12 @@ fn refused_whole(rt: HostRuntime) -> Result<(), Fail> {
     let want = TICKS_ANSWERED.as_bytes();
     let mut sink = MemoryOutput::new(alloc, 4096, 100, 0)?;
     let mut source = MemoryInput::new(TICKS.as_bytes(), 1_000, 0);
-    match run_whole(alloc, query, &mut source, &mut sink, 9) {
+    match run_whole(alloc, query, &mut source, &mut sink, &mut Unwatched, 9) {
         Err(WholeFault::OutOfMemory) => {
             assert!(rt; want.starts_with(sink.bytes()));
             let mut sink = MemoryOutput::new(alloc, 4096, 100, 0)?;
             let mut source = MemoryInput::new(TICKS.as_bytes(), 1_000, 0);
-            run_whole(alloc, again, &mut source, &mut sink, 9)?;
+            run_whole(alloc, again, &mut source, &mut sink, &mut Unwatched, 9)?;
             assert!(rt; sink.bytes() == want);
         }
         first => {
