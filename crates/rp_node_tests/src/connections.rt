@@ -116,10 +116,14 @@ fn refused_lines(rt: HostRuntime) -> Result<(), Fail> {
 }
 
 fn holds(saved: &Option<Vec<u8>>, text: &str) -> bool {
+    let size = text.len();
+    if size == 0 {
+        return true;
+    }
     match saved {
         Some(bytes) => bytes
             .as_slice()
-            .windows(text.len())
+            .windows(size)
             .any(|part| part == text.as_bytes()),
         None => false,
     }
