@@ -1,9 +1,9 @@
 //! Clauses that no clause is.
 use super::{Case, check_told};
-use rp_check::compile;
+use rp_check::{CompileFault, compile};
 use rp_explain::explain_clause;
 use rp_syntax::read_table;
-use std::alloc::Global;
+use std::alloc::{AllocError, Global};
 use std::process::Abort;
 use std::test::Fail;
 
@@ -822,6 +822,7 @@ fn told_of(alloc: Global, clause: &str) -> Result<String, Fail> {
     let table = read_table(alloc, "sym text, t int, p int, price int")?;
     match compile(alloc, clause, &table) {
         Ok(_) => Ok(String::from_str(alloc, "no fault")?),
+        Err(CompileFault::OutOfMemory) => Err(Fail::from(AllocError)),
         Err(fault) => Ok(explain_clause(alloc, &table, clause, &fault)?),
     }
 }

@@ -1,9 +1,9 @@
 //! Inputs that no rows are, and the tables that are proposed.
 use super::{Case, check_told};
 use rp_explain::{explain_csv, propose_table};
-use rp_input::rows_of;
+use rp_input::{CsvFault, rows_of};
 use rp_syntax::read_table;
-use std::alloc::Global;
+use std::alloc::{AllocError, Global};
 use std::process::Abort;
 use std::test::Fail;
 
@@ -108,6 +108,7 @@ fn told_of(alloc: Global, bytes: &[u8]) -> Result<String, Fail> {
     let table = read_table(alloc, "sym text, t int, p int")?;
     match rows_of(alloc, bytes, &table) {
         Ok(_) => Ok(String::from_str(alloc, "no fault")?),
+        Err(CsvFault::OutOfMemory) => Err(Fail::from(AllocError)),
         Err(fault) => Ok(explain_csv(alloc, &table, bytes, &fault)?),
     }
 }

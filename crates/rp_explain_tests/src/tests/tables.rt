@@ -1,7 +1,8 @@
 //! Texts that no table is.
 use super::{Case, check_told};
 use rp_explain::explain_table;
-use rp_syntax::read_table;
+use rp_syntax::{TableTextFault, read_table};
+use std::alloc::AllocError;
 use std::process::Abort;
 use std::test::Fail;
 
@@ -54,6 +55,7 @@ fn tables(rt: HostRuntime) -> Result<(), Fail> {
     for (text, place, word) in &TABLES {
         match read_table(rt.alloc(), text) {
             Ok(_) => check_told(&rt, text, "no fault", place, word),
+            Err(TableTextFault::OutOfMemory) => return Err(Fail::from(AllocError)),
             Err(fault) => {
                 let told = explain_table(rt.alloc(), text, &fault)?;
                 check_told(&rt, text, told.as_str(), place, word);
