@@ -12,7 +12,7 @@ use crate::node::run_node;
 use crate::source::run_source;
 use crate::texts::with_texts;
 use rp_check::compile;
-use rp_command::{Job, not_utf8, read_command};
+use rp_command::{CheckJob, Job, not_utf8, read_command};
 use rp_io::{Port, READS};
 use rp_syntax::read_table;
 use rp_trace::{run_trace, trace_pattern};
@@ -58,6 +58,7 @@ fn run(rt: &HostRuntime) -> Result<(), ProgramFault> {
         Job::Whole { table, clause } => whole(rt, table.as_str(), clause.as_str()),
         Job::Node(job) => run_node(rt, &job),
         Job::Source(job) => run_source(rt, &job),
+        Job::Check(job) => check(&job),
     }
 }
 
@@ -83,6 +84,11 @@ fn whole(rt: &HostRuntime, table: &str, clause: &str) -> Result<(), ProgramFault
         READS,
     )?;
     Ok(())
+}
+
+/// Nothing is checked so far.
+fn check(_: &CheckJob) -> Result<(), ProgramFault> {
+    Err(ProgramFault::Read)
 }
 
 /// Why the arguments can't be read: one isn't UTF-8, or memory was refused.

@@ -5,7 +5,7 @@ use Rattle.clap.specs.declared.builder.command.Command.{Command}
 use Rattle.clap.specs.declared.builder.value_parser.ValueParser.TheVariants as parser
 use Rattle.clap.specs.declared.parser.matches.ArgMatches.{ArgMatches}
 use Rattle.rp_command.proofs.Rules.{is_separate, meets_rules}
-use Rattle.rp_command.specs.Commands.{by_place, is_ruled, node_app, source_app, trace_app, whole_app}
+use Rattle.rp_command.specs.Commands.{by_place, check_app, is_ruled, node_app, source_app, trace_app, whole_app}
 use Rattle.rp_command.specs.Values.{HasValue, MeetsRules, Passes, number_parser}
 
 -- ---- trace
@@ -151,3 +151,16 @@ source_budget_numeric m h = (h 2 (by_place (codes "budget")) (omega arith)).1 _ 
 pub source_addr : (m : ArgMatches) → MeetsRules source_app m → HasValue (codes "ADDR") m
 unfolding source_app
 source_addr m h = (h 3 (by_place (codes "ADDR")) (omega arith)).0 refl
+
+-- ---- check
+
+check_is_simple : is_simple check_app ≡ true
+unfolding check_app
+check_is_simple = refl
+
+pub check_simple : (a : App) → a ≡ check_app → is_simple a ≡ true
+check_simple a e = rw e check_is_simple
+
+pub check_ruled : is_ruled check_app ≡ true
+unfolding check_app is_ruled
+check_ruled = refl

@@ -15,6 +15,10 @@ use Rattle.clap.specs.declared.parser.matches.ArgMatches.{ArgMatches}
 abbrev pub HasText : List Row → Text → Text → Type 0
 HasText rows id text = first_of id rows ≡ Some text
 
+-- the value of an argument, or none where the argument has no value
+abbrev pub HasTextIfAny : List Row → Text → Option Text → Type 0
+HasTextIfAny rows id text = first_of id rows ≡ text
+
 -- the values of an argument, one at least
 abbrev pub HasTexts : List Row → Text → List Text → Type 0
 HasTexts rows id texts = (all_of id rows ≡ Some texts) × (0 < length texts)

@@ -1,16 +1,22 @@
 //! What the commands have in common: options, what clap makes of the words, and the values that it finds.
-ghost use Rattle.std.specs.Prelude.{◌≡◌, false, true, [], IfOk, OnOk, map, string_bytes};
+ghost use Rattle.std.specs.Prelude.{◌≡◌, false, true, [], IfOk, OnOk, map, option_map, string_bytes};
 ghost use Rattle.clap.specs.Words.{IsAmong, IsParsedFrom, app_of, found_of, is_simple, kind_of, rows_of, rule_of};
 ghost use Rattle.clap.specs.declared.error.kind.ErrorKind.TheVariants.{OutOfMemory};
 ghost use Rattle.clap.specs.declared.builder.value_parser.ValueParser.TheVariants as parser;
 ghost use Rattle.clap.specs.declared.error.Error.{Error};
-ghost use Rattle.rp_command.specs.Commands.{are_taken, by_flag, by_name, by_number, faults_by, is_ruled, rows_by, with_clause};
-ghost use Rattle.rp_command.specs.Values.{HasFlag, HasNumber, HasNumberIfAny, HasText, HasTexts, HasValue, Passes, number_parser};
+ghost use Rattle.rp_command.specs.Commands.{are_taken, by_flag, by_name, by_name_if_any, by_number, faults_by, is_ruled, rows_by, with_clause};
+ghost use Rattle.rp_command.specs.Values.{HasFlag, HasNumber, HasNumberIfAny, HasText, HasTextIfAny, HasTexts, HasValue, Passes, number_parser};
 
 use crate::job::JobFault;
 use clap::error::ErrorKind;
 use clap::{Arg, ArgAction, ArgMatches, Command, Error, value_parser};
 use std::alloc::{AllocError, Global};
+
+/// What help tells of an option that names a table.
+pub(crate) const TABLE: &str = "The columns with their kinds, as \"sym text, t int, p int\"";
+
+/// What help tells of an option that names a clause.
+pub(crate) const CLAUSE: &str = "The clause, as \"PATTERN (A B+) DEFINE B AS p < PREV(p)\"";
 
 /// The command with the options that name a table and a clause over it.
 pub(crate) fn with_clause<'a>(
@@ -19,11 +25,9 @@ pub(crate) fn with_clause<'a>(
 ) -> Result<Command<'a>, AllocError>
     ensures { IfOk result (λ made. app_of made ≡ with_clause (app_of command.entry)) }
 {
-    let about_table = "The columns with their kinds, as \"sym text, t int, p int\"";
-    let about_clause = "The clause, as \"PATTERN (A B+) DEFINE B AS p < PREV(p)\"";
     command
-        .arg(text_option(alloc, "table", "TEXT", about_table))?
-        .arg(text_option(alloc, "clause", "TEXT", about_clause))
+        .arg(text_option(alloc, "table", "TEXT", TABLE))?
+        .arg(text_option(alloc, "clause", "TEXT", CLAUSE))
 }
 
 /// An option that must be given, with a text, which help shows as `value`.
@@ -36,7 +40,20 @@ pub(crate) fn text_option<'a>(
     ensures rule { rule_of result ≡ by_name name.entry.now }
     ensures own { result.global ≡ false }
 {
-    let option = Arg::new(alloc, name).long(name).required(true);
+    text_option_if_any(alloc, name, value, about).required(true)
+}
+
+/// An option with a text, which help shows as `value`.
+pub(crate) fn text_option_if_any<'a>(
+    alloc: Global,
+    name: &'a str,
+    value: &'a str,
+    about: &'a str,
+) -> Arg<'a>
+    ensures rule { rule_of result ≡ by_name_if_any name.entry.now }
+    ensures own { result.global ≡ false }
+{
+    let option = Arg::new(alloc, name).long(name);
     option.value_name(value).help(about).action(ArgAction::Set)
 }
 
@@ -102,6 +119,23 @@ pub(crate) fn text_of(alloc: Global, matches: &ArgMatches, id: &str) -> Result<S
         unreachable!()
     };
     String::from_str(alloc, text)
+}
+
+/// The value of an argument, or None where the argument has no value.
+#[tactic(auto, using(crate::proofs::Getters::first_rows))]
+pub(crate) fn text_if_any(
+    alloc: Global,
+    matches: &ArgMatches,
+    id: &str,
+) -> Result<Option<String>, AllocError>
+    ensures { IfOk result (λ text.
+        HasTextIfAny (rows_of (found_of matches.now)) id.now (option_map string_bytes text)) }
+{
+    let Some(text) = matches.get_str(id) else {
+        return Ok(None);
+    };
+    let owned = String::from_str(alloc, text)?;
+    Ok(Some(owned))
 }
 
 /// The values of an argument that has some.

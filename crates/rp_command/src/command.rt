@@ -6,6 +6,7 @@ ghost use Rattle.clap.specs.declared.error.Error.{Error};
 ghost use Rattle.rp_command.specs.Jobs.{IsCause, IsFaultless, IsRead, NamesJob, name_of};
 
 use crate::arguments::line_fault;
+use crate::check::{check_command, read_check};
 use crate::help;
 use crate::job::{Job, JobFault};
 use crate::node::{node_command, read_node};
@@ -33,6 +34,7 @@ pub fn read_command(alloc: Global, words: &[String]) -> Result<Job, JobFault>
         Some(name) if name.as_str() == "whole" => read_whole(alloc, words),
         Some(name) if name.as_str() == "node" => read_node(alloc, words),
         Some(name) if name.as_str() == "source" => read_source(alloc, words),
+        Some(name) if name.as_str() == "check" => read_check(alloc, words),
         _ => Err(no_job(alloc, words)),
     }
 }
@@ -72,7 +74,8 @@ fn program<'a>(alloc: Global) -> Result<Command<'a>, AllocError> {
         .subcommand(trace_command(alloc)?)?
         .subcommand(whole_command(alloc)?)?
         .subcommand(node_command(alloc)?)?
-        .subcommand(source_command(alloc)?)
+        .subcommand(source_command(alloc)?)?
+        .subcommand(check_command(alloc)?)
 }
 
 fn line_of_no_job(alloc: Global, words: &[String]) -> Result<Error, AllocError> {

@@ -14,6 +14,8 @@ pub enum Job {
     Node(NodeJob),
     /// Hands the rows of a CSV input to nodes.
     Source(SourceJob),
+    /// Tells what is wrong with a table, a clause or a CSV input.
+    Check(CheckJob),
 }
 
 /// A node that is served at an address.
@@ -46,6 +48,15 @@ pub struct SourceJob {
     pub budget: u32,
     /// The addresses of the nodes, at least one.
     pub addresses: Vec<String>,
+}
+
+/// What is to be checked.
+#[derive(Drop)]
+pub struct CheckJob {
+    /// The text of the table; None where one is to be proposed.
+    pub table: Option<String>,
+    /// The text of the clause; None where none is checked.
+    pub clause: Option<String>,
 }
 
 /// Why the command line names no job.

@@ -4,12 +4,14 @@
 //!     whole --table TEXT --clause TEXT
 //!     node --table TEXT --clause TEXT --listen ADDR --state FILE --connections N [--idle SECONDS] [--verbose]
 //!     source --table TEXT --clause TEXT [--budget N] ADDR..
+//!     check [--table TEXT] [--clause TEXT]
 //!
 //! clap reads the words. What each job's command takes is said in `specs/Commands`, and which values a job has in
 //! `specs/Jobs`, by the words of `specs/Values`.
 #![tactic(auto)]
 
 mod arguments;
+mod check;
 mod command;
 pub mod help;
 mod job;
@@ -19,4 +21,4 @@ mod trace;
 mod whole;
 
 pub use command::{not_utf8, read_command};
-pub use job::{Job, JobFault, NodeJob, SourceJob};
+pub use job::{CheckJob, Job, JobFault, NodeJob, SourceJob};
