@@ -1,18 +1,20 @@
 //! Row pattern matching over lines and streams.
 #![tactic(auto)]
 
+mod check;
 mod fault;
 mod node;
 mod source;
 mod state;
 mod texts;
 
+use crate::check::{Verdict, run_check};
 use crate::fault::ProgramFault;
 use crate::node::run_node;
 use crate::source::run_source;
 use crate::texts::with_texts;
 use rp_check::compile;
-use rp_command::{CheckJob, Job, not_utf8, read_command};
+use rp_command::{Job, not_utf8, read_command};
 use rp_io::{Port, READS};
 use rp_syntax::read_table;
 use rp_trace::{run_trace, trace_pattern};
@@ -23,7 +25,8 @@ use std::{env, io};
 
 fn main(rt: HostRuntime) -> io::Result<ExitCode> {
     match run(&rt) {
-        Ok(()) => Ok(ExitCode::SUCCESS),
+        Ok(Verdict::Well) => Ok(ExitCode::SUCCESS),
+        Ok(Verdict::Faulty) => Ok(ExitCode::from(1)),
         Err(fault) => Ok(ExitCode::from(told(&rt, fault).status().unwrap_or(0))),
     }
 }
@@ -43,7 +46,7 @@ fn told(rt: &HostRuntime, fault: ProgramFault) -> ProgramFault {
     unwritten
 }
 
-fn run(rt: &HostRuntime) -> Result<(), ProgramFault> {
+fn run(rt: &HostRuntime) -> Result<Verdict, ProgramFault> {
     let mut words = Vec::new(rt.alloc());
     let all = match env::args(rt) {
         Ok(all) => all,
@@ -53,13 +56,20 @@ fn run(rt: &HostRuntime) -> Result<(), ProgramFault> {
         words.push(word)?;
     }
     let words = with_texts(rt, words.as_slice())?;
-    match read_command(rt.alloc(), words.as_slice())? {
-        Job::Trace { pattern } => trace(rt, pattern.as_str()),
-        Job::Whole { table, clause } => whole(rt, table.as_str(), clause.as_str()),
-        Job::Node(job) => run_node(rt, &job),
-        Job::Source(job) => run_source(rt, &job),
-        Job::Check(job) => check(&job),
+    let job = read_command(rt.alloc(), words.as_slice())?;
+    run_job(rt, &job)
+}
+
+/// Does the job. Only `check` has a verdict.
+fn run_job(rt: &HostRuntime, job: &Job) -> Result<Verdict, ProgramFault> {
+    match job {
+        Job::Trace { pattern } => trace(rt, pattern.as_str())?,
+        Job::Whole { table, clause } => whole(rt, table.as_str(), clause.as_str())?,
+        Job::Node(job) => run_node(rt, job)?,
+        Job::Source(job) => run_source(rt, job)?,
+        Job::Check(job) => return run_check(rt, job),
     }
+    Ok(Verdict::Well)
 }
 
 fn trace(rt: &HostRuntime, pattern: &str) -> Result<(), ProgramFault> {
@@ -84,11 +94,6 @@ fn whole(rt: &HostRuntime, table: &str, clause: &str) -> Result<(), ProgramFault
         READS,
     )?;
     Ok(())
-}
-
-/// Nothing is checked so far.
-fn check(_: &CheckJob) -> Result<(), ProgramFault> {
-    Err(ProgramFault::Read)
 }
 
 /// Why the arguments can't be read: one isn't UTF-8, or memory was refused.

@@ -128,6 +128,45 @@ fn source_command(rt: HostRuntime) -> Result<(), Fail> {
     Ok(())
 }
 
+/// A check of a table and of a clause, whose text may be empty.
+#[test]
+fn check_command(rt: HostRuntime) -> Result<(), Fail> {
+    let words = words_of(rt.alloc(), &["check", "--clause=", "--table", "p int"])?;
+    let job = read_command(rt.alloc(), words.as_slice());
+    match &job {
+        Ok(Job::Check(check)) => {
+            assert_eq!(rt; check.table.as_deref(), Some("p int"));
+            assert_eq!(rt; check.clause.as_deref(), Some(""));
+        }
+        Err(JobFault::OutOfMemory) => return Err(Fail::from(AllocError)),
+        _ => assert!(rt; false),
+    }
+    Ok(())
+}
+
+/// A check of neither, and of a clause alone.
+#[test]
+fn check_command_of_few_words(rt: HostRuntime) -> Result<(), Fail> {
+    let words = words_of(rt.alloc(), &["check"])?;
+    let job = read_command(rt.alloc(), words.as_slice());
+    match &job {
+        Ok(Job::Check(check)) => assert!(rt; check.table.is_none() && check.clause.is_none()),
+        Err(JobFault::OutOfMemory) => return Err(Fail::from(AllocError)),
+        _ => assert!(rt; false),
+    }
+    let words = words_of(rt.alloc(), &["check", "--clause", "a clause"])?;
+    let job = read_command(rt.alloc(), words.as_slice());
+    match &job {
+        Ok(Job::Check(check)) => {
+            assert!(rt; check.table.is_none());
+            assert_eq!(rt; check.clause.as_deref(), Some("a clause"));
+        }
+        Err(JobFault::OutOfMemory) => return Err(Fail::from(AllocError)),
+        _ => assert!(rt; false),
+    }
+    Ok(())
+}
+
 /// Several addresses keep their order, and may stand before the options.
 #[test]
 fn source_command_of_many(rt: HostRuntime) -> Result<(), Fail> {

@@ -27,6 +27,7 @@ Commands:
   whole   Prints the answer of a clause over a CSV file, partition by partition
   node    Takes rows over connections, and gives the items of their answers
   source  Hands the rows of a CSV file to nodes, and prints the items that they give
+  check   Tells what is wrong with a table, a clause or a CSV file
   help    Print this message or the help of the given subcommand(s)
 
 Options:
@@ -88,6 +89,17 @@ Options:
   -h, --help           Print help
 ";
 
+const HELP_OF_CHECK: &str = "\
+Tells what is wrong with a table, a clause or a CSV file
+
+Usage: rowmatch check [OPTIONS]
+
+Options:
+      --table <TEXT>   The columns with their kinds, as \"sym text, t int, p int\"
+      --clause <TEXT>  The clause, as \"PATTERN (A B+) DEFINE B AS p < PREV(p)\"
+  -h, --help           Print help
+";
+
 const NO_PATTERN: &str = "\
 error: the following required arguments were not provided:
   <PATTERN>
@@ -115,6 +127,14 @@ Usage: rowmatch node --table <TEXT> --clause <TEXT> --listen <ADDR> --state <FIL
 For more information, try '--help'.
 ";
 
+const TABLE_TWICE: &str = "\
+error: the argument '--table <TEXT>' cannot be used multiple times
+
+Usage: rowmatch check [OPTIONS]
+
+For more information, try '--help'.
+";
+
 const NO_ADDRESS: &str = "\
 error: the following required arguments were not provided:
   <ADDR>...
@@ -135,7 +155,7 @@ fn lines_told(rt: &impl Abort, alloc: Global, cases: &[(&[&str], &str, bool)]) -
 }
 
 /// The version is told on standard output, a mistake on standard error.
-const LINES: [(&[&str], &str, bool); 5] = [
+const LINES: [(&[&str], &str, bool); 6] = [
     (&["--version"], "rowmatch 0.1.0\n", false),
     (&["trace"], NO_PATTERN, true),
     (&["whole", "--table", "p int"], NO_CLAUSE, true),
@@ -151,6 +171,7 @@ const LINES: [(&[&str], &str, bool); 5] = [
         true,
     ),
     (&["source", "--table=t", "--clause=c"], NO_ADDRESS, true),
+    (&["check", "--table=t", "--table=t"], TABLE_TWICE, true),
 ];
 
 #[test]
@@ -169,13 +190,14 @@ fn help_told(rt: &impl Abort, alloc: Global, cases: &[(&[&str], &str, &str)]) ->
     Ok(())
 }
 
-const HELPS: [(&[&str], &str, &str); 6] = [
+const HELPS: [(&[&str], &str, &str); 7] = [
     (&["--help"], HELP, help::EXAMPLES),
     (&["trace", "--help"], HELP_OF_TRACE, help::TRACE),
     (&["help", "trace"], HELP_OF_TRACE, help::TRACE),
     (&["whole", "--help"], HELP_OF_WHOLE, help::WHOLE),
     (&["node", "--help"], HELP_OF_NODE, help::NODE),
     (&["source", "--help"], HELP_OF_SOURCE, help::SOURCE),
+    (&["check", "--help"], HELP_OF_CHECK, help::CHECK),
 ];
 
 #[test]
