@@ -4,21 +4,22 @@
 mod check;
 mod fault;
 mod node;
+mod progress;
+mod shown;
 mod source;
 mod state;
 mod texts;
+mod whole;
 
 use crate::check::{Verdict, run_check};
 use crate::fault::ProgramFault;
 use crate::node::run_node;
 use crate::source::run_source;
 use crate::texts::with_texts;
-use rp_check::compile;
+use crate::whole::run_answer;
 use rp_command::{Job, not_utf8, read_command};
 use rp_io::{Port, READS};
-use rp_syntax::read_table;
 use rp_trace::{run_trace, trace_pattern};
-use rp_whole::{Unwatched, run_whole};
 use std::process::ExitCode;
 use std::rt::Env;
 use std::{env, io};
@@ -60,11 +61,11 @@ fn run(rt: &HostRuntime) -> Result<Verdict, ProgramFault> {
     run_job(rt, &job)
 }
 
-/// Does the job. Only `check` has a verdict.
+/// Does the job. Only `check`, and `whole` as CSV, have a verdict.
 fn run_job(rt: &HostRuntime, job: &Job) -> Result<Verdict, ProgramFault> {
     match job {
         Job::Trace { pattern } => trace(rt, pattern.as_str())?,
-        Job::Whole { table, clause } => whole(rt, table.as_str(), clause.as_str())?,
+        Job::Whole(job) => return run_answer(rt, job),
         Job::Node(job) => run_node(rt, job)?,
         Job::Source(job) => run_source(rt, job)?,
         Job::Check(job) => return run_check(rt, job),
@@ -77,22 +78,6 @@ fn trace(rt: &HostRuntime, pattern: &str) -> Result<(), ProgramFault> {
     let mut reader = Port::new(rt.stdin());
     let mut writer = Port::new(rt.stdout());
     run_trace(rt.alloc(), &mut reader, &mut writer, &pattern, READS)?;
-    Ok(())
-}
-
-fn whole(rt: &HostRuntime, table: &str, clause: &str) -> Result<(), ProgramFault> {
-    let table = read_table(rt.alloc(), table)?;
-    let query = compile(rt.alloc(), clause, &table)?;
-    let mut reader = Port::new(rt.stdin());
-    let mut writer = Port::new(rt.stdout());
-    run_whole(
-        rt.alloc(),
-        query,
-        &mut reader,
-        &mut writer,
-        &mut Unwatched,
-        READS,
-    )?;
     Ok(())
 }
 

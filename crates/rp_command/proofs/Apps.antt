@@ -60,6 +60,14 @@ pub whole_clause : (m : ArgMatches) → MeetsRules whole_app m → HasValue (cod
 unfolding whole_app
 whole_clause m h = (h 1 (by_place (codes "clause")) (omega arith)).0 refl
 
+pub whole_format : (m : ArgMatches) → MeetsRules whole_app m → HasValue (codes "format") m
+unfolding whole_app
+whole_format m h = (h 2 (by_place (codes "format")) (omega arith)).0 refl
+
+pub whole_progress : (m : ArgMatches) → MeetsRules whole_app m → Passes false parser.Bool (codes "progress") m
+unfolding whole_app
+whole_progress m h = (h 3 (by_place (codes "progress")) (omega arith)).1 _ refl
+
 -- ---- node
 
 node_is_simple : is_simple node_app ≡ true

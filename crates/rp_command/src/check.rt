@@ -1,9 +1,9 @@
 //! The command `check`.
-ghost use Rattle.std.specs.Prelude.{◌≡◌, true, IfOk, codes, map, string_bytes};
-ghost use Rattle.clap.specs.Words.{IsAmong, app_of, kind_of, found_of, rows_of};
+ghost use Rattle.std.specs.Prelude.{◌≡◌, IfOk, codes, map, string_bytes};
+ghost use Rattle.clap.specs.Words.{app_of, found_of, rows_of};
 ghost use Rattle.clap.specs.declared.error.Error.{Error};
-ghost use Rattle.rp_command.specs.Commands.{are_taken, check_app, faults_by};
-ghost use Rattle.rp_command.specs.Jobs.{HasCheck, IsFaultless, IsRead, name_of};
+ghost use Rattle.rp_command.specs.Commands.{check_app, faults_by};
+ghost use Rattle.rp_command.specs.Jobs.{AreUnderstood, HasCheck, IsFaultBy, IsFaultless, IsRead, name_of};
 
 use crate::arguments::{CLAUSE, TABLE, matched, text_if_any, text_option_if_any};
 use crate::help;
@@ -17,9 +17,9 @@ pub(crate) fn read_check(alloc: Global, words: &[String]) -> Result<Job, JobFaul
     ensures value { IfOk result (IsRead (map string_bytes words.now)) }
     ensures taken { IfOk result (IsFaultless (map string_bytes words.now)) }
     ensures cause { (error : Error) → result ≡ Err (JobFault.Line error) →
-        IsAmong (kind_of error) (faults_by check_app (map string_bytes words.now)) }
+        IsFaultBy check_app (map string_bytes words.now) error }
     ensures line { (error : Error) → result ≡ Err (JobFault.Line error) →
-        are_taken check_app (map string_bytes words.now) ≡ true → ⊥ }
+        AreUnderstood check_app (map string_bytes words.now) → ⊥ }
 {
     let command = check_command(alloc)?;
     let matches = matched(command, words)?;

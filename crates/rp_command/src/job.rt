@@ -9,13 +9,35 @@ pub enum Job {
     /// Matches lines of letters against the pattern.
     Trace { pattern: String },
     /// Answers a clause over the rows of a CSV input.
-    Whole { table: String, clause: String },
+    Whole(WholeJob),
     /// Takes rows over connections, and gives the items of their answers.
     Node(NodeJob),
     /// Hands the rows of a CSV input to nodes.
     Source(SourceJob),
     /// Tells what is wrong with a table, a clause or a CSV input.
     Check(CheckJob),
+}
+
+/// An answer over the rows of a CSV input.
+#[derive(Drop)]
+pub struct WholeJob {
+    /// The text of the table.
+    pub table: String,
+    /// The text of the clause.
+    pub clause: String,
+    /// How the answer is printed.
+    pub format: Format,
+    /// Whether standard error tells, every few seconds, how far it is.
+    pub progress: bool,
+}
+
+/// How an answer is printed.
+#[derive(Clone, Copy, PartialEq, Eq)]
+pub enum Format {
+    /// `lines`: a line of JSON for each item.
+    Lines,
+    /// `csv`: a header of the output columns, and a record of CSV for each row.
+    Csv,
 }
 
 /// A node that is served at an address.

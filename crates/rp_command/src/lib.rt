@@ -1,7 +1,7 @@
 //! The command line of rowmatch: which job the words name, with its values.
 //!
 //!     trace PATTERN
-//!     whole --table TEXT --clause TEXT
+//!     whole --table TEXT --clause TEXT [--format FORMAT] [--progress]
 //!     node --table TEXT --clause TEXT --listen ADDR --state FILE --connections N [--idle SECONDS] [--verbose]
 //!     source --table TEXT --clause TEXT [--budget N] ADDR..
 //!     check [--table TEXT] [--clause TEXT]
@@ -21,4 +21,4 @@ mod trace;
 mod whole;
 
 pub use command::{not_utf8, read_command};
-pub use job::{CheckJob, Job, JobFault, NodeJob, SourceJob};
+pub use job::{CheckJob, Format, Job, JobFault, NodeJob, SourceJob, WholeJob};

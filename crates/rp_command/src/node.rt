@@ -1,9 +1,9 @@
 //! The command `node`.
 ghost use Rattle.std.specs.Prelude.{◌≡◌, false, true, IfOk, codes, map, string_bytes};
-ghost use Rattle.clap.specs.Words.{IsAmong, app_of, kind_of, found_of, rows_of, rule_of};
+ghost use Rattle.clap.specs.Words.{app_of, found_of, rows_of, rule_of};
 ghost use Rattle.clap.specs.declared.error.Error.{Error};
-ghost use Rattle.rp_command.specs.Commands.{are_taken, by_number, faults_by, node_app};
-ghost use Rattle.rp_command.specs.Jobs.{HasNode, IsFaultless, IsRead, name_of};
+ghost use Rattle.rp_command.specs.Commands.{by_number, node_app};
+ghost use Rattle.rp_command.specs.Jobs.{AreUnderstood, HasNode, IsFaultBy, IsFaultless, IsRead, name_of};
 ghost use Rattle.rp_command.specs.Values.{MeetsRules};
 
 use crate::arguments::{
@@ -20,9 +20,9 @@ pub(crate) fn read_node(alloc: Global, words: &[String]) -> Result<Job, JobFault
     ensures value { IfOk result (IsRead (map string_bytes words.now)) }
     ensures taken { IfOk result (IsFaultless (map string_bytes words.now)) }
     ensures cause { (error : Error) → result ≡ Err (JobFault.Line error) →
-        IsAmong (kind_of error) (faults_by node_app (map string_bytes words.now)) }
+        IsFaultBy node_app (map string_bytes words.now) error }
     ensures line { (error : Error) → result ≡ Err (JobFault.Line error) →
-        are_taken node_app (map string_bytes words.now) ≡ true → ⊥ }
+        AreUnderstood node_app (map string_bytes words.now) → ⊥ }
 {
     let command = node_command(alloc)?;
     let matches = matched(command, words)?;

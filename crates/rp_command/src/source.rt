@@ -1,9 +1,9 @@
 //! The command `source`.
 ghost use Rattle.std.specs.Prelude.{◌≡◌, ◌∷◌, [], false, true, IfOk, codes, map, string_bytes};
-ghost use Rattle.clap.specs.Words.{IsAmong, app_of, kind_of, found_of, rows_of, rule_of};
+ghost use Rattle.clap.specs.Words.{app_of, found_of, rows_of, rule_of};
 ghost use Rattle.clap.specs.declared.error.Error.{Error};
-ghost use Rattle.rp_command.specs.Commands.{are_taken, by_number, by_places, faults_by, source_app};
-ghost use Rattle.rp_command.specs.Jobs.{HasSource, IsFaultless, IsRead, name_of};
+ghost use Rattle.rp_command.specs.Commands.{by_number, by_places, source_app};
+ghost use Rattle.rp_command.specs.Jobs.{AreUnderstood, HasSource, IsFaultBy, IsFaultless, IsRead, name_of};
 ghost use Rattle.rp_command.specs.Values.{MeetsRules};
 
 use crate::arguments::{count_of, matched, number_option, text_of, texts_of, with_clause};
@@ -18,9 +18,9 @@ pub(crate) fn read_source(alloc: Global, words: &[String]) -> Result<Job, JobFau
     ensures value { IfOk result (IsRead (map string_bytes words.now)) }
     ensures taken { IfOk result (IsFaultless (map string_bytes words.now)) }
     ensures cause { (error : Error) → result ≡ Err (JobFault.Line error) →
-        IsAmong (kind_of error) (faults_by source_app (map string_bytes words.now)) }
+        IsFaultBy source_app (map string_bytes words.now) error }
     ensures line { (error : Error) → result ≡ Err (JobFault.Line error) →
-        are_taken source_app (map string_bytes words.now) ≡ true → ⊥ }
+        AreUnderstood source_app (map string_bytes words.now) → ⊥ }
 {
     let command = source_command(alloc)?;
     let matches = matched(command, words)?;

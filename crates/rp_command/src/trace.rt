@@ -1,9 +1,9 @@
 //! The command `trace`.
-ghost use Rattle.std.specs.Prelude.{◌≡◌, true, IfOk, codes, map, string_bytes};
-ghost use Rattle.clap.specs.Words.{IsAmong, app_of, kind_of};
+ghost use Rattle.std.specs.Prelude.{◌≡◌, IfOk, codes, map, string_bytes};
+ghost use Rattle.clap.specs.Words.{app_of};
 ghost use Rattle.clap.specs.declared.error.Error.{Error};
-ghost use Rattle.rp_command.specs.Commands.{are_taken, faults_by, trace_app};
-ghost use Rattle.rp_command.specs.Jobs.{IsFaultless, IsRead, name_of};
+ghost use Rattle.rp_command.specs.Commands.{trace_app};
+ghost use Rattle.rp_command.specs.Jobs.{AreUnderstood, IsFaultBy, IsFaultless, IsRead, name_of};
 
 use crate::arguments::{matched, text_of};
 use crate::help;
@@ -17,9 +17,9 @@ pub(crate) fn read_trace(alloc: Global, words: &[String]) -> Result<Job, JobFaul
     ensures value { IfOk result (IsRead (map string_bytes words.now)) }
     ensures taken { IfOk result (IsFaultless (map string_bytes words.now)) }
     ensures cause { (error : Error) → result ≡ Err (JobFault.Line error) →
-        IsAmong (kind_of error) (faults_by trace_app (map string_bytes words.now)) }
+        IsFaultBy trace_app (map string_bytes words.now) error }
     ensures line { (error : Error) → result ≡ Err (JobFault.Line error) →
-        are_taken trace_app (map string_bytes words.now) ≡ true → ⊥ }
+        AreUnderstood trace_app (map string_bytes words.now) → ⊥ }
 {
     let command = trace_command(alloc)?;
     let matches = matched(command, words)?;

@@ -1,6 +1,6 @@
 //! Jobs with the values that are read.
 use crate::support::words_of;
-use rp_command::{Job, JobFault, read_command};
+use rp_command::{Format, Job, JobFault, read_command};
 use std::alloc::AllocError;
 use std::test::Fail;
 
@@ -25,10 +25,55 @@ fn whole_command(rt: HostRuntime) -> Result<(), Fail> {
     )?;
     let job = read_command(rt.alloc(), words.as_slice());
     match &job {
-        Ok(Job::Whole { table, clause }) => {
-            assert_eq!(rt; table.as_str(), "p int");
-            assert_eq!(rt; clause.as_str(), "a clause");
+        Ok(Job::Whole(whole)) => {
+            assert_eq!(rt; whole.table.as_str(), "p int");
+            assert_eq!(rt; whole.clause.as_str(), "a clause");
+            assert!(rt; whole.format == Format::Lines);
+            assert!(rt; !whole.progress);
         }
+        Err(JobFault::OutOfMemory) => return Err(Fail::from(AllocError)),
+        _ => assert!(rt; false),
+    }
+    Ok(())
+}
+
+/// An answer as CSV, whose way is told.
+#[test]
+fn whole_command_told_all(rt: HostRuntime) -> Result<(), Fail> {
+    let words = words_of(
+        rt.alloc(),
+        &[
+            "whole",
+            "--progress",
+            "--format=csv",
+            "--clause=a clause",
+            "--table=p int",
+        ],
+    )?;
+    let job = read_command(rt.alloc(), words.as_slice());
+    match &job {
+        Ok(Job::Whole(whole)) => {
+            assert_eq!(rt; whole.table.as_str(), "p int");
+            assert_eq!(rt; whole.clause.as_str(), "a clause");
+            assert!(rt; whole.format == Format::Csv);
+            assert!(rt; whole.progress);
+        }
+        Err(JobFault::OutOfMemory) => return Err(Fail::from(AllocError)),
+        _ => assert!(rt; false),
+    }
+    Ok(())
+}
+
+/// The format of the answer is said by its word, in lower case.
+#[test]
+fn whole_command_as_lines(rt: HostRuntime) -> Result<(), Fail> {
+    let words = words_of(
+        rt.alloc(),
+        &["whole", "--format", "lines", "--clause=c", "--table=p int"],
+    )?;
+    let job = read_command(rt.alloc(), words.as_slice());
+    match &job {
+        Ok(Job::Whole(whole)) => assert!(rt; whole.format == Format::Lines),
         Err(JobFault::OutOfMemory) => return Err(Fail::from(AllocError)),
         _ => assert!(rt; false),
     }

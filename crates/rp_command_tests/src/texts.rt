@@ -50,12 +50,23 @@ Options:
 const HELP_OF_WHOLE: &str = "\
 Prints the answer of a clause over a CSV file, partition by partition
 
-Usage: rowmatch whole --table <TEXT> --clause <TEXT>
+Usage: rowmatch whole [OPTIONS] --table <TEXT> --clause <TEXT>
 
 Options:
-      --table <TEXT>   The columns with their kinds, as \"sym text, t int, p int\"
-      --clause <TEXT>  The clause, as \"PATTERN (A B+) DEFINE B AS p < PREV(p)\"
-  -h, --help           Print help
+      --table <TEXT>     The columns with their kinds, as \"sym text, t int, p int\"
+      --clause <TEXT>    The clause, as \"PATTERN (A B+) DEFINE B AS p < PREV(p)\"
+      --format <FORMAT>  How the answer is printed: lines (of JSON) or csv [default: lines]
+      --progress         Tells every few seconds on standard error how far it is
+  -h, --help             Print help
+";
+
+const NO_SUCH_FORMAT: &str = "\
+error: invalid value 'CSV' for '--format <FORMAT>'
+  [possible values: lines, csv]
+
+Usage: rowmatch whole [OPTIONS] --table <TEXT> --clause <TEXT>
+
+For more information, try '--help'.
 ";
 
 const HELP_OF_NODE: &str = "\
@@ -155,10 +166,15 @@ fn lines_told(rt: &impl Abort, alloc: Global, cases: &[(&[&str], &str, bool)]) -
 }
 
 /// The version is told on standard output, a mistake on standard error.
-const LINES: [(&[&str], &str, bool); 6] = [
+const LINES: [(&[&str], &str, bool); 7] = [
     (&["--version"], "rowmatch 0.1.0\n", false),
     (&["trace"], NO_PATTERN, true),
     (&["whole", "--table", "p int"], NO_CLAUSE, true),
+    (
+        &["whole", "--table=t", "--clause=c", "--format=CSV"],
+        NO_SUCH_FORMAT,
+        true,
+    ),
     (
         &[
             "node",

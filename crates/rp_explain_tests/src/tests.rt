@@ -1,5 +1,6 @@
 //! What is told of texts that people write and no program reads. Places and words were written by hand.
 mod clauses;
+mod conditions;
 mod inputs;
 mod queries;
 mod tables;

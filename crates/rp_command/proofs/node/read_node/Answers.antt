@@ -1,4 +1,4 @@
-use Rattle.std.proofs.Common.{rules}
+use Rattle.std.proofs.Common.{inl, rules}
 use Rattle.rp_command.proofs.Apps.{node_meets, node_ruled, node_simple}
 use Rattle.rp_command.proofs.node.read_node.Goals as goal
 
@@ -9,7 +9,7 @@ pub node_job-requires : goal.node_job-requires
 node_job-requires c = node_meets _ _ c.in_ok-command.ensures c.in_ok-matches.ensures.parsed
 
 pub returns-in_err-matches-clause-cause : goal.returns-in_err-matches-clause-cause
-returns-in_err-matches-clause-cause c = λ error is. rw c.in_ok-command.ensures at c.in_err-matches.ensures.cause node_ruled error (search rules)
+returns-in_err-matches-clause-cause c = λ error is. inl (rw c.in_ok-command.ensures at c.in_err-matches.ensures.cause node_ruled error (search rules))
 
 pub returns-clause-taken : goal.returns-clause-taken
 returns-clause-taken c = rw c.in_ok-command.ensures at c.in_ok-matches.ensures.faultless node_ruled

@@ -1,4 +1,4 @@
-use Rattle.std.proofs.Common.{rules}
+use Rattle.std.proofs.Common.{inl, rules}
 use Rattle.rp_command.proofs.Apps.{trace_meets, trace_ruled, trace_simple, trace_pattern}
 use Rattle.rp_command.proofs.trace.read_trace.Goals as goal
 
@@ -9,7 +9,7 @@ pub text_of-requires : goal.text_of-requires
 text_of-requires c = trace_pattern _ (trace_meets _ _ c.in_ok-command.ensures c.in_ok-matches.ensures.parsed)
 
 pub returns-in_err-matches-clause-cause : goal.returns-in_err-matches-clause-cause
-returns-in_err-matches-clause-cause c = λ error is. rw c.in_ok-command.ensures at c.in_err-matches.ensures.cause trace_ruled error (search rules)
+returns-in_err-matches-clause-cause c = λ error is. inl (rw c.in_ok-command.ensures at c.in_err-matches.ensures.cause trace_ruled error (search rules))
 
 pub returns-clause-taken : goal.returns-clause-taken
 returns-clause-taken c = rw c.in_ok-command.ensures at c.in_ok-matches.ensures.faultless trace_ruled
