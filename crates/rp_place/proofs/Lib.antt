@@ -1,0 +1,7 @@
+mod Aligned
+mod Cuts
+mod Extending
+mod Feeds
+mod Rows
+mod Seams
+mod Widths

@@ -1,0 +1,103 @@
+//! Where something stands in a text.
+use rp_place::{Place, Span, law_lines, law_marks, line_number, shown_character};
+use std::process::Abort;
+
+/// Whether each text ends in this line.
+fn all_in_line(rt: &impl Abort, cases: &[(&str, usize)]) {
+    for (text, line) in cases {
+        assert!(rt; line_number(text.as_bytes()) == *line, "{text}");
+    }
+}
+
+#[test]
+fn numbers_of_lines(rt: HostRuntime) {
+    all_in_line(
+        &rt,
+        &[("", 1), ("a", 1), ("a\n", 2), ("a\r\nb", 2), ("\n\n\n", 4)],
+    );
+}
+
+/// A text, a part of it, and what the place has: its line, its column, and the three pieces.
+type PlaceCase = (&'static str, Span, usize, usize, [&'static str; 3]);
+
+const PLACES: [PlaceCase; 6] = [
+    (
+        "ab\ncd ef gh\r\nij",
+        Span { start: 6, end: 8 },
+        2,
+        4,
+        ["cd ", "ef", " gh"],
+    ),
+    (
+        "ab\ncd ef gh\r\nij",
+        Span { start: 6, end: 14 },
+        2,
+        4,
+        ["cd ", "ef gh", ""],
+    ),
+    (
+        "ab\ncd ef gh\r\nij",
+        Span { start: 11, end: 12 },
+        2,
+        9,
+        ["cd ef gh", "", ""],
+    ),
+    ("ab\ncd", Span { start: 2, end: 3 }, 1, 3, ["ab", "", ""]),
+    ("aéb", Span { start: 2, end: 3 }, 1, 2, ["a", "é", "b"]),
+    (
+        "aéb",
+        Span {
+            start: usize::MAX,
+            end: usize::MAX,
+        },
+        1,
+        4,
+        ["aéb", "", ""],
+    ),
+];
+
+/// Whether each part's place is this.
+fn all_placed(rt: &impl Abort, cases: &[PlaceCase]) {
+    for (text, span, line, column, pieces) in cases {
+        let place = Place::of(text, *span);
+        assert!(rt; place.line == *line, "{text} {span:?}");
+        assert!(rt; place.column() == *column, "{text} {span:?}");
+        assert!(rt;
+            [place.front, place.part, place.behind] == *pieces,
+            "{text} {span:?}"
+        );
+    }
+}
+
+#[test]
+fn places(rt: HostRuntime) {
+    all_placed(&rt, &PLACES);
+    law_marks();
+    law_lines();
+}
+
+/// Whether each character is shown as this.
+fn all_shown(rt: &impl Abort, cases: &[(char, char)]) {
+    for (character, shown) in cases {
+        assert!(rt; shown_character(*character) == *shown, "{shown}");
+    }
+}
+
+#[test]
+fn characters(rt: HostRuntime) {
+    all_shown(
+        &rt,
+        &[
+            ('a', 'a'),
+            (' ', ' '),
+            ('\t', ' '),
+            ('\n', '?'),
+            ('\u{1f}', '?'),
+            ('~', '~'),
+            ('\u{7f}', '?'),
+            ('\u{9f}', '?'),
+            ('\u{a0}', '\u{a0}'),
+            ('値', '値'),
+        ],
+    );
+}
