@@ -1,6 +1,6 @@
 //! What is told of a place, and the tables of words that it is taken from.
 
-use crate::place::{Place, draw, push_help};
+use rp_place::{Place, draw, push_help};
 use std::alloc::{AllocError, Global};
 
 /// What is told of a place.

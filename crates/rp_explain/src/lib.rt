@@ -30,7 +30,6 @@ mod meaning;
 mod names;
 mod parts;
 mod pattern_hints;
-mod place;
 mod precedes;
 mod proposed;
 mod reading;

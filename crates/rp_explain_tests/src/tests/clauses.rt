@@ -449,3 +449,22 @@ fn measures(rt: HostRuntime) -> Result<(), Fail> {
 fn patterns(rt: HostRuntime) -> Result<(), Fail> {
     check_clauses(&rt, rt.alloc(), &PATTERNS)
 }
+
+/// A clause in which a text of two wide characters stands before the place, which is the 40th character and the 42nd column.
+const BEHIND_WIDE_CHARACTERS: &str = "PATTERN (A) DEFINE A AS sym = '名前' AND prise > 1";
+
+const TOLD_BEHIND_WIDE_CHARACTERS: &str = "\
+clause: UnknownColumn at byte 43
+  clause, line 1, column 40
+   1 | PATTERN (A) DEFINE A AS sym = '名前' AND prise > 1
+     |                                          ^^^^^ the table has no column prise
+  help: write price
+  help: the columns are sym, t, p, price
+";
+
+#[test]
+fn wide_characters(rt: HostRuntime) -> Result<(), Fail> {
+    let told = told_of(rt.alloc(), BEHIND_WIDE_CHARACTERS)?;
+    assert_eq!(rt; told.as_str(), TOLD_BEHIND_WIDE_CHARACTERS);
+    Ok(())
+}
