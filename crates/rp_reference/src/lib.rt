@@ -3,9 +3,11 @@
 #![tactic(auto)]
 
 mod dice;
+mod fault;
 mod plain;
 mod text;
 
 pub use dice::Dice;
+pub use fault::PlainFault;
 pub use plain::known_items;
 pub use text::{item_text, write_cell};

@@ -4,6 +4,7 @@
 ghost use Rattle.std.specs.Prelude.{◌≡◌, ◌+◌, ◌<◌, ◌≤◌, length, IfOk, OnOk};
 ghost use Rattle.rp_eval.specs.Entered.{AreTotals};
 
+use crate::fault::PlainFault;
 use crate::text::row_text;
 use rp_eval::{AllRows, Cell, Rows, Totals, View, condition, measure};
 use rp_pattern::list_words;
@@ -11,13 +12,16 @@ use rp_query::{Query, RowsPerMatch, SkipTo, Variables};
 use rp_value::Value;
 use rp_words::{End, Label, Mark, Seen, Word};
 use std::alloc::Global;
-use std::test::Fail;
 
 /// More words than a pattern of the tests has over their rows.
 const MANY_WORDS: usize = 100_000;
 
 /// The items that are known, each as text.
-pub fn known_items(alloc: Global, query: &Query, rows: &AllRows) -> Result<Vec<String>, Fail> {
+pub fn known_items(
+    alloc: Global,
+    query: &Query,
+    rows: &AllRows,
+) -> Result<Vec<String>, PlainFault> {
     let plain = Plain { alloc, query, rows };
     let mut given = Given {
         items: Vec::new(alloc),
@@ -70,7 +74,7 @@ struct Plain<'a> {
 
 impl<'a> Plain<'a> {
     /// Gives the items of the search at a row. It answers the next start row, or none where the answer ends or waits.
-    fn search_from(&self, start: u64, given: &mut Given) -> Result<Option<u64>, Fail>
+    fn search_from(&self, start: u64, given: &mut Given) -> Result<Option<u64>, PlainFault>
         requires from_one { 1 ≤ start }
         requires known { start ≤ length self.now.rows.now.rows.items }
     {
@@ -82,13 +86,13 @@ impl<'a> Plain<'a> {
     }
 
     /// The first word that isn't refused.
-    fn found(&self, start: u64) -> Result<Found, Fail>
+    fn found(&self, start: u64) -> Result<Found, PlainFault>
         requires from_one { 1 ≤ start }
         requires known { start ≤ length self.now.rows.now.rows.items }
     {
         let last = self.rows.last();
         if last > 1_000 {
-            return Err(Fail::from("few rows"));
+            return Err(PlainFault::TooMany);
         }
         let end = self.rows.end();
         let pattern = self.query.pattern();
@@ -103,7 +107,7 @@ impl<'a> Plain<'a> {
     }
 
     /// Whether a word is admitted. The first condition that isn't true decides, and the mark where there is none.
-    fn seen(&self, start: u64, word: &Word) -> Result<Seen, Fail>
+    fn seen(&self, start: u64, word: &Word) -> Result<Seen, PlainFault>
         requires from_one { 1 ≤ start }
         requires known { start ≤ length self.now.rows.now.rows.items }
     {
@@ -122,14 +126,14 @@ impl<'a> Plain<'a> {
     }
 
     /// The totals of labels, entered one by one.
-    fn totals(&self, start: u64, labels: &[Label]) -> Result<Totals, Fail>
+    fn totals(&self, start: u64, labels: &[Label]) -> Result<Totals, PlainFault>
         requires from_one { 1 ≤ start }
         requires known { start ≤ length self.now.rows.now.rows.items }
         ensures on_rows { OnOk result (start + length labels.now ≤ length self.now.rows.now.rows.items + 1) }
         ensures totals { IfOk result (λ totals. AreTotals totals self.now.rows.now.rows.items start labels.now) }
     {
         if labels.len() as u64 > self.rows.last() - start + 1 {
-            return Err(Fail::from("labels on known rows"));
+            return Err(PlainFault::TooMany);
         }
         let mut totals = Totals::new(self.alloc, self.query)?;
         for depth in 0..labels.len() {
@@ -163,7 +167,7 @@ impl<'a> Plain<'a> {
     }
 
     /// A row without a match is given where the clause asks for it and no earlier match has it.
-    fn give_unmatched(&self, start: u64, given: &mut Given) -> Result<Option<u64>, Fail>
+    fn give_unmatched(&self, start: u64, given: &mut Given) -> Result<Option<u64>, PlainFault>
         requires known { start ≤ length self.now.rows.now.rows.items }
     {
         let plan = self.query.plan();
@@ -183,7 +187,7 @@ impl<'a> Plain<'a> {
         start: u64,
         labels: &[Label],
         given: &mut Given,
-    ) -> Result<Option<u64>, Fail>
+    ) -> Result<Option<u64>, PlainFault>
         requires from_one { 1 ≤ start }
         requires known { start ≤ length self.now.rows.now.rows.items }
     {
@@ -214,7 +218,7 @@ impl<'a> Plain<'a> {
         totals: &Totals,
         current: u64,
         number: u64,
-    ) -> Result<Option<Vec<Value>>, Fail>
+    ) -> Result<Option<Vec<Value>>, PlainFault>
         requires from_one { 1 ≤ start }
         requires on_rows { start + length labels.now ≤ length self.now.rows.now.rows.items + 1 }
         requires current { start ≤ current }
@@ -239,7 +243,12 @@ impl<'a> Plain<'a> {
     }
 
     /// Where the next search starts, after a match with a row.
-    fn skip(&self, start: u64, labels: &[Label], given: &mut Given) -> Result<Option<u64>, Fail> {
+    fn skip(
+        &self,
+        start: u64,
+        labels: &[Label],
+        given: &mut Given,
+    ) -> Result<Option<u64>, PlainFault> {
         let place = match &self.query.plan().skip {
             SkipTo::NextRow => Some(1),
             SkipTo::PastLastRow => Some(labels.len()),
@@ -254,7 +263,7 @@ impl<'a> Plain<'a> {
         Ok(None)
     }
 
-    fn give_word(&self, word: &str, given: &mut Given) -> Result<(), Fail> {
+    fn give_word(&self, word: &str, given: &mut Given) -> Result<(), PlainFault> {
         given.count = given.count.saturating_add(1);
         let text = format!(in self.alloc; "({}, {word})", given.count)?;
         given.items.push(text)?;
@@ -268,7 +277,7 @@ impl<'a> Plain<'a> {
         number: Option<u64>,
         measures: Vec<Value>,
         given: &mut Given,
-    ) -> Result<(), Fail> {
+    ) -> Result<(), PlainFault> {
         let mut cells = Vec::new(self.alloc);
         self.add_cells(&mut cells, row, true)?;
         for value in measures {
@@ -285,7 +294,7 @@ impl<'a> Plain<'a> {
 
     /// The cells of a row in the columns that are keys, or in those that are none. In the tests' clauses keys stand in the
     /// order of the table's columns.
-    fn add_cells(&self, cells: &mut Vec<Value>, row: u64, keys: bool) -> Result<(), Fail> {
+    fn add_cells(&self, cells: &mut Vec<Value>, row: u64, keys: bool) -> Result<(), PlainFault> {
         for column in 1..4 {
             if self.is_key(column) == keys {
                 cells.push(self.cell(row, column)?)?;
@@ -294,12 +303,12 @@ impl<'a> Plain<'a> {
         Ok(())
     }
 
-    fn cell(&self, row: u64, column: usize) -> Result<Value, Fail> {
+    fn cell(&self, row: u64, column: usize) -> Result<Value, PlainFault> {
         let Some(cells) = self.rows.row(row) else {
-            return Err(Fail::from("a known row"));
+            return Err(PlainFault::NoColumn);
         };
         match cells.cell(column) {
-            None => Err(Fail::from("a column of the table")),
+            None => Err(PlainFault::NoColumn),
             Some(value) => Ok(value.share()?),
         }
     }
@@ -335,7 +344,11 @@ fn is_excluded(labels: &[Label], place: usize) -> bool {
 }
 
 /// The places of the rows of these variables.
-fn places(alloc: Global, variables: &Variables, labels: &[Label]) -> Result<Vec<usize>, Fail> {
+fn places(
+    alloc: Global,
+    variables: &Variables,
+    labels: &[Label],
+) -> Result<Vec<usize>, PlainFault> {
     let mut places = Vec::new(alloc);
     for (place, label) in labels.iter().enumerate() {
         if variables.includes(label.var) {
