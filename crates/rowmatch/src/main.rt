@@ -89,6 +89,3 @@ fn unread(rt: &HostRuntime, error: &io::Error) -> ProgramFault {
         ProgramFault::OutOfMemory
     }
 }
-
-#[cfg(test)]
-mod tests;
