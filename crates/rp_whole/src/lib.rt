@@ -17,11 +17,13 @@ mod lines;
 mod part;
 mod parts;
 mod records;
+mod shown;
 mod stopped;
 mod watch;
 mod whole;
 
 pub use fault::WholeFault;
+pub use shown::shown_number;
 pub use stopped::Stopped;
 pub use watch::{Unwatched, Watch};
 pub use whole::{run_whole, run_whole_csv};

@@ -1,4 +1,5 @@
-//! Rows of CSV texts, and the packets of rows, worked out by hand.
+//! Rows of an input whose reads fail or are too few, and calls with refused memory. Rows of texts, their order and the faults of
+//! texts are in cases/inputs.cases.
 use rp_check::compile;
 use rp_feed::Packet;
 use rp_input::{CsvFault, number_rows, order_rows, partitions, read_rows, rows_of};
@@ -6,7 +7,6 @@ use rp_io::MemoryInput;
 use rp_query::Query;
 use rp_value::{Cells, Kind, Row, Table, Value};
 use std::alloc::{AllocError, Global};
-use std::process::Abort;
 use std::test::Fail;
 
 /// `sym text, t int, p int`.
@@ -77,24 +77,10 @@ fn show_packets(alloc: Global, packets: &[Packet]) -> Result<String, AllocError>
     Ok(shown)
 }
 
-/// The rows of a text, shown.
-fn read(alloc: Global, text: &[u8]) -> Result<String, Fail> {
-    let table = ticks(alloc)?;
-    let rows = rows_of(alloc, text, &table)?;
-    Ok(show_rows(alloc, rows.as_slice())?)
-}
-
 /// The packets of a text's rows.
 fn packets_of(alloc: Global, query: &Query, text: &str) -> Result<Vec<Packet>, CsvFault> {
     let rows = rows_of(alloc, text.as_bytes(), query.table())?;
     Ok(number_rows(alloc, query, rows)?)
-}
-
-/// The packets of a text's rows by a clause, shown.
-fn numbered(alloc: Global, clause: &str, text: &str) -> Result<String, Fail> {
-    let query = query(alloc, clause)?;
-    let packets = packets_of(alloc, &query, text)?;
-    Ok(show_packets(alloc, packets.as_slice())?)
 }
 
 /// A text of thirty rows, of which the later half comes first, and the rows as they are in order.
@@ -116,80 +102,6 @@ fn fault_of(read: Result<Vec<Row>, CsvFault>) -> Result<Option<CsvFault>, Fail> 
         Err(fault) => Ok(Some(fault)),
         Ok(_) => Ok(None),
     }
-}
-
-/// Texts, and the fault that is the first of each.
-const FIRST_FAULTS: [(&[u8], Option<CsvFault>); 17] = [
-    (b"", Some(CsvFault::Header)),
-    (b"\n\n", Some(CsvFault::Header)),
-    (b"sym,t", Some(CsvFault::Header)),
-    (b"sym,p,t\n", Some(CsvFault::Header)),
-    (b"sym,t,p,q\n", Some(CsvFault::Header)),
-    (b"s m,t,p\nx,1\n", Some(CsvFault::Header)),
-    (b"sym,t,p\n", None),
-    (b"sYm,T,_\n", Some(CsvFault::Header)),
-    (b"sym,t,p\nx,1", Some(CsvFault::Record(1))),
-    (b"sym,t,p\nx,1,2,3\n", Some(CsvFault::Record(1))),
-    (b"sym,t,p\nx,1,z\n", Some(CsvFault::Field(1))),
-    (
-        b"sym,t,p\nx,1,2\nx,1,9223372036854775808\n",
-        Some(CsvFault::Field(2)),
-    ),
-    (b"sym,t,p\nx,1,2\nx,1, 2\n", Some(CsvFault::Field(2))),
-    (b"sym,t,p\nx,z\nx,z,z\n", Some(CsvFault::Record(1))),
-    (b"sym,t,p\nx,z,1\nx\n", Some(CsvFault::Field(1))),
-    (
-        b"sym,t,p\nx,-9223372036854775808,9223372036854775807\n",
-        None,
-    ),
-    (b"sym,t,p\n\xff,1,2\n", Some(CsvFault::Field(1))),
-];
-
-/// Whether each text has this first fault, or none.
-fn all_refused(
-    rt: &impl Abort,
-    alloc: Global,
-    cases: &[(&[u8], Option<CsvFault>)],
-) -> Result<(), Fail> {
-    let table = ticks(alloc)?;
-    for (text, want) in cases {
-        assert_eq!(rt; fault_of(rows_of(alloc, text, &table))?, *want);
-    }
-    Ok(())
-}
-
-#[test]
-fn first_faults(rt: HostRuntime) -> Result<(), Fail> {
-    all_refused(&rt, rt.alloc(), &FIRST_FAULTS)
-}
-
-/// Texts, and their rows as they are shown.
-const TEXTS: [(&str, &str); 5] = [
-    ("sym,t,p\n", ""),
-    ("\u{feff}SYM,T,P\nx,1,2\n", " 'x' 1 2;"),
-    (
-        "\"sYm\",\"t\",P\r\nx,+5,-0\r\n\r\n,,\r\ny,1,2",
-        " 'x' 5 0; - - -; 'y' 1 2;",
-    ),
-    (
-        "sym,t,p\n\"a,\"\"b\"\"\n\",\"1\",\"\"\né ü,1,2\n",
-        " 'a,\"b\"\n' 1 -; 'é ü' 1 2;",
-    ),
-    ("sym,t,p\n x ,1,2\n\" \",1,007\n", " ' x ' 1 2; ' ' 1 7;"),
-];
-
-/// Whether each text has these rows.
-fn all_shown(rt: &impl Abort, alloc: Global, cases: &[(&str, &str)]) -> Result<(), Fail> {
-    for (text, want) in cases {
-        let shown = read(alloc, text.as_bytes())?;
-        assert!(rt; shown.as_str() == *want, "{shown}");
-    }
-    Ok(())
-}
-
-#[test]
-fn rows_of_texts(rt: HostRuntime) -> Result<(), Fail> {
-    all_shown(&rt, rt.alloc(), &TEXTS)
 }
 
 #[test]
@@ -238,74 +150,9 @@ fn too_few_reads(rt: HostRuntime) -> Result<(), Fail> {
     Ok(())
 }
 
-#[test]
-fn partitions_by_first_appearance(rt: HostRuntime) -> Result<(), Fail> {
-    let alloc = rt.alloc();
-    let text = "sym,t,p\nx,2,8\n,1,1\ny,1,5\nx,1,10\n,0,2\nx,3,6\n";
-    let want =
-        "1 'x' 1 10;2 'x' 2 8;3 'x' 3 6;close 3 'x';1 - 0 2;2 - 1 1;close 2 -;1 'y' 1 5;close 1 'y';";
-    assert_eq!(rt; numbered(alloc, BY_SYM, text)?.as_str(), want);
-    assert_eq!(rt; numbered(alloc, BY_SYM, "sym,t,p\n")?.as_str(), "");
-    Ok(())
-}
-
-#[test]
-fn partitions_put_in_order(rt: HostRuntime) -> Result<(), Fail> {
-    let alloc = rt.alloc();
-    let query = query(alloc, BY_SYM)?;
-    let rows = rows_of(alloc, b"sym,t,p\nx,2,8\ny,1,5\nx,1,10\n", query.table())?;
-    let mut parts = partitions(alloc, &query, rows)?;
-    let came = show_parts(alloc, parts.as_slice())?;
-    assert_eq!(rt; came.as_str(), " 'x': 'x' 2 8; 'x' 1 10; 'y': 'y' 1 5;");
-    for (_, rows) in &mut parts {
-        order_rows(&query, rows)?;
-    }
-    let ordered = show_parts(alloc, parts.as_slice())?;
-    assert_eq!(rt; ordered.as_str(), " 'x': 'x' 1 10; 'x' 2 8; 'y': 'y' 1 5;");
-    Ok(())
-}
-
-/// Orders, and the packets of five rows by them.
-const ORDERS: [(&str, &str); 4] = [
-    (
-        "",
-        "1 'x' 1 4;2 'x' - 5;3 'x' 1 6;4 'x' 0 4;5 'x' 1 4;close 5;",
-    ),
-    (
-        "ORDER BY t ",
-        "1 'x' 0 4;2 'x' 1 4;3 'x' 1 6;4 'x' 1 4;5 'x' - 5;close 5;",
-    ),
-    (
-        "ORDER BY t DESC ",
-        "1 'x' - 5;2 'x' 1 4;3 'x' 1 6;4 'x' 1 4;5 'x' 0 4;close 5;",
-    ),
-    (
-        "ORDER BY t DESC, p DESC ",
-        "1 'x' - 5;2 'x' 1 6;3 'x' 1 4;4 'x' 1 4;5 'x' 0 4;close 5;",
-    ),
-];
-
-/// Whether the rows of a text are put into each order so.
-fn all_ordered(
-    rt: &impl Abort,
-    alloc: Global,
-    text: &str,
-    cases: &[(&str, &str)],
-) -> Result<(), Fail> {
-    for (order, want) in cases {
-        let clause = format!(in alloc;
-            "{order}MEASURES LAST(p) AS q PATTERN (A) DEFINE A AS p > 0"
-        )?;
-        let packets = numbered(alloc, clause.as_str(), text)?;
-        assert!(rt; packets.as_str() == *want, "{order}: {packets}");
-    }
-    Ok(())
-}
-
-#[test]
-fn order_with_nulls_and_ties(rt: HostRuntime) -> Result<(), Fail> {
-    let text = "sym,t,p\nx,1,4\nx,,5\nx,1,6\nx,0,4\nx,1,4\n";
-    all_ordered(&rt, rt.alloc(), text, &ORDERS)
+/// A second refusal is a fault, since only one call for memory is refused in a run.
+fn refused_twice() -> Fail {
+    Fail::from("memory was refused twice")
 }
 
 // A call that is refused memory, made again, gives what it gives with ample memory.
@@ -318,7 +165,10 @@ fn refused_rows(rt: HostRuntime) -> Result<(), Fail> {
     let mut source = MemoryInput::new(text, 8, 0);
     let rows = match read_rows(alloc, &mut source, &table, 9) {
         Err(CsvFault::OutOfMemory) => {
-            read_rows(alloc, &mut MemoryInput::new(text, 8, 0), &table, 9)?
+            match read_rows(alloc, &mut MemoryInput::new(text, 8, 0), &table, 9) {
+                Ok(rows) => rows,
+                Err(_) => return Err(refused_twice()),
+            }
         }
         first => first?,
     };
@@ -329,17 +179,23 @@ fn refused_rows(rt: HostRuntime) -> Result<(), Fail> {
     Ok(())
 }
 
+/// Partitions stand by first appearance, a null key as another, and in each the rows in order, with their numbers.
 #[test]
 fn refused_packets(rt: HostRuntime) -> Result<(), Fail> {
     let alloc = rt.alloc();
-    let text = "sym,t,p\nx,2,8\ny,1,5\nx,1,10\n";
-    let want = "1 'x' 1 10;2 'x' 2 8;close 2 'x';1 'y' 1 5;close 1 'y';";
+    let text = "sym,t,p\nx,2,8\n,1,1\ny,1,5\nx,1,10\n,0,2\nx,3,6\n";
+    let want =
+        "1 'x' 1 10;2 'x' 2 8;3 'x' 3 6;close 3 'x';1 - 0 2;2 - 1 1;close 2 -;1 'y' 1 5;close 1 'y';";
     let query = query(alloc, BY_SYM)?;
     let packets = match packets_of(alloc, &query, text) {
-        Err(CsvFault::OutOfMemory) => packets_of(alloc, &query, text)?,
+        Err(CsvFault::OutOfMemory) => match packets_of(alloc, &query, text) {
+            Ok(packets) => packets,
+            Err(_) => return Err(refused_twice()),
+        },
         first => first?,
     };
     assert_eq!(rt; show_packets(alloc, packets.as_slice())?.as_str(), want);
+    assert!(rt; packets_of(alloc, &query, "sym,t,p\n")?.is_empty());
     Ok(())
 }
 
@@ -350,7 +206,12 @@ fn refused_partitions(rt: HostRuntime) -> Result<(), Fail> {
     let text = b"sym,t,p\nx,2,8\ny,1,5\nx,1,10\n";
     let rows = rows_of(alloc, text, query.table())?;
     let parts = match partitions(alloc, &query, rows) {
-        Err(AllocError) => partitions(alloc, &query, rows_of(alloc, text, query.table())?)?,
+        Err(AllocError) => {
+            match partitions(alloc, &query, rows_of(alloc, text, query.table())?) {
+                Ok(parts) => parts,
+                Err(_) => return Err(refused_twice()),
+            }
+        }
         Ok(parts) => parts,
     };
     let came = show_parts(alloc, parts.as_slice())?;
@@ -365,8 +226,8 @@ fn refused_order(rt: HostRuntime) -> Result<(), Fail> {
     let query = query(alloc, BY_SYM)?;
     let (text, want) = later_half_first(alloc)?;
     let mut rows = rows_of(alloc, text.as_str().as_bytes(), query.table())?;
-    if order_rows(&query, &mut rows).is_err() {
-        order_rows(&query, &mut rows)?;
+    if order_rows(&query, &mut rows).is_err() && order_rows(&query, &mut rows).is_err() {
+        return Err(refused_twice());
     }
     assert_eq!(rt; show_rows(alloc, rows.as_slice())?.as_str(), want.as_str());
     Ok(())

@@ -5,8 +5,4 @@
 #[cfg(test)]
 mod input;
 #[cfg(test)]
-mod records;
-#[cfg(test)]
-mod texts;
-#[cfg(test)]
 mod whole;

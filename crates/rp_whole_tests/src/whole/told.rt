@@ -1,6 +1,6 @@
-//! What the faults of `whole` are told as: the texts that the program's users are promised.
+//! Texts: of the faults of `whole` and of its input, and of numbers.
 use rp_input::CsvFault;
-use rp_whole::WholeFault;
+use rp_whole::{WholeFault, shown_number};
 use std::alloc::Global;
 use std::fmt::Display;
 use std::process::Abort;
@@ -48,4 +48,27 @@ fn texts_of_inputs(rt: HostRuntime) -> Result<(), Fail> {
 #[test]
 fn texts_of_runs(rt: HostRuntime) -> Result<(), Fail> {
     all_told(&rt, rt.alloc(), &WHOLE_TEXTS)
+}
+
+/// Numbers, and their digits in threes from the end.
+const NUMBERS: [(u64, &str); 5] = [
+    (0, "0"),
+    (999, "999"),
+    (1_000, "1,000"),
+    (1_020_300, "1,020,300"),
+    (u64::MAX, "18,446,744,073,709,551,615"),
+];
+
+/// Whether each number is shown so.
+fn all_shown(rt: &impl Abort, alloc: Global, cases: &[(u64, &str)]) -> Result<(), Fail> {
+    for (number, want) in cases {
+        let text = shown_number(alloc, *number)?;
+        assert!(rt; text.as_str() == *want, "{text}");
+    }
+    Ok(())
+}
+
+#[test]
+fn numbers_with_commas(rt: HostRuntime) -> Result<(), Fail> {
+    all_shown(&rt, rt.alloc(), &NUMBERS)
 }

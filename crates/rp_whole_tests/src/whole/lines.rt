@@ -1,0 +1,209 @@
+//! Answers as lines, over devices in memory.
+use super::{EACH, TICKS, V, query_of};
+use rp_input::CsvFault;
+use rp_io::{MemoryInput, MemoryOutput};
+use rp_value::Cells;
+use rp_whole::{Unwatched, Watch, WholeFault, run_whole};
+use std::alloc::{AllocError, Global};
+use std::test::Fail;
+
+const TICKS_ANSWERED: &str = "\
+{\"cells\":[\"x\",1,10,6,9],\"key\":[\"x\"],\"number\":1,\"place\":\"1\"}
+{\"end\":true,\"key\":[\"x\"],\"place\":\"2\"}
+{\"end\":true,\"key\":[\"y\"],\"place\":\"1\"}
+";
+
+/// Answers a clause, and says how the run ended. Want of memory ends the test.
+fn run(
+    alloc: Global,
+    clause: &str,
+    source: &mut MemoryInput,
+    sink: &mut MemoryOutput,
+    reads: u64,
+) -> Result<Option<WholeFault>, Fail> {
+    let query = query_of(alloc, clause)?;
+    match run_whole(alloc, query, source, sink, &mut Unwatched, reads) {
+        Ok(()) => Ok(None),
+        Err(WholeFault::OutOfMemory) => Err(Fail::from(WholeFault::OutOfMemory)),
+        Err(fault) => Ok(Some(fault)),
+    }
+}
+
+/// The input of 51 bytes comes in seven reads of at most eight bytes, and the end in another.
+#[test]
+fn each_read_fails(rt: HostRuntime) -> Result<(), Fail> {
+    let alloc = rt.alloc();
+    for failing in 1..9 {
+        let mut source = MemoryInput::new(TICKS.as_bytes(), 8, failing);
+        let mut sink = MemoryOutput::new(alloc, 4096, 100, 0)?;
+        let fault = run(alloc, V, &mut source, &mut sink, 1_000)?;
+        assert_eq!(rt; fault, Some(WholeFault::Csv(CsvFault::Read)));
+        assert_eq!(rt; source.calls(), failing);
+        assert!(rt; sink.bytes().is_empty());
+    }
+    for reads in 0..8 {
+        let mut source = MemoryInput::new(TICKS.as_bytes(), 8, 0);
+        let mut sink = MemoryOutput::new(alloc, 4096, 100, 0)?;
+        let fault = run(alloc, V, &mut source, &mut sink, reads)?;
+        assert_eq!(rt; fault, Some(WholeFault::Csv(CsvFault::Turns)));
+        assert_eq!(rt; source.calls(), reads);
+        assert!(rt; sink.bytes().is_empty());
+    }
+    Ok(())
+}
+
+/// The 134 bytes go in twenty writes of at most seven. One that fails leaves what those before it took.
+#[test]
+fn each_write_fails(rt: HostRuntime) -> Result<(), Fail> {
+    let alloc = rt.alloc();
+    let want = TICKS_ANSWERED.as_bytes();
+    for taken in 0..20 {
+        let mut source = MemoryInput::new(TICKS.as_bytes(), 1_000, 0);
+        let mut sink = MemoryOutput::new(alloc, 4096, 7, taken + 1)?;
+        let fault = run(alloc, V, &mut source, &mut sink, 1_000)?;
+        assert_eq!(rt; fault, Some(WholeFault::Write));
+        assert_eq!(rt; sink.bytes().len() as u64, 7 * taken);
+        assert!(rt; want.starts_with(sink.bytes()));
+    }
+    let mut source = MemoryInput::new(TICKS.as_bytes(), 1_000, 0);
+    let mut sink = MemoryOutput::new(alloc, 4096, 7, 21)?;
+    assert_eq!(rt; run(alloc, V, &mut source, &mut sink, 1_000)?, None);
+    assert!(rt; sink.bytes() == want);
+    Ok(())
+}
+
+/// Two thousand rows, and the lines of a match for each.
+fn many(alloc: Global) -> Result<(String, String), AllocError> {
+    let mut input = String::from_str(alloc, "sym,t,p\n")?;
+    let mut want = String::new(alloc);
+    for row in 1..2_001 {
+        input.push_str(format!(in alloc; "x,{row},7\n")?.as_str())?;
+        want.push_str(format!(in alloc;
+            "{{\"cells\":[\"x\",{row},7],\"key\":[],\"number\":{row},\"place\":\"{row}\"}}\n"
+        )?.as_str())?;
+    }
+    want.push_str("{\"end\":true,\"key\":[],\"place\":\"2001\"}\n")?;
+    Ok((input, want))
+}
+
+/// Some 110 KB of lines are more than a block. Where the second block can't be written, the first one stays.
+#[test]
+fn more_than_a_block(rt: HostRuntime) -> Result<(), Fail> {
+    let alloc = rt.alloc();
+    let (input, want) = many(alloc)?;
+    let want = want.as_str().as_bytes();
+    let mut source = MemoryInput::new(input.as_str().as_bytes(), 1_000_000, 0);
+    let mut sink = MemoryOutput::new(alloc, want.len(), 1_000_000, 0)?;
+    assert_eq!(rt; run(alloc, EACH, &mut source, &mut sink, 9)?, None);
+    assert!(rt; sink.bytes() == want);
+    let mut source = MemoryInput::new(input.as_str().as_bytes(), 1_000_000, 0);
+    let mut sink = MemoryOutput::new(alloc, want.len(), 1_000_000, 2)?;
+    let fault = run(alloc, EACH, &mut source, &mut sink, 9)?;
+    assert_eq!(rt; fault, Some(WholeFault::Write));
+    assert!(rt; sink.bytes().len() >= 65_536);
+    assert!(rt; want.starts_with(sink.bytes()));
+    Ok(())
+}
+
+/// Partition `a` is answered at once. In `b`, whose last part never comes, each start row has twice as many words to be
+/// refused as the row after it: far more turns in all than a poll takes.
+fn slow(alloc: Global) -> Result<String, AllocError> {
+    let mut input = String::from_str(alloc, "sym,t,p\na,1,1\na,2,0\n")?;
+    for row in 1..16 {
+        input.push_str(format!(in alloc; "b,{row},1\n")?.as_str())?;
+    }
+    Ok(input)
+}
+
+const SLOW: &str = "PARTITION BY sym MEASURES COUNT(*) AS c PATTERN ((A | B)* C) DEFINE C AS p = 0";
+
+/// What was found in `a` is written before the search in `b` is over.
+#[test]
+fn found_is_written_early(rt: HostRuntime) -> Result<(), Fail> {
+    let alloc = rt.alloc();
+    let want = "\
+{\"cells\":[\"a\",2],\"key\":[\"a\"],\"number\":1,\"place\":\"1\"}
+{\"end\":true,\"key\":[\"a\"],\"place\":\"2\"}
+";
+    let input = slow(alloc)?;
+    let mut source = MemoryInput::new(input.as_str().as_bytes(), 1_000, 0);
+    let mut sink = MemoryOutput::new(alloc, 4096, 1_000, 2)?;
+    let fault = run(alloc, SLOW, &mut source, &mut sink, 9)?;
+    assert_eq!(rt; fault, Some(WholeFault::Write));
+    assert!(rt; sink.bytes() == want.as_bytes());
+    Ok(())
+}
+
+/// Counts what it is told.
+#[derive(Drop)]
+struct Counts {
+    partitions: u64,
+    pauses: u64,
+    /// The row of the last pause.
+    row: u64,
+    /// How often a pause had other turns than 100,000, or a row below that of the pause before.
+    odd: u64,
+}
+
+impl Watch for Counts {
+    fn begins(&mut self, _key: &Cells) {
+        self.partitions = self.partitions.saturating_add(1);
+    }
+
+    fn pauses(&mut self, _key: &Cells, row: u64, turns: u32) {
+        self.pauses = self.pauses.saturating_add(1);
+        if turns != 100_000 || row < self.row {
+            self.odd = self.odd.saturating_add(1);
+        }
+        self.row = row;
+    }
+}
+
+/// Both partitions are told, and pauses of the second one, whose first row takes more turns than all others.
+#[test]
+fn progress_is_told(rt: HostRuntime) -> Result<(), Fail> {
+    let alloc = rt.alloc();
+    let query = query_of(alloc, SLOW)?;
+    let input = slow(alloc)?;
+    let mut source = MemoryInput::new(input.as_str().as_bytes(), 1_000, 0);
+    let mut sink = MemoryOutput::new(alloc, 4096, 1_000, 0)?;
+    let mut counts = Counts {
+        partitions: 0,
+        pauses: 0,
+        row: 0,
+        odd: 0,
+    };
+    run_whole(alloc, query, &mut source, &mut sink, &mut counts, 9)?;
+    assert_eq!(rt; counts.partitions, 2);
+    assert!(rt; counts.pauses > 0);
+    assert!(rt; counts.row > 0);
+    assert_eq!(rt; counts.odd, 0);
+    Ok(())
+}
+
+/// A run that is refused memory has written a front of the answer, and made again gives what it gives with ample memory.
+#[test]
+fn refused_whole(rt: HostRuntime) -> Result<(), Fail> {
+    let alloc = rt.alloc();
+    let query = query_of(alloc, V)?;
+    let again = query.share()?;
+    let want = TICKS_ANSWERED.as_bytes();
+    let mut sink = MemoryOutput::new(alloc, 4096, 100, 0)?;
+    let mut source = MemoryInput::new(TICKS.as_bytes(), 1_000, 0);
+    match run_whole(alloc, query, &mut source, &mut sink, &mut Unwatched, 9) {
+        Err(WholeFault::OutOfMemory) => {
+            assert!(rt; want.starts_with(sink.bytes()));
+            let mut sink = MemoryOutput::new(alloc, 4096, 100, 0)?;
+            let mut source = MemoryInput::new(TICKS.as_bytes(), 1_000, 0);
+            if run_whole(alloc, again, &mut source, &mut sink, &mut Unwatched, 9).is_err() {
+                return Err(Fail::from("memory was refused twice"));
+            }
+            assert!(rt; sink.bytes() == want);
+        }
+        first => {
+            first?;
+            assert!(rt; sink.bytes() == want);
+        }
+    }
+    Ok(())
+}
