@@ -2,6 +2,4 @@
 #![tactic(auto)]
 
 #[cfg(test)]
-mod tests;
-#[cfg(test)]
-mod texts;
+mod trace;

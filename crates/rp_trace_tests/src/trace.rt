@@ -1,4 +1,5 @@
-//! What no contract says: texts, offsets, counts of real streams, and that calls succeed.
+//! Runs of `trace` over devices that fail or take pieces, its calls with refused memory, and the texts of its faults. Replies and
+//! patterns are in cases/trace.cases.
 ghost use Rattle.std.specs.Prelude.{◌≡◌, ◌≤◌, length, true};
 ghost use Rattle.rp_words.specs.PatternForm.{form_of};
 ghost use Rattle.rp_words.specs.Variables.{are_below};
@@ -8,6 +9,7 @@ use rp_io::{MemoryInput, MemoryOutput, Port, READS};
 use rp_trace::{BUDGET, TraceFault, TracePatternFault, run_trace, trace_pattern};
 use rp_words::Pattern;
 use std::alloc::{AllocError, Global};
+use std::fmt::Display;
 use std::process::Abort;
 use std::test::Fail;
 
@@ -79,118 +81,47 @@ fn run_lines(
 }
 
 /// A pattern that was refused memory is read again.
-fn pattern_of(alloc: Global, text: &str) -> Result<Pattern, TracePatternFault>
+fn pattern_of(alloc: Global, text: &str) -> Result<Pattern, Fail>
     ensures { (pattern : Pattern) → result ≡ Ok pattern → are_below letter_count (form_of pattern) ≡ true }
 {
     match trace_pattern(alloc, text) {
         Ok(pattern) => Ok(pattern),
-        Err(TracePatternFault::OutOfMemory) => trace_pattern(alloc, text),
-        Err(fault) => Err(fault),
+        Err(TracePatternFault::OutOfMemory) => pattern_again(alloc, text),
+        Err(fault) => Err(Fail::from(fault)),
     }
 }
 
-#[test]
-fn trace_letters(rt: HostRuntime) -> Result<(), Fail> {
-    let pattern = pattern_of(rt.alloc(), PATTERN)?;
-    let ran = run_lines(rt.alloc(), &pattern, LINES.as_bytes(), ALL)?;
-    assert_eq!(rt; ran.result, Ok(()));
-    assert_eq!(rt; ran.sink.bytes(), REPLIES.as_bytes());
-    Ok(())
-}
-
-/// Patterns, lines and their replies.
-const OTHER_LINES: [(&str, &str, &str); 9] = [
-    ("A*", "b\n", "empty\n"),
-    ("A*", "aab\n", "AA\n"),
-    ("AB", "ab\n", "AB\n"),
-    ("Z Z", "qx\nq\n", "ZZ\nnone\n"),
-    ("A | A B", "ab\n", "A\n"),
-    ("( ) C", "c", "C\n"),
-    ("C", "", ""),
-    ("C", "\n", "none\n"),
-    ("C", "c\r\n", "refused\n"),
-];
-
-/// Whether each pattern's lines have these replies.
-fn all_replied(rt: &impl Abort, alloc: Global, cases: &[(&str, &str, &str)]) -> Result<(), Fail> {
-    for (text, lines, replies) in cases {
-        let pattern = pattern_of(alloc, text)?;
-        let ran = run_lines(alloc, &pattern, lines.as_bytes(), ALL)?;
-        assert_eq!(rt; ran.result, Ok(()));
-        assert!(rt; ran.sink.bytes() == replies.as_bytes(), "{text} on {lines}");
-    }
-    Ok(())
-}
-
-#[test]
-fn other_lines(rt: HostRuntime) -> Result<(), Fail> {
-    all_replied(&rt, rt.alloc(), &OTHER_LINES)
-}
-
-#[test]
-fn longest_line(rt: HostRuntime) -> Result<(), Fail> {
-    let pattern = pattern_of(rt.alloc(), "A*")?;
-    let mut line = Vec::new(rt.alloc());
-    line.resize(4096, b'a')?;
-    let looked_at = run_lines(rt.alloc(), &pattern, line.as_slice(), ALL)?;
-    assert_eq!(rt; looked_at.result, Ok(()));
-    assert_eq!(rt; looked_at.sink.bytes().len(), 4097);
-    line.push(b'a')?;
-    let refused = run_lines(rt.alloc(), &pattern, line.as_slice(), ALL)?;
-    assert_eq!(rt; refused.sink.bytes(), b"refused\n".as_slice());
-    Ok(())
-}
-
-/// A run that reads and writes in large pieces, and at most `reads` times.
-fn run_wide(alloc: Global, pattern: &Pattern, lines: &[u8], reads: u64) -> Result<Ran, AllocError>
-    requires { are_below letter_count (form_of pattern.now) ≡ true }
+/// A second refusal is a fault, since only one call for memory is refused in a run.
+fn pattern_again(alloc: Global, text: &str) -> Result<Pattern, Fail>
+    ensures { (pattern : Pattern) → result ≡ Ok pattern → are_below letter_count (form_of pattern) ≡ true }
 {
-    let mut source = MemoryInput::new(lines, 100_000, NEVER);
-    let mut sink = MemoryOutput::new(alloc, 100_000, 7_000, NEVER)?;
-    let result = run_trace(alloc, &mut source, &mut sink, pattern, reads);
-    let calls = source.calls();
-    Ok(Ran {
-        result,
-        calls,
-        sink,
-    })
+    match trace_pattern(alloc, text) {
+        Ok(pattern) => Ok(pattern),
+        Err(_) => Err(Fail::from("memory was refused twice")),
+    }
+}
+
+/// A line of 300,000 letters, and another one.
+fn long_lines(alloc: Global) -> Result<Vec<u8>, AllocError> {
+    let mut lines = Vec::new(alloc);
+    lines.resize(300_000, b'a')?;
+    lines.extend_from_slice(b"\nc\n")?;
+    Ok(lines)
 }
 
 /// A line of any length is read in chunks of 65,536 bytes: 300,000 letters and the rest take five reads, and one more
 /// tells the end.
 #[test]
 fn long_line(rt: HostRuntime) -> Result<(), Fail> {
+    let lines = long_lines(rt.alloc())?;
     let pattern = pattern_of(rt.alloc(), "A* | C")?;
-    let mut lines = Vec::new(rt.alloc());
-    lines.resize(300_000, b'a')?;
-    lines.extend_from_slice(b"\nc\n")?;
-    let ran = run_wide(rt.alloc(), &pattern, lines.as_slice(), 6)?;
-    if ran.result == Err(TraceFault::OutOfMemory) {
-        return Err(Fail::from(AllocError));
+    let mut source = MemoryInput::new(lines.as_slice(), 100_000, NEVER);
+    let mut sink = MemoryOutput::new(rt.alloc(), 100, 100, NEVER)?;
+    let result = run_trace(rt.alloc(), &mut source, &mut sink, &pattern, 6);
+    if result != Err(TraceFault::OutOfMemory) {
+        assert_eq!(rt; result, Ok(()));
+        assert_eq!(rt; source.calls(), 6);
     }
-    assert_eq!(rt; ran.result, Ok(()));
-    assert_eq!(rt; ran.calls, 6);
-    assert_eq!(rt; ran.sink.bytes(), b"refused\nempty\n".as_slice());
-    Ok(())
-}
-
-/// Lines of 4,096 and 4,097 letters, with their LF.
-#[test]
-fn longest_lines(rt: HostRuntime) -> Result<(), Fail> {
-    let pattern = pattern_of(rt.alloc(), "( ) A | C")?;
-    let mut lines = Vec::new(rt.alloc());
-    for length in [4096, 4097] {
-        let all = lines.len() + length;
-        lines.resize(all, b'a')?;
-        lines.push(b'\n')?;
-    }
-    lines.extend_from_slice(b"c")?;
-    let ran = run_wide(rt.alloc(), &pattern, lines.as_slice(), 2)?;
-    if ran.result == Err(TraceFault::OutOfMemory) {
-        return Err(Fail::from(AllocError));
-    }
-    assert_eq!(rt; ran.result, Ok(()));
-    assert_eq!(rt; ran.sink.bytes(), b"A\nrefused\nC\n".as_slice());
     Ok(())
 }
 
@@ -204,23 +135,6 @@ fn repeated(alloc: Global, text: &[u8], times: usize) -> Result<Vec<u8>, AllocEr
         all.extend_from_slice(text)?;
     }
     Ok(all)
-}
-
-/// 9,000 replies of 8 bytes are more than a block.
-#[test]
-fn blocks(rt: HostRuntime) -> Result<(), Fail> {
-    let pattern = pattern_of(rt.alloc(), "C")?;
-    let lines = repeated(rt.alloc(), b"1\n", 9_000)?;
-    let mut ran = run_wide(rt.alloc(), &pattern, lines.as_slice(), 2)?;
-    if ran.result == Err(TraceFault::OutOfMemory) {
-        ran = run_wide(rt.alloc(), &pattern, lines.as_slice(), 2)?;
-    }
-    assert_eq!(rt; ran.result, Ok(()));
-    assert_eq!(rt;
-        ran.sink.bytes(),
-        repeated(rt.alloc(), b"refused\n", 9_000)?.as_slice()
-    );
-    Ok(())
 }
 
 /// The replies to the first chunk are more than a block: they are written before the next chunk is read.
@@ -325,15 +239,10 @@ fn reads_of_last_part(rt: HostRuntime) -> Result<(), Fail> {
     all_read(&rt, rt.alloc(), &LAST_PARTS)
 }
 
+/// A pattern that is refused memory can be read again.
 #[test]
 fn refused_pattern(rt: HostRuntime) -> Result<(), Fail> {
-    match trace_pattern(rt.alloc(), "((A)*|B)C") {
-        Err(TracePatternFault::OutOfMemory) => {
-            let _again = trace_pattern(rt.alloc(), "((A)*|B)C")?;
-        }
-        Err(fault) => return Err(Fail::from(fault)),
-        Ok(_) => {}
-    }
+    let _pattern = pattern_of(rt.alloc(), "((A)*|B)C")?;
     Ok(())
 }
 
@@ -365,69 +274,45 @@ fn streams(rt: HostRuntime) -> Result<(), Fail> {
     Ok(())
 }
 
-/// Texts that are no patterns, and the byte from which on.
-const EXPECTED: [(&str, usize); 25] = [
-    ("A)", 1),
-    ("", 0),
-    ("  ", 2),
-    ("*", 0),
-    ("a", 0),
-    ("A\tB", 1),
-    ("A**", 2),
-    ("A*?", 2),
-    ("A+", 1),
-    ("A |", 3),
-    ("(A|)", 3),
-    ("(A", 2),
-    (" A B )", 5),
-    ("A B)", 3),
-    ("A||B", 2),
-    ("A | | B", 4),
-    ("*A", 0),
-    ("|A", 0),
-    ("(*)", 1),
-    ("( | A)", 2),
-    ("()*)", 3),
-    ("((A)", 4),
-    ("A (B ", 5),
-    ("Ab", 1),
-    ("A é", 2),
-];
-
-/// Whether each text is refused at this byte.
-fn all_expected(rt: &impl Abort, alloc: Global, cases: &[(&str, usize)]) -> Result<(), Fail> {
-    for (text, place) in cases {
-        match pattern_of(alloc, text) {
-            Err(TracePatternFault::Expected(offset)) => assert!(rt; offset == *place, "{text}"),
-            _ => assert!(rt; false, "{text}"),
-        }
-    }
-    Ok(())
-}
-
-#[test]
-fn expected_places(rt: HostRuntime) -> Result<(), Fail> {
-    all_expected(&rt, rt.alloc(), &EXPECTED)
-}
-
-const PATTERNS: [&str; 5] = ["()", "( )", "A B", "((A)*|B)C", " A*B | Z "];
-
-/// Whether each text is a pattern.
-fn all_accepted(alloc: Global, texts: &[&str]) -> Result<(), Fail> {
-    for text in texts {
-        let _pattern = pattern_of(alloc, text)?;
-    }
-    Ok(())
-}
-
-#[test]
-fn accepted(rt: HostRuntime) -> Result<(), Fail> {
-    all_accepted(rt.alloc(), &PATTERNS)
-}
-
 /// How often the program reads, and the turns of one run of a search.
 #[test]
 fn numbers_of_the_program(rt: HostRuntime) {
     assert_eq!(rt; READS, 1_000_000_000);
     assert_eq!(rt; BUDGET, 100_000);
+}
+
+/// Faults of a run, and what is told of each.
+const RUN_TEXTS: [(TraceFault, &str); 4] = [
+    (TraceFault::Read, "device: read"),
+    (TraceFault::Write, "device: write"),
+    (TraceFault::Turns, "too many turns"),
+    (TraceFault::OutOfMemory, "out of memory"),
+];
+
+/// Faults of a pattern, and what is told of each.
+const PATTERN_TEXTS: [(TracePatternFault, &str); 2] = [
+    (
+        TracePatternFault::Expected(12),
+        "pattern: Expected at byte 12",
+    ),
+    (TracePatternFault::OutOfMemory, "out of memory"),
+];
+
+/// Whether each fault is told so.
+fn all_told<F: Display>(rt: &impl Abort, alloc: Global, cases: &[(F, &str)]) -> Result<(), Fail> {
+    for (fault, want) in cases {
+        let text = format!(in alloc; "{fault}")?;
+        assert!(rt; text.as_str() == *want, "{text}");
+    }
+    Ok(())
+}
+
+#[test]
+fn texts_of_runs(rt: HostRuntime) -> Result<(), Fail> {
+    all_told(&rt, rt.alloc(), &RUN_TEXTS)
+}
+
+#[test]
+fn texts_of_patterns(rt: HostRuntime) -> Result<(), Fail> {
+    all_told(&rt, rt.alloc(), &PATTERN_TEXTS)
 }
