@@ -1,22 +1,13 @@
-//! Texts with their tokens, their faults and what those tokens mean.
-ghost use Rattle.std.specs.Prelude.{◌≡◌, ◌⊎◌, All, IfOk};
+//! Texts with their tokens, and what those mean.
+ghost use Rattle.std.specs.Prelude.{◌≡◌, ◌⊎◌};
 ghost use Rattle.rp_lexer.specs.Lexes.{IsToken};
 
-use rp_lexer::{Keyword, LexFault, Mark, Token, TokenKind, lex, name_of, number_of, text_of};
+use crate::support::{lexed, refused_twice, tokens_of};
+use rp_lexer::{Keyword, LexFault, Mark, Token, TokenKind, name_of, number_of, text_of};
 use rp_value::upper_case_name;
-use std::alloc::{AllocError, Global};
+use std::alloc::Global;
 use std::process::Abort;
 use std::test::Fail;
-
-/// What `lex` answers where memory is left: a call that is refused is made again.
-fn lexed(alloc: Global, text: &str) -> Result<Vec<Token>, LexFault>
-    ensures { IfOk result (λ tokens. All (IsToken text.now) tokens.items) }
-{
-    match lex(alloc, text) {
-        Err(LexFault::OutOfMemory) => lex(alloc, text),
-        found => found,
-    }
-}
 
 /// Asserts that the text has these tokens, each by its kind, start and end.
 fn check_tokens(rt: &impl Abort, alloc: Global, text: &str, want: &[(TokenKind, usize, usize)]) {
@@ -204,27 +195,6 @@ fn reserved_words(rt: HostRuntime) {
 }
 
 #[test]
-fn lexer_faults(rt: HostRuntime) {
-    let alloc = rt.alloc();
-    check_fault(&rt, alloc, "#", LexFault::BadChar(0));
-    check_fault(&rt, alloc, "\"\"", LexFault::BadChar(0));
-    check_fault(&rt, alloc, "\"\" \"", LexFault::BadChar(0));
-    check_fault(&rt, alloc, "\"u", LexFault::OpenName(0));
-    check_fault(&rt, alloc, "\"a\"\"", LexFault::OpenName(0));
-    check_fault(&rt, alloc, "\"\"\"", LexFault::OpenName(0));
-    check_fault(&rt, alloc, "'a''", LexFault::OpenText(0));
-    check_fault(&rt, alloc, "a 'u", LexFault::OpenText(2));
-    check_fault(&rt, alloc, "9223372036854775808", LexFault::NumberRange(0));
-    check_fault(
-        &rt,
-        alloc,
-        "- 92233720368547758070",
-        LexFault::NumberRange(2),
-    );
-    check_fault(&rt, alloc, "a! #", LexFault::BadChar(1));
-}
-
-#[test]
 fn beyond_ascii(rt: HostRuntime) {
     let alloc = rt.alloc();
     let name = TokenKind::Name;
@@ -235,9 +205,6 @@ fn beyond_ascii(rt: HostRuntime) {
         &[(TokenKind::Text, 0, 4), (TokenKind::Quoted, 4, 8)],
     );
     check_tokens(&rt, alloc, "a--é\nb", &[(name, 0, 1), (name, 6, 7)]);
-    check_fault(&rt, alloc, "é", LexFault::BadChar(0));
-    check_fault(&rt, alloc, "a é", LexFault::BadChar(2));
-    check_fault(&rt, alloc, "aé", LexFault::BadChar(1));
 }
 
 // A call that is refused memory, made again, answers as with ample memory.
@@ -280,25 +247,31 @@ fn refused_faults(rt: HostRuntime) {
     );
 }
 
-/// What `name_of` answers where memory is left: a call that is refused is made again.
-fn named(alloc: Global, text: &str, token: Token) -> Result<String, AllocError>
+/// What `name_of` answers. A call that is refused is made again.
+fn named(alloc: Global, text: &str, token: Token) -> Result<String, Fail>
     requires stands { IsToken text.now token }
     requires name { (token.kind ≡ TokenKind.Name) ⊎ (token.kind ≡ TokenKind.Quoted) }
 {
+    if let Ok(name) = name_of(alloc, text, token) {
+        return Ok(name);
+    }
     match name_of(alloc, text, token) {
-        Err(_) => name_of(alloc, text, token),
-        found => found,
+        Ok(name) => Ok(name),
+        Err(_) => Err(refused_twice()),
     }
 }
 
-/// What `text_of` answers where memory is left: a call that is refused is made again.
-fn literal(alloc: Global, text: &str, token: Token) -> Result<String, AllocError>
+/// What `text_of` answers. A call that is refused is made again.
+fn literal(alloc: Global, text: &str, token: Token) -> Result<String, Fail>
     requires stands { IsToken text.now token }
     requires literal { token.kind ≡ TokenKind.Text }
 {
+    if let Ok(value) = text_of(alloc, text, token) {
+        return Ok(value);
+    }
     match text_of(alloc, text, token) {
-        Err(_) => text_of(alloc, text, token),
-        found => found,
+        Ok(value) => Ok(value),
+        Err(_) => Err(refused_twice()),
     }
 }
 
@@ -306,7 +279,7 @@ fn literal(alloc: Global, text: &str, token: Token) -> Result<String, AllocError
 fn refused_meanings(rt: HostRuntime) -> Result<(), Fail> {
     let alloc = rt.alloc();
     let text = "aB_1 \"a\"\"é and far more\" 'it''s longer than that' 042";
-    let tokens = lexed(alloc, text)?;
+    let tokens = tokens_of(alloc, text)?;
     assert_eq!(rt; tokens.len(), 4);
     assert!(rt; tokens[0].kind == TokenKind::Name);
     assert_eq!(rt; named(alloc, text, tokens[0])?.as_str(), "AB_1");
@@ -325,10 +298,20 @@ fn refused_meanings(rt: HostRuntime) -> Result<(), Fail> {
     Ok(())
 }
 
-/// Whether the upper-case form of the text is this one, or none where that is empty. A call that is refused is made again.
-fn is_upper_case(alloc: Global, text: &str, form: &str) -> Result<bool, AllocError> {
-    let found = upper_case_name(alloc, text).or_else(|_| upper_case_name(alloc, text))?;
-    match found {
+/// The upper-case form of a text, if it has the form of a name. A call that is refused is made again.
+fn upper_case(alloc: Global, text: &str) -> Result<Option<String>, Fail> {
+    if let Ok(found) = upper_case_name(alloc, text) {
+        return Ok(found);
+    }
+    match upper_case_name(alloc, text) {
+        Ok(found) => Ok(found),
+        Err(_) => Err(refused_twice()),
+    }
+}
+
+/// Whether the upper-case form of the text is this one, or none where that is empty.
+fn is_upper_case(alloc: Global, text: &str, form: &str) -> Result<bool, Fail> {
+    match upper_case(alloc, text)? {
         Some(name) => Ok(name.as_str() == form),
         None => Ok(form.is_empty()),
     }
@@ -359,12 +342,4 @@ fn upper_case_names(rt: HostRuntime) -> Result<(), Fail> {
             ("\"a\"", ""),
         ],
     )
-}
-
-#[test]
-fn fault_texts(rt: HostRuntime) -> Result<(), Fail> {
-    let alloc = rt.alloc();
-    let written = format!(in alloc; "{}, {}", LexFault::BadChar(3), LexFault::OutOfMemory)?;
-    assert_eq!(rt; written.as_str(), "BadChar at byte 3, out of memory");
-    Ok(())
 }

@@ -1,24 +1,25 @@
-//! Clauses and tables with their trees and faults. Expected trees were worked out by a plain second program that
-//! descends by the written grammar.
+//! Clauses and tables with their trees. Expected trees were worked out by a plain second program that descends by the
+//! written grammar.
 
 mod second;
 
-use rp_lexer::{LexFault, lex};
-use rp_syntax::{Clause, ParseFault, TableTextFault, parse, read_table};
-use rp_value::{Kind, Table, TableFault};
+use crate::support::{read, refused_twice, tokens_of};
+use rp_syntax::{Clause, ParseFault, parse};
+use rp_value::Kind;
 use second::first_fault;
 use std::alloc::Global;
 use std::process::Abort;
 use std::test::*;
 
-/// The clause of a text, or its fault, where memory is left: a call that is refused is made again.
+/// The clause of a text, or its fault. A call that is refused is made again.
 fn parsed(alloc: Global, text: &str) -> Result<Result<Clause, ParseFault>, Fail> {
-    let tokens = match lex(alloc, text) {
-        Err(LexFault::OutOfMemory) => lex(alloc, text)?,
-        found => found?,
-    };
+    let tokens = tokens_of(alloc, text)?;
     match parse(alloc, text, tokens.as_slice()) {
-        Err(ParseFault::OutOfMemory) => Ok(parse(alloc, text, tokens.as_slice())),
+        Err(ParseFault::OutOfMemory) => {}
+        found => return Ok(found),
+    }
+    match parse(alloc, text, tokens.as_slice()) {
+        Err(ParseFault::OutOfMemory) => Err(refused_twice()),
         found => Ok(found),
     }
 }
@@ -324,42 +325,6 @@ fn expression_forms(rt: HostRuntime) -> Result<(), Fail> {
     check_conditions(&rt, rt.alloc(), CONDITIONS)
 }
 
-/// Texts with the offset of the first token that can't follow, or their length.
-const FAULTS: &[(&str, usize)] = &[
-    ("PATTERN (A", 10),
-    ("PATTERN (A)", 11),
-    ("PATTERN (A DEFINE", 11),
-    ("", 0),
-    ("PATTERN (A) DEFINE A AS NOT NOT p = 1", 28),
-    ("PATTERN (A) DEFINE A AS p = 1 = 2", 30),
-    ("PATTERN (A**) DEFINE A AS p = 1", 11),
-    ("PATTERN (A{,}) DEFINE A AS p = 1", 12),
-    ("PATTERN (A) DEFINE A AS p = 1 )", 30),
-    ("MATCH_RECOGNIZE (PATTERN (A) DEFINE A AS p", 42),
-    ("PATTERN (row) DEFINE A AS p", 9),
-    ("PATTERN (A) DEFINE A AS SUM(*)", 28),
-    ("PATTERN (A) DEFINE A AS FINAL PREV(p)", 30),
-    ("PATTERN (A) DEFINE A AS PREV(p + 1)", 31),
-    ("PATTERN (A) DEFINE A AS p = NULL", 28),
-    ("PATTERN (A) DEFINE A AS + p", 24),
-    ("PATTERN (PERMUTE()) DEFINE A AS p", 17),
-    ("PATTERN ({- -}) DEFINE A AS p", 12),
-    ("PATTERN (A |) DEFINE A AS p", 12),
-];
-
-/// Asserts that each text is at fault at the offset beside it.
-fn check_faults(rt: &impl Abort, alloc: Global, faults: &[(&str, usize)]) -> Result<(), Fail> {
-    for (text, at) in faults {
-        assert_eq!(rt; expected_at(alloc, text)?, Some(*at), "{text}");
-    }
-    Ok(())
-}
-
-#[test]
-fn compile_faults(rt: HostRuntime) -> Result<(), Fail> {
-    check_faults(&rt, rt.alloc(), FAULTS)
-}
-
 /// The tokens of a clause that has each part.
 const WORDS: &[&str] = &[
     "PARTITION",
@@ -500,74 +465,6 @@ fn repeated(
     Ok(text)
 }
 
-/// A front, a part of it so many times, what stands behind, and the fault.
-const BRACKETS: &[(&str, &str, usize, &str, ParseFault)] = &[
-    ("PATTERN ", "(", 101, "", ParseFault::Deep(108)),
-    ("PATTERN ", "(", 100, "{-", ParseFault::Deep(108)),
-    ("PATTERN ", "(", 100, "()", ParseFault::Deep(108)),
-    ("PATTERN ", "(", 100, "PERMUTE(", ParseFault::Deep(115)),
-    ("PATTERN ", "(", 100, "A{(", ParseFault::Expected(110)),
-    ("PATTERN ", "(", 100, "A", ParseFault::Expected(109)),
-    ("PATTERN (", "{-", 100, "A", ParseFault::Deep(207)),
-    (
-        "MATCH_RECOGNIZE(PATTERN ",
-        "(",
-        100,
-        "A",
-        ParseFault::Deep(123),
-    ),
-    (
-        "PATTERN (A) DEFINE A AS ",
-        "(",
-        101,
-        "",
-        ParseFault::Deep(124),
-    ),
-    (
-        "PATTERN (A) DEFINE A AS ",
-        "(",
-        100,
-        "COUNT(",
-        ParseFault::Deep(129),
-    ),
-    (
-        "PATTERN (A) DEFINE A AS ",
-        "(",
-        100,
-        "p (",
-        ParseFault::Expected(126),
-    ),
-    (
-        "PATTERN (A) DEFINE A AS ",
-        "PREV(",
-        101,
-        "",
-        ParseFault::Deep(528),
-    ),
-];
-
-/// Asserts that each text has the fault beside it.
-fn check_brackets(
-    rt: &impl Abort,
-    alloc: Global,
-    brackets: &[(&str, &str, usize, &str, ParseFault)],
-) -> Result<(), Fail> {
-    for (before, part, times, behind, fault) in brackets {
-        let text = repeated(alloc, before, part, *times, behind)?;
-        match parsed(alloc, text.as_str())? {
-            Ok(_) => assert!(rt; false, "{text}"),
-            Err(found) => assert!(rt; found == *fault, "{text}"),
-        }
-    }
-    Ok(())
-}
-
-/// A bracket above the hundredth is Deep where it may stand, else Expected.
-#[test]
-fn deep_brackets(rt: HostRuntime) -> Result<(), Fail> {
-    check_brackets(&rt, rt.alloc(), BRACKETS)
-}
-
 /// A front, a part that may stand any number of times, and what stands behind.
 const LISTS: &[(&str, &str, &str)] = &[
     ("PATTERN (A", " A", ") DEFINE A AS p"),
@@ -607,21 +504,13 @@ fn refused_clause(rt: HostRuntime) -> Result<(), Fail> {
     Ok(())
 }
 
-/// The table of a text, or its fault, where memory is left: a call that is refused is made again.
-fn table_of(alloc: Global, text: &str) -> Result<Table, TableTextFault> {
-    match read_table(alloc, text) {
-        Err(TableTextFault::OutOfMemory) => read_table(alloc, text),
-        found => found,
-    }
-}
-
 #[test]
 fn refused_tables(rt: HostRuntime) -> Result<(), Fail> {
     let alloc = rt.alloc();
-    let table = table_of(
+    let table = read(
         alloc,
         "sym text, t int, \"p q\" varchar, b BIGINT, i Integer",
-    )?;
+    )??;
     let wanted = [
         ("SYM", Kind::Text),
         ("T", Kind::Int),
@@ -634,69 +523,5 @@ fn refused_tables(rt: HostRuntime) -> Result<(), Fail> {
         assert_eq!(rt; column.name.as_str(), *name);
         assert!(rt; column.kind == *kind);
     }
-    Ok(())
-}
-
-/// Asserts that each text has the fault beside it.
-fn check_tables(
-    rt: &impl Abort,
-    alloc: Global,
-    faults: &[(&str, TableTextFault)],
-) -> Result<(), Fail> {
-    for (text, fault) in faults {
-        match table_of(alloc, text) {
-            Ok(_) => assert!(rt; false, "{text}"),
-            Err(found) => assert!(rt; found == *fault, "{text}"),
-        }
-    }
-    Ok(())
-}
-
-#[test]
-fn table_faults(rt: HostRuntime) -> Result<(), Fail> {
-    check_tables(
-        &rt,
-        rt.alloc(),
-        &[
-            ("p decimal", TableTextFault::Expected(2)),
-            ("p \"INT\"", TableTextFault::Expected(2)),
-            ("p int,", TableTextFault::Expected(6)),
-            ("p int q int", TableTextFault::Expected(6)),
-            (
-                "p int, P int",
-                TableTextFault::Table(TableFault::DoubleName),
-            ),
-            ("p #", TableTextFault::Lex(LexFault::BadChar(2))),
-            ("p", TableTextFault::Expected(1)),
-            ("", TableTextFault::Expected(0)),
-            ("row int", TableTextFault::Expected(0)),
-        ],
-    )
-}
-
-#[test]
-fn fault_texts(rt: HostRuntime) -> Result<(), Fail> {
-    let alloc = rt.alloc();
-    let clause = format!(in alloc;
-        "{}, {}, {}",
-        ParseFault::Expected(3),
-        ParseFault::Deep(4),
-        ParseFault::OutOfMemory
-    )?;
-    assert_eq!(rt;
-        clause.as_str(),
-        "Expected at byte 3, Deep at byte 4, out of memory"
-    );
-    let table = format!(in alloc;
-        "{}, {}, {}, {}",
-        TableTextFault::Lex(LexFault::BadChar(1)),
-        TableTextFault::Expected(2),
-        TableTextFault::Table(TableFault::DoubleName),
-        TableTextFault::OutOfMemory
-    )?;
-    assert_eq!(rt;
-        table.as_str(),
-        "BadChar at byte 1, Expected at byte 2, DoubleName, out of memory"
-    );
     Ok(())
 }

@@ -1,0 +1,133 @@
+//! Jobs with the values that are read, where no output shows them. The other jobs and all texts are in cases/command.cases.
+use rp_command::{Job, JobFault, read_command};
+use std::alloc::{AllocError, Global};
+use std::test::Fail;
+
+/// The job that the words of a command line name.
+fn job_of(alloc: Global, texts: &[&str]) -> Result<Job, Fail> {
+    let mut words = Vec::new(alloc);
+    for text in texts {
+        words.push(String::from_str(alloc, text)?)?;
+    }
+    match read_command(alloc, words.as_slice()) {
+        Ok(job) => Ok(job),
+        Err(JobFault::OutOfMemory) => Err(Fail::from(AllocError)),
+        Err(JobFault::Line(_)) => Err(Fail::from("the words name no job")),
+    }
+}
+
+/// `whole` reports how far it is only where it is asked to.
+#[test]
+fn whole_command(rt: HostRuntime) -> Result<(), Fail> {
+    let words = ["whole", "--table=p int", "--clause=c", "--progress"];
+    for (count, reports) in [(3, false), (4, true)] {
+        match &job_of(rt.alloc(), &words.as_slice()[..count])? {
+            Job::Whole(whole) => assert_eq!(rt; whole.progress, reports),
+            _ => assert!(rt; false),
+        }
+    }
+    Ok(())
+}
+
+/// A node with all that it can be given.
+#[test]
+fn node_command(rt: HostRuntime) -> Result<(), Fail> {
+    let words = [
+        "node",
+        "--verbose",
+        "--connections",
+        "4294967295",
+        "--idle=1",
+        "--state",
+        "node.state",
+        "--listen",
+        "127.0.0.1:7000",
+        "--clause",
+        "a clause",
+        "--table=p int",
+    ];
+    match &job_of(rt.alloc(), words.as_slice())? {
+        Job::Node(node) => {
+            assert_eq!(rt; node.table.as_str(), "p int");
+            assert_eq!(rt; node.clause.as_str(), "a clause");
+            assert_eq!(rt; node.listen.as_str(), "127.0.0.1:7000");
+            assert_eq!(rt; node.state.as_str(), "node.state");
+            assert_eq!(rt; node.connections, 4_294_967_295);
+            assert_eq!(rt; node.idle, Some(1));
+            assert!(rt; node.verbose);
+        }
+        _ => assert!(rt; false),
+    }
+    Ok(())
+}
+
+/// A node waits as long as it takes, and reports nothing, where it isn't asked to.
+#[test]
+fn node_command_of_few_words(rt: HostRuntime) -> Result<(), Fail> {
+    let words = [
+        "node",
+        "--table=p int",
+        "--clause=c",
+        "--listen=l",
+        "--state=s",
+        "--connections=1",
+    ];
+    match &job_of(rt.alloc(), words.as_slice())? {
+        Job::Node(node) => {
+            assert_eq!(rt; node.connections, 1);
+            assert_eq!(rt; node.idle, None);
+            assert!(rt; !node.verbose);
+        }
+        _ => assert!(rt; false),
+    }
+    Ok(())
+}
+
+/// The budget is 100,000 where it isn't given.
+#[test]
+fn source_command(rt: HostRuntime) -> Result<(), Fail> {
+    let words = [
+        "source",
+        "--table",
+        "p int",
+        "--clause",
+        "a clause",
+        "127.0.0.1:7000",
+    ];
+    match &job_of(rt.alloc(), words.as_slice())? {
+        Job::Source(source) => {
+            assert_eq!(rt; source.table.as_str(), "p int");
+            assert_eq!(rt; source.clause.as_str(), "a clause");
+            assert_eq!(rt; source.budget, 100_000);
+            assert_eq!(rt; source.addresses.len(), 1);
+            assert_eq!(rt; source.addresses[0].as_str(), "127.0.0.1:7000");
+        }
+        _ => assert!(rt; false),
+    }
+    Ok(())
+}
+
+/// Several addresses keep their order, and may stand before the options.
+#[test]
+fn source_command_of_many(rt: HostRuntime) -> Result<(), Fail> {
+    let words = [
+        "source",
+        "b:2",
+        "a:1",
+        "b:2",
+        "--budget=7",
+        "--table=p int",
+        "--clause=c",
+    ];
+    match &job_of(rt.alloc(), words.as_slice())? {
+        Job::Source(source) => {
+            assert_eq!(rt; source.budget, 7);
+            assert_eq!(rt; source.addresses.len(), 3);
+            assert_eq!(rt; source.addresses[0].as_str(), "b:2");
+            assert_eq!(rt; source.addresses[1].as_str(), "a:1");
+            assert_eq!(rt; source.addresses[2].as_str(), "b:2");
+        }
+        _ => assert!(rt; false),
+    }
+    Ok(())
+}

@@ -1,0 +1,213 @@
+//! Where something stands in a text, and drawings of places that no fault has.
+use crate::support::refused_twice;
+use rp_place::{Place, Span, draw, law_lines, law_marks, line_number, push_help, shown_character};
+use std::alloc::{AllocError, Global};
+use std::process::Abort;
+use std::test::Fail;
+
+/// Whether each text ends in this line.
+fn all_in_line(rt: &impl Abort, cases: &[(&str, usize)]) {
+    for (text, line) in cases {
+        assert!(rt; line_number(text.as_bytes()) == *line, "{text}");
+    }
+}
+
+#[test]
+fn numbers_of_lines(rt: HostRuntime) {
+    all_in_line(
+        &rt,
+        &[("", 1), ("a", 1), ("a\n", 2), ("a\r\nb", 2), ("\n\n\n", 4)],
+    );
+}
+
+/// A text, a part of it, and what the place has: its line, its column, and the three pieces.
+type PlaceCase = (&'static str, Span, usize, usize, [&'static str; 3]);
+
+const PLACES: [PlaceCase; 6] = [
+    (
+        "ab\ncd ef gh\r\nij",
+        Span { start: 6, end: 8 },
+        2,
+        4,
+        ["cd ", "ef", " gh"],
+    ),
+    (
+        "ab\ncd ef gh\r\nij",
+        Span { start: 6, end: 14 },
+        2,
+        4,
+        ["cd ", "ef gh", ""],
+    ),
+    (
+        "ab\ncd ef gh\r\nij",
+        Span { start: 11, end: 12 },
+        2,
+        9,
+        ["cd ef gh", "", ""],
+    ),
+    ("ab\ncd", Span { start: 2, end: 3 }, 1, 3, ["ab", "", ""]),
+    ("aéb", Span { start: 2, end: 3 }, 1, 2, ["a", "é", "b"]),
+    (
+        "aéb",
+        Span {
+            start: usize::MAX,
+            end: usize::MAX,
+        },
+        1,
+        4,
+        ["aéb", "", ""],
+    ),
+];
+
+/// Whether each part's place is this.
+fn all_placed(rt: &impl Abort, cases: &[PlaceCase]) {
+    for (text, span, line, column, pieces) in cases {
+        let place = Place::of(text, *span);
+        assert!(rt; place.line == *line, "{text} {span:?}");
+        assert!(rt; place.column() == *column, "{text} {span:?}");
+        assert!(rt;
+            [place.front, place.part, place.behind] == *pieces,
+            "{text} {span:?}"
+        );
+    }
+}
+
+#[test]
+fn places(rt: HostRuntime) {
+    all_placed(&rt, &PLACES);
+    law_marks();
+    law_lines();
+}
+
+/// Whether each character is shown as this.
+fn all_shown(rt: &impl Abort, cases: &[(char, char)]) {
+    for (character, shown) in cases {
+        assert!(rt; shown_character(*character) == *shown, "{shown}");
+    }
+}
+
+#[test]
+fn characters(rt: HostRuntime) {
+    all_shown(
+        &rt,
+        &[
+            ('a', 'a'),
+            (' ', ' '),
+            ('\t', ' '),
+            ('\n', '?'),
+            ('\u{1f}', '?'),
+            ('~', '~'),
+            ('\u{7f}', '?'),
+            ('\u{9f}', '?'),
+            ('\u{a0}', '\u{a0}'),
+            ('値', '値'),
+        ],
+    );
+}
+
+/// A text, a part of it by its offsets, and the drawing of the part's place.
+type Drawn = (&'static str, Span, &'static str);
+
+/// A front that ends in a line end, parts behind the end and in front of their beginning, and parts of a character: the two bytes
+/// of é stand at 1 and 2.
+const DRAWN: [Drawn; 5] = [
+    (
+        "A\n",
+        Span { start: 2, end: 2 },
+        "  clause, line 2, column 1\n   2 | \n     | ^ here\n",
+    ),
+    (
+        "A B",
+        Span { start: 7, end: 9 },
+        "  clause, line 1, column 4\n   1 | A B\n     |    ^ here\n",
+    ),
+    (
+        "A B C",
+        Span { start: 4, end: 2 },
+        "  clause, line 1, column 5\n   1 | A B C\n     |     ^ here\n",
+    ),
+    (
+        "aéb",
+        Span { start: 2, end: 3 },
+        "  clause, line 1, column 2\n   1 | aéb\n     |  ^ here\n",
+    ),
+    (
+        "aéb",
+        Span { start: 0, end: 2 },
+        "  clause, line 1, column 1\n   1 | aéb\n     | ^ here\n",
+    ),
+];
+
+/// Whether each part's drawing is this.
+fn all_drawn(rt: &impl Abort, alloc: Global, cases: &[Drawn]) -> Result<(), AllocError> {
+    for (text, span, wanted) in cases {
+        let mut out = String::new(alloc);
+        draw(&mut out, "clause", &Place::of(text, *span), "here")?;
+        assert!(rt; out.as_str() == *wanted, "{text} {span:?}:\n{out}");
+    }
+    Ok(())
+}
+
+#[test]
+fn drawings(rt: HostRuntime) -> Result<(), Fail> {
+    Ok(all_drawn(&rt, rt.alloc(), &DRAWN)?)
+}
+
+/// A place that is put together from texts, of which nothing is said.
+#[test]
+fn place_of_pieces(rt: HostRuntime) -> Result<(), Fail> {
+    let place = Place {
+        line: 12,
+        front: "1,",
+        part: "\u{fffd}",
+        behind: ",x",
+    };
+    let mut out = String::from_str(rt.alloc(), "before\n")?;
+    draw(&mut out, "csv", &place, "")?;
+    assert_eq!(rt;
+        out.as_str(),
+        "before\n  csv, line 12, column 3\n  12 | 1,\u{fffd},x\n     |   ^\n"
+    );
+    Ok(())
+}
+
+const DRAWN_AT_LAST: &str = "\
+before
+  clause, line 2, column 8
+   2 | DEFINE B
+     |        ^ here
+";
+
+/// A call that is refused memory adds nothing, and made again it adds what it does with ample memory.
+#[test]
+fn refused_drawing(rt: HostRuntime) -> Result<(), Fail> {
+    let mut out = String::from_str(rt.alloc(), "before\n")?;
+    let place = Place::of("PATTERN (A B)\nDEFINE B", Span { start: 21, end: 22 });
+    if draw(&mut out, "clause", &place, "here").is_err() {
+        assert_eq!(rt; out.as_str(), "before\n");
+        if draw(&mut out, "clause", &place, "here").is_err() {
+            return Err(refused_twice());
+        }
+    }
+    assert_eq!(rt; out.as_str(), DRAWN_AT_LAST);
+    Ok(())
+}
+
+/// The same of helps. An empty one has no line.
+#[test]
+fn refused_help(rt: HostRuntime) -> Result<(), Fail> {
+    let mut out = String::from_str(rt.alloc(), "before\n")?;
+    push_help(&mut out, "")?;
+    assert_eq!(rt; out.as_str(), "before\n");
+    if push_help(&mut out, "write price\nor add a column").is_err() {
+        assert_eq!(rt; out.as_str(), "before\n");
+        if push_help(&mut out, "write price\nor add a column").is_err() {
+            return Err(refused_twice());
+        }
+    }
+    assert_eq!(rt;
+        out.as_str(),
+        "before\n  help: write price\n  help: or add a column\n"
+    );
+    Ok(())
+}
