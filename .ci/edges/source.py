@@ -136,6 +136,11 @@ def bad_peers(checks, folder):
     ]
     for name, replies, wanted in cases:
         checks.same(name, source(peer(replies), stdin=one), wanted)
+    good = [new, idle, new, end, idle]
+    status, _, told = source(peer(good), peer(['{"refused":"TooFar"}\n']), stdin=one)
+    checks.same("the second node refuses", (status, told), (1, "rowmatch: node 2: refused\n"))
+    status, _, told = source(peer(good), peer(good), peer([idle]), stdin=one)
+    checks.same("a bad reply of the third node", (status, told), (1, "rowmatch: node 3: bad reply\n"))
 
 
 def faults(checks, folder):
