@@ -1,4 +1,5 @@
 //! Where the next search starts, and the item of a row in no match. Expected values are worked out by hand.
+use crate::support::{label, refused_twice};
 use rp_check::compile;
 use rp_eval::AllRows;
 use rp_known::{Item, Place, SkipFault, next_start, unmatched_item};
@@ -9,14 +10,6 @@ use rp_words::{End, Label};
 use std::alloc::Global;
 use std::process::Abort;
 use std::test::Fail;
-
-/// A row of this variable.
-fn label(var: usize) -> Label {
-    Label {
-        var,
-        excluded: false,
-    }
-}
 
 /// The start row after a match at row 5, where the clause skips so. A is variable 0, B is 1, C is 2, and U is B or C.
 fn next(alloc: Global, skip: &str, labels: &[Label]) -> Result<Result<u64, SkipFault>, Fail> {
@@ -79,7 +72,10 @@ fn unmatched(alloc: Global, query: &Query, rows: &AllRows) -> Result<Item, Fail>
     };
     match unmatched_item(alloc, query, rows, place, 2) {
         Ok(item) => Ok(item),
-        Err(_) => Ok(unmatched_item(alloc, query, rows, place, 2)?),
+        Err(_) => match unmatched_item(alloc, query, rows, place, 2) {
+            Ok(item) => Ok(item),
+            Err(_) => Err(refused_twice()),
+        },
     }
 }
 

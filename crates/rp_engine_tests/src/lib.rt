@@ -1,5 +1,5 @@
-//! The tests of rp_conditions, rp_known and rp_answer, and those of rp_eval that compile a clause, in a crate of their own:
-//! so these are proved once, and stand on no parser.
+//! The tests of rp_eval, rp_conditions, rp_known and rp_answer, in a crate of their own: so these are proved once, and stand on
+//! no parser. Items, values and conditions that show in a text are cases of cases/matcher.script and cases/values.script.
 #![tactic(auto)]
 
 #[cfg(test)]
@@ -8,5 +8,7 @@ mod answers;
 mod conditions;
 #[cfg(test)]
 mod known;
+#[cfg(test)]
+mod support;
 #[cfg(test)]
 mod values;

@@ -5,6 +5,7 @@ ghost use Rattle.rp_query.specs.QueryView.{data_of};
 ghost use Rattle.rp_known.specs.Known.{count};
 ghost use Rattle.rp_walker.specs.Walking.{CanGoOn};
 
+use crate::support::refused_twice;
 use rp_answer::Matcher;
 use rp_query::Query;
 use rp_search::Steps;
@@ -94,9 +95,13 @@ impl Driven {
         if !self.again {
             return Err(Fail::from(refused));
         }
-        self.matcher.push(refused.value)?;
-        self.last += 1;
-        Ok(())
+        match self.matcher.push(refused.value) {
+            Ok(()) => {
+                self.last += 1;
+                Ok(())
+            }
+            Err(_) => Err(refused_twice()),
+        }
     }
 
     pub fn close(&mut self) -> Result<(), Fail> {
@@ -118,8 +123,15 @@ impl Driven {
                 if !self.again {
                     return Err(Fail::from(refused));
                 }
-                Ok(self.matcher.poll(budget, steps)?)
+                self.poll_again(budget, steps)
             }
+        }
+    }
+
+    fn poll_again<L: Ledger>(&mut self, budget: u32, steps: &mut Steps<L>) -> Result<Poll, Fail> {
+        match self.matcher.poll(budget, steps) {
+            Ok(answer) => Ok(answer),
+            Err(_) => Err(refused_twice()),
         }
     }
 }

@@ -39,8 +39,6 @@ pub enum Event {
     Save,
     /// A matcher begins from the record that was kept.
     Restart,
-    /// A matcher begins from this record.
-    Resume(MatcherState),
 }
 
 /// What is told of these events.
@@ -120,8 +118,7 @@ impl Player {
             Event::Drain(budget) => self.drain(budget, steps),
             Event::Compare => self.compare(),
             Event::Save => self.save(),
-            Event::Restart => self.resume(self.saved),
-            Event::Resume(state) => self.resume(state),
+            Event::Restart => self.restart(),
         }
     }
 
@@ -205,9 +202,9 @@ impl Player {
         Ok(())
     }
 
-    fn resume(&mut self, state: MatcherState) -> Result<(), Fail> {
+    fn restart(&mut self) -> Result<(), Fail> {
         let query = self.query.share()?;
-        self.driven = Driven::resume(self.alloc, query, state, false)?;
+        self.driven = Driven::resume(self.alloc, query, self.saved, false)?;
         Ok(())
     }
 }

@@ -1,8 +1,11 @@
 //! A call that is refused memory, made again, answers as with ample memory.
-use super::V;
 use super::player::Event::{Close, Drain, Poll, Row};
 use super::player::play_again;
 use std::test::Fail;
+
+/// A fall and then a rise.
+const V: &str =
+    "PARTITION BY sym ORDER BY t MEASURES MATCH_NUMBER() AS n, FIRST(p) AS a, LAST(B.p) AS lo, LAST(C.p) AS hi PATTERN (A B+ C+) DEFINE B AS p < PREV(p), C AS p > PREV(p)";
 
 /// A poll after each push.
 #[test]

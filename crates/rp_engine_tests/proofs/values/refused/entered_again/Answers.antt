@@ -2,7 +2,7 @@ use Rattle.std.proofs.Common.{map, take, get_or, false, sym, ap, ◌∙◌}
 use Rattle.std.proofs.lemmas.List.{take_more}
 use Rattle.rp_words.specs.declared.word.Label.{Label}
 use Rattle.rp_eval.specs.Kept.{kept_of}
-use Rattle.rp_eval_tests.proofs.tests.refused.entered_again.Goals as goal
+use Rattle.rp_engine_tests.proofs.values.refused.entered_again.Goals as goal
 
 pub enter-requires-clause-new : goal.enter-requires-clause-new
 enter-requires-clause-new g c =

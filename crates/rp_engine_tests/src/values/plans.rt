@@ -75,13 +75,6 @@ pub fn plan(alloc: Global, totals: &[(Of, Function)]) -> Result<Rc<Vec<Total>>, 
     Ok(Rc::new(alloc, plan)?)
 }
 
-pub fn label(var: usize) -> Label {
-    Label {
-        var,
-        excluded: false,
-    }
-}
-
 /// The totals of labels, entered one by one.
 pub fn entered<R: Rows>(
     alloc: Global,

@@ -1,12 +1,16 @@
 //! A call that is refused memory, made again, answers as with ample memory.
-ghost use Rattle.std.specs.Prelude.{◌≡◌, ◌+◌, ◌≤◌, IfOk, length};
+ghost use Rattle.std.specs.Prelude.{◌≡◌, ◌+◌, ◌≤◌, ℕ, [], IfOk, length};
 ghost use Rattle.rp_eval.specs.Entered.{AreTotals};
+ghost use Rattle.rp_eval.specs.Partition.{Rows as Known};
 
-use super::support::{Of, label, plan, rows_of_cells, shown};
+use super::plans::{Of, plan, rows_of_cells, shown};
+use crate::support::{label, refused_twice};
+use rp_check::compile;
 use rp_eval::{Rows, Totals, View};
-use rp_query::{Edge, Expr, Function, Navigation, RowsOf, Step, Total};
+use rp_query::{Edge, Expr, Function, Navigation, Query, RowsOf, Step, Total};
+use rp_syntax::read_table;
 use rp_words::{End, Label};
-use std::alloc::{AllocError, Global};
+use std::alloc::Global;
 use std::rc::Rc;
 use std::test::Fail;
 
@@ -16,18 +20,24 @@ fn entered_again<R: Rows>(
     plan: &Rc<Vec<Total>>,
     rows: &R,
     labels: &[Label],
-) -> Result<Totals, AllocError>
+) -> Result<Totals, Fail>
     requires { length labels.now ≤ length (R.known rows.now) }
     ensures { IfOk result (λ totals. AreTotals totals (R.known rows.now) 1 labels.now) }
 {
     let mut totals = match Totals::of_plan(alloc, plan) {
         Ok(totals) => totals,
-        Err(_) => Totals::of_plan(alloc, plan)?,
+        Err(_) => match Totals::of_plan(alloc, plan) {
+            Ok(totals) => totals,
+            Err(_) => return Err(refused_twice()),
+        },
     };
     for depth in 0..labels.len() {
         match totals.enter(rows, 1, &labels[..depth + 1]) {
             Ok(()) => {}
-            Err(_) => totals.enter(rows, 1, &labels[..depth + 1])?,
+            Err(_) => match totals.enter(rows, 1, &labels[..depth + 1]) {
+                Ok(()) => {}
+                Err(_) => return Err(refused_twice()),
+            },
         }
     }
     Ok(totals)
@@ -81,14 +91,57 @@ fn refused_totals(rt: HostRuntime) -> Result<(), Fail> {
     Ok(())
 }
 
+/// The totals of a query. A call that is refused is made again.
+fn made_again(alloc: Global, query: &Query) -> Result<Totals, Fail>
+    ensures { IfOk result (λ totals. (p : Known) (start : ℕ) → AreTotals totals p start []) }
+{
+    match Totals::new(alloc, query) {
+        Ok(totals) => Ok(totals),
+        Err(_) => match Totals::new(alloc, query) {
+            Ok(totals) => Ok(totals),
+            Err(_) => Err(refused_twice()),
+        },
+    }
+}
+
+/// In an empty match nothing is counted, summed or found.
+#[test]
+fn refused_totals_of_a_query(rt: HostRuntime) -> Result<(), Fail> {
+    let alloc = rt.alloc();
+    let table = read_table(alloc, "p int, t text")?;
+    let text =
+        "MEASURES COUNT(*) AS c, SUM(p) AS s, FIRST(A.p) AS f, LAST(p) AS l, 7 AS k, CLASSIFIER() AS v PATTERN (A) DEFINE A AS p > 0";
+    let query = compile(alloc, text, &table)?;
+    let totals = made_again(alloc, &query)?;
+    let rows = rows_of_cells(alloc, &[(Some(4), None)], End::Open)?;
+    let view = View {
+        rows: &rows,
+        start: 1,
+        labels: &[],
+        current: 1,
+        number: 1,
+        totals: &totals,
+    };
+    let mut told = String::new(alloc);
+    for measure in query.plan().measures.iter() {
+        told.push_str(shown(alloc, measure, &view, 1)?.as_str())?;
+        told.push(' ')?;
+    }
+    assert_eq!(rt; told.as_str(), "0 null null null 7 null ");
+    Ok(())
+}
+
 /// The values of a measure at each of the six rows. Where one is refused, all are worked out again.
-fn again<R: Rows>(alloc: Global, expr: &Expr, view: &View<R>) -> Result<String, AllocError>
+fn again<R: Rows>(alloc: Global, expr: &Expr, view: &View<R>) -> Result<String, Fail>
     requires from_one { 1 ≤ view.now.start }
     requires on_rows { view.now.start + length view.now.labels.now ≤ length (R.known view.now.rows.now) + 1 }
     requires totals { AreTotals view.now.totals.now (R.known view.now.rows.now) view.now.start view.now.labels.now }
 {
     match shown(alloc, expr, view, 6) {
         Ok(shown) => Ok(shown),
-        Err(_) => shown(alloc, expr, view, 6),
+        Err(_) => match shown(alloc, expr, view, 6) {
+            Ok(shown) => Ok(shown),
+            Err(_) => Err(refused_twice()),
+        },
     }
 }

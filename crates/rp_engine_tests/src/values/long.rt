@@ -1,5 +1,6 @@
 //! Long matches. What a row costs doesn't go up with their length, which `.ci/cost` shows.
-use super::support::{Of, entered, label, numbered, plan};
+use super::plans::{Of, entered, numbered, plan};
+use crate::support::label;
 use rp_eval::{AllRows, Cell, Rows, View, condition, measure};
 use rp_query::{Condition, Edge, Expr, Function, Navigation, RowsOf, Step};
 use rp_value::{Comparison, Value};

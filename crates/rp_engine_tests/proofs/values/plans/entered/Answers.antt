@@ -1,7 +1,7 @@
 use Rattle.std.proofs.Common.{take, get_or, false}
 use Rattle.std.proofs.lemmas.List.{take_more}
 use Rattle.rp_words.specs.declared.word.Label.{Label}
-use Rattle.rp_eval_tests.proofs.tests.support.entered.Goals as goal
+use Rattle.rp_engine_tests.proofs.values.plans.entered.Goals as goal
 
 pub loop-depth-init : goal.loop-depth-init
 loop-depth-init g c = c.in_ok-totals.ensures.none (g.R.Rows.known c.args.rows.now) c.args.start

@@ -1,7 +1,8 @@
 //! How many rows are asked for.
 ghost use Rattle.std.specs.Prelude.{◌≡◌};
 
-use super::support::{Of, entered, label, numbered, plan};
+use super::plans::{Of, entered, numbered, plan};
+use crate::support::label;
 use rp_eval::{AllRows, Cell, Rows, View, condition, measure};
 use rp_query::{Condition, Edge, Expr, Function, Navigation, RowsOf, Step};
 use rp_value::{Comparison, Row, Value};
