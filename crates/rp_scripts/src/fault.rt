@@ -20,7 +20,7 @@ pub enum EventFault {
     NothingBehindArrow,
     #[error("no arrow belongs here")]
     NoArrow,
-    #[error("an event before `node` or `matcher`")]
+    #[error("an event before `node`, `matcher` or `lines`")]
     NoSubject,
     #[error("a case without a name")]
     NoName,

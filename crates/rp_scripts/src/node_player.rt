@@ -11,6 +11,7 @@
 //!   front before had another.
 ghost use Rattle.std.specs.Prelude.{◌≡◌, ◌<◌};
 
+use crate::digest::sealed;
 use crate::fault::EventFault;
 use crate::line::{Line, budget, cells, no_words, number};
 use crate::refusals::Refusals;
@@ -20,7 +21,6 @@ use rp_query::Query;
 use rp_reference::item_text;
 use rp_search::Steps;
 use rp_value::{Cells, Row, Value};
-use sha2::{Digest, Sha256};
 use std::alloc::{AllocError, Global};
 use std::marker::Brand;
 use std::sync::ledger::{Blank, Ledger};
@@ -341,14 +341,4 @@ fn tell_restart(
         Some(fault) => tell_refused(alloc, fault, told),
         None => Ok(tell(told, "goes on")?),
     }
-}
-
-/// An object behind its digest, a line feed between them.
-fn sealed(alloc: Global, object: &str) -> Result<Vec<u8>, AllocError> {
-    let digest = Sha256::digest(object.as_bytes());
-    let digits = hex::encode(alloc, digest.as_slice())?;
-    let mut bytes = Vec::from_slice(alloc, digits.as_bytes())?;
-    bytes.push(b'\n')?;
-    bytes.extend_from_slice(object.as_bytes())?;
-    Ok(bytes)
 }

@@ -2,6 +2,7 @@
 use crate::case::Case;
 use crate::fault::{EventFault, Stopped};
 use crate::line::{Line, line_of, no_words, split_at_mark};
+use crate::lines_player::LinesPlayer;
 use crate::subject::Subject;
 use rp_check::compile;
 use rp_query::Query;
@@ -79,7 +80,7 @@ impl<'a> Script<'a> {
             "case" => self.begin_case(rt, line),
             "table" => self.set_table(line),
             "clause" => self.set_clause(line),
-            "node" | "matcher" => self.begin(line),
+            "node" | "matcher" | "lines" => self.begin(line),
             _ => self.play(rt, line),
         }
     }
@@ -157,15 +158,20 @@ impl<'a> Script<'a> {
         if self.case.is_none() {
             return self.without_case();
         }
-        let query = self.query()?;
-        let subject = match line.event {
-            "matcher" => Subject::matcher(self.alloc, query)?,
-            _ => Subject::node(self.alloc, query)?,
-        };
+        let subject = self.subject(line.event)?;
         if let Some(case) = &mut self.case {
             case.subject = subject;
         }
         Ok(())
+    }
+
+    /// What an event of this name begins.
+    fn subject(&self, event: &str) -> Result<Subject, EventFault> {
+        match event {
+            "lines" => Ok(Subject::Lines(LinesPlayer::new(self.alloc))),
+            "matcher" => Ok(Subject::matcher(self.alloc, self.query()?)?),
+            _ => Ok(Subject::node(self.alloc, self.query()?)?),
+        }
     }
 
     fn play(&mut self, rt: &HostRuntime, line: Line) -> Result<(), EventFault> {

@@ -1,6 +1,7 @@
 //! What a case plays.
 use crate::fault::EventFault;
 use crate::line::Line;
+use crate::lines_player::LinesPlayer;
 use crate::matcher_player::MatcherPlayer;
 use crate::node_player::NodePlayer;
 use rp_query::Query;
@@ -13,6 +14,7 @@ pub enum Subject {
     Nothing,
     Node(Box<NodePlayer>),
     Matcher(Box<MatcherPlayer>),
+    Lines(LinesPlayer),
 }
 
 impl Subject {
@@ -34,6 +36,7 @@ impl Subject {
             Subject::Nothing => Err(EventFault::NoSubject),
             Subject::Node(player) => player.act(line, told),
             Subject::Matcher(player) => player.act(line, told),
+            Subject::Lines(player) => player.act(line, told),
         }
     }
 
