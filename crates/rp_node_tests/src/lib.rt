@@ -1,4 +1,5 @@
-//! The tests of rp_node, in a crate of their own: so that is proved once, and stands on no parser.
+//! The tests of rp_node, rp_input and rp_whole, in a crate of their own: they compile clauses, which those three don't, and what they
+//! test is proved once, and not again with them.
 #![tactic(auto)]
 
 #[cfg(test)]
@@ -6,10 +7,14 @@ mod altered;
 #[cfg(test)]
 mod connections;
 #[cfg(test)]
+mod input;
+#[cfg(test)]
 mod refused;
 #[cfg(test)]
 mod schedules;
 #[cfg(test)]
 mod support;
+#[cfg(test)]
+mod whole;
 #[cfg(test)]
 mod worked;
