@@ -3,7 +3,7 @@ ghost use Rattle.std.specs.Prelude.{IfOk};
 ghost use Rattle.std.specs.Option.{ForSome};
 ghost use Rattle.rp_node.specs.GoingBack.{CanRestart};
 
-use super::support::{TABLE, V, query_of};
+use super::support::{V, query_of, refused_twice};
 use rp_io::{MemoryInput, MemoryOutput};
 use rp_node::{Node, RestartFault, begin};
 use rp_query::Query;
@@ -71,7 +71,7 @@ struct Ended {
     writer: MemoryOutput,
 }
 
-/// One connection. Want of memory ends the test.
+/// One connection. One that is out of memory ends the test.
 fn connection(
     alloc: Global,
     node: Node,
@@ -95,7 +95,7 @@ fn connection(
 fn first(alloc: Global, lines: &str, failing: Failing) -> Result<Ended, Fail>
     ensures again { IfOk result (λ ended. ForSome ended.end.saved (λ bytes. CanRestart ended.end.node.query bytes.items)) }
 {
-    let node = Node::new(alloc, query_of(alloc, TABLE, V)?);
+    let node = Node::new(alloc, query_of(alloc, V)?);
     connection(alloc, node, None, lines, failing)
 }
 
@@ -109,7 +109,7 @@ fn worked_lines(rt: HostRuntime) -> Result<(), Fail> {
 }
 
 #[test]
-fn refused_lines(rt: HostRuntime) -> Result<(), Fail> {
+fn faulty_lines(rt: HostRuntime) -> Result<(), Fail> {
     let ended = first(rt.alloc(), REFUSED, NONE)?;
     assert!(rt; ended.writer.bytes() == REFUSALS.as_bytes());
     Ok(())
@@ -229,7 +229,7 @@ fn saved_row(alloc: Global) -> Result<Option<Vec<u8>>, Fail> {
 #[test]
 fn begins_at_what_was_saved(rt: HostRuntime) -> Result<(), Fail> {
     let alloc = rt.alloc();
-    let begun = begin(alloc, query_of(alloc, TABLE, V)?, saved_row(alloc)?)?;
+    let begun = begin(alloc, query_of(alloc, V)?, saved_row(alloc)?)?;
     assert!(rt; begun.refused.is_none());
     let ended = connection(alloc, begun.node, begun.saved, ROW, NONE)?;
     assert!(rt; ended.writer.bytes() == "{\"taken\":\"repeat\"}\n".as_bytes());
@@ -240,15 +240,15 @@ fn begins_at_what_was_saved(rt: HostRuntime) -> Result<(), Fail> {
 #[test]
 fn begins_with_nothing(rt: HostRuntime) -> Result<(), Fail> {
     let alloc = rt.alloc();
-    let begun = begin(alloc, query_of(alloc, TABLE, V)?, None)?;
+    let begun = begin(alloc, query_of(alloc, V)?, None)?;
     assert!(rt; begun.refused.is_none() && begun.saved.is_none());
     let mut cut = saved_row(alloc)?;
     if let Some(bytes) = &mut cut {
         let _last = bytes.pop();
     }
-    let begun = begin(alloc, query_of(alloc, TABLE, V)?, cut)?;
+    let begun = begin(alloc, query_of(alloc, V)?, cut)?;
     assert!(rt; begun.refused == Some(RestartFault::Digest) && begun.saved.is_none());
-    let other = query_of(alloc, TABLE, "PATTERN (A) DEFINE A AS p = 1")?;
+    let other = query_of(alloc, "PATTERN (A) DEFINE A AS p = 1")?;
     let begun = begin(alloc, other, saved_row(alloc)?)?;
     assert!(rt; begun.refused == Some(RestartFault::ClauseDiffers) && begun.saved.is_none());
     Ok(())
@@ -269,17 +269,15 @@ fn replied(alloc: Global, query: Query) -> Result<Option<MemoryOutput>, AllocErr
 /// All lines are sent again to a node that was refused memory.
 #[test]
 fn refused_rounds(rt: HostRuntime) -> Result<(), Fail> {
-    let first = match replied(rt.alloc(), query_of(rt.alloc(), TABLE, V)?) {
-        Ok(replied) => replied,
-        Err(_) => None,
+    let query = query_of(rt.alloc(), V)?;
+    let again = query.share()?;
+    let writer = match replied(rt.alloc(), query) {
+        Ok(Some(writer)) => writer,
+        Ok(None) | Err(AllocError) => match replied(rt.alloc(), again) {
+            Ok(Some(writer)) => writer,
+            Ok(None) | Err(AllocError) => return Err(refused_twice()),
+        },
     };
-    let replied = match first {
-        Some(writer) => Some(writer),
-        None => replied(rt.alloc(), query_of(rt.alloc(), TABLE, V)?)?,
-    };
-    match &replied {
-        Some(writer) => assert!(rt; writer.bytes() == REPLIES.as_bytes()),
-        None => return Err(Fail::from("memory was refused twice")),
-    }
+    assert!(rt; writer.bytes() == REPLIES.as_bytes());
     Ok(())
 }

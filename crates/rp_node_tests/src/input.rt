@@ -1,29 +1,16 @@
 //! Rows of an input whose reads fail or are too few, and calls with refused memory. Rows of texts, their order and the faults of
 //! texts are in cases/inputs.cases.
-use rp_check::compile;
+use super::support::{prices, query_of, refused_twice};
 use rp_feed::Packet;
 use rp_input::{CsvFault, number_rows, order_rows, partitions, read_rows, rows_of};
 use rp_io::MemoryInput;
 use rp_query::Query;
-use rp_value::{Cells, Kind, Row, Table, Value};
+use rp_value::{Cells, Row, Value};
 use std::alloc::{AllocError, Global};
 use std::test::Fail;
 
-/// `sym text, t int, p int`.
-fn ticks(alloc: Global) -> Result<Table, Fail> {
-    let mut columns = Vec::new(alloc);
-    columns.push((String::from_str(alloc, "SYM")?, Kind::Text))?;
-    columns.push((String::from_str(alloc, "T")?, Kind::Int))?;
-    columns.push((String::from_str(alloc, "P")?, Kind::Int))?;
-    Ok(Table::new(alloc, columns)?)
-}
-
 const BY_SYM: &str =
     "PARTITION BY sym ORDER BY t MEASURES LAST(p) AS q PATTERN (A) DEFINE A AS p > 0";
-
-fn query(alloc: Global, clause: &str) -> Result<Query, Fail> {
-    Ok(compile(alloc, clause, &ticks(alloc)?)?)
-}
 
 /// Cells with a space before each: a text in quotes, null as `-`.
 fn show_cells(alloc: Global, shown: &mut String, cells: &[Value]) -> Result<(), AllocError> {
@@ -83,6 +70,12 @@ fn packets_of(alloc: Global, query: &Query, text: &str) -> Result<Vec<Packet>, C
     Ok(number_rows(alloc, query, rows)?)
 }
 
+/// The partitions of a text's rows.
+fn parts_of(alloc: Global, query: &Query, text: &str) -> Result<Vec<(Cells, Vec<Row>)>, CsvFault> {
+    let rows = rows_of(alloc, text.as_bytes(), query.table())?;
+    Ok(partitions(alloc, query, rows)?)
+}
+
 /// A text of thirty rows, of which the later half comes first, and the rows as they are in order.
 fn later_half_first(alloc: Global) -> Result<(String, String), AllocError> {
     let mut text = String::from_str(alloc, "sym,t,p\n")?;
@@ -95,7 +88,7 @@ fn later_half_first(alloc: Global) -> Result<(String, String), AllocError> {
     Ok((text, want))
 }
 
-/// The fault of an input, if it has one. Want of memory says nothing of it.
+/// The fault of an input, if it has one. A read that is out of memory says nothing of it.
 fn fault_of(read: Result<Vec<Row>, CsvFault>) -> Result<Option<CsvFault>, Fail> {
     match read {
         Err(CsvFault::OutOfMemory) => Err(Fail::from(CsvFault::OutOfMemory)),
@@ -107,7 +100,7 @@ fn fault_of(read: Result<Vec<Row>, CsvFault>) -> Result<Option<CsvFault>, Fail> 
 #[test]
 fn each_read_fails_once(rt: HostRuntime) -> Result<(), Fail> {
     let alloc = rt.alloc();
-    let table = ticks(alloc)?;
+    let table = prices(alloc)?;
     let text = b"sym,t,p\nx,1,2\ny,3,4\n";
     // Twenty bytes by pieces of eight are three reads, and the fourth tells the end.
     for failing in 1..5u64 {
@@ -132,7 +125,7 @@ fn each_read_fails_once(rt: HostRuntime) -> Result<(), Fail> {
 #[test]
 fn too_few_reads(rt: HostRuntime) -> Result<(), Fail> {
     let alloc = rt.alloc();
-    let table = ticks(alloc)?;
+    let table = prices(alloc)?;
     for reads in 0..4u64 {
         let mut source = MemoryInput::new(b"sym,t,p\nx,1,2\ny,3,4\n", 8, 0);
         assert_eq!(rt;
@@ -150,17 +143,12 @@ fn too_few_reads(rt: HostRuntime) -> Result<(), Fail> {
     Ok(())
 }
 
-/// A second refusal is a fault, since only one call for memory is refused in a run.
-fn refused_twice() -> Fail {
-    Fail::from("memory was refused twice")
-}
-
 // A call that is refused memory, made again, gives what it gives with ample memory.
 
 #[test]
 fn refused_rows(rt: HostRuntime) -> Result<(), Fail> {
     let alloc = rt.alloc();
-    let table = ticks(alloc)?;
+    let table = prices(alloc)?;
     let text = b"sym,t,p\nx,1,2\ny,3,\n";
     let mut source = MemoryInput::new(text, 8, 0);
     let rows = match read_rows(alloc, &mut source, &table, 9) {
@@ -186,7 +174,7 @@ fn refused_packets(rt: HostRuntime) -> Result<(), Fail> {
     let text = "sym,t,p\nx,2,8\n,1,1\ny,1,5\nx,1,10\n,0,2\nx,3,6\n";
     let want =
         "1 'x' 1 10;2 'x' 2 8;3 'x' 3 6;close 3 'x';1 - 0 2;2 - 1 1;close 2 -;1 'y' 1 5;close 1 'y';";
-    let query = query(alloc, BY_SYM)?;
+    let query = query_of(alloc, BY_SYM)?;
     let packets = match packets_of(alloc, &query, text) {
         Err(CsvFault::OutOfMemory) => match packets_of(alloc, &query, text) {
             Ok(packets) => packets,
@@ -202,17 +190,14 @@ fn refused_packets(rt: HostRuntime) -> Result<(), Fail> {
 #[test]
 fn refused_partitions(rt: HostRuntime) -> Result<(), Fail> {
     let alloc = rt.alloc();
-    let query = query(alloc, BY_SYM)?;
-    let text = b"sym,t,p\nx,2,8\ny,1,5\nx,1,10\n";
-    let rows = rows_of(alloc, text, query.table())?;
-    let parts = match partitions(alloc, &query, rows) {
-        Err(AllocError) => {
-            match partitions(alloc, &query, rows_of(alloc, text, query.table())?) {
-                Ok(parts) => parts,
-                Err(_) => return Err(refused_twice()),
-            }
-        }
-        Ok(parts) => parts,
+    let query = query_of(alloc, BY_SYM)?;
+    let text = "sym,t,p\nx,2,8\ny,1,5\nx,1,10\n";
+    let parts = match parts_of(alloc, &query, text) {
+        Err(CsvFault::OutOfMemory) => match parts_of(alloc, &query, text) {
+            Ok(parts) => parts,
+            Err(_) => return Err(refused_twice()),
+        },
+        first => first?,
     };
     let came = show_parts(alloc, parts.as_slice())?;
     assert_eq!(rt; came.as_str(), " 'x': 'x' 2 8; 'x' 1 10; 'y': 'y' 1 5;");
@@ -223,7 +208,7 @@ fn refused_partitions(rt: HostRuntime) -> Result<(), Fail> {
 #[test]
 fn refused_order(rt: HostRuntime) -> Result<(), Fail> {
     let alloc = rt.alloc();
-    let query = query(alloc, BY_SYM)?;
+    let query = query_of(alloc, BY_SYM)?;
     let (text, want) = later_half_first(alloc)?;
     let mut rows = rows_of(alloc, text.as_str().as_bytes(), query.table())?;
     if order_rows(&query, &mut rows).is_err() && order_rows(&query, &mut rows).is_err() {

@@ -3,13 +3,9 @@
 #![tactic(auto)]
 
 #[cfg(test)]
-mod altered;
-#[cfg(test)]
 mod connections;
 #[cfg(test)]
 mod input;
-#[cfg(test)]
-mod refused;
 #[cfg(test)]
 mod schedules;
 #[cfg(test)]

@@ -8,7 +8,7 @@ mod clauses;
 mod partition;
 mod simulated;
 
-use crate::support::{TABLE, V, query_of};
+use crate::support::{V, query_of};
 use clauses::CLAUSES;
 use partition::Partition;
 use rp_query::Query;
@@ -50,7 +50,7 @@ fn number_of(rt: &HostRuntime, name: &str, usual: u64) -> Result<u64, Fail> {
 
 fn each_clause(alloc: Global, rounds: u64, seed: u64, clauses: &[&str]) -> Result<(), Fail> {
     for clause in clauses {
-        let query = query_of(alloc, TABLE, *clause)?;
+        let query = query_of(alloc, *clause)?;
         each_round(alloc, rounds, seed, &query)?;
     }
     Ok(())

@@ -1,66 +1,49 @@
-//! Clauses, rows and checkpoints for the tests.
-pub mod player;
-
+//! Tables, queries and rows for the tests, and how a test ends that is refused memory twice.
 use rp_check::compile;
 use rp_query::Query;
 use rp_syntax::read_table;
-use rp_value::{Row, Text, Value};
-use sha2::{Digest, Sha256};
+use rp_value::{Row, Table, Text, Value};
 use std::alloc::{AllocError, Global};
 use std::test::Fail;
-
-pub const TABLE: &str = "sym text, t int, p int";
 
 /// A fall and then a rise.
 pub const V: &str =
     "PARTITION BY sym ORDER BY t MEASURES MATCH_NUMBER() AS n, FIRST(p) AS a, LAST(B.p) AS lo, LAST(C.p) AS hi PATTERN (A B+ C+) DEFINE B AS p < PREV(p), C AS p > PREV(p)";
 
-/// Each row of a match is an item.
-pub const FOUR: &str =
-    "MEASURES CLASSIFIER() AS c ALL ROWS PER MATCH PATTERN (A B C D) DEFINE A AS p > 0";
-
-pub fn query_of(alloc: Global, table: &str, clause: &str) -> Result<Query, Fail> {
-    let table = read_table(alloc, table)?;
-    Ok(compile(alloc, clause, &table)?)
+/// How a test ends of which a call was refused memory, and then refused it again.
+pub fn refused_twice() -> Fail {
+    Fail::from("memory was refused twice")
 }
 
-pub fn text_of(alloc: Global, letters: &str) -> Result<Value, AllocError> {
-    let text = Text::new(alloc, String::from_str(alloc, letters)?)?;
+/// A table of prices.
+pub fn prices(alloc: Global) -> Result<Table, Fail> {
+    Ok(read_table(alloc, "sym text, t int, p int")?)
+}
+
+/// The query of a clause over prices.
+pub fn query_of(alloc: Global, clause: &str) -> Result<Query, Fail> {
+    Ok(compile(alloc, clause, &prices(alloc)?)?)
+}
+
+fn symbol(alloc: Global) -> Result<Value, AllocError> {
+    let text = Text::new(alloc, String::from_str(alloc, "x")?)?;
     Ok(Value::Text(text))
 }
 
-/// The key of the symbol's partition.
-pub fn key_of(alloc: Global, query: &Query, symbol: &str) -> Result<Vec<Value>, AllocError> {
+/// The key of the only partition.
+pub fn key_of(alloc: Global, query: &Query) -> Result<Vec<Value>, AllocError> {
     let mut key = Vec::new(alloc);
     if !query.partition().is_empty() {
-        key.push(text_of(alloc, symbol)?)?;
+        key.push(symbol(alloc)?)?;
     }
     Ok(key)
 }
 
-/// The cells of a row: the symbol, its number and p where the table has three columns, or else p.
-pub fn row_of(
-    alloc: Global,
-    query: &Query,
-    symbol: &str,
-    number: u64,
-    p: Value,
-) -> Result<Row, Fail> {
+/// The row of a number, at this price.
+pub fn row_of(alloc: Global, number: u64, price: Value) -> Result<Row, Fail> {
     let mut cells = Vec::new(alloc);
-    if query.table().columns().len() > 1 {
-        cells.push(text_of(alloc, symbol)?)?;
-        cells.push(Value::Int(i64::try_from(number)?))?;
-    }
-    cells.push(p)?;
+    cells.push(symbol(alloc)?)?;
+    cells.push(Value::Int(i64::try_from(number)?))?;
+    cells.push(price)?;
     Ok(Row::new(alloc, cells)?)
-}
-
-/// An object behind its digest, a line feed between them.
-pub fn sealed(alloc: Global, object: &str) -> Result<Vec<u8>, AllocError> {
-    let digest = Sha256::digest(object.as_bytes());
-    let digits = hex::encode(alloc, digest.as_slice())?;
-    let mut bytes = Vec::from_slice(alloc, digits.as_bytes())?;
-    bytes.push(b'\n')?;
-    bytes.extend_from_slice(object.as_bytes())?;
-    Ok(bytes)
 }

@@ -30,8 +30,7 @@ impl Partition {
         known.push(known_items(alloc, query, &rows)?.len())?;
         for place in 0..dice.below(MANY_ROWS as u64) {
             let number = (place as u64).saturating_add(1);
-            rows.rows
-                .push(row_of(alloc, query, "x", number, cell(dice))?)?;
+            rows.rows.push(row_of(alloc, number, cell(dice))?)?;
             known.push(known_items(alloc, query, &rows)?.len())?;
         }
         rows.end = End::Closed;

@@ -146,13 +146,7 @@ impl<'a> Simulated<'a> {
         if !self.held.has(number) {
             return Ok(());
         }
-        let cells = row_of(
-            self.alloc,
-            self.whole.query,
-            "x",
-            number as u64,
-            Value::Int(9),
-        )?;
+        let cells = row_of(self.alloc, number as u64, Value::Int(9))?;
         match self.accept_row(number, cells) {
             Err(NodeFault::Conflict) | Ok(Taken::Old) => Ok(()),
             answer => self.wrong("other row", answer),
@@ -167,7 +161,7 @@ impl<'a> Simulated<'a> {
     }
 
     fn close(&mut self) -> Result<(), Fail> {
-        let key = Cells::new(key_of(self.alloc, self.whole.query, "x")?);
+        let key = Cells::new(key_of(self.alloc, self.whole.query)?);
         let count = self.whole.partition.count() as u64;
         match self.node.accept(Packet::Close { key, count }) {
             Ok(Taken::New) if !self.held.is_closed => {
@@ -200,7 +194,7 @@ impl<'a> Simulated<'a> {
 
     /// Polls once, and answers whether nothing more comes for now.
     fn polled<L: Ledger>(&mut self, budget: u32, steps: &mut Steps<L>) -> Result<bool, Fail> {
-        let key = key_of(self.alloc, self.whole.query, "x")?;
+        let key = key_of(self.alloc, self.whole.query)?;
         match self.node.poll(key.as_slice(), budget, steps) {
             Ok(Poll::Item(place, item)) => {
                 self.give(place, &item)?;

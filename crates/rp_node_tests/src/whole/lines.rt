@@ -1,5 +1,6 @@
 //! Answers as lines, over devices in memory.
-use super::{EACH, TICKS, V, query_of};
+use super::{EACH, TICKS};
+use crate::support::{V, query_of, refused_twice};
 use rp_input::CsvFault;
 use rp_io::{MemoryInput, MemoryOutput};
 use rp_value::Cells;
@@ -13,7 +14,7 @@ const TICKS_ANSWERED: &str = "\
 {\"end\":true,\"key\":[\"y\"],\"place\":\"1\"}
 ";
 
-/// Answers a clause, and says how the run ended. Want of memory ends the test.
+/// Answers a clause, and says how the run ended. A run that is out of memory ends the test.
 fn run(
     alloc: Global,
     clause: &str,
@@ -196,7 +197,7 @@ fn refused_whole(rt: HostRuntime) -> Result<(), Fail> {
             let mut sink = MemoryOutput::new(alloc, 4096, 100, 0)?;
             let mut source = MemoryInput::new(TICKS.as_bytes(), 1_000, 0);
             if run_whole(alloc, again, &mut source, &mut sink, &mut Unwatched, 9).is_err() {
-                return Err(Fail::from("memory was refused twice"));
+                return Err(refused_twice());
             }
             assert!(rt; sink.bytes() == want);
         }

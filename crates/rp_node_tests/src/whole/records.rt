@@ -1,5 +1,6 @@
 //! Answers as CSV, over devices in memory.
-use super::{EACH, TICKS, V, query_of};
+use super::{EACH, TICKS};
+use crate::support::{V, query_of, refused_twice};
 use rp_io::{MemoryInput, MemoryOutput};
 use rp_whole::{Unwatched, WholeFault, run_whole_csv};
 use std::alloc::Global;
@@ -7,7 +8,7 @@ use std::test::Fail;
 
 const TICKS_ANSWERED: &str = "SYM,N,A,LO,HI\nx,1,10,6,9\n";
 
-/// Answers a clause as CSV, without a skip fault, and says how the run ended. Want of memory ends the test.
+/// Answers a clause as CSV, without a skip fault, and says how the run ended. A run that is out of memory ends the test.
 fn run(
     alloc: Global,
     clause: &str,
@@ -79,7 +80,7 @@ fn refused_csv(rt: HostRuntime) -> Result<(), Fail> {
             let mut source = MemoryInput::new(TICKS.as_bytes(), 1_000, 0);
             match run_whole_csv(alloc, again, &mut source, &mut sink, &mut Unwatched, 9) {
                 Ok(stopped) => assert!(rt; stopped.is_empty()),
-                Err(_) => return Err(Fail::from("memory was refused twice")),
+                Err(_) => return Err(refused_twice()),
             }
             assert!(rt; sink.bytes() == want);
         }

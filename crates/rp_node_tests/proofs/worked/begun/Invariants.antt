@@ -1,4 +1,4 @@
-use Rattle.rp_node_tests.proofs.support.player.begun.Given as goal
+use Rattle.rp_node_tests.proofs.worked.begun.Given as goal
 
 abbrev pub ghosts-played : goal.ghosts-played
 ghosts-played a = record { name = a.blank.name; parts = a.blank.parts }
