@@ -1,5 +1,5 @@
-//! The tests of rp_words, rp_pattern and rp_search, in a crate of their own: so that these are proved once, and not again
-//! with their tests.
+//! The tests of rp_words, rp_pattern, rp_search and rp_trace, in a crate of their own: so that these are proved once, and not
+//! again with their tests. Replies and patterns that show in a text are in cases/trace.cases.
 #![tactic(auto)]
 
 #[cfg(test)]
@@ -8,3 +8,7 @@ mod lists;
 mod patterns;
 #[cfg(test)]
 mod searches;
+#[cfg(test)]
+mod support;
+#[cfg(test)]
+mod trace;

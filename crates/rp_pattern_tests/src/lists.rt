@@ -1,4 +1,5 @@
 //! Tests of word lists.
+use crate::support::refused_twice;
 use rp_pattern::{ListFault, list_words};
 use rp_words::{End, Form, Label, Mark, Pattern, Word};
 use std::alloc::{AllocError, Global};
@@ -208,12 +209,20 @@ fn orders(rt: HostRuntime) -> Result<(), Fail> {
     Ok(())
 }
 
+/// A list that was refused memory.
+fn listed_again(alloc: Global, pattern: &Pattern) -> Result<Vec<Word>, Fail> {
+    match list_words(alloc, pattern, 1, 3, End::Closed, 8) {
+        Err(ListFault::OutOfMemory) => Err(refused_twice()),
+        listed => Ok(listed?),
+    }
+}
+
 /// A list that is refused memory, asked for again, is what it is with ample memory.
 #[test]
 fn refused_list(rt: HostRuntime) -> Result<(), Fail> {
     let pattern = pattern(&rt, nested(rt.alloc())?);
     let list = match list_words(rt.alloc(), &pattern, 1, 3, End::Closed, 8) {
-        Err(ListFault::OutOfMemory) => list_words(rt.alloc(), &pattern, 1, 3, End::Closed, 8)?,
+        Err(ListFault::OutOfMemory) => listed_again(rt.alloc(), &pattern)?,
         other => other?,
     };
     assert_eq!(rt; list.len(), 8);

@@ -2,6 +2,7 @@
 ghost use Rattle.std.specs.Prelude.{◌≡◌, ◌≤◌, ◌<◌, length, IfOk, IfSome};
 ghost use Rattle.rp_words.specs.Words.{words};
 
+use crate::support::refused_twice;
 use rp_pattern::{
     Choices, End, Form, ListFault, Outlook, Pattern, Sight, Taken, law_labels, law_words,
     list_words, permutations,
@@ -11,12 +12,15 @@ use std::process::Abort;
 use std::test::Fail;
 
 /// All permutations, asked for again where memory is refused once.
-fn orders_of(alloc: Global, k: usize) -> Result<Vec<Vec<usize>>, AllocError>
+fn orders_of(alloc: Global, k: usize) -> Result<Vec<Vec<usize>>, Fail>
     requires { k ≤ 8 }
 {
     match permutations(alloc, k) {
         Ok(orders) => Ok(orders),
-        Err(_) => permutations(alloc, k),
+        Err(_) => match permutations(alloc, k) {
+            Ok(orders) => Ok(orders),
+            Err(_) => Err(refused_twice()),
+        },
     }
 }
 
@@ -175,12 +179,15 @@ fn refused_outlook(rt: HostRuntime) -> Result<(), Fail> {
 }
 
 /// The same, once more where memory was refused.
-fn sights(alloc: Global, rows: u64, end: End) -> Result<Option<(Sight, Sight)>, AllocError>
+fn sights(alloc: Global, rows: u64, end: End) -> Result<Option<(Sight, Sight)>, Fail>
     requires { rows ≤ 2 }
 {
     match looked_ahead(alloc, rows, end) {
         Ok(sights) => Ok(sights),
-        Err(_) => looked_ahead(alloc, rows, end),
+        Err(_) => match looked_ahead(alloc, rows, end) {
+            Ok(sights) => Ok(sights),
+            Err(_) => Err(refused_twice()),
+        },
     }
 }
 

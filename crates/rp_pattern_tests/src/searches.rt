@@ -11,7 +11,7 @@ use grid::Grid;
 use rp_search::{Outcome, Search, Steps, Tests, law_found, law_search};
 use rp_words::{End, Form, Pattern, Seen};
 use script::{MANY, a, any_before_b, b, created, play, two_ways_before_b};
-use std::alloc::{AllocError, Global};
+use std::alloc::Global;
 use std::marker::Brand;
 use std::process::Abort;
 use std::sync::ledger::{Blank, Ledger};
@@ -205,7 +205,7 @@ fn search_restarts(rt: HostRuntime) -> Result<(), Fail> {
 }
 
 /// The turns that a search for A takes from row 1 and, after a restart, from row 2, where it has a match at both.
-fn restarted<L: Ledger>(blank: Blank, alloc: Global) -> Result<Option<(u32, u32)>, AllocError>
+fn restarted<L: Ledger>(blank: Blank, alloc: Global) -> Result<Option<(u32, u32)>, Fail>
     requires name { blank.name ≡ L.name }
     requires parts { blank.parts ≡ L.parts }
     requires shared { 0 < blank.parts }

@@ -5,11 +5,13 @@ ghost use Rattle.rp_words.specs.Variables.{are_below};
 ghost use Rattle.rp_search.specs.Search.{CanRun, HasVariablesBelow, IsAtStart, IsSameSearch, RunAnswers, start_of_search};
 
 use super::grid::{Grid, write_letters};
+use crate::support::refused_twice;
 use rp_search::{Outcome, Search, Steps, Tests, law_search};
 use rp_words::{End, Form, Label, Pattern};
 use std::alloc::{AllocError, Global};
 use std::marker::Brand;
 use std::sync::ledger::{Blank, Ledger};
+use std::test::Fail;
 
 /// More runs than any test needs.
 pub const MANY: u64 = 100_000;
@@ -62,7 +64,7 @@ pub fn play(
     stages: &[(u64, End)],
     budget: u32,
     most: u64,
-) -> Result<Played, AllocError>
+) -> Result<Played, Fail>
     requires none { grid.entered.items ≡ [] }
 {
     counted::<Brand>(Blank::new(1), alloc, form, grid, stages, budget, most)
@@ -76,7 +78,7 @@ fn counted<L: Ledger>(
     stages: &[(u64, End)],
     budget: u32,
     most: u64,
-) -> Result<Played, AllocError>
+) -> Result<Played, Fail>
     requires name { blank.name ≡ L.name }
     requires parts { blank.parts ≡ L.parts }
     requires shared { 0 < blank.parts }
@@ -109,7 +111,7 @@ fn counted<L: Ledger>(
 }
 
 /// A search from row 1. A refused call is made again.
-pub fn created(alloc: Global, pattern: &Pattern) -> Result<Search, AllocError>
+pub fn created(alloc: Global, pattern: &Pattern) -> Result<Search, Fail>
     requires { are_below 2 (form_of pattern.now) ≡ true }
     ensures start { IfOk result (λ s. start_of_search s ≡ 1) }
     ensures variables { IfOk result (HasVariablesBelow 2) }
@@ -118,7 +120,10 @@ pub fn created(alloc: Global, pattern: &Pattern) -> Result<Search, AllocError>
     law_search();
     match Search::new(alloc, pattern, 1) {
         Ok(search) => Ok(search),
-        Err(_) => Search::new(alloc, pattern, 1),
+        Err(_) => match Search::new(alloc, pattern, 1) {
+            Ok(search) => Ok(search),
+            Err(_) => Err(refused_twice()),
+        },
     }
 }
 
@@ -138,7 +143,7 @@ pub fn decide<L: Ledger>(
     budget: u32,
     most: u64,
     steps: &mut Steps<L>,
-) -> Result<Decided, AllocError>
+) -> Result<Decided, Fail>
     requires can_run { CanRun search.old (⟦<Grid as Tests>⟧.subject grid.old) (⟦<Grid as Tests>⟧.entered grid.old) }
     ensures answers { IfOk result (λ decided.
         RunAnswers search.old search.new (⟦<Grid as Tests>⟧.subject grid.old) decided.outcome) }
@@ -167,7 +172,7 @@ fn run_once<L: Ledger>(
     budget: u32,
     steps: &mut Steps<L>,
     decided: &mut Decided,
-) -> Result<(), AllocError>
+) -> Result<(), Fail>
     requires paused { decided.old.outcome ≡ Outcome.Paused }
     requires can_run { CanRun search.old (⟦<Grid as Tests>⟧.subject grid.old) (⟦<Grid as Tests>⟧.entered grid.old) }
     ensures answers { OnOk result (RunAnswers search.old search.new
@@ -183,9 +188,9 @@ fn run_once<L: Ledger>(
             decided.runs = decided.runs.saturating_add(1);
             Ok(())
         }
-        Err(refused) => {
+        Err(_) => {
             if decided.began_again {
-                return Err(refused);
+                return Err(refused_twice());
             }
             decided.began_again = true;
             decided.runs = 0;

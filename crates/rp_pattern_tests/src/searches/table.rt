@@ -109,7 +109,7 @@ fn grids(alloc: Global) -> Result<Vec<Grid>, AllocError> {
 }
 
 /// In how many cases a search finds what the definition says: 8 lists of words for each pattern, and 6 ways to answer.
-fn agreeing(alloc: Global, forms: Vec<Form>) -> Result<u64, ListFault> {
+fn agreeing(alloc: Global, forms: Vec<Form>) -> Result<u64, Fail> {
     let mut grids = grids(alloc)?;
     let mut count: u64 = 0;
     for form in forms {
@@ -119,7 +119,7 @@ fn agreeing(alloc: Global, forms: Vec<Form>) -> Result<u64, ListFault> {
 }
 
 /// Over 1 to 4 rows, open and closed.
-fn over_rows(alloc: Global, form: Form, grids: &mut [Grid]) -> Result<u64, ListFault> {
+fn over_rows(alloc: Global, form: Form, grids: &mut [Grid]) -> Result<u64, Fail> {
     if !form.is_allowed() || !form.are_below(2) {
         return Ok(0);
     }
@@ -146,7 +146,7 @@ fn over_ways(
     grids: &mut [Grid],
     known: u64,
     end: End,
-) -> Result<u64, AllocError>
+) -> Result<u64, Fail>
     requires { are_below 2 (form_of pattern.now) ≡ true }
 {
     let mut count: u64 = 0;
@@ -167,7 +167,7 @@ fn agrees(
     known: u64,
     end: End,
     budget: u32,
-) -> Result<bool, AllocError>
+) -> Result<bool, Fail>
     requires { are_below 2 (form_of pattern.now) ≡ true }
 {
     counted::<Brand>(
@@ -191,7 +191,7 @@ fn counted<L: Ledger>(
     known: u64,
     end: End,
     budget: u32,
-) -> Result<bool, AllocError>
+) -> Result<bool, Fail>
     requires variables { are_below 2 (form_of pattern.now) ≡ true }
     requires name { blank.name ≡ L.name }
     requires parts { blank.parts ≡ L.parts }

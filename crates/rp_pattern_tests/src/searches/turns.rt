@@ -5,7 +5,7 @@
 use super::grid::Grid;
 use super::script::{MANY, a, any, b, play, two_ways_before_b};
 use rp_words::{End, Form, Seen};
-use std::alloc::{AllocError, Global};
+use std::alloc::Global;
 use std::test::Fail;
 
 /// The row 1, where the answers begin with a row 0, is refused.
@@ -22,7 +22,7 @@ fn turns(
     second: &[Seen],
     known: u64,
     end: End,
-) -> Result<u64, AllocError> {
+) -> Result<u64, Fail> {
     let grid = Grid::answering(alloc, 0, first, second)?;
     let played = play(alloc, form, grid, &[(known, end)], 1, MANY)?;
     Ok(played.runs)
@@ -68,7 +68,7 @@ fn turns_of_refused_iterations(rt: HostRuntime) -> Result<(), Fail> {
 }
 
 /// The turns of `(A | A)* B` over so many rows, none of which is a B.
-fn refused_turns(alloc: Global, rows: u64) -> Result<u64, AllocError> {
+fn refused_turns(alloc: Global, rows: u64) -> Result<u64, Fail> {
     let form = two_ways_before_b(alloc)?;
     turns(alloc, form, &[], &[Seen::NotTrue; 4], rows, End::Closed)
 }

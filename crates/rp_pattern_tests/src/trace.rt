@@ -5,6 +5,7 @@ ghost use Rattle.rp_words.specs.PatternForm.{form_of};
 ghost use Rattle.rp_words.specs.Variables.{are_below};
 ghost use Rattle.rp_trace.specs.Limits.{letter_count};
 
+use crate::support::refused_twice;
 use rp_io::{MemoryInput, MemoryOutput, Port, READS};
 use rp_trace::{BUDGET, TraceFault, TracePatternFault, run_trace, trace_pattern};
 use rp_words::Pattern;
@@ -65,17 +66,22 @@ fn run_once(
 }
 
 /// A run that was refused memory is made again.
-fn run_lines(
-    alloc: Global,
-    pattern: &Pattern,
-    lines: &[u8],
-    limits: Limits,
-) -> Result<Ran, AllocError>
+fn run_lines(alloc: Global, pattern: &Pattern, lines: &[u8], limits: Limits) -> Result<Ran, Fail>
     requires { are_below letter_count (form_of pattern.now) ≡ true }
 {
     let ran = run_once(alloc, pattern, lines, limits)?;
     if ran.result == Err(TraceFault::OutOfMemory) {
-        return run_once(alloc, pattern, lines, limits);
+        return run_again(alloc, pattern, lines, limits);
+    }
+    Ok(ran)
+}
+
+fn run_again(alloc: Global, pattern: &Pattern, lines: &[u8], limits: Limits) -> Result<Ran, Fail>
+    requires { are_below letter_count (form_of pattern.now) ≡ true }
+{
+    let ran = run_once(alloc, pattern, lines, limits)?;
+    if ran.result == Err(TraceFault::OutOfMemory) {
+        return Err(refused_twice());
     }
     Ok(ran)
 }
@@ -97,7 +103,7 @@ fn pattern_again(alloc: Global, text: &str) -> Result<Pattern, Fail>
 {
     match trace_pattern(alloc, text) {
         Ok(pattern) => Ok(pattern),
-        Err(_) => Err(Fail::from("memory was refused twice")),
+        Err(_) => Err(refused_twice()),
     }
 }
 
@@ -135,6 +141,22 @@ fn repeated(alloc: Global, text: &[u8], times: usize) -> Result<Vec<u8>, AllocEr
         all.extend_from_slice(text)?;
     }
     Ok(all)
+}
+
+/// 9,000 replies of 8 bytes are more than a block, and more than the device takes at a call.
+#[test]
+fn blocks(rt: HostRuntime) -> Result<(), Fail> {
+    let pattern = pattern_of(rt.alloc(), "C")?;
+    let lines = repeated(rt.alloc(), b"1\n", 9_000)?;
+    let mut source = MemoryInput::new(lines.as_slice(), 100_000, NEVER);
+    let mut sink = MemoryOutput::new(rt.alloc(), 100_000, 7_000, NEVER)?;
+    let result = run_trace(rt.alloc(), &mut source, &mut sink, &pattern, 2);
+    if result != Err(TraceFault::OutOfMemory) {
+        assert_eq!(rt; result, Ok(()));
+        let wanted = repeated(rt.alloc(), b"refused\n", 9_000)?;
+        assert!(rt; sink.bytes() == wanted.as_slice());
+    }
+    Ok(())
 }
 
 /// The replies to the first chunk are more than a block: they are written before the next chunk is read.
@@ -253,7 +275,7 @@ fn refused_run(rt: HostRuntime) -> Result<(), Fail> {
     let mut ran = run_once(rt.alloc(), &pattern, LINES.as_bytes(), ALL)?;
     if ran.result == Err(TraceFault::OutOfMemory) {
         assert!(rt; REPLIES.as_bytes().starts_with(ran.sink.bytes()));
-        ran = run_once(rt.alloc(), &pattern, LINES.as_bytes(), ALL)?;
+        ran = run_again(rt.alloc(), &pattern, LINES.as_bytes(), ALL)?;
     }
     assert_eq!(rt; ran.result, Ok(()));
     assert_eq!(rt; ran.sink.bytes(), REPLIES.as_bytes());
