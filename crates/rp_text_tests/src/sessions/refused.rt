@@ -1,6 +1,6 @@
 //! A call that is refused memory, made again, answers as with ample memory.
-use crate::driving::{ITEMS, REPLIES, SENT, packets, query};
-use crate::node::SmallNode;
+use super::driving::{ITEMS, REPLIES, SENT, packets, query};
+use super::node::SmallNode;
 use rp_drive::{DriveFault, drive};
 use rp_io::{MemoryInput, MemoryOutput};
 use rp_serve::{ServeFault, round};

@@ -1,6 +1,6 @@
 //! Both sides over one connection on loopback.
-use crate::driving::{ITEMS, REPLIES, SENT, packets, query};
-use crate::node::SmallNode;
+use super::driving::{ITEMS, REPLIES, SENT, packets, query};
+use super::node::SmallNode;
 use rp_drive::drive;
 use rp_io::{MemoryOutput, Port};
 use rp_serve::serve;

@@ -1,5 +1,5 @@
 //! Sessions over devices in memory.
-use crate::node::SmallNode;
+use super::node::SmallNode;
 use rp_io::{MemoryInput, MemoryOutput};
 use rp_serve::{ServeFault, serve};
 use std::alloc::{AllocError, Global};

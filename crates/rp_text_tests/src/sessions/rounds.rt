@@ -1,5 +1,5 @@
 //! Connections over devices in memory, after which a node is saved or goes back.
-use crate::node::SmallNode;
+use super::node::SmallNode;
 use rp_io::{MemoryInput, MemoryOutput};
 use rp_serve::{RoundEnd, ServeFault, round};
 use std::alloc::{AllocError, Global};
