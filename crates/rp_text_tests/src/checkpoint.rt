@@ -1,46 +1,54 @@
 //! Checkpoints, against bytes written by hand. The digests in full are those of `sha256sum`.
+mod chance;
+
+use crate::support::{all_told, at_last, text_of};
 use rp_checkpoint::{
-    CheckpointFault, Columns, HeldRow, HeldRows, NodeData, PartitionData, Partitions, ascend,
-    checkpoint_of, read_checkpoint,
+    CheckpointFault, Columns, NodeData, Partitions, checkpoint_of, read_checkpoint,
 };
-use rp_value::{Cells, Column, Kind, Row, Text, Value};
+use rp_value::{Column, Kind, Value};
 use sha2::{Digest, Sha256};
 use std::alloc::{AllocError, Global};
 use std::process::Abort;
 use std::test::Fail;
 
 const FRESH: &str =
-    "3435687f8cb34f454bce57a8b76fd78ebd5afca36a69d5ce7899db5ee61e6442\n{\"clause\":\"PATTERN (A) DEFINE A AS p = 1\",\"partitions\":[],\"table\":[[\"P\",\"int\"]],\"version\":2}";
+    "3435687f8cb34f454bce57a8b76fd78ebd5afca36a69d5ce7899db5ee61e6442\n{\"clause\":\"PATTERN (A) DEFINE A AS p = 1\",\
+     \"partitions\":[],\"table\":[[\"P\",\"int\"]],\"version\":2}";
 
 /// Partitions of all shapes in version 1, whose counts of items given are numbers.
 const FIRST: &str =
-    "a97fb6a26669d3f7f842fa6b4bf8b282ed980d003179f7aacdc1fc9f02fdccb6\n{\"clause\":\"A \\\"q\\\"\",\"partitions\":[{\"at\":6,\"close\":null,\"covered\":5,\"first\":5,\"given\":1,\"here\":0,\"key\":[\"x\"],\"matches\":1,\"over\":false,\"rows\":[[5,[\"x\",5,9]],[6,[\"x\",6,9]]]},{\"at\":1,\"close\":1099511627776,\"covered\":0,\"first\":1,\"given\":18446744073709551615,\"here\":18446744073709551615,\"key\":[null,-1],\"matches\":0,\"over\":true,\"rows\":[]}],\"table\":[[\"P\",\"int\"],[\"SYM\",\"text\"]],\"version\":1}";
+    "a97fb6a26669d3f7f842fa6b4bf8b282ed980d003179f7aacdc1fc9f02fdccb6\n{\"clause\":\"A \\\"q\\\"\",\"partitions\":[{\"at\":6,\
+     \"close\":null,\"covered\":5,\"first\":5,\"given\":1,\"here\":0,\"key\":[\"x\"],\"matches\":1,\"over\":false,\
+     \"rows\":[[5,[\"x\",5,9]],[6,[\"x\",6,9]]]},{\"at\":1,\"close\":1099511627776,\"covered\":0,\"first\":1,\
+     \"given\":18446744073709551615,\"here\":18446744073709551615,\"key\":[null,-1],\"matches\":0,\"over\":true,\"rows\":[]}],\
+     \"table\":[[\"P\",\"int\"],[\"SYM\",\"text\"]],\"version\":1}";
 
 /// The same in version 2, with the greatest count that a text may have.
 const SECOND: &str =
-    "9963664378ae195d6f395ac9b083ade7f5e17886ed2a6c3daa78c17696a18e8e\n{\"clause\":\"A \\\"q\\\"\",\"partitions\":[{\"at\":6,\"close\":null,\"covered\":5,\"first\":5,\"given\":\"1\",\"here\":0,\"key\":[\"x\"],\"matches\":1,\"over\":false,\"rows\":[[5,[\"x\",5,9]],[6,[\"x\",6,9]]]},{\"at\":1,\"close\":1099511627776,\"covered\":0,\"first\":1,\"given\":\"340282366920938463463374607431768211455\",\"here\":18446744073709551615,\"key\":[null,-1],\"matches\":0,\"over\":true,\"rows\":[]}],\"table\":[[\"P\",\"int\"],[\"SYM\",\"text\"]],\"version\":2}";
+    "9963664378ae195d6f395ac9b083ade7f5e17886ed2a6c3daa78c17696a18e8e\n{\"clause\":\"A \\\"q\\\"\",\"partitions\":[{\"at\":6,\
+     \"close\":null,\"covered\":5,\"first\":5,\"given\":\"1\",\"here\":0,\"key\":[\"x\"],\"matches\":1,\"over\":false,\
+     \"rows\":[[5,[\"x\",5,9]],[6,[\"x\",6,9]]]},{\"at\":1,\"close\":1099511627776,\"covered\":0,\"first\":1,\
+     \"given\":\"340282366920938463463374607431768211455\",\"here\":18446744073709551615,\"key\":[null,-1],\"matches\":0,\
+     \"over\":true,\"rows\":[]}],\"table\":[[\"P\",\"int\"],[\"SYM\",\"text\"]],\"version\":2}";
 
 /// The partition of which the tests of faults change one field each.
 const PARTITION: &str =
-    "{\"at\":1,\"close\":null,\"covered\":0,\"first\":1,\"given\":\"0\",\"here\":0,\"key\":[],\"matches\":0,\"over\":false,\"rows\":[[1,[1]]]}";
-
-fn text(alloc: Global, text: &str) -> Result<Text, AllocError> {
-    Text::new(alloc, String::from_str(alloc, text)?)
-}
+    "{\"at\":1,\"close\":null,\"covered\":0,\"first\":1,\"given\":\"0\",\"here\":0,\"key\":[],\"matches\":0,\"over\":false,\
+     \"rows\":[[1,[1]]]}";
 
 fn fresh(alloc: Global) -> Result<NodeData, AllocError> {
-    let name = text(alloc, "P")?;
+    let name = text_of(alloc, "P")?;
     let kind = Kind::Int;
     let mut columns = Vec::new(alloc);
     columns.push(Column { name, kind })?;
     Ok(NodeData {
-        clause: text(alloc, "PATTERN (A) DEFINE A AS p = 1")?,
+        clause: text_of(alloc, "PATTERN (A) DEFINE A AS p = 1")?,
         table: Columns::new(columns),
         partitions: Partitions::new(Vec::new(alloc)),
     })
 }
 
-/// The fault of bytes, want of memory aside.
+/// The fault of bytes, unless that is out of memory.
 fn fault_of(alloc: Global, bytes: &[u8]) -> Result<Option<CheckpointFault>, CheckpointFault> {
     match read_checkpoint(alloc, bytes) {
         Ok(_) => Ok(None),
@@ -316,150 +324,28 @@ const FAULT_TEXTS: [(CheckpointFault, &str); 5] = [
     (CheckpointFault::OutOfMemory, "out of memory"),
 ];
 
-/// Whether each fault is printed as its text.
-fn faults_printed(
-    rt: &impl Abort,
-    alloc: Global,
-    texts: &[(CheckpointFault, &str)],
-) -> Result<(), Fail> {
-    for (fault, text) in texts {
-        assert_eq!(rt; format!(in alloc; "{fault}")?.as_str(), *text);
-    }
-    Ok(())
-}
-
 #[test]
 fn fault_texts(rt: HostRuntime) -> Result<(), Fail> {
-    faults_printed(&rt, rt.alloc(), &FAULT_TEXTS)
-}
-
-/// A stream of numbers that look random, by Knuth's multiplier.
-#[derive(Drop)]
-struct Chance {
-    state: u64,
-}
-
-impl Chance {
-    fn next(&mut self) -> u64 {
-        self.state = self.state.wrapping_mul(6_364_136_223_846_793_005);
-        self.state = self.state.wrapping_add(1_442_695_040_888_963_407);
-        self.state.wrapping_shr(33)
-    }
-
-    /// A number of any length.
-    fn number(&mut self) -> u64 {
-        let places = u32::try_from(self.next()).unwrap_or(0);
-        self.next();
-        self.state.wrapping_shr(places)
-    }
-
-    fn value(&mut self, alloc: Global) -> Result<Value, AllocError> {
-        match self.next() % 4 {
-            0 => Ok(Value::Null),
-            1 => Ok(Value::Int(i64::MIN)),
-            2 => Ok(Value::Int(i64::try_from(self.number()).unwrap_or(-1))),
-            _ => Ok(Value::Text(text(alloc, "\"\\\n\u{1f600}")?)),
-        }
-    }
-
-    fn values(&mut self, alloc: Global) -> Result<Vec<Value>, AllocError> {
-        let mut values = Vec::new(alloc);
-        for _ in 0..self.next() % 4 {
-            values.push(self.value(alloc)?)?;
-        }
-        Ok(values)
-    }
-
-    fn rows(&mut self, alloc: Global) -> Result<HeldRows, Fail> {
-        let mut rows = Vec::new(alloc);
-        let mut number = self.next();
-        for _ in 0..self.next() % 4 {
-            let cells = Row::new(alloc, self.values(alloc)?)?;
-            rows.push(HeldRow { number, cells })?;
-            number = number.saturating_add(1).saturating_add(self.next());
-        }
-        if !ascend(rows.as_slice()) {
-            return Err("the numbers ascend".into());
-        }
-        Ok(HeldRows::new(rows))
-    }
-
-    fn partition(&mut self, alloc: Global) -> Result<PartitionData, Fail> {
-        let count = self.number();
-        let rows = self.rows(alloc)?;
-        let key = Cells::new(self.values(alloc)?);
-        Ok(PartitionData {
-            at: self.number(),
-            close: if count % 2 == 0 { None } else { Some(count) },
-            covered: self.number(),
-            first: self.number(),
-            given: u128::from(self.number()).wrapping_mul(u128::from(self.number())),
-            here: self.number(),
-            key,
-            matches: self.number(),
-            over: self.next() % 2 == 0,
-            rows,
-        })
-    }
-
-    fn node(&mut self, alloc: Global) -> Result<NodeData, Fail> {
-        let mut partitions = Vec::new(alloc);
-        for _ in 0..self.next() % 4 {
-            partitions.push(self.partition(alloc)?)?;
-        }
-        Ok(NodeData {
-            clause: text(alloc, "A")?,
-            table: Columns::new(Vec::new(alloc)),
-            partitions: Partitions::new(partitions),
-        })
-    }
-}
-
-fn same_rows(one: &HeldRows, other: &HeldRows) -> bool {
-    let (one, other) = (one.as_slice(), other.as_slice());
-    one.len() == other.len()
-        && one.iter().zip(other).all(|(row, its)| row.number == its.number
-            && row.cells == its.cells)
-}
-
-fn same_partition(one: &PartitionData, other: &PartitionData) -> bool {
-    (one.at, one.close, one.covered, one.first)
-        == (other.at, other.close, other.covered, other.first)
-        && (one.given, one.here, one.matches, one.over)
-            == (other.given, other.here, other.matches, other.over)
-        && one.key == other.key
-        && same_rows(&one.rows, &other.rows)
-}
-
-fn same_node(one: &NodeData, other: &NodeData) -> bool {
-    let (its, others) = (one.partitions.as_slice(), other.partitions.as_slice());
-    one.clause == other.clause
-        && one.table.as_slice() == other.table.as_slice()
-        && its.len() == others.len()
-        && its.iter().zip(others).all(|(a, b)| same_partition(a, b))
-}
-
-#[test]
-fn random_nodes_there_and_back(rt: HostRuntime) -> Result<(), Fail> {
-    let alloc = rt.alloc();
-    let mut chance = Chance { state: 1 };
-    for _ in 0..1000 {
-        let node = chance.node(alloc)?;
-        let bytes = checkpoint_of(alloc, &node)?;
-        let again = read_checkpoint(alloc, bytes.as_slice())?;
-        assert!(rt; same_node(&again, &node));
-    }
-    Ok(())
+    all_told(&rt, rt.alloc(), &FAULT_TEXTS)
 }
 
 // A call that is refused memory, made again, gives what it gives with ample memory.
+
+/// The node of a checkpoint, or its node at last.
+fn read_at_last(alloc: Global, bytes: &[u8]) -> Result<NodeData, Fail> {
+    match read_checkpoint(alloc, bytes) {
+        Err(CheckpointFault::OutOfMemory) => {}
+        node => return Ok(node?),
+    }
+    at_last(read_checkpoint(alloc, bytes))
+}
 
 #[test]
 fn refused_checkpoint(rt: HostRuntime) -> Result<(), Fail> {
     let alloc = rt.alloc();
     let bytes = SECOND.as_bytes();
-    let node = read_checkpoint(alloc, bytes).or_else(|_| read_checkpoint(alloc, bytes))?;
-    let again = checkpoint_of(alloc, &node).or_else(|_| checkpoint_of(alloc, &node))?;
-    assert!(rt; again.as_slice() == bytes);
+    let node = read_at_last(alloc, bytes)?;
+    let again = checkpoint_of(alloc, &node).or_else(|_| checkpoint_of(alloc, &node));
+    assert!(rt; at_last(again)?.as_slice() == bytes);
     Ok(())
 }

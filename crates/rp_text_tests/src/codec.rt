@@ -1,15 +1,13 @@
-//! Lines of replies, against texts written by hand.
+//! Lines of packets, of polls and of replies, against texts written by hand.
+use crate::support::{at_last, text};
 use rp_codec::{
-    Field, Item, Refusal, Reply, SkipFault, Taken, push_item_line, push_reply_line, reply_line,
+    Field, Item, Packet, Refusal, Reply, SkipFault, Taken, packet_line, poll_line, push_item_line,
+    push_reply_line, reply_line,
 };
-use rp_value::{Cells, Text, Value};
+use rp_value::{Cells, Row, Value};
 use std::alloc::{AllocError, Global};
 use std::process::Abort;
 use std::test::Fail;
-
-fn text(alloc: Global, text: &str) -> Result<Value, AllocError> {
-    Ok(Value::Text(Text::new(alloc, String::from_str(alloc, text)?)?))
-}
 
 fn reply(alloc: Global, key: Vec<Value>, place: u128, item: Item) -> Reply {
     Reply::Item {
@@ -160,17 +158,88 @@ fn item_lines_go_into_one_buffer(rt: HostRuntime) -> Result<(), Fail> {
     Ok(())
 }
 
+/// Row 1 of partition x.
+fn first_row(alloc: Global) -> Result<Packet, AllocError> {
+    let cells = vec![in alloc; text(alloc, "x")?, Value::Int(-1), Value::Null]?;
+    Ok(Packet::Row {
+        number: 1,
+        cells: Row::new(alloc, cells)?,
+    })
+}
+
+/// The line of it.
+const ROW_LINE: &str = "{\"cells\":[\"x\",-1,null],\"row\":1}";
+
+/// The line of a poll of partition x.
+const POLL_LINE: &str = "{\"budget\":50,\"poll\":[\"x\"]}";
+
+#[test]
+fn lines_of_packets_and_polls(rt: HostRuntime) -> Result<(), Fail> {
+    let alloc = rt.alloc();
+    let row = packet_line(alloc, &first_row(alloc)?)?;
+    assert!(rt; row.as_slice() == ROW_LINE.as_bytes());
+    let key = Cells::new(vec![in alloc; text(alloc, "x")?]?);
+    let poll = poll_line(alloc, &key, 50)?;
+    assert!(rt; poll.as_slice() == POLL_LINE.as_bytes());
+    let close = packet_line(alloc, &Packet::Close { key, count: 1 })?;
+    assert!(rt; close.as_slice() == b"{\"close\":1,\"key\":[\"x\"]}".as_slice());
+    Ok(())
+}
+
 // A call that is refused memory, made again, gives what it gives with ample memory.
+
+#[test]
+fn refused_packet_and_poll(rt: HostRuntime) -> Result<(), Fail> {
+    let alloc = rt.alloc();
+    let packet = first_row(alloc)?;
+    let key = Cells::new(vec![in alloc; text(alloc, "x")?]?);
+    let row = at_last(packet_line(alloc, &packet).or_else(|_| packet_line(alloc, &packet)))?;
+    let poll = at_last(poll_line(alloc, &key, 50).or_else(|_| poll_line(alloc, &key, 50)))?;
+    assert!(rt; row.as_slice() == ROW_LINE.as_bytes());
+    assert!(rt; poll.as_slice() == POLL_LINE.as_bytes());
+    Ok(())
+}
 
 #[test]
 fn refused_reply_line(rt: HostRuntime) -> Result<(), Fail> {
     let alloc = rt.alloc();
     let key = vec![in alloc; text(alloc, "x")?]?;
     let reply = reply(alloc, key, 3, Item::End);
-    let line = reply_line(alloc, &reply).or_else(|_| reply_line(alloc, &reply))?;
+    let line = at_last(reply_line(alloc, &reply).or_else(|_| reply_line(alloc, &reply)))?;
     assert_eq!(rt;
         line.as_str(),
         "{\"end\":true,\"key\":[\"x\"],\"place\":\"3\"}"
     );
+    Ok(())
+}
+
+/// A buffer that is refused room for a line stays as it is.
+#[test]
+fn refused_reply_in_a_buffer(rt: HostRuntime) -> Result<(), Fail> {
+    let alloc = rt.alloc();
+    let reply = reply(alloc, Vec::new(alloc), 3, Item::End);
+    let mut buffer = Vec::from_slice(alloc, b"x\n")?;
+    if push_reply_line(alloc, &mut buffer, &reply).is_err() {
+        assert!(rt; buffer.as_slice() == b"x\n".as_slice());
+        at_last(push_reply_line(alloc, &mut buffer, &reply))?;
+    }
+    let want = "x\n{\"end\":true,\"key\":[],\"place\":\"3\"}";
+    assert!(rt; buffer.as_slice() == want.as_bytes());
+    Ok(())
+}
+
+/// A buffer that is refused room for an item may have a part of its line.
+#[test]
+fn refused_item_in_a_buffer(rt: HostRuntime) -> Result<(), Fail> {
+    let alloc = rt.alloc();
+    let key = Cells::new(vec![in alloc; Value::Int(7)]?);
+    let mut buffer = Vec::from_slice(alloc, b"x\n")?;
+    if push_item_line(alloc, &mut buffer, &key, 3, &Item::End).is_err() {
+        assert!(rt; buffer.as_slice().starts_with(b"x\n"));
+        buffer.truncate(2);
+        at_last(push_item_line(alloc, &mut buffer, &key, 3, &Item::End))?;
+    }
+    let want = "x\n{\"end\":true,\"key\":[7],\"place\":\"3\"}";
+    assert!(rt; buffer.as_slice() == want.as_bytes());
     Ok(())
 }

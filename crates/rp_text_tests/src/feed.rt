@@ -1,8 +1,8 @@
 //! Feeds at work.
+use crate::support::all_told;
 use rp_feed::{Feed, FeedFault, Taken};
 use rp_value::{Kind, Row, RowFault, Table, TableFault, Value};
 use std::alloc::{AllocError, Global};
-use std::process::Abort;
 use std::test::Fail;
 
 mod orders;
@@ -168,15 +168,7 @@ const FAULT_TEXTS: [(FeedFault, &str); 7] = [
     (FeedFault::OutOfMemory, "out of memory"),
 ];
 
-/// Whether each fault is printed as its text.
-fn faults_printed(rt: &impl Abort, alloc: Global, texts: &[(FeedFault, &str)]) -> Result<(), Fail> {
-    for (fault, text) in texts {
-        assert_eq!(rt; format!(in alloc; "{fault}")?.as_str(), *text);
-    }
-    Ok(())
-}
-
 #[test]
 fn fault_texts(rt: HostRuntime) -> Result<(), Fail> {
-    faults_printed(&rt, rt.alloc(), &FAULT_TEXTS)
+    all_told(&rt, rt.alloc(), &FAULT_TEXTS)
 }

@@ -1,9 +1,10 @@
 //! Which JSON stands for which value.
+use crate::support::{at_last, text};
 use rp_json::{
     cells, cells_of, digits_of, has, has_fields, json_of_cells, json_of_optional, json_of_place,
     object_of, optional, optional_of, place_of, short_digits_of, short_whole, whole,
 };
-use rp_value::{Text, Value};
+use rp_value::Value;
 use serde_json::Value as Json;
 use std::alloc::Global;
 use std::test::Fail;
@@ -78,10 +79,44 @@ fn numbers_there_and_back(rt: HostRuntime) -> Result<(), Fail> {
 #[test]
 fn cells_there_and_back(rt: HostRuntime) -> Result<(), Fail> {
     let alloc = rt.alloc();
-    let text = Text::new(alloc, String::from_str(alloc, "x\"")?)?;
-    let list = vec![in alloc; Value::Null, Value::Int(i64::MIN), Value::Text(text)]?;
+    let list = vec![in alloc; Value::Null, Value::Int(i64::MIN), text(alloc, "x\"")?]?;
     let json = Json::Array(json_of_cells(alloc, list.as_slice())?);
     let again = cells_of(alloc, &json)?.ok_or("cells")?;
     assert!(rt; again.as_slice() == list.as_slice());
+    Ok(())
+}
+
+// A call that is refused memory, made again, gives what it gives with ample memory.
+
+#[test]
+fn refused_object(rt: HostRuntime) -> Result<(), Fail> {
+    let alloc = rt.alloc();
+    let bytes = b"{\"a\":[null,\"x\"],\"b\":7}".as_slice();
+    let read = object_of(alloc, bytes).or_else(|_| object_of(alloc, bytes));
+    let json = at_last(read)?.ok_or("an object")?;
+    assert_eq!(rt; whole(&json, "b"), Some(7));
+    let list = cells(alloc, &json, "a").or_else(|_| cells(alloc, &json, "a"));
+    let list = at_last(list)?.ok_or("cells")?;
+    assert!(rt; list.as_slice() == [Value::Null, text(alloc, "x")?].as_slice());
+    Ok(())
+}
+
+#[test]
+fn refused_cells(rt: HostRuntime) -> Result<(), Fail> {
+    let alloc = rt.alloc();
+    let list = vec![in alloc; Value::Null, text(alloc, "x")?]?;
+    let values = list.as_slice();
+    let written = json_of_cells(alloc, values).or_else(|_| json_of_cells(alloc, values));
+    let json = Json::Array(at_last(written)?);
+    let again = at_last(cells_of(alloc, &json).or_else(|_| cells_of(alloc, &json)))?;
+    assert!(rt; again.ok_or("cells")?.as_slice() == values);
+    Ok(())
+}
+
+#[test]
+fn refused_place(rt: HostRuntime) -> Result<(), Fail> {
+    let alloc = rt.alloc();
+    let json = json_of_place(alloc, u128::MAX).or_else(|_| json_of_place(alloc, u128::MAX));
+    assert_eq!(rt; place_of(&at_last(json)?), Some(u128::MAX));
     Ok(())
 }

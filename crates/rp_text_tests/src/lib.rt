@@ -14,4 +14,6 @@ mod forms;
 #[cfg(test)]
 mod sessions;
 #[cfg(test)]
+mod support;
+#[cfg(test)]
 mod wire;

@@ -3,6 +3,7 @@ mod chance;
 mod compact;
 mod long;
 
+use crate::support::{all_told, at_last};
 use rp_value::Value;
 use rp_wire::{
     Field, LineFault, Packet, Refusal, Reply, Request, reply_line, reply_of, request_line,
@@ -12,7 +13,7 @@ use std::alloc::{AllocError, Global};
 use std::process::Abort;
 use std::test::Fail;
 
-/// The fault of a line that should ask something, want of memory aside.
+/// The fault of a line that should ask something, unless that is out of memory.
 fn fault_of(alloc: Global, line: &[u8]) -> Result<Option<LineFault>, LineFault> {
     match request_of(alloc, line) {
         Ok(_) => Ok(None),
@@ -347,25 +348,20 @@ const FAULT_TEXTS: [(LineFault, &str); 5] = [
     (LineFault::OutOfMemory, "out of memory"),
 ];
 
-/// Whether each fault is printed as its text.
-fn faults_printed(rt: &impl Abort, alloc: Global, texts: &[(LineFault, &str)]) -> Result<(), Fail> {
-    for (fault, text) in texts {
-        assert_eq!(rt; format!(in alloc; "{fault}")?.as_str(), *text);
-    }
-    Ok(())
-}
-
 #[test]
 fn fault_texts(rt: HostRuntime) -> Result<(), Fail> {
-    faults_printed(&rt, rt.alloc(), &FAULT_TEXTS)
+    all_told(&rt, rt.alloc(), &FAULT_TEXTS)
 }
 
 // A call that is refused memory, made again, gives what it gives with ample memory.
 
-/// What a line asks, written anew.
-fn asked_twice(alloc: Global, line: &[u8]) -> Result<Vec<u8>, LineFault> {
-    let request = request_of(alloc, line).or_else(|_| request_of(alloc, line))?;
-    Ok(request_line(alloc, &request).or_else(|_| request_line(alloc, &request))?)
+/// What a line asks, written anew; or asks and has written at last.
+fn asked_at_last(alloc: Global, line: &[u8]) -> Result<Vec<u8>, Fail> {
+    let request = match request_of(alloc, line) {
+        Err(LineFault::OutOfMemory) => at_last(request_of(alloc, line))?,
+        request => request?,
+    };
+    at_last(request_line(alloc, &request).or_else(|_| request_line(alloc, &request)))
 }
 
 #[test]
@@ -373,24 +369,26 @@ fn refused_request(rt: HostRuntime) -> Result<(), Fail> {
     let alloc = rt.alloc();
     let want = b"{\"cells\":[\"x\",null,10],\"row\":1}".as_slice();
     let other = b"{\"row\":1,\"cells\":[\"x\",null,10]}".as_slice();
-    assert!(rt; asked_twice(alloc, want)?.as_slice() == want);
-    assert!(rt; asked_twice(alloc, other)?.as_slice() == want);
+    assert!(rt; asked_at_last(alloc, want)?.as_slice() == want);
+    assert!(rt; asked_at_last(alloc, other)?.as_slice() == want);
     Ok(())
 }
 
-/// What a line replies, written anew.
-fn replied_twice(alloc: Global, line: &str) -> Result<String, LineFault> {
-    let bytes = line.as_bytes();
-    let reply = reply_of(alloc, bytes).or_else(|_| reply_of(alloc, bytes))?;
-    Ok(reply_line(alloc, &reply).or_else(|_| reply_line(alloc, &reply))?)
+/// What a line replies, written anew; or replies and has written at last.
+fn replied_at_last(alloc: Global, line: &str) -> Result<String, Fail> {
+    let reply = match reply_of(alloc, line.as_bytes()) {
+        Err(LineFault::OutOfMemory) => at_last(reply_of(alloc, line.as_bytes()))?,
+        reply => reply?,
+    };
+    at_last(reply_line(alloc, &reply).or_else(|_| reply_line(alloc, &reply)))
 }
 
 #[test]
 fn refused_reply(rt: HostRuntime) -> Result<(), Fail> {
     let alloc = rt.alloc();
     let item = "{\"cells\":[\"x\"],\"key\":[\"y\"],\"number\":1,\"place\":\"1\"}";
-    assert_eq!(rt; replied_twice(alloc, item)?.as_str(), item);
+    assert_eq!(rt; replied_at_last(alloc, item)?.as_str(), item);
     let refusal = "{\"refused\":\"BadRow kind 12\"}";
-    assert_eq!(rt; replied_twice(alloc, refusal)?.as_str(), refusal);
+    assert_eq!(rt; replied_at_last(alloc, refusal)?.as_str(), refusal);
     Ok(())
 }

@@ -1,7 +1,8 @@
 //! A thousand orders of arrival, with repeats, losses and forgetting, beside a plain map of what was taken.
-ghost use Rattle.std.specs.Prelude.{◌<◌, ◌≤◌};
+ghost use Rattle.std.specs.Prelude.{◌≤◌};
 
 use super::{price_table, row_of};
+use crate::support::Chance;
 use rp_feed::{Feed, FeedFault, Taken};
 use rp_value::Row;
 use std::alloc::{AllocFailed, Global};
@@ -13,24 +14,6 @@ const ROWS: u64 = 30;
 
 /// The greatest number of a row, as the limit is documented.
 const GREATEST: u64 = 1_099_511_627_776;
-
-/// Numbers that look random (Knuth's MMIX generator).
-#[derive(Drop)]
-struct Dice {
-    state: u64,
-}
-
-impl Dice {
-    /// A number below so many.
-    fn below(&mut self, sides: u64) -> u64
-        requires { 0 < sides }
-        ensures { result < sides }
-    {
-        let product = self.state.wrapping_mul(6_364_136_223_846_793_005);
-        self.state = product.wrapping_add(1_442_695_040_888_963_407);
-        (self.state >> 33) % sides
-    }
-}
 
 /// All rows that were ever taken, with their prices.
 #[derive(Drop)]
@@ -116,19 +99,19 @@ enum Arrival {
 
 /// A row of the partition, or of other cells, or one that is far beyond the front, as in every fourth order; a close, a
 /// wrong one too; or the caller drops rows.
-fn next_arrival(dice: &mut Dice, order: u64, front: u64) -> Arrival
+fn next_arrival(chance: &mut Chance, order: u64, front: u64) -> Arrival
     requires { front ≤ ROWS }
 {
-    let number = 1 + dice.below(ROWS);
+    let number = 1 + chance.below(ROWS);
     let price = 2 * number as usize;
-    match dice.below(20) {
-        0 => Arrival::Forget(dice.below(front + 2)),
-        1 => Arrival::Close(ROWS + dice.below(2)),
+    match chance.below(20) {
+        0 => Arrival::Forget(chance.below(front + 2)),
+        1 => Arrival::Close(ROWS + chance.below(2)),
         2 => Arrival::Close(number),
-        3 => Arrival::Row(GREATEST + dice.below(2), 0),
+        3 => Arrival::Row(GREATEST + chance.below(2), 0),
         4 => Arrival::Row(0, 0),
         5 => Arrival::Row(number, price + 1),
-        6 if order % 4 == 0 => Arrival::Row(front + 4_094 + dice.below(5), 5),
+        6 if order % 4 == 0 => Arrival::Row(front + 4_094 + chance.below(5), 5),
         _ => Arrival::Row(number, price),
     }
 }
@@ -143,7 +126,7 @@ fn rows_of_prices(alloc: Global, count: i64) -> Result<Vec<Row>, Fail> {
     Ok(rows)
 }
 
-/// Whether the feed's answer to what comes is that of the map. Want of memory is no answer.
+/// Whether the feed's answer to what comes is that of the map. Out of memory is no answer.
 fn agree(feed: &mut Feed, plain: &mut Plain, rows: &[Row], arrival: Arrival) -> Result<bool, Fail> {
     match arrival {
         Arrival::Row(number, price) => {
@@ -192,11 +175,11 @@ fn random_orders(rt: HostRuntime) -> Result<(), Fail> {
     let alloc = rt.alloc();
     let rows = rows_of_prices(alloc, 62)?;
     for order in 0..1_000 {
-        let mut dice = Dice { state: order };
+        let mut chance = Chance { state: order };
         let mut feed = Feed::new(alloc);
         let mut plain = Plain::new(alloc);
         for _ in 0..150 {
-            let next = next_arrival(&mut dice, order, plain.front());
+            let next = next_arrival(&mut chance, order, plain.front());
             assert!(rt; agree(&mut feed, &mut plain, &rows, next)?, "order {order}");
             assert_eq!(rt; feed.front(), plain.front());
             assert_eq!(rt; feed.first(), plain.first);

@@ -1,10 +1,11 @@
 //! Conversations over devices in memory. What is expected is worked out by hand.
+use crate::support::text;
 use rp_check::compile;
 use rp_drive::{DriveFault, drive};
 use rp_io::{MemoryInput, MemoryOutput};
 use rp_query::Query;
 use rp_syntax::read_table;
-use rp_value::{Cells, Row, Text, Value};
+use rp_value::{Cells, Row, Value};
 use rp_wire::Packet;
 use std::alloc::{AllocError, Global};
 use std::process::Abort;
@@ -12,7 +13,8 @@ use std::test::Fail;
 
 /// A fall and then a rise.
 const V: &str =
-    "PARTITION BY sym ORDER BY t MEASURES MATCH_NUMBER() AS n, FIRST(p) AS a, LAST(B.p) AS lo, LAST(C.p) AS hi PATTERN (A B+ C+) DEFINE B AS p < PREV(p), C AS p > PREV(p)";
+    "PARTITION BY sym ORDER BY t MEASURES MATCH_NUMBER() AS n, FIRST(p) AS a, LAST(B.p) AS lo, LAST(C.p) AS hi \
+     PATTERN (A B+ C+) DEFINE B AS p < PREV(p), C AS p > PREV(p)";
 
 /// Row 1 of partition x is taken and nothing of it known; its close is, and the answer ends.
 pub const REPLIES: &str = "\
@@ -38,23 +40,20 @@ const FIRST: &str = "{\"cells\":[\"x\",1,10],\"row\":1}\n";
 /// What is written of the items.
 pub const ITEMS: &str = "1 {\"end\":true,\"key\":[\"x\"],\"place\":\"1\"}\n";
 
+/// The query of it.
 pub fn query(alloc: Global) -> Result<Query, Fail> {
     let table = read_table(alloc, "sym text, t int, p int")?;
     Ok(compile(alloc, V, &table)?)
 }
 
-fn x(alloc: Global) -> Result<Value, AllocError> {
-    Ok(Value::Text(Text::new(alloc, String::from_str(alloc, "x")?)?))
-}
-
 /// Row 1 of partition x, and its close.
 pub fn packets(alloc: Global) -> Result<Vec<Packet>, AllocError> {
     let mut cells = Vec::new(alloc);
-    cells.push(x(alloc)?)?;
+    cells.push(text(alloc, "x")?)?;
     cells.push(Value::Int(1))?;
     cells.push(Value::Int(10))?;
     let mut key = Vec::new(alloc);
-    key.push(x(alloc)?)?;
+    key.push(text(alloc, "x")?)?;
     let mut packets = Vec::new(alloc);
     packets.push(Packet::Row {
         number: 1,
@@ -94,7 +93,7 @@ const WIDE: Limits = Limits {
     reads: 1_000,
 };
 
-/// Drives the packets on these replies. Want of memory ends the test.
+/// Drives the packets on these replies. Out of memory ends the test.
 fn driven(alloc: Global, replies: &str, limits: Limits) -> Result<Ended, Fail> {
     let query = query(alloc)?;
     let packets = packets(alloc)?;
@@ -148,11 +147,13 @@ fn drive_lines(rt: HostRuntime) -> Result<(), Fail> {
 #[test]
 fn paused(rt: HostRuntime) -> Result<(), Fail> {
     let replies =
-        "{\"taken\":\"new\"}\n{\"paused\":[\"x\"]}\n{\"cells\":[1],\"key\":[\"x\"],\"number\":1,\"place\":\"1\"}\n{\"idle\":[\"x\"]}\n{\"refused\":\"Conflict\"}\n";
+        "{\"taken\":\"new\"}\n{\"paused\":[\"x\"]}\n{\"cells\":[1],\"key\":[\"x\"],\"number\":1,\"place\":\"1\"}\n\
+         {\"idle\":[\"x\"]}\n{\"refused\":\"Conflict\"}\n";
     let ended = driven(rt.alloc(), replies, WIDE)?;
     assert!(rt; ended.fault == Some(DriveFault::Refused));
     let sent =
-        "{\"cells\":[\"x\",1,10],\"row\":1}\n{\"budget\":50,\"poll\":[\"x\"]}\n{\"budget\":50,\"poll\":[\"x\"]}\n{\"budget\":50,\"poll\":[\"x\"]}\n{\"close\":1,\"key\":[\"x\"]}\n";
+        "{\"cells\":[\"x\",1,10],\"row\":1}\n{\"budget\":50,\"poll\":[\"x\"]}\n{\"budget\":50,\"poll\":[\"x\"]}\n\
+         {\"budget\":50,\"poll\":[\"x\"]}\n{\"close\":1,\"key\":[\"x\"]}\n";
     assert!(rt; ended.writer.bytes() == sent.as_bytes());
     let items = "1 {\"cells\":[1],\"key\":[\"x\"],\"number\":1,\"place\":\"1\"}\n";
     assert!(rt; ended.out.bytes() == items.as_bytes());

@@ -1,16 +1,24 @@
 //! A call that is refused memory, made again, answers as with ample memory.
 use super::driving::{ITEMS, REPLIES, SENT, packets, query};
 use super::node::SmallNode;
+use crate::support::{at_last, refused_twice};
 use rp_drive::{DriveFault, drive};
 use rp_io::{MemoryInput, MemoryOutput};
-use rp_serve::{ServeFault, round};
+use rp_query::Query;
+use rp_serve::{ServeFault, round, serve};
+use rp_wire::Packet;
 use std::alloc::{AllocError, Global};
 use std::test::Fail;
+
+/// A writer of which nothing fails.
+fn output(alloc: Global) -> Result<MemoryOutput, AllocError> {
+    MemoryOutput::new(alloc, 4_096, 1_000, 0)
+}
 
 /// The replies to what is sent, of a new node. Where memory is refused the node goes back to its beginning, and none are given.
 fn replied(alloc: Global) -> Result<Option<MemoryOutput>, AllocError> {
     let mut reader = MemoryInput::new(SENT.as_bytes(), 20, 0);
-    let mut writer = MemoryOutput::new(alloc, 4_096, 1_000, 0)?;
+    let mut writer = output(alloc)?;
     let end = round(
         alloc,
         SmallNode::new(alloc),
@@ -35,26 +43,57 @@ fn refused_rounds(rt: HostRuntime) -> Result<(), Fail> {
     };
     let replied = match first {
         Some(writer) => Some(writer),
-        None => replied(rt.alloc())?,
+        None => at_last(replied(rt.alloc()))?,
     };
     match &replied {
         Some(writer) => assert!(rt; writer.bytes() == REPLIES.as_bytes()),
-        None => return Err(Fail::from("memory was refused twice")),
+        None => return Err(refused_twice()),
     }
     Ok(())
 }
 
-/// Drives two packets on the replies, and says whether it came to its end.
-fn driven(alloc: Global, writer: &mut MemoryOutput, out: &mut MemoryOutput) -> Result<bool, Fail> {
-    let query = query(alloc)?;
-    let packets = packets(alloc)?;
+/// Serves what is sent with a new node, and says whether it came to its end.
+fn served(alloc: Global, writer: &mut MemoryOutput) -> Result<bool, Fail> {
+    let mut reader = MemoryInput::new(SENT.as_bytes(), 20, 0);
+    let mut node = SmallNode::new(alloc);
+    match serve(alloc, &mut reader, writer, &mut node, 1_000) {
+        Ok(_) => Ok(true),
+        Err(ServeFault::OutOfMemory) => Ok(false),
+        Err(fault) => Err(Fail::from(fault)),
+    }
+}
+
+/// What was written before memory was refused is a front of what is written without.
+#[test]
+fn refused_sessions(rt: HostRuntime) -> Result<(), Fail> {
+    let alloc = rt.alloc();
+    let mut writer = output(alloc)?;
+    if !served(alloc, &mut writer)? {
+        assert!(rt; REPLIES.as_bytes().starts_with(writer.bytes()));
+        writer = at_last(output(alloc))?;
+        if !served(alloc, &mut writer)? {
+            return Err(refused_twice());
+        }
+    }
+    assert!(rt; writer.bytes() == REPLIES.as_bytes());
+    Ok(())
+}
+
+/// Drives packets on the replies, and says whether it came to its end.
+fn driven(
+    alloc: Global,
+    query: &Query,
+    packets: &[Packet],
+    writer: &mut MemoryOutput,
+    out: &mut MemoryOutput,
+) -> Result<bool, Fail> {
     let mut reader = MemoryInput::new(REPLIES.as_bytes(), 20, 0);
     match drive(
         alloc,
-        &query,
+        query,
         &mut reader,
         writer,
-        packets.as_slice(),
+        packets,
         50,
         1_000,
         1,
@@ -66,18 +105,22 @@ fn driven(alloc: Global, writer: &mut MemoryOutput, out: &mut MemoryOutput) -> R
     }
 }
 
-/// What was written before memory was refused is a front of what is written without.
+/// The same of a conversation, and of the items.
 #[test]
 fn refused_drives(rt: HostRuntime) -> Result<(), Fail> {
     let alloc = rt.alloc();
-    let mut writer = MemoryOutput::new(alloc, 4_096, 1_000, 0)?;
-    let mut out = MemoryOutput::new(alloc, 4_096, 1_000, 0)?;
-    if !driven(alloc, &mut writer, &mut out)? {
+    let query = query(alloc)?;
+    let packets = packets(alloc)?;
+    let mut writer = output(alloc)?;
+    let mut out = output(alloc)?;
+    if !driven(alloc, &query, packets.as_slice(), &mut writer, &mut out)? {
         assert!(rt; SENT.as_bytes().starts_with(writer.bytes()));
         assert!(rt; ITEMS.as_bytes().starts_with(out.bytes()));
-        writer = MemoryOutput::new(alloc, 4_096, 1_000, 0)?;
-        out = MemoryOutput::new(alloc, 4_096, 1_000, 0)?;
-        assert!(rt; driven(alloc, &mut writer, &mut out)?);
+        writer = at_last(output(alloc))?;
+        out = at_last(output(alloc))?;
+        if !driven(alloc, &query, packets.as_slice(), &mut writer, &mut out)? {
+            return Err(refused_twice());
+        }
     }
     assert!(rt; writer.bytes() == SENT.as_bytes());
     assert!(rt; out.bytes() == ITEMS.as_bytes());

@@ -64,7 +64,7 @@ const WIDE: Limits = Limits {
     turns: 1_000,
 };
 
-/// A new node's session. Want of memory ends the test.
+/// A new node's session. Out of memory ends the test.
 fn run_session(alloc: Global, lines: &[u8], limits: Limits) -> Result<Session, AllocError> {
     let mut reader = MemoryInput::new(lines, limits.read_piece, limits.failing_read);
     let mut writer = MemoryOutput::new(alloc, 4_096, limits.write_piece, limits.failing_write)?;

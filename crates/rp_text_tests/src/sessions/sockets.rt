@@ -1,5 +1,5 @@
 //! Both sides over one connection on loopback.
-use super::driving::{ITEMS, REPLIES, SENT, packets, query};
+use super::driving::{ITEMS, REPLIES, packets, query};
 use super::node::SmallNode;
 use rp_drive::drive;
 use rp_io::{MemoryOutput, Port};
@@ -41,12 +41,5 @@ fn loopback(rt: HostRuntime) -> Result<(), Fail> {
     let count = serve(alloc, &mut lines, &mut served, &mut small, 1_000)?;
     assert_eq!(rt; count.lines, 5);
     assert!(rt; served.bytes() == REPLIES.as_bytes());
-    assert_eq!(rt;
-        SENT.as_bytes()
-            .iter()
-            .filter(|byte| **byte == b'\n')
-            .count(),
-        5
-    );
     Ok(())
 }

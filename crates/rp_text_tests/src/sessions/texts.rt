@@ -1,45 +1,33 @@
 //! What faults are reported as: the texts that the programs' users are promised.
+use crate::support::all_told;
 use rp_drive::DriveFault;
 use rp_serve::ServeFault;
-use std::alloc::Global;
-use std::fmt::Display;
 use std::test::Fail;
 
-/// The text of a fault.
-fn shown<F: Display>(alloc: Global, fault: &F) -> Result<String, Fail> {
-    Ok(format!(in alloc; "{fault}")?)
-}
+/// How a session ends, and what is told of it.
+const OF_SESSIONS: [(ServeFault, &str); 4] = [
+    (ServeFault::Read, "device: read"),
+    (ServeFault::Write, "device: write"),
+    (ServeFault::Turns, "too many turns"),
+    (ServeFault::OutOfMemory, "out of memory"),
+];
 
 #[test]
 fn texts_of_sessions(rt: HostRuntime) -> Result<(), Fail> {
-    let alloc = rt.alloc();
-    assert_eq!(rt; shown(alloc, &ServeFault::Read)?.as_str(), "device: read");
-    assert_eq!(rt; shown(alloc, &ServeFault::Write)?.as_str(), "device: write");
-    assert_eq!(rt;
-        shown(alloc, &ServeFault::Turns)?.as_str(),
-        "too many turns"
-    );
-    assert_eq!(rt;
-        shown(alloc, &ServeFault::OutOfMemory)?.as_str(),
-        "out of memory"
-    );
-    Ok(())
+    all_told(&rt, rt.alloc(), &OF_SESSIONS)
 }
+
+/// How a conversation ends, and what is told of it.
+const OF_CONVERSATIONS: [(DriveFault, &str); 6] = [
+    (DriveFault::Read, "device: read"),
+    (DriveFault::Write, "device: write"),
+    (DriveFault::BadReply, "bad reply"),
+    (DriveFault::Refused, "refused"),
+    (DriveFault::Turns, "too many turns"),
+    (DriveFault::OutOfMemory, "out of memory"),
+];
 
 #[test]
 fn texts_of_conversations(rt: HostRuntime) -> Result<(), Fail> {
-    let alloc = rt.alloc();
-    assert_eq!(rt; shown(alloc, &DriveFault::Read)?.as_str(), "device: read");
-    assert_eq!(rt; shown(alloc, &DriveFault::Write)?.as_str(), "device: write");
-    assert_eq!(rt; shown(alloc, &DriveFault::BadReply)?.as_str(), "bad reply");
-    assert_eq!(rt; shown(alloc, &DriveFault::Refused)?.as_str(), "refused");
-    assert_eq!(rt;
-        shown(alloc, &DriveFault::Turns)?.as_str(),
-        "too many turns"
-    );
-    assert_eq!(rt;
-        shown(alloc, &DriveFault::OutOfMemory)?.as_str(),
-        "out of memory"
-    );
-    Ok(())
+    all_told(&rt, rt.alloc(), &OF_CONVERSATIONS)
 }

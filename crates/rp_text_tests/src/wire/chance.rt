@@ -1,5 +1,6 @@
-//! Requests and replies that look random.
-use rp_value::{Cells, Row, Text, Value};
+//! Requests and replies that look random, each written and read.
+use crate::support::Chance;
+use rp_value::{Cells, Row};
 use rp_wire::{
     Item, Packet, Refusal, Reply, Request, SkipFault, Taken, reply_line, reply_of, request_line,
     request_of,
@@ -7,105 +8,56 @@ use rp_wire::{
 use std::alloc::{AllocError, Global};
 use std::test::Fail;
 
-fn text(alloc: Global, text: &str) -> Result<Value, AllocError> {
-    Ok(Value::Text(Text::new(alloc, String::from_str(alloc, text)?)?))
+fn key(chance: &mut Chance, alloc: Global) -> Result<Cells, AllocError> {
+    Ok(Cells::new(chance.values(alloc)?))
 }
 
-/// A stream of numbers that look random, by Knuth's multiplier.
-#[derive(Drop)]
-pub(crate) struct Chance {
-    pub(crate) state: u64,
+/// What a line may ask.
+pub fn random_request(chance: &mut Chance, alloc: Global) -> Result<Request, AllocError> {
+    let number = chance.number();
+    match chance.next() % 3 {
+        0 => {
+            let cells = Row::new(alloc, chance.values(alloc)?)?;
+            Ok(Request::Packet(Packet::Row { number, cells }))
+        }
+        1 => {
+            let key = key(chance, alloc)?;
+            Ok(Request::Packet(Packet::Close { key, count: number }))
+        }
+        _ => {
+            let key = key(chance, alloc)?;
+            let budget = u32::try_from(number).unwrap_or(u32::MAX);
+            Ok(Request::Poll { key, budget })
+        }
+    }
 }
 
-impl Chance {
-    fn next(&mut self) -> u64 {
-        self.state = self.state.wrapping_mul(6_364_136_223_846_793_005);
-        self.state = self.state.wrapping_add(1_442_695_040_888_963_407);
-        self.state.wrapping_shr(33)
+fn random_item(chance: &mut Chance, alloc: Global) -> Result<Item, AllocError> {
+    match chance.next() % 4 {
+        0 => Ok(Item::End),
+        1 => Ok(Item::Fault(SkipFault::SkipNoRow)),
+        2 => Ok(Item::Row {
+            number: None,
+            cells: key(chance, alloc)?,
+        }),
+        _ => Ok(Item::Row {
+            number: Some(chance.number()),
+            cells: key(chance, alloc)?,
+        }),
     }
+}
 
-    /// A number below a limit, or 0.
-    pub(crate) fn below(&mut self, limit: usize) -> usize {
-        let number = usize::try_from(self.next()).unwrap_or(0);
-        number.checked_rem(limit).unwrap_or(0)
-    }
-
-    /// A number of any length.
-    fn number(&mut self) -> u64 {
-        let places = u32::try_from(self.next()).unwrap_or(0);
-        self.next();
-        self.state.wrapping_shr(places)
-    }
-
-    fn value(&mut self, alloc: Global) -> Result<Value, AllocError> {
-        match self.next() % 6 {
-            0 => Ok(Value::Null),
-            1 => Ok(Value::Int(i64::MIN)),
-            2 => Ok(Value::Int(i64::try_from(self.number()).unwrap_or(-1))),
-            3 => text(alloc, "\"\\\n\u{1}\u{7f}"),
-            4 => text(alloc, "é\u{10ffff}"),
-            _ => text(alloc, ""),
-        }
-    }
-
-    fn cells(&mut self, alloc: Global) -> Result<Vec<Value>, AllocError> {
-        let mut cells = Vec::new(alloc);
-        for _ in 0..self.next() % 5 {
-            cells.push(self.value(alloc)?)?;
-        }
-        Ok(cells)
-    }
-
-    fn key(&mut self, alloc: Global) -> Result<Cells, AllocError> {
-        Ok(Cells::new(self.cells(alloc)?))
-    }
-
-    pub(crate) fn request(&mut self, alloc: Global) -> Result<Request, AllocError> {
-        let number = self.number();
-        match self.next() % 3 {
-            0 => {
-                let cells = Row::new(alloc, self.cells(alloc)?)?;
-                Ok(Request::Packet(Packet::Row { number, cells }))
-            }
-            1 => {
-                let key = self.key(alloc)?;
-                Ok(Request::Packet(Packet::Close { key, count: number }))
-            }
-            _ => {
-                let key = self.key(alloc)?;
-                let budget = u32::try_from(number).unwrap_or(u32::MAX);
-                Ok(Request::Poll { key, budget })
-            }
-        }
-    }
-
-    fn item(&mut self, alloc: Global) -> Result<Item, AllocError> {
-        match self.next() % 4 {
-            0 => Ok(Item::End),
-            1 => Ok(Item::Fault(SkipFault::SkipNoRow)),
-            2 => Ok(Item::Row {
-                number: None,
-                cells: self.key(alloc)?,
-            }),
-            _ => Ok(Item::Row {
-                number: Some(self.number()),
-                cells: self.key(alloc)?,
-            }),
-        }
-    }
-
-    fn reply(&mut self, alloc: Global) -> Result<Reply, AllocError> {
-        match self.next() % 8 {
-            0 => Ok(Reply::Taken(Taken::Repeat)),
-            1 => Ok(Reply::Idle(self.key(alloc)?)),
-            2 => Ok(Reply::Paused(self.key(alloc)?)),
-            3 => Ok(Reply::Refused(Refusal::BadRowKind(self.number().max(1)))),
-            _ => {
-                let key = self.key(alloc)?;
-                let place = u128::from(self.number()).wrapping_mul(u128::from(self.number()));
-                let item = self.item(alloc)?;
-                Ok(Reply::Item { key, place, item })
-            }
+fn random_reply(chance: &mut Chance, alloc: Global) -> Result<Reply, AllocError> {
+    match chance.next() % 8 {
+        0 => Ok(Reply::Taken(Taken::Repeat)),
+        1 => Ok(Reply::Idle(key(chance, alloc)?)),
+        2 => Ok(Reply::Paused(key(chance, alloc)?)),
+        3 => Ok(Reply::Refused(Refusal::BadRowKind(chance.number().max(1)))),
+        _ => {
+            let key = key(chance, alloc)?;
+            let place = u128::from(chance.number()).wrapping_mul(u128::from(chance.number()));
+            let item = random_item(chance, alloc)?;
+            Ok(Reply::Item { key, place, item })
         }
     }
 }
@@ -148,7 +100,7 @@ fn random_requests_there_and_back(rt: HostRuntime) -> Result<(), Fail> {
     let alloc = rt.alloc();
     let mut chance = Chance { state: 1 };
     for _ in 0..1000 {
-        let request = chance.request(alloc)?;
+        let request = random_request(&mut chance, alloc)?;
         let line = request_line(alloc, &request)?;
         assert!(rt; request_of(alloc, line.as_slice())? == request);
     }
@@ -160,7 +112,7 @@ fn random_replies_there_and_back(rt: HostRuntime) -> Result<(), Fail> {
     let alloc = rt.alloc();
     let mut chance = Chance { state: 2 };
     for _ in 0..1000 {
-        let reply = chance.reply(alloc)?;
+        let reply = random_reply(&mut chance, alloc)?;
         let line = reply_line(alloc, &reply)?;
         let again = reply_of(alloc, line.as_bytes())?;
         assert!(rt; same_reply(&again, &reply));

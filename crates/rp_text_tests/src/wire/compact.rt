@@ -1,5 +1,6 @@
 //! Compact lines beside what the tree of JSON gives of them.
-use super::chance::Chance;
+use super::chance::random_request;
+use crate::support::{Chance, at_last};
 use rp_wire::{LineFault, compact_request, request_line, request_of};
 use std::alloc::Global;
 use std::process::Abort;
@@ -25,8 +26,7 @@ const MARKS: [&[u8]; 16] = [
     b"\xc3\xa9",
 ];
 
-/// Whether both ways agree on a line, want of memory aside: what the first gives the tree gives too. A space behind the
-/// line leaves it to the tree.
+/// Whether both ways agree on a line: what the first gives the tree gives too. A space behind the line leaves it to the tree.
 fn agree(alloc: Global, line: &[u8]) -> Result<bool, Fail> {
     let mut spaced = Vec::from_slice(alloc, line)?;
     spaced.push(b' ')?;
@@ -44,9 +44,9 @@ fn agree(alloc: Global, line: &[u8]) -> Result<bool, Fail> {
 
 /// A line with a mark put in at a place, or put in place of the byte there.
 fn altered(alloc: Global, line: &[u8], chance: &mut Chance) -> Result<Vec<u8>, Fail> {
-    let place = chance.below(line.len());
-    let mark = MARKS.get(chance.below(MARKS.len())).ok_or("a mark")?;
-    let passed = place.saturating_add(chance.below(2));
+    let place = chance.place(line.len());
+    let mark = MARKS.get(chance.place(MARKS.len())).ok_or("a mark")?;
+    let passed = place.saturating_add(chance.place(2));
     let mut bytes = Vec::from_slice(alloc, line.get(..place).unwrap_or(line))?;
     bytes.extend_from_slice(mark)?;
     bytes.extend_from_slice(line.get(passed..).unwrap_or(line))?;
@@ -58,7 +58,7 @@ fn compact_lines_and_altered_ones(rt: HostRuntime) -> Result<(), Fail> {
     let alloc = rt.alloc();
     let mut chance = Chance { state: 3 };
     for _ in 0..2500 {
-        let line = request_line(alloc, &chance.request(alloc)?)?;
+        let line = request_line(alloc, &random_request(&mut chance, alloc)?)?;
         assert!(rt; agree(alloc, line.as_slice())?);
         for _ in 0..3 {
             let other = altered(alloc, line.as_slice(), &mut chance)?;
@@ -133,4 +133,15 @@ fn left_alone(rt: &impl Abort, alloc: Global, lines: &[&str]) -> Result<(), Fail
 #[test]
 fn lines_for_the_tree(rt: HostRuntime) -> Result<(), Fail> {
     left_alone(&rt, rt.alloc(), &FOR_THE_TREE)
+}
+
+/// One that is refused memory, made again, gives what it gives with ample memory.
+#[test]
+fn refused_compact_request(rt: HostRuntime) -> Result<(), Fail> {
+    let alloc = rt.alloc();
+    let line = b"{\"cells\":[\"x\",null,10],\"row\":1}".as_slice();
+    let read = compact_request(alloc, line).or_else(|_| compact_request(alloc, line));
+    let request = at_last(read)?.ok_or("a request")?;
+    assert!(rt; request_line(alloc, &request)?.as_slice() == line);
+    Ok(())
 }
