@@ -31,11 +31,6 @@ const SECOND: &str =
      \"given\":\"340282366920938463463374607431768211455\",\"here\":18446744073709551615,\"key\":[null,-1],\"matches\":0,\
      \"over\":true,\"rows\":[]}],\"table\":[[\"P\",\"int\"],[\"SYM\",\"text\"]],\"version\":2}";
 
-/// The partition of which the tests of faults change one field each.
-const PARTITION: &str =
-    "{\"at\":1,\"close\":null,\"covered\":0,\"first\":1,\"given\":\"0\",\"here\":0,\"key\":[],\"matches\":0,\"over\":false,\
-     \"rows\":[[1,[1]]]}";
-
 fn fresh(alloc: Global) -> Result<NodeData, AllocError> {
     let name = text_of(alloc, "P")?;
     let kind = Kind::Int;
@@ -71,11 +66,6 @@ fn sealed(alloc: Global, object: &[u8]) -> Result<Vec<u8>, AllocError> {
 fn fault_in(alloc: Global, object: &str) -> Result<Option<CheckpointFault>, CheckpointFault> {
     let bytes = sealed(alloc, object.as_bytes())?;
     fault_of(alloc, bytes.as_slice())
-}
-
-/// An object with this partition.
-fn with_partition(alloc: Global, partition: &str) -> Result<String, AllocError> {
-    format!(in alloc; "{{\"clause\":\"\",\"partitions\":[{partition}],\"table\":[],\"version\":2}}")
 }
 
 /// A checkpoint that is read, written anew.
@@ -186,132 +176,11 @@ fn digest_of_other_bytes(rt: HostRuntime) -> Result<(), Fail> {
     digests_refused(&rt, rt.alloc(), &ALTERED)
 }
 
-/// Objects, and their first faults.
-const OBJECTS: [(&str, CheckpointFault); 18] = [
-    ("", CheckpointFault::NotJson),
-    ("[]", CheckpointFault::NotJson),
-    ("{", CheckpointFault::NotJson),
-    ("{}", CheckpointFault::Version),
-    ("{\"version\":0}", CheckpointFault::Version),
-    ("{\"version\":3}", CheckpointFault::Version),
-    ("{\"version\":\"2\"}", CheckpointFault::Version),
-    ("{\"version\":2.0}", CheckpointFault::Version),
-    ("{\"version\":2}", CheckpointFault::BadField),
-    (
-        "{\"clause\":\"\",\"partitions\":[],\"version\":2}",
-        CheckpointFault::BadField,
-    ),
-    (
-        "{\"clause\":\"\",\"table\":[],\"version\":2}",
-        CheckpointFault::BadField,
-    ),
-    (
-        "{\"partitions\":[],\"table\":[],\"version\":2}",
-        CheckpointFault::BadField,
-    ),
-    (
-        "{\"clause\":null,\"partitions\":[],\"table\":[],\"version\":2}",
-        CheckpointFault::BadField,
-    ),
-    (
-        "{\"clause\":\"\",\"partitions\":{},\"table\":[],\"version\":2}",
-        CheckpointFault::BadField,
-    ),
-    (
-        "{\"clause\":\"\",\"partitions\":[],\"table\":[[\"P\",\"INT\"]],\"version\":2}",
-        CheckpointFault::BadField,
-    ),
-    (
-        "{\"clause\":\"\",\"partitions\":[],\"table\":[[\"P\"]],\"version\":2}",
-        CheckpointFault::BadField,
-    ),
-    (
-        "{\"clause\":\"\",\"partitions\":[],\"table\":[[\"P\",\"int\",1]],\"version\":2}",
-        CheckpointFault::BadField,
-    ),
-    (
-        "{\"clause\":\"\",\"partitions\":[],\"table\":[],\"version\":2,\"x\":1}",
-        CheckpointFault::BadField,
-    ),
-];
-
-/// Whether each object has this first fault.
-fn objects_refused(
-    rt: &impl Abort,
-    alloc: Global,
-    objects: &[(&str, CheckpointFault)],
-) -> Result<(), Fail> {
-    for (object, fault) in objects {
-        assert_eq!(rt; fault_in(alloc, object)?, Some(*fault), "{object}");
-    }
-    Ok(())
-}
-
+/// Blanks may stand between the parts of an object, before it and behind it.
 #[test]
-fn first_fault_of_an_object(rt: HostRuntime) -> Result<(), Fail> {
-    let alloc = rt.alloc();
-    objects_refused(&rt, alloc, &OBJECTS)?;
+fn blanks_in_an_object(rt: HostRuntime) -> Result<(), Fail> {
     let blanks = " {\"version\" : 1, \"table\" : [], \"partitions\" : [], \"clause\" : \"\" } ";
-    assert_eq!(rt; fault_in(alloc, blanks)?, None);
-    Ok(())
-}
-
-/// Parts of an object with one partition, and what makes a fault in their place.
-const FIELDS: [(&str, &str); 26] = [
-    ("\"at\":1,", ""),
-    ("\"close\":null,", ""),
-    ("\"covered\":0,", ""),
-    ("\"first\":1,", ""),
-    ("\"given\":\"0\",", ""),
-    ("\"here\":0,", ""),
-    ("\"key\":[],", ""),
-    ("\"matches\":0,", ""),
-    ("\"over\":false,", ""),
-    (",\"rows\":[[1,[1]]]", ""),
-    ("\"at\":1", "\"at\":\"1\""),
-    ("\"close\":null", "\"close\":-1"),
-    ("\"covered\":0", "\"covered\":0.5"),
-    ("\"first\":1", "\"first\":null"),
-    ("\"given\":\"0\"", "\"given\":0"),
-    ("\"given\":\"0\"", "\"given\":\"00\""),
-    ("\"here\":0", "\"here\":18446744073709551616"),
-    ("\"key\":[]", "\"key\":[[]]"),
-    ("\"matches\":0", "\"matches\":true"),
-    ("\"over\":false", "\"over\":0"),
-    ("[[1,[1]]]", "[[1,[1]],[1,[1]]]"),
-    ("[[1,[1]]]", "[[2,[1]],[1,[1]]]"),
-    ("[[1,[1]]]", "[[1,[1],1]]"),
-    ("[[1,[1]]]", "[[\"1\",[1]]]"),
-    ("[[1,[1]]]", "[[1,[1.5]]]"),
-    ("\"at\":1", "\"at\":1,\"x\":1"),
-];
-
-/// Whether an object in which one part is another is refused for a field.
-fn fields_refused(
-    rt: &impl Abort,
-    alloc: Global,
-    whole: &str,
-    parts: &[(&str, &str)],
-) -> Result<(), Fail> {
-    for (old, new) in parts {
-        let object = whole.replace(alloc, *old, *new)?;
-        let fault = fault_in(alloc, object.as_str())?;
-        assert_eq!(rt; fault, Some(CheckpointFault::BadField), "{new} for {old}");
-    }
-    Ok(())
-}
-
-#[test]
-fn fields_of_a_partition(rt: HostRuntime) -> Result<(), Fail> {
-    let alloc = rt.alloc();
-    let whole = with_partition(alloc, PARTITION)?;
-    assert_eq!(rt; fault_in(alloc, whole.as_str())?, None);
-    fields_refused(&rt, alloc, whole.as_str(), &FIELDS)?;
-    let older = whole.replace(alloc, "\"version\":2", "\"version\":1")?;
-    assert_eq!(rt;
-        fault_in(alloc, older.as_str())?,
-        Some(CheckpointFault::BadField)
-    );
+    assert_eq!(rt; fault_in(rt.alloc(), blanks)?, None);
     Ok(())
 }
 
