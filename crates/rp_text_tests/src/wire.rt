@@ -55,8 +55,14 @@ fn blanks_around_a_line(rt: HostRuntime) -> Result<(), Fail> {
     let alloc = rt.alloc();
     let asked = asked_again(alloc, " { \"cells\" : [ null ] , \"row\" : 1 } ")?;
     assert!(rt; asked.as_slice() == b"{\"cells\":[null],\"row\":1}".as_slice());
-    let replied = replied_again(alloc, " {\"place\":0 , \"key\":[], \"fault\":\"SkipSame\"} ")?;
-    assert_eq!(rt; replied.as_str(), "{\"fault\":\"SkipSame\",\"key\":[],\"place\":\"0\"}");
+    let replied = replied_again(
+        alloc,
+        " {\"place\":0 , \"key\":[], \"fault\":\"SkipSame\"} ",
+    )?;
+    assert_eq!(rt;
+        replied.as_str(),
+        "{\"fault\":\"SkipSame\",\"key\":[],\"place\":\"0\"}"
+    );
     Ok(())
 }
 

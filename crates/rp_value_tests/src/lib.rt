@@ -2,4 +2,16 @@
 #![tactic(auto)]
 
 #[cfg(test)]
-mod tests;
+mod lists;
+#[cfg(test)]
+mod names;
+#[cfg(test)]
+mod refused;
+#[cfg(test)]
+mod support;
+#[cfg(test)]
+mod tables;
+#[cfg(test)]
+mod truth;
+#[cfg(test)]
+mod values;

@@ -1,0 +1,99 @@
+//! A call that is refused memory, made again, gives what it gives with ample memory.
+use super::support::{at_last, sale, sales, text};
+use rp_value::{Cells, Kind, Row, RowFault, RowList, Table, TableFault, Value, same_values};
+use std::alloc::{AllocError, Global};
+use std::test::Fail;
+
+/// Adds a row, once more where memory was refused.
+fn push_row(list: &mut RowList, cells: &mut Vec<Value>) -> Result<(), Fail> {
+    match list.push(cells) {
+        Err(AllocError) => at_last(list.push(cells)),
+        Ok(()) => Ok(()),
+    }
+}
+
+#[test]
+fn refused_rows(rt: HostRuntime) -> Result<(), Fail> {
+    let alloc = rt.alloc();
+    let mut list = RowList::new(alloc);
+    let mut cells = vec![in alloc; Value::Int(1)]?;
+    push_row(&mut list, &mut cells)?;
+    cells.push(Value::Int(2))?;
+    cells.push(Value::Int(3))?;
+    push_row(&mut list, &mut cells)?;
+    cells.push(Value::Int(4))?;
+    push_row(&mut list, &mut cells)?;
+    let rows = list.into_rows()?;
+    let widths: Vec<usize> = rows.iter().map(|row| row.cells().len()).collect(alloc)?;
+    assert_eq!(rt; widths.as_slice(), [1, 2, 1].as_slice());
+    assert_eq!(rt;
+        rows.first().and_then(|row| row.cell(1)),
+        Some(&Value::Int(1))
+    );
+    assert_eq!(rt;
+        rows.last().and_then(|row| row.cell(1)),
+        Some(&Value::Int(4))
+    );
+    Ok(())
+}
+
+fn row_of(alloc: Global, table: &Table) -> Result<Row, RowFault> {
+    table.row(alloc, sale(alloc)?)
+}
+
+#[test]
+fn refused_texts(rt: HostRuntime) -> Result<(), Fail> {
+    let alloc = rt.alloc();
+    let value = text(alloc, "x").or_else(|_| at_last(text(alloc, "x")))?;
+    let copy = value.share()?;
+    assert_eq!(rt; copy, value);
+    Ok(())
+}
+
+#[test]
+fn refused_keys(rt: HostRuntime) -> Result<(), Fail> {
+    let alloc = rt.alloc();
+    let key = Cells::new(sale(alloc)?);
+    let copy = key.share(alloc).or_else(|_| at_last(key.share(alloc)))?;
+    assert!(rt; copy.same(&key));
+    assert!(rt; same_values(copy.as_slice(), key.as_slice()));
+    assert_eq!(rt; copy.into_vec(), key.into_vec());
+    Ok(())
+}
+
+#[test]
+fn refused_tables_and_rows(rt: HostRuntime) -> Result<(), Fail> {
+    let alloc = rt.alloc();
+    let table = sales(alloc).or_else(|_| at_last(sales(alloc)))?;
+    let copy = table.share()?;
+    assert_eq!(rt; copy, table);
+    assert!(rt; copy.same(&table));
+    let row = row_of(alloc, &copy).or_else(|_| at_last(row_of(alloc, &copy)))?;
+    let twin = row.share()?;
+    assert!(rt; twin.same(&row));
+    assert_eq!(rt; twin, row);
+    assert!(rt; row.cell(1).is_some_and(|cell| Kind::Text.admits(cell)));
+    assert!(rt; row.cell(2).is_some_and(|cell| !Kind::Text.admits(cell)));
+    Ok(())
+}
+
+/// A fault goes through `?` whether or not a refused call gives back what it could not store.
+fn boxed_row(alloc: Global, cell: Value) -> Result<Box<Value>, RowFault> {
+    let mut cells = vec![in alloc; cell]?;
+    cells.push(Value::Null)?;
+    Ok(Box::new(alloc, Value::Null)?)
+}
+
+fn boxed_kind(alloc: Global) -> Result<Box<Kind>, TableFault> {
+    let mut kinds = Vec::with_capacity(alloc, 1)?;
+    kinds.push(Kind::Int)?;
+    Ok(Box::new(alloc, Kind::Int)?)
+}
+
+#[test]
+fn faults_of_memory(rt: HostRuntime) -> Result<(), Fail> {
+    let alloc = rt.alloc();
+    assert_eq!(rt; *boxed_row(alloc, Value::Int(1))?, Value::Null);
+    assert_eq!(rt; *boxed_kind(alloc)?, Kind::Int);
+    Ok(())
+}

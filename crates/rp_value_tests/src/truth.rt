@@ -1,0 +1,67 @@
+//! The three truth values, and judgements that a row still to come may change.
+use rp_value::{Judged, Tri};
+use std::process::Abort;
+use std::test::Fail;
+
+/// Two truth values with their AND and their OR.
+fn are_joined_so(rt: &impl Abort, table: &[(Tri, Tri, Tri, Tri)]) {
+    for (left, right, least, greatest) in table {
+        assert_eq!(rt; left.and(*right), *least);
+        assert_eq!(rt; right.and(*left), *least);
+        assert_eq!(rt; left.or(*right), *greatest);
+        assert_eq!(rt; right.or(*left), *greatest);
+    }
+}
+
+#[test]
+fn three_truth_values(rt: HostRuntime) -> Result<(), Fail> {
+    let table = [
+        (Tri::True, Tri::True, Tri::True, Tri::True),
+        (Tri::True, Tri::Unknown, Tri::Unknown, Tri::True),
+        (Tri::True, Tri::False, Tri::False, Tri::True),
+        (Tri::Unknown, Tri::Unknown, Tri::Unknown, Tri::Unknown),
+        (Tri::Unknown, Tri::False, Tri::False, Tri::Unknown),
+        (Tri::False, Tri::False, Tri::False, Tri::False),
+    ];
+    are_joined_so(&rt, &table);
+    assert_eq!(rt; Tri::True.not(), Tri::False);
+    assert_eq!(rt; Tri::False.not(), Tri::True);
+    assert_eq!(rt; Tri::Unknown.not(), Tri::Unknown);
+    Ok(())
+}
+
+/// Two judgements with their AND and their OR.
+fn are_judged_so(rt: &impl Abort, table: &[(Judged, Judged, Judged, Judged)]) {
+    for (left, right, both, either) in table {
+        assert_eq!(rt; left.and(*right), *both);
+        assert_eq!(rt; right.and(*left), *both);
+        assert_eq!(rt; left.or(*right), *either);
+        assert_eq!(rt; right.or(*left), *either);
+    }
+}
+
+#[test]
+fn a_decided_side_decides(rt: HostRuntime) -> Result<(), Fail> {
+    let yes = Judged::Told(Tri::True);
+    let no = Judged::Told(Tri::False);
+    let unknown = Judged::Told(Tri::Unknown);
+    let open = Judged::Open;
+    let table = [
+        (yes, yes, yes, yes),
+        (yes, unknown, unknown, yes),
+        (yes, no, no, yes),
+        (yes, open, open, yes),
+        (unknown, unknown, unknown, unknown),
+        (unknown, no, no, unknown),
+        (unknown, open, open, open),
+        (no, no, no, no),
+        (no, open, no, open),
+        (open, open, open, open),
+    ];
+    are_judged_so(&rt, &table);
+    assert_eq!(rt; yes.not(), no);
+    assert_eq!(rt; no.not(), yes);
+    assert_eq!(rt; unknown.not(), unknown);
+    assert_eq!(rt; open.not(), open);
+    Ok(())
+}
