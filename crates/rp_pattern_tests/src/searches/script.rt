@@ -120,10 +120,21 @@ pub fn created(alloc: Global, pattern: &Pattern) -> Result<Search, Fail>
     law_search();
     match Search::new(alloc, pattern, 1) {
         Ok(search) => Ok(search),
-        Err(_) => match Search::new(alloc, pattern, 1) {
-            Ok(search) => Ok(search),
-            Err(_) => Err(refused_twice()),
-        },
+        Err(_) => created_again(alloc, pattern),
+    }
+}
+
+/// The same, where memory was refused before.
+fn created_again(alloc: Global, pattern: &Pattern) -> Result<Search, Fail>
+    requires { are_below 2 (form_of pattern.now) ≡ true }
+    ensures start { IfOk result (λ s. start_of_search s ≡ 1) }
+    ensures variables { IfOk result (HasVariablesBelow 2) }
+    ensures at_start { IfOk result IsAtStart }
+{
+    law_search();
+    match Search::new(alloc, pattern, 1) {
+        Ok(search) => Ok(search),
+        Err(_) => Err(refused_twice()),
     }
 }
 
