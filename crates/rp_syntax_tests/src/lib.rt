@@ -8,6 +8,8 @@ mod check;
 #[cfg(test)]
 mod command;
 #[cfg(test)]
+mod drawings;
+#[cfg(test)]
 mod explain;
 #[cfg(test)]
 mod lexer;

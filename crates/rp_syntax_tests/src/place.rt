@@ -1,7 +1,6 @@
-//! Where something stands in a text, and drawings of places that no fault has.
+//! Where something stands in a text. What is drawn of it is in drawings.rt and in cases/drawings.cases.
 use crate::support::refused_twice;
 use rp_place::{Place, Span, draw, law_lines, law_marks, line_number, push_help, shown_character};
-use std::alloc::{AllocError, Global};
 use std::process::Abort;
 use std::test::Fail;
 
@@ -103,72 +102,6 @@ fn characters(rt: HostRuntime) {
             ('値', '値'),
         ],
     );
-}
-
-/// A text, a part of it by its offsets, and the drawing of the part's place.
-type Drawn = (&'static str, Span, &'static str);
-
-/// A front that ends in a line end, parts behind the end and in front of their beginning, and parts of a character: the two bytes
-/// of é stand at 1 and 2.
-const DRAWN: [Drawn; 5] = [
-    (
-        "A\n",
-        Span { start: 2, end: 2 },
-        "  clause, line 2, column 1\n   2 | \n     | ^ here\n",
-    ),
-    (
-        "A B",
-        Span { start: 7, end: 9 },
-        "  clause, line 1, column 4\n   1 | A B\n     |    ^ here\n",
-    ),
-    (
-        "A B C",
-        Span { start: 4, end: 2 },
-        "  clause, line 1, column 5\n   1 | A B C\n     |     ^ here\n",
-    ),
-    (
-        "aéb",
-        Span { start: 2, end: 3 },
-        "  clause, line 1, column 2\n   1 | aéb\n     |  ^ here\n",
-    ),
-    (
-        "aéb",
-        Span { start: 0, end: 2 },
-        "  clause, line 1, column 1\n   1 | aéb\n     | ^ here\n",
-    ),
-];
-
-/// Whether each part's drawing is this.
-fn all_drawn(rt: &impl Abort, alloc: Global, cases: &[Drawn]) -> Result<(), AllocError> {
-    for (text, span, wanted) in cases {
-        let mut out = String::new(alloc);
-        draw(&mut out, "clause", &Place::of(text, *span), "here")?;
-        assert!(rt; out.as_str() == *wanted, "{text} {span:?}:\n{out}");
-    }
-    Ok(())
-}
-
-#[test]
-fn drawings(rt: HostRuntime) -> Result<(), Fail> {
-    Ok(all_drawn(&rt, rt.alloc(), &DRAWN)?)
-}
-
-/// A place that is put together from texts, of which nothing is said.
-#[test]
-fn place_of_pieces(rt: HostRuntime) -> Result<(), Fail> {
-    let place = Place {
-        line: 12,
-        front: "1,",
-        part: "\u{fffd}",
-        behind: ",x",
-    };
-    let mut out = String::from_str(rt.alloc(), "before\n")?;
-    draw(&mut out, "csv", &place, "")?;
-    assert_eq!(rt;
-        out.as_str(),
-        "before\n  csv, line 12, column 3\n  12 | 1,\u{fffd},x\n     |   ^\n"
-    );
-    Ok(())
 }
 
 const DRAWN_AT_LAST: &str = "\
