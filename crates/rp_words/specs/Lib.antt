@@ -12,6 +12,7 @@ pub mod Turns
 pub mod Later
 pub mod WordLaws
 pub mod LabelLaws
+pub mod Leading
 pub mod Movement
 pub mod Permutations
 -- A bound that contracts of the crates above cite.

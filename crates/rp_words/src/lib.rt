@@ -14,10 +14,11 @@
 mod builders;
 mod form;
 mod laws;
+mod leading;
 mod lexicographic;
 mod word;
 
 pub use form::{Form, MAX_BOUND, MAX_PARTS, Pattern};
-pub use laws::{law_labels, law_words};
+pub use laws::{law_labels, law_leaders, law_words};
 pub use lexicographic::{factorial, permutation_at, permutations};
 pub use word::{End, Label, Mark, Seen, Word};
