@@ -1,0 +1,17 @@
+pub mod Chains
+pub mod Expansions
+pub mod Parts
+pub mod Forms
+pub mod Places
+pub mod Growth
+pub mod Loops
+pub mod Rows
+pub mod Making
+pub mod Closing
+pub mod Steps
+pub mod Permuting
+pub mod Picking
+pub mod Ways
+pub mod Setting
+pub mod Running
+pub mod Costs
