@@ -1,11 +1,10 @@
--- What is left of a pattern: parts one after another, each as its words and its turns.
-use Rattle.std.specs.Prelude.{◌≡◌, ℕ, suc, ◌+◌, Bool, true, ◌&&◌, List, [], ◌∷◌, ◌++◌, map, length, take, drop, get_or, Option, Some, None, IsTrue, nat_le}
+-- Inside: what is left of a pattern: parts one after another, each as its words and its turns.
+use Rattle.std.specs.Prelude.{◌≡◌, ℕ, suc, Bool, List, [], ◌∷◌, map, drop, get_or, Option, Some, None, IsTrue}
 use Rattle.std.specs.declared.rc.Rc.{Rc}
 use Rattle.std.specs.declared.alloc.Global.{Global}
 use Rattle.rp_words.specs.declared.form.Form.{Form}
 use Rattle.rp_words.specs.declared.form.Form.TheVariants.{Variable}
 use Rattle.rp_words.specs.declared.word.End.{End}
-use Rattle.rp_words.specs.declared.word.Label.{Label}
 use Rattle.rp_pattern.specs.declared.machine.node.Node.{Node}
 use Rattle.rp_pattern.specs.declared.machine.iterations.Iterations.{Iterations}
 use Rattle.rp_pattern.specs.declared.machine.link.Part.{Part}
@@ -17,11 +16,10 @@ use Rattle.rp_pattern.specs.declared.machine.link.Link.TheViews.{out-Link}
 use Rattle.rp_pattern.specs.declared.machine.continuation.Continuation.{Continuation}
 use Rattle.rp_pattern.specs.declared.machine.continuation.Continuation.TheVariants.{Done, Then, Row, Reached}
 use Rattle.rp_pattern.specs.declared.machine.continuation.Choice.{Choice}
-use Rattle.rp_words.specs.Mapping.{Mapping, preceded}
 use Rattle.rp_words.specs.Movement.{always_moves}
 use Rattle.rp_pattern.specs.PermutedParts.{permuted_parts}
 use Rattle.rp_words.specs.Words.{Mappings, words, nothing_mapped, sequence}
-use Rattle.rp_words.specs.Turns.{WordsAndTurns, turns, one_turn, chain_turns, past, within, iterations, orders_from, words_of}
+use Rattle.rp_words.specs.Turns.{WordsAndTurns, turns, one_turn, past, within, iterations, orders_from, words_of}
 
 -- a part of a pattern, inside an exclusion or outside of one, as its words and its turns
 abbrev pub form_part : ℕ → End → Form → Bool → WordsAndTurns
@@ -104,36 +102,9 @@ later_parts n e (Then node then) = tail_parts n e then
 later_parts n e (Row var next then) = node_part n e next ∷ tail_parts n e then
 later_parts n e (Reached link) = links_parts n e (drop 1 (links_from link.value))
 
--- it maps a row first, with this label
-abbrev pub BeginsWithRow : Label → Continuation → Type 0
-BeginsWithRow l r = (n : ℕ) (e : End) → continuation_parts n e r ≡ form_part n e (Variable l.var) l.excluded ∷ later_parts n e r
-
 -- the words of parts one after another
 abbrev pub chain_words : List WordsAndTurns → Mappings
 chain_words ps = sequence (map words_of ps)
-
--- the words of a choice: those of its continuation from its row on, with the labels before it
-abbrev pub choice_words : ℕ → End → ℕ → List Label → Choice → List Mapping
-choice_words n e start labels c = map (preceded (take c.depth labels)) (chain_words (continuation_parts n e c.continuation) (start + c.depth))
-
--- the turns of a choice, and one more for each word
-abbrev pub chain_left : List WordsAndTurns → ℕ → ℕ
-chain_left ps i = chain_turns ps i + length (chain_words ps i)
-
--- the words of choices in order
-abbrev pub stack_words : ℕ → End → ℕ → List Label → List Choice → List Mapping
-stack_words n e start labels [] = []
-stack_words n e start labels (c ∷ cs) = choice_words n e start labels c ++ stack_words n e start labels cs
-
--- the turns of choices in order, and one more for each of their words
-abbrev pub stack_left : ℕ → End → ℕ → List Choice → ℕ
-stack_left n e start [] = 0
-stack_left n e start (c ∷ cs) = chain_left (continuation_parts n e c.continuation) (start + c.depth) + stack_left n e start cs
-
--- no choice has more labels before it than there are, or than the one above it
-abbrev pub rises : ℕ → List Choice → Bool
-rises depth [] = true
-rises depth (c ∷ cs) = nat_le c.depth depth && rises c.depth cs
 
 -- a choice on a stack, if there is one
 abbrev pub pushed : ℕ → Option Continuation → List Choice → List Choice

@@ -1,4 +1,4 @@
--- One step of listing the words that choices stand for.
+-- Inside: one step of listing the words that choices stand for.
 use Rattle.std.specs.Prelude.{◌≡◌, ℕ, ◌<◌, Bool, true, false, List, [], ◌++◌}
 use Rattle.rp_words.specs.declared.word.End.{End}
 use Rattle.rp_pattern.specs.declared.choices.Choices.{Choices}

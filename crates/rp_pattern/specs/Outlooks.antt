@@ -1,25 +1,20 @@
--- What would follow a row whose test is open, by the number of words.
-use Rattle.std.specs.Prelude.{◌≡◌, ℕ, ◌+◌, ◌<◌, List, [], ◌∷◌, length}
+-- Inside: what would follow a row whose test is open, by the number of words.
+use Rattle.std.specs.Prelude.{◌≡◌, ℕ, ◌<◌}
 use Rattle.rp_words.specs.declared.word.End.{End}
-use Rattle.rp_pattern.specs.declared.machine.continuation.Choice.{Choice}
 use Rattle.rp_pattern.specs.declared.outlook.Outlook.{Outlook}
 use Rattle.rp_pattern.specs.declared.outlook.Sight.{Sight}
 use Rattle.rp_pattern.specs.declared.outlook.Sight.TheVariants.{Further, Word, Nothing}
 use Rattle.rp_words.specs.Later.{AtEachLater}
-use Rattle.rp_pattern.specs.Continuations.{continuation_parts, chain_words, stack_left}
-
--- how many words the choices have together
-abbrev pub stack_count : ℕ → End → ℕ → List Choice → ℕ
-stack_count n e start [] = 0
-stack_count n e start (c ∷ cs) = length (chain_words (continuation_parts n e c.continuation) (start + c.depth)) + stack_count n e start cs
+use Rattle.rp_pattern.specs.Rests.{stack_left, stack_count}
+use Rattle.rp_pattern.specs.Ways.{stack_of}
 
 -- how many words would follow the row
 unfoldable pub words_ahead : Outlook → ℕ → End → ℕ
-words_ahead o n e = stack_count n e o.start o.stack
+words_ahead o n e = stack_count n e o.start (stack_of o.ways)
 
 -- how many turns these words take at most, and one more for each of them
 unfoldable pub turns_ahead : Outlook → ℕ → End → ℕ
-turns_ahead o n e = stack_left n e o.start o.stack
+turns_ahead o n e = stack_left n e o.start (stack_of o.ways)
 
 -- The preferred choice gave way to others: as many words would follow, and fewer turns are left for them.
 pub record LooksFurther (old new : Outlook) (n : ℕ) (e : End) : Type 0 where

@@ -1,4 +1,4 @@
--- What a choice comes to when it is taken up.
+-- Inside: what a choice comes to when it is taken up.
 use Rattle.std.specs.Prelude.{◌≡◌, ℕ, Bool, ◌+◌, ◌<◌, ◌≤◌, List, [], ◌∷◌, ◌++◌, map, drop, Option, Some, None}
 use Rattle.rp_words.specs.declared.word.End.{End}
 use Rattle.rp_words.specs.declared.word.End.TheVariants.{Open as OpenEnd}

@@ -1,17 +1,15 @@
 //! The words of a pattern listed lazily, by a stack of choices.
-ghost use Rattle.std.specs.Prelude.{◌≡◌, ℕ, ◌∷◌, ◌++◌, ◌+◌, ◌^◌, ◌<◌, ◌≤◌, IfOk, OnOk, IsTrue, false, List, [], map, length, drop};
-ghost use Rattle.rp_pattern.specs.Continuations.{rises, pushed};
+ghost use Rattle.std.specs.Prelude.{◌≡◌, ℕ, ◌∷◌, ◌++◌, ◌+◌, ◌^◌, ◌<◌, ◌≤◌, IfOk, IfSome, OnOk, IsTrue, false, List, [], map, length, drop};
+ghost use Rattle.rp_pattern.specs.Rests.{rises};
+ghost use Rattle.rp_pattern.specs.Ways.{stack_of};
 ghost use Rattle.rp_words.specs.Numbers.{most_u64};
 
-use crate::machine::continuation::{Choice, Continuation};
-use crate::machine::link::{Part, Tail, linked, reach_shared};
-use crate::machine::node::Node;
-use crate::machine::split::{Expansion, Split};
+use crate::machine::split::Expansion;
 use crate::outlook::Outlook;
-use crate::stack::Stack;
-use rp_words::{End, Form, Label, Pattern};
+use crate::prepared::Prepared;
+use crate::ways::Ways;
+use rp_words::{End, Label, Pattern};
 use std::alloc::{AllocError, Global};
-use std::rc::Rc;
 
 /// What the preferred choice came to when it was taken up.
 #[derive(Clone, Copy, Debug, PartialEq, Eq)]
@@ -31,26 +29,27 @@ pub enum Taken {
 /// The words of a pattern from a start row, listed lazily in preferment order.
 #[derive(Drop)]
 pub struct Choices {
-    alloc: Global,
     start: u64,
-    origin: Tail,
     begun: bool,
     labels: Vec<Label>,
-    stack: Stack<Choice>,
-    ghost rises: { IsTrue (rises (length labels.items) stack) },
+    ways: Ways,
+    ghost rises: { IsTrue (rises (length labels.items) (stack_of ways)) },
     ghost ends: { start + length labels.items < 2 ^ 64 },
 }
 
 impl Choices {
-    ghost use Rattle.std.specs.Prelude.{OnOk, IfOk, take, ◌∷◌, ◌++◌, map};
+    ghost use Rattle.std.specs.Prelude.{OnOk, IfOk, None, take, ◌∷◌, ◌++◌, map};
     ghost use Rattle.rp_words.specs.declared.word.End.{End};
     ghost use Rattle.rp_words.specs.Words.{words};
     ghost use Rattle.rp_words.specs.Mapping.{preceded};
     ghost use Rattle.rp_words.specs.Turns.{turns};
     ghost use Rattle.rp_words.specs.PatternForm.{form_of};
-    ghost use Rattle.rp_pattern.specs.Continuations.{tail_links, BeginsWithRow};
-    ghost use Rattle.rp_pattern.specs.Splits.{StandsFor};
-    ghost use Rattle.rp_pattern.specs.Choices.{start_of, entered, first_later, whole, whole_turns, whole_from, whole_turns_from, remaining, turns_left, below, turns_left_below, after, turns_left_after, OfFirst, HasTop, AtRow, AreFirstOf, AreStrictlyFirstOf, IsSameWhole, IsSamePattern, TakenAs, HasBegun};
+    ghost use Rattle.rp_pattern.specs.Ways.{kept_of};
+    ghost use Rattle.rp_pattern.specs.Choices.{start_of, entered, whole, whole_turns, whole_from, whole_turns_from, remaining, turns_left, height, of_top, before_top, above, above_below, below, turns_left_below, after, turns_left_after, HasTop, AtRow, AreFirstOf, AreStrictlyFirstOf, IsSameWhole, IsSamePattern, IsListOf, IsAtPlace, TakenAs, HasBegun};
+    ghost use Rattle.rp_pattern.specs.Choices.{costs, kept, top_weight, BeginsWith, KeepsUnder, Spends};
+    ghost use Rattle.rp_pattern.specs.Ways.{IsNumbered, all_weight, whole_cost};
+    ghost use Rattle.rp_words.specs.declared.form.Form.{Form};
+    ghost use Rattle.rp_pattern.specs.Prepared.{Prepares};
     ghost use Rattle.rp_pattern.specs.Outlooks.{words_ahead, turns_ahead};
 
     /// The words of the pattern from the start row on.
@@ -69,19 +68,50 @@ impl Choices {
             turns n e (form_of pattern.now) start + length (words n e (form_of pattern.now) start)) }
         ensures remaining { IfOk result (λ c. (n : ℕ) (e : End) → remaining c n e ≡ whole c n e) }
         ensures left { IfOk result (λ c. (n : ℕ) (e : End) → turns_left c n e ≡ whole_turns c n e) }
+        ensures costs { IfOk result (λ c. costs c ≡ whole_cost (kept c)) }
     {
-        let form = Rc::new(alloc, pattern.form().share(alloc)?)?;
-        let part = Part::Whole(Node {
-            form,
-            excluded: false,
-        });
         Ok(Choices {
-            alloc,
             start,
-            origin: linked(alloc, None, part, None)?,
             begun: false,
             labels: Vec::new(alloc),
-            stack: Stack::new(alloc),
+            ways: Ways::new(alloc, pattern)?,
+        })
+    }
+
+    /// The same on linked parts: each open word is a choice of its own.
+    pub(crate) fn linked(
+        alloc: Global,
+        pattern: &Pattern,
+        start: u64,
+    ) -> Result<Choices, AllocError>
+        requires { 1 ≤ start }
+        ensures linked { IfOk result (λ c. IsNumbered (kept c) → ⊥) }
+        ensures remaining { IfOk result (λ c. (n : ℕ) (e : End) →
+            remaining c n e ≡ words n e (form_of pattern.now) start) }
+    {
+        Ok(Choices {
+            start,
+            begun: false,
+            labels: Vec::new(alloc),
+            ways: Ways::linked(alloc, pattern)?,
+        })
+    }
+
+    /// The same, of a pattern that was made ready: searches share it.
+    pub fn of(alloc: Global, prepared: &Prepared, start: u64) -> Result<Choices, AllocError>
+        requires { 1 ≤ start }
+        ensures start { IfOk result (λ c. start_of c ≡ start) }
+        ensures labels { IfOk result (λ c. entered c ≡ []) }
+        ensures pattern { IfOk result (λ c. (f : Form) → Prepares f prepared.now → IsListOf f start c) }
+        ensures remaining { IfOk result (λ c. (n : ℕ) (e : End) → remaining c n e ≡ whole c n e) }
+        ensures left { IfOk result (λ c. (n : ℕ) (e : End) → turns_left c n e ≡ whole_turns c n e) }
+        ensures costs { IfOk result (λ c. costs c ≡ whole_cost (kept c)) }
+    {
+        Ok(Choices {
+            start,
+            begun: false,
+            labels: Vec::new(alloc),
+            ways: prepared.ways()?,
         })
     }
 
@@ -102,6 +132,41 @@ impl Choices {
         self.start
     }
 
+    /// How many choices are on the stack: none before the first is taken up. Those above some height are the last to have
+    /// come.
+    #[inline]
+    pub fn height(&self) -> usize
+        ensures height { result ≡ height self.now }
+        ensures some { HasTop self.now → 0 < result }
+        ensures none { (h n : ℕ) (e : End) → result ≤ h → above self.now h n e ≡ [] }
+        ensures top { (h n : ℕ) (e : End) → h + 1 ≡ result → above self.now h n e ≡ of_top self.now n e }
+    {
+        if self.begun { self.ways.height() } else { 0 }
+    }
+
+    /// The row that the preferred choice goes on at.
+    #[inline]
+    pub fn row(&self) -> u64
+        ensures { result ≡ start_of self.now + length (before_top self.now) }
+    {
+        match self.ways.depth() {
+            None => self.start,
+            Some(depth) => self.start + depth as u64,
+        }
+    }
+
+    /// The place of the pattern that the preferred choice is at, by its number, if it gives way to two others; None
+    /// elsewhere, and for a pattern whose places aren't numbered. Choices at one place have the same words from a row,
+    /// whatever came before and whatever is called, also after `restart` at another row. So what fails from there once
+    /// fails from there always, as far as the tests don't look back.
+    #[inline]
+    pub fn place(&self) -> Option<u32>
+        ensures at { IfSome result (IsAtPlace self.now) }
+        ensures none { IsNumbered (kept self.now) → result ≡ None → top_weight self.now ≡ 0 }
+    {
+        if self.begun { self.ways.place() } else { None }
+    }
+
     /// Takes up the preferred choice, over the rows 1 to n and that end. Where memory is refused, nothing is said of the
     /// choices on the stack: `reset` them.
     #[inline]
@@ -109,6 +174,10 @@ impl Choices {
         requires { n < most_u64 }
         ensures whole { IsSameWhole self.old self.new }
         ensures taken { IfOk result (TakenAs self.old self.new n end) }
+        ensures keeps { kept self.new ≡ kept self.old }
+        ensures under { OnOk result (KeepsUnder self.old self.new) }
+        ensures costs { IfOk result (Spends self.old self.new) }
+        ensures most { IsNumbered (kept self.old) → top_weight self.old ≤ all_weight (kept self.old) }
     {
         self.begin()?;
         self.take_up_top(n, end)
@@ -121,92 +190,47 @@ impl Choices {
         ensures cut { OnOk result (AreFirstOf (entered self.new) (entered self.old)) }
         ensures remaining { OnOk result ((n : ℕ) (e : End) → remaining self.new n e ≡ remaining self.old n e) }
         ensures left { OnOk result ((n : ℕ) (e : End) → turns_left self.new n e ≡ turns_left self.old n e) }
+        ensures height { OnOk result ((h : ℕ) → h < height self.old → h < height self.new) }
+        ensures above { OnOk result ((h n : ℕ) (e : End) → h < height self.old →
+            above self.new h n e ≡ above self.old h n e) }
+        ensures keeps { kept self.new ≡ kept self.old }
+        ensures under { OnOk result (KeepsUnder self.old self.new) }
+        ensures costs { OnOk result (BeginsWith self.old self.new) }
     {
         if self.begun {
             return Ok(());
         }
-        self.stack.clear();
+        self.ways.clear();
         self.labels.clear();
-        let first = reach_shared(&self.origin, self.start)?;
-        push(&mut self.stack, 0, first)?;
+        self.ways.begin(self.start)?;
         self.begun = true;
         Ok(())
     }
 
-    /// Takes up the choice on the stack's top. Rows come up most often, and go their own way.
+    /// Takes up the choice on the stack's top.
     #[inline(always)]
     fn take_up_top(&mut self, n: u64, end: End) -> Result<Taken, AllocError>
         requires rows { n < most_u64 }
         requires begun { HasBegun self.old }
         ensures whole { IsSameWhole self.old self.new }
         ensures taken { IfOk result (TakenAs self.old self.new n end) }
+        ensures keeps { kept self.new ≡ kept self.old }
+        ensures under { OnOk result (KeepsUnder self.old self.new) }
+        ensures costs { IfOk result (Spends self.old self.new) }
     {
-        let Some(choice) = self.stack.top() else {
+        let Some(depth) = self.ways.depth() else {
             return Ok(Taken::Nothing);
         };
-        match choice.continuation.label() {
-            Some(label) => self.take_top_row(label, n, end),
-            None => self.take_top(n, end),
-        }
-    }
-
-    /// Takes up the top choice, which maps a row first.
-    #[inline(always)]
-    fn take_top_row(&mut self, label: Label, n: u64, end: End) -> Result<Taken, AllocError>
-        requires rows { n < most_u64 }
-        requires begun { HasBegun self.old }
-        requires first { OfFirst (λ t. BeginsWithRow label t.continuation) self.old.stack }
-        ensures whole { IsSameWhole self.old self.new }
-        ensures taken { IfOk result (TakenAs self.old self.new n end) }
-    {
-        let Some(choice) = self.stack.top() else {
-            unreachable!();
-        };
-        let depth = choice.depth;
-        self.labels.truncate(depth);
-        if self.start + depth as u64 <= n {
-            self.labels.push(label)?;
-            return Ok(Taken::Row);
-        }
-        match end {
-            End::Open => Ok(Taken::Open),
-            End::Closed => {
-                self.stack.drop_top();
-                Ok(Taken::Split)
-            }
-        }
-    }
-
-    /// Takes up the top choice, whatever it is.
-    #[inline(always)]
-    fn take_top(&mut self, n: u64, end: End) -> Result<Taken, AllocError>
-        requires rows { n < most_u64 }
-        requires begun { HasBegun self.old }
-        ensures whole { IsSameWhole self.old self.new }
-        ensures taken { IfOk result (TakenAs self.old self.new n end) }
-    {
-        let Some(choice) = self.stack.top() else {
-            return Ok(Taken::Nothing);
-        };
-        let depth = choice.depth;
         self.labels.truncate(depth);
         let row = self.start + depth as u64;
-        let mut split = Split::none();
-        match choice
-            .continuation
-            .take_up(self.alloc, row, n, end, &mut split)?
-        {
+        match self.ways.take_up(row, n, end)? {
             Expansion::Full => Ok(Taken::Full),
             Expansion::Row(label) => {
                 self.labels.push(label)?;
                 Ok(Taken::Row)
             }
             Expansion::Open => Ok(Taken::Open),
-            Expansion::Split => {
-                set_top(&mut self.stack, depth, split.other);
-                push(&mut self.stack, depth, split.preferred)?;
-                Ok(Taken::Split)
-            }
+            Expansion::Split => Ok(Taken::Split),
         }
     }
 
@@ -217,28 +241,18 @@ impl Choices {
         ensures whole { IsSameWhole self.old self.new }
         ensures remaining { OnOk result ((n : ℕ) (e : End) →
             remaining self.new n e ≡ map (preceded (entered self.old)) (after self.old n e) ++ below self.old n e) }
+        ensures height { OnOk result (height self.old ≤ height self.new + 1) }
+        ensures above { OnOk result ((h n : ℕ) (e : End) → h < height self.old →
+            above self.new h n e ≡ map (preceded (entered self.old)) (after self.old n e) ++ above_below self.old h n e) }
         ensures left { OnOk result ((n : ℕ) (e : End) →
             turns_left self.new n e ≡ turns_left_after self.old n e + turns_left_below self.old n e) }
         ensures labels { OnOk result (entered self.new ≡ entered self.old) }
+        ensures keeps { kept self.new ≡ kept self.old }
+        ensures under { OnOk result (KeepsUnder self.old self.new) }
+        ensures costs { OnOk result (IsNumbered (kept self.old) → costs self.new < costs self.old) }
     {
         let depth = self.labels.len();
-        let Some(choice) = self.stack.pop() else {
-            unreachable!();
-        };
-        let continuation = choice.continuation.into_later(self.start + depth as u64)?;
-        push(&mut self.stack, depth, continuation)?;
-        Ok(())
-    }
-
-    /// The continuation at a row, where the first part of the preferred choice is mapped before it.
-    fn follow_first(&self, row: u64) -> Result<Option<Continuation>, AllocError>
-        ensures { IfOk result (λ continuation. (n : ℕ) (e : End) →
-            StandsFor n e row (first_later n e self.now.stack) continuation) }
-    {
-        match self.stack.top() {
-            None => Ok(Some(Continuation::Done)),
-            Some(choice) => choice.continuation.after_first(row),
-        }
+        self.ways.follow(depth, self.start + depth as u64)
     }
 
     /// The preferred choice is given up. It takes no memory.
@@ -248,12 +262,20 @@ impl Choices {
         ensures whole { IsSameWhole self.old self.new }
         ensures remaining { (n : ℕ) (e : End) → remaining self.new n e ≡ below self.old n e }
         ensures left { (n : ℕ) (e : End) → turns_left self.new n e ≡ turns_left_below self.old n e }
+        ensures height { height self.new + 1 ≡ height self.old }
+        ensures above { (h n : ℕ) (e : End) → h < height self.old →
+            above self.old h n e ≡ of_top self.old n e ++ above self.new h n e }
+        ensures rest { (h n : ℕ) (e : End) → above_below self.old h n e ≡ above self.new h n e }
+        ensures passed { (n : ℕ) (e : End) → remaining self.old n e ≡ of_top self.old n e ++ remaining self.new n e }
         ensures labels { AreFirstOf (entered self.new) (entered self.old) }
         ensures cut_off { AtRow self.old → AreStrictlyFirstOf (entered self.new) (entered self.old) }
+        ensures keeps { kept self.new ≡ kept self.old }
+        ensures under { KeepsUnder self.old self.new }
+        ensures costs { costs self.new < costs self.old }
     {
-        if let Some(choice) = self.stack.top() {
-            self.labels.truncate(choice.depth);
-            self.stack.drop_top();
+        if let Some(depth) = self.ways.depth() {
+            self.labels.truncate(depth);
+            self.ways.drop_top();
         }
     }
 
@@ -264,7 +286,7 @@ impl Choices {
         ensures turns { IfOk result (λ o. (n : ℕ) (e : End) → turns_ahead o n e ≡ turns_left_after self.now n e) }
     {
         let row = self.start + self.labels.len() as u64;
-        Outlook::at(self.alloc, row, self.follow_first(row)?)
+        Ok(Outlook::at(row, self.ways.ahead(row)?))
     }
 
     /// Begins again. It takes no memory, and keeps its room.
@@ -273,6 +295,8 @@ impl Choices {
         ensures remaining { (n : ℕ) (e : End) → remaining self.new n e ≡ whole self.old n e }
         ensures left { (n : ℕ) (e : End) → turns_left self.new n e ≡ whole_turns self.old n e }
         ensures labels { entered self.new ≡ [] }
+        ensures keeps { kept self.new ≡ kept self.old }
+        ensures costs { costs self.new ≡ whole_cost (kept self.old) }
     {
         self.empty();
     }
@@ -287,6 +311,8 @@ impl Choices {
         ensures whole_turns { (n : ℕ) (e : End) → whole_turns self.new n e ≡ whole_turns_from self.old n e start }
         ensures remaining { (n : ℕ) (e : End) → remaining self.new n e ≡ whole self.new n e }
         ensures left { (n : ℕ) (e : End) → turns_left self.new n e ≡ whole_turns self.new n e }
+        ensures keeps { kept self.new ≡ kept self.old }
+        ensures costs { costs self.new ≡ whole_cost (kept self.old) }
     {
         self.empty();
         self.start = start;
@@ -296,46 +322,11 @@ impl Choices {
     fn empty(&mut self)
         ensures begun { self.new.begun ≡ false }
         ensures start { self.new.start ≡ self.old.start }
-        ensures origin { self.new.origin ≡ self.old.origin }
+        ensures kept { kept_of self.new.ways ≡ kept_of self.old.ways }
         ensures labels { self.new.labels.items ≡ [] }
     {
         self.begun = false;
-        self.stack.clear();
+        self.ways.clear();
         self.labels.clear();
     }
-}
-
-/// Puts another choice, if there is one, in the top one's place.
-#[inline(always)]
-fn set_top(stack: &mut Stack<Choice>, depth: usize, continuation: Option<Continuation>)
-    requires { 0 < length stack.old }
-    ensures set { stack.new ≡ pushed depth continuation (drop 1 stack.old) }
-    ensures rises { IsTrue (rises depth (drop 1 stack.old)) → IsTrue (rises depth stack.new) }
-{
-    match continuation {
-        None => stack.drop_top(),
-        Some(continuation) => stack.set_top(Choice {
-            depth,
-            continuation,
-        }),
-    }
-}
-
-/// Puts a choice on a stack, if there is one.
-#[inline(always)]
-pub(crate) fn push(
-    stack: &mut Stack<Choice>,
-    depth: usize,
-    continuation: Option<Continuation>,
-) -> Result<(), AllocError>
-    ensures pushed { OnOk result (stack.new ≡ pushed depth continuation stack.old) }
-    ensures rises { IsTrue (rises depth stack.old) → IsTrue (rises depth stack.new) }
-{
-    if let Some(continuation) = continuation {
-        stack.push(Choice {
-            depth,
-            continuation,
-        })?;
-    }
-    Ok(())
 }

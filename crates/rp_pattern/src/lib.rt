@@ -10,19 +10,25 @@
 //! }
 //! ```
 //! `Choices` lists the words one by one, for a search that tests each row and gives up what is refused. `Outlook` tells
-//! whether any word would follow a row whose condition is open.
+//! whether any word would follow a row whose condition is open. `Stack` is what both are made of.
 #![tactic(auto)]
 
 mod choices;
+mod compiled;
+mod linked;
 mod list;
 mod machine;
 mod outlook;
+mod prepared;
 mod stack;
+mod ways;
 
 pub use choices::{Choices, Taken};
 pub use list::{ListFault, list_words};
 pub use outlook::{Outlook, Sight};
+pub use prepared::Prepared;
 pub use rp_words::{
     End, Form, Label, MAX_BOUND, MAX_PARTS, Mark, Pattern, Seen, Word, law_labels, law_words,
     permutations,
 };
+pub use stack::Stack;

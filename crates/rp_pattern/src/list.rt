@@ -1,6 +1,7 @@
 //! All words of a pattern, up to a given number of them.
 ghost use Rattle.std.specs.Prelude.{◌≡◌, ℕ, ◌+◌, ◌<◌, ◌≤◌, [], ◌∷◌, ◌++◌, length, IfOk, OnOk};
-ghost use Rattle.rp_pattern.specs.Choices.{HasTop, entered, remaining, turns_left, below, turns_left_below};
+ghost use Rattle.rp_pattern.specs.Choices.{HasTop, entered, kept, remaining, turns_left, below, turns_left_below};
+ghost use Rattle.rp_pattern.specs.Ways.{IsNumbered};
 ghost use Rattle.rp_words.specs.declared.word.End.{End};
 ghost use Rattle.rp_pattern.specs.Listing.{ListsNext};
 ghost use Rattle.rp_words.specs.Mapping.{marked};
@@ -60,7 +61,7 @@ pub fn list_words(
     ensures few { IfOk result (λ list. length list.items ≤ cap) }
     ensures many { result ≡ Err ListFault.TooMany → cap < length (words last end (form_of pattern.now) row) }
 {
-    let mut choices = Choices::new(alloc, pattern, row)?;
+    let mut choices = Choices::linked(alloc, pattern, row)?;
     let mut list = Vec::new(alloc);
     while list_next(alloc, &mut choices, last, end, &mut list)? {
         if list.len() > cap {
@@ -78,8 +79,10 @@ fn list_next(
     end: End,
     list: &mut Vec<Word>,
 ) -> Result<bool, AllocError>
-    requires { last < most_u64 }
-    ensures { IfOk result (λ more. ListsNext choices.old choices.new last end list.old.items list.new.items more) }
+    requires known { last < most_u64 }
+    requires linked { IsNumbered (kept choices.old) → ⊥ }
+    ensures lists { IfOk result (λ more. ListsNext choices.old choices.new last end list.old.items list.new.items more) }
+    ensures keeps { kept choices.new ≡ kept choices.old }
 {
     match choices.take_up(last, end)? {
         Taken::Row => {
@@ -110,6 +113,7 @@ fn list_word(
     ensures list { OnOk result (list.new.items ≡ list.old.items ++ marked mark (entered choices.old) ∷ []) }
     ensures remaining { OnOk result ((n : ℕ) (e : End) → remaining choices.new n e ≡ below choices.old n e) }
     ensures left { OnOk result ((n : ℕ) (e : End) → turns_left choices.new n e ≡ turns_left_below choices.old n e) }
+    ensures keeps { kept choices.new ≡ kept choices.old }
 {
     let labels = Vec::from_slice(alloc, choices.labels())?;
     list.push(Word { labels, mark })?;

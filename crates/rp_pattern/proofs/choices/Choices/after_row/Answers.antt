@@ -1,23 +1,31 @@
-use Rattle.std.proofs.Common.{◌≡◌, ℕ, ◌+◌, length, ◌∙◌, ap, arith}
-use Rattle.rp_words.specs.declared.word.End.{End}
-use Rattle.rp_pattern.specs.Choices.{after, turns_left_after}
-use Rattle.rp_pattern.specs.Outlooks.{words_ahead, turns_ahead}
-use Rattle.rp_pattern.proofs.OrderRests.{IfOk-map}
-use Rattle.rp_pattern.proofs.ChoiceStacks.{followed_words, followed_left}
+use Rattle.std.proofs.Common.{◌≡◌, ◌+◌, [], length, ◌∙◌, refl, ap, arith}
+use Rattle.rp_pattern.specs.Rests.{option_words, option_turns}
+use Rattle.rp_pattern.specs.Ways.{stack_of}
+use Rattle.rp_pattern.proofs.ChoiceStacks.{row_some, followed_words, followed_left}
+use Rattle.rp_pattern.proofs.Outlooks.{words_at, turns_at}
+use Rattle.rp_pattern.proofs.Rising.{put_rises}
 use Rattle.rp_pattern.proofs.choices.Choices.after_row.Goals as goal
 
+pub ahead-requires : goal.ahead-requires
+ahead-requires c = row_some c.args.self.now c.requires
+
+pub at-requires : goal.at-requires
+at-requires c = put_rises _ _ 0 [] (stack_of c.in_ok-ahead.field-0) c.in_ok-ahead.ensures refl
+
 pub returns-clause-words : goal.returns-clause-words
-returns-clause-words c =
+returns-clause-words c = λ n e.
     let old = c.args.self.now in
+    let put = c.in_ok-ahead.ensures in
     let long : c.len.result ≡ length old.labels.items = omega (arith, c.len.ensures, old.labels.ok.0) in
-    IfOk-map _ (λ o. (n : ℕ) (e : End) → words_ahead o n e ≡ length (after old n e))
-    (λ o h n e. h n e ∙ followed_words old _ n e (old.start + c.len.result) (ap (λ k. old.start + k) long) (c.in_ok-follow_first.ensures n e))
-    c.at.result c.at.ensures.words
+    words_at c.at.result put.rest n e (ap stack_of c.at.ensures.ways ∙ put.is)
+    ∙ ap (λ i. length (option_words n e put.rest i)) c.at.ensures.start
+    ∙ followed_words old put.rest n e (old.start + c.len.result) (ap (λ k. old.start + k) long) (put.stands n e)
 
 pub returns-clause-turns : goal.returns-clause-turns
-returns-clause-turns c =
+returns-clause-turns c = λ n e.
     let old = c.args.self.now in
+    let put = c.in_ok-ahead.ensures in
     let long : c.len.result ≡ length old.labels.items = omega (arith, c.len.ensures, old.labels.ok.0) in
-    IfOk-map _ (λ o. (n : ℕ) (e : End) → turns_ahead o n e ≡ turns_left_after old n e)
-    (λ o h n e. h n e ∙ followed_left old _ n e (old.start + c.len.result) (ap (λ k. old.start + k) long) (c.in_ok-follow_first.ensures n e))
-    c.at.result c.at.ensures.turns
+    turns_at c.at.result put.rest n e (ap stack_of c.at.ensures.ways ∙ put.is)
+    ∙ ap (λ i. option_turns n e put.rest i + length (option_words n e put.rest i)) c.at.ensures.start
+    ∙ followed_left old put.rest n e (old.start + c.len.result) (ap (λ k. old.start + k) long) (put.stands n e)
