@@ -1,5 +1,6 @@
 -- How the choices of a search stand to its tests, step by step.
 use Rattle.std.proofs.Common.{map, ◌≡◌, ℕ, ◌+◌, ◌<◌, ◌≤◌, List, [], ◌∷◌, ◌++◌, length, take, refl, sym, ap, ◌∙◌, subst, arith, length-append}
+use Rattle.std.specs.List.{AllByRecursion}
 use Rattle.std.proofs.lemmas.List.{length-take}
 use Rattle.rp_words.specs.declared.word.Label.{Label}
 use Rattle.rp_words.specs.declared.word.End.{End}
@@ -8,11 +9,12 @@ use Rattle.rp_words.specs.Mapping.{Mapping, preceded}
 use Rattle.rp_pattern.specs.declared.choices.Choices.{Choices}
 use Rattle.rp_pattern.specs.declared.outlook.Outlook.{Outlook}
 use Rattle.rp_words.specs.Later.{IsLater}
-use Rattle.rp_pattern.specs.Choices.{AtRow, start_of, entered, whole, whole_turns, remaining, turns_left, below, turns_left_below, after, turns_left_after, AreFirstOf, AreStrictlyFirstOf, IsSameWhole, IsSameRemaining, IsSplit, IsMappedRow as TakesRow, IsFullWord, IsOpenWord, IsNothing}
+use Rattle.rp_pattern.specs.Choices.{AtRow, start_of, entered, whole, whole_turns, remaining, turns_left, height, above, above_below, of_top, below, turns_left_below, after, turns_left_after, AreFirstOf, AreStrictlyFirstOf, IsSameWhole, IsSameRemaining, IsSplit, IsMappedRow as TakesRow, IsFullWord, IsOpenWord, IsNothing}
 use Rattle.rp_search.specs.Found.{Test, tested, found, Match, NoMatch, Waits}
 use Rattle.rp_search.specs.SeenStays.{SeenStays, TestsStay}
 use Rattle.rp_search.specs.Asked.{rows_from}
-use Rattle.rp_search.specs.Fits.{RefusedUpTo, ChoicesFit, StandsAtRow, Explores}
+use Rattle.rp_search.specs.Refused.{IsRefusedWithin, RefusedUpTo}
+use Rattle.rp_search.specs.Fits.{ChoicesFit, StandsAtRow, Explores}
 use Rattle.rp_search.specs.Turned.{Goes}
 use Rattle.rp_search.proofs.FoundLaws.{tested_stays}
 use Rattle.rp_search.proofs.Tested.{tested_take, refused_row, before_more, before_stays, found_before, full_matches, open_waits, begun_waits, last_decides, cut_admitted}
@@ -92,10 +94,15 @@ maps_row old new n e test h t =
 pub row_decides : (c : Choices) (n : ℕ) (e : End) (test : Test) → StandsAtRow c n e test → tested test (entered c) ≡ test (entered c)
 row_decides c n e test r = last_decides r.before r.last (entered c) test r.labels r.admitted
 
+-- where a row is admitted, the words above any height are divided at it
+pub record Admits (old new : Choices) : Type 0 where
+  pub fall : height old ≤ height new + 1
+  pub over : (h n : ℕ) (e : End) → h < height old → above new h n e ≡ map (preceded (entered old)) (after old n e) ++ above_below old h n e
+
 -- a row that is admitted
 pub goes_admitted : (old new : Choices) (n : ℕ) (e : End) (test : Test) → ChoicesFit old n e test → StandsAtRow old n e test → test (entered old) ≡ True → IsSameWhole old new →
-    entered new ≡ entered old → ((n' : ℕ) (e' : End) → remaining new n' e' ≡ map (preceded (entered old)) (after old n' e') ++ below old n' e') → ((n' : ℕ) (e' : End) → turns_left new n' e' ≡ turns_left_after old n' e' + turns_left_below old n' e') → Goes old new n e test
-goes_admitted old new n e test s r seen keeps labels words turns =
+    Admits old new → entered new ≡ entered old → ((n' : ℕ) (e' : End) → remaining new n' e' ≡ map (preceded (entered old)) (after old n' e') ++ below old n' e') → ((n' : ℕ) (e' : End) → turns_left new n' e' ≡ turns_left_after old n' e' + turns_left_below old n' e') → Goes old new n e test
+goes_admitted old new n e test s r seen keeps a labels words turns =
     record {
       stands = stands_from old new n e test keeps s.from_one
           (subst (λ ls. length ls ≤ rows_from (start_of old) n) (sym labels) s.known)
@@ -103,6 +110,7 @@ goes_admitted old new n e test s r seen keeps labels words turns =
           (λ n' e' h. omega (arith, turns n' e', r.divides.turns n' e' h, s.turns n' e' h));
       admitted = subst (λ ls. tested test ls ≡ True) (sym labels) (row_decides old n e test r ∙ seen);
       turns = omega (arith, turns n e, r.divides.turns n e (now_later n e));
+      passes = λ h lt. (omega (arith, lt, a.fall), λ n' e' later. record { front = []; is = r.divides.over h lt n' e' later ∙ sym (a.over h n' e' lt); refused = tt });
     }
 
 -- the preferred choice is given up
@@ -111,36 +119,61 @@ pub record GivesUp (old new : Choices) : Type 0 where
   pub cut_off : AtRow old → AreStrictlyFirstOf (entered new) (entered old)
   pub words : (n : ℕ) (e : End) → remaining new n e ≡ below old n e
   pub turns : (n : ℕ) (e : End) → turns_left new n e ≡ turns_left_below old n e
-
--- a row whose choice is given up, where its words are refused or there are none
-goes_without : (old new : Choices) (n : ℕ) (e : End) (test : Test) → ChoicesFit old n e test → StandsAtRow old n e test → IsSameWhole old new → GivesUp old new →
-    ((n' : ℕ) (e' : End) → IsLater n e n' e' → RefusedUpTo (rows_from (start_of old) n) test (whole old n' e') (below old n' e')) → Goes old new n e test
-goes_without old new n e test s r keeps g words =
-    let off : AreStrictlyFirstOf (entered new) (entered old) = g.cut_off r.at_row in
-    record {
-      stands = stands_from old new n e test keeps s.from_one
-          (subst (λ ls. length ls ≤ rows_from (start_of old) n) (sym g.cut.1) (cut_known (entered old) g.cut.0 (rows_from (start_of old) n) s.known))
-          (λ n' e' h. subst (λ ws. RefusedUpTo (rows_from (start_of old) n) test (whole old n' e') ws) (sym (g.words n' e')) (words n' e' h))
-          (λ n' e' h. omega (arith, g.turns n' e', r.divides.turns n' e' h, s.turns n' e' h));
-      admitted = subst (λ ls. tested test ls ≡ True) (sym off.2) (cut_admitted r.before r.last (entered old) off.0 test r.labels off.1 r.admitted);
-      turns = omega (arith, g.turns n e, r.divides.turns n e (now_later n e));
-    }
+  pub fall : height new + 1 ≡ height old
+  pub over : (h n : ℕ) (e : End) → above_below old h n e ≡ above new h n e
 
 row_words : (old : Choices) (n : ℕ) (e : End) (test : Test) → ChoicesFit old n e test → StandsAtRow old n e test → (n' : ℕ) (e' : End) → IsLater n e n' e' →
     RefusedUpTo (rows_from (start_of old) n) test (whole old n' e') (map (preceded (entered old)) (after old n' e') ++ below old n' e')
 row_words old n e test s r n' e' h = subst (λ ws. RefusedUpTo (rows_from (start_of old) n) test (whole old n' e') ws) (r.divides.words n' e' h) (s.words n' e' h)
 
+-- a row whose choice is given up, where its words are refused or there are none
+goes_without : (old new : Choices) (n : ℕ) (e : End) (test : Test) → ChoicesFit old n e test → StandsAtRow old n e test → IsSameWhole old new → GivesUp old new →
+    ((n' : ℕ) (e' : End) → IsLater n e n' e' → AllByRecursion (IsRefusedWithin (rows_from (start_of old) n) test) (map (preceded (entered old)) (after old n' e'))) → Goes old new n e test
+goes_without old new n e test s r keeps g refused =
+    let off : AreStrictlyFirstOf (entered new) (entered old) = g.cut_off r.at_row in
+    record {
+      stands = stands_from old new n e test keeps s.from_one
+          (subst (λ ls. length ls ≤ rows_from (start_of old) n) (sym g.cut.1) (cut_known (entered old) g.cut.0 (rows_from (start_of old) n) s.known))
+          (λ n' e' h. subst (λ ws. RefusedUpTo (rows_from (start_of old) n) test (whole old n' e') ws) (sym (g.words n' e'))
+          (before_more (rows_from (start_of old) n) test (whole old n' e') (map (preceded (entered old)) (after old n' e')) (below old n' e') (row_words old n e test s r n' e' h) (refused n' e' h)))
+          (λ n' e' h. omega (arith, g.turns n' e', r.divides.turns n' e' h, s.turns n' e' h));
+      admitted = subst (λ ls. tested test ls ≡ True) (sym off.2) (cut_admitted r.before r.last (entered old) off.0 test r.labels off.1 r.admitted);
+      turns = omega (arith, g.turns n e, r.divides.turns n e (now_later n e));
+      passes = λ h lt. (
+        omega (arith, lt, g.fall),
+        λ n' e' later. record {
+          front = map (preceded (entered old)) (after old n' e');
+          is = r.divides.over h lt n' e' later ∙ ap (λ ws. map (preceded (entered old)) (after old n' e') ++ ws) (g.over h n' e');
+          refused = refused n' e' later;
+        },
+      );
+    }
+
 pub goes_refused : (old new : Choices) (n : ℕ) (e : End) (test : Test) → ChoicesFit old n e test → StandsAtRow old n e test → test (entered old) ≡ NotTrue → IsSameWhole old new → GivesUp old new → Goes old new n e test
 goes_refused old new n e test s r seen keeps g =
     goes_without old new n e test s r keeps g
-    (λ n' e' h. before_more (rows_from (start_of old) n) test (whole old n' e') (map (preceded (entered old)) (after old n' e')) (below old n' e')
-    (row_words old n e test s r n' e' h)
-    (refused_row (entered old) (after old n' e') (rows_from (start_of old) n) test s.known (row_decides old n e test r ∙ seen)))
+    (λ n' e' h. refused_row (entered old) (after old n' e') (rows_from (start_of old) n) test s.known (row_decides old n e test r ∙ seen))
 
 pub goes_wordless : (old new : Choices) (n : ℕ) (e : End) (test : Test) → ChoicesFit old n e test → StandsAtRow old n e test → ((n' : ℕ) (e' : End) → IsLater n e n' e' → after old n' e' ≡ []) → IsSameWhole old new → GivesUp old new → Goes old new n e test
 goes_wordless old new n e test s r none keeps g =
     goes_without old new n e test s r keeps g
-    (λ n' e' h. subst (λ ws. RefusedUpTo (rows_from (start_of old) n) test (whole old n' e') (map (preceded (entered old)) ws ++ below old n' e')) (none n' e' h) (row_words old n e test s r n' e' h))
+    (λ n' e' h. subst (λ ws. AllByRecursion (IsRefusedWithin (rows_from (start_of old) n) test) (map (preceded (entered old)) ws)) (sym (none n' e' h)) tt)
+
+-- a choice that is given up where its words are refused
+pub goes_dead : (old new : Choices) (n : ℕ) (e : End) (test : Test) → ChoicesFit old n e test → tested test (entered old) ≡ True → IsSameWhole old new → GivesUp old new →
+    ((n' : ℕ) (e' : End) → remaining old n' e' ≡ of_top old n' e' ++ remaining new n' e') → ((h n' : ℕ) (e' : End) → h < height old → above old h n' e' ≡ of_top old n' e' ++ above new h n' e') →
+    ((n' : ℕ) (e' : End) → IsLater n e n' e' → AllByRecursion (IsRefusedWithin (rows_from (start_of old) n) test) (of_top old n' e')) → ((n' : ℕ) (e' : End) → turns_left_below old n' e' < turns_left old n' e') → Goes old new n e test
+goes_dead old new n e test s true_ keeps g words over refused turns =
+    record {
+      stands = stands_from old new n e test keeps s.from_one
+          (subst (λ ls. length ls ≤ rows_from (start_of old) n) (sym g.cut.1) (cut_known (entered old) g.cut.0 (rows_from (start_of old) n) s.known))
+          (λ n' e' h. before_more (rows_from (start_of old) n) test (whole old n' e') (of_top old n' e') (remaining new n' e')
+          (subst (λ ws. RefusedUpTo (rows_from (start_of old) n) test (whole old n' e') ws) (words n' e') (s.words n' e' h)) (refused n' e' h))
+          (λ n' e' h. omega (arith, g.turns n' e', turns n' e', s.turns n' e' h));
+      admitted = cut_true old new test g.cut true_;
+      turns = omega (arith, g.turns n e, turns n e);
+      passes = λ h lt. (omega (arith, lt, g.fall), λ n' e' later. record { front = of_top old n' e'; is = over h n' e' lt; refused = refused n' e' later });
+    }
 
 -- what a search finds, where its choices stand
 found_remaining : (c : Choices) (n : ℕ) (e : End) (test : Test) → ChoicesFit c n e test → found test (whole c n e) ≡ found test (remaining c n e)
@@ -152,7 +185,7 @@ finds_match old new n e test s h t =
 
 pub finds_wait : (old new : Choices) (n : ℕ) (e : End) (test : Test) → ChoicesFit old n e test → tested test (entered old) ≡ True → IsOpenWord old new n e → found test (whole old n e) ≡ Waits
 finds_wait old new n e test s h t =
-    found_remaining old n e test s ∙ ap (found test) (sym (t.same.words n e (now_later n e)) ∙ t.first) ∙ open_waits (entered new) test (below new n e) (cut_true old new test t.cut h)
+    found_remaining old n e test s ∙ ap (found test) (sym (t.same.words n e (now_later n e)) ∙ t.first) ∙ open_waits (entered new) test (t.more ++ below new n e) (cut_true old new test t.cut h)
 
 pub finds_none : (old new : Choices) (n : ℕ) (e : End) (test : Test) → ChoicesFit old n e test → IsNothing old new n e → found test (whole old n e) ≡ NoMatch
 finds_none old new n e test s t =
@@ -208,6 +241,7 @@ module _ (n n' : ℕ) (e e' : End) (test test' : Test) (later : IsLater n e n' e
         divides = record {
           words = λ m f h. r.divides.words m f (later_still n n' m e e' f later h);
           turns = λ m f h. r.divides.turns m f (later_still n n' m e e' f later h);
+          over = λ k lt m f h. r.divides.over k lt m f (later_still n n' m e e' f later h);
         };
       }
 

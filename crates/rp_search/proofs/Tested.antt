@@ -9,7 +9,7 @@ use Rattle.rp_words.specs.declared.word.Seen.TheVariants.{True, NotTrue, Open as
 use Rattle.rp_words.specs.Mapping.{Mapping, Full, Open, labels_of, preceded}
 use Rattle.rp_search.specs.Found.{Test, first_not_true, tested, status_from, Match, Waits, unless_refused, found}
 use Rattle.rp_search.specs.SeenStays.{TestsStay}
-use Rattle.rp_search.specs.Fits.{IsRefusedWithin, RefusedUpTo}
+use Rattle.rp_search.specs.Refused.{IsRefusedWithin, RefusedUpTo}
 use Rattle.rp_search.proofs.FoundLaws.{first_refused, tested_refused, itself_stays, refused_passed}
 
 pub All-append : {X : Type 0} (P : X → Type 0) (xs ys : List X) → AllByRecursion P xs → AllByRecursion P ys → AllByRecursion P (xs ++ ys)
@@ -100,6 +100,10 @@ refused_row ls (Open ms ∷ ws) r test le h = (refused_begins ls ms r test le h,
 pub before_more : (r : ℕ) (test : Test) (ws more rest : List Mapping) → RefusedUpTo r test ws (more ++ rest) → AllByRecursion (IsRefusedWithin r test) more → RefusedUpTo r test ws rest
 before_more r test ws more rest b h =
     record { front = b.front ++ more; is = b.is ∙ sym (append_assoc b.front more rest); refused = All-append (IsRefusedWithin r test) b.front more b.refused h }
+
+-- refused words before the rest, and that again
+pub before_again : (r : ℕ) (test : Test) (ws xs ys : List Mapping) → RefusedUpTo r test ws xs → RefusedUpTo r test xs ys → RefusedUpTo r test ws ys
+before_again r test ws xs ys a b = before_more r test ws b.front ys (subst (λ zs. RefusedUpTo r test ws zs) b.is a) b.refused
 
 pub before_stays : (r r' : ℕ) (old new : Test) (ws rest : List Mapping) → TestsStay r old new → r ≤ r' → RefusedUpTo r old ws rest → RefusedUpTo r' new ws rest
 before_stays r r' old new ws rest s le b =

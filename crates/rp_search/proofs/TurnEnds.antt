@@ -19,10 +19,13 @@ use Rattle.rp_words.specs.LabelLaws.{IsBelow}
 use Rattle.rp_pattern.specs.Choices.{start_of, entered, whole, whole_turns, whole_turns_from, remaining, turns_left, below, turns_left_below, after, turns_left_after, AreFirstOf, AreStrictlyFirstOf, IsSameWhole}
 use Rattle.rp_search.specs.Found.{Test, tested, found, Waits}
 use Rattle.rp_search.specs.Asked.{Asked, AreBelow, rows_from}
-use Rattle.rp_search.specs.Search.{IsAtStart, labels_of_search, start_of_search, turns_from}
-use Rattle.rp_search.specs.Fits.{ChoicesFit, StandsBy, StandsAtRow, StandsAtRowBy, Explores, AreAdmitted, ChoicesStand, LabelsStand, LabelsBelow, test_from, unless_open, left_given, left_by}
+use Rattle.rp_search.specs.Search.{HasMoved, IsAtStart, labels_of_search, start_of_search, turns_from, most_turns}
+use Rattle.rp_search.specs.Fits.{ChoicesFit, StandsBy, StandsAtRow, StandsAtRowBy, Explores, AreAdmitted, ChoicesStand, LabelsStand, LabelsBelow, MarksStand, MemoStands, SearchStands, test_from, unless_open, left_given, left_by}
+use Rattle.rp_search.specs.Memo.{IsBlank}
+use Rattle.rp_search.specs.Work.{TakeLess}
 use Rattle.rp_search.specs.Turned.{AddsLabel, AreCutBack, Goes, GoesOn, IsOpenAt, IsWithinRun}
 use Rattle.rp_search.proofs.ChoiceSteps.{GivesUp, now_later, finds_begun, goes_wordless, no_words}
+use Rattle.rp_search.proofs.Marks.{blank_remembers}
 
 -- a fact at the rows and the end that were read is one at those of the tests
 pub at_known : (P : ℕ → End → Type 0) (n n' : ℕ) (e e' : End) → n ≡ n' → e ≡ e' → P n e → P n' e'
@@ -158,12 +161,11 @@ yes_tested P is_tested iff h = iff.0 h
 
 -- ---- where a search stands
 
--- a search that is at its start
-pub at_start : (s : Search) → s.outlook ≡ None → 1 ≤ start_of s.choices → entered s.choices ≡ [] → ((n : ℕ) (e : End) → remaining s.choices n e ≡ whole s.choices n e) → ((n : ℕ) (e : End) → turns_left s.choices n e ≡ whole_turns s.choices n e) → IsAtStart s
-unfolding labels_of_search start_of_search turns_from left_by ChoicesStand LabelsStand LabelsBelow whole_turns whole_turns_from start_of
-at_start s none one labels words most = record {
-  labels = labels;
-  fits = λ asked. record {
+-- a search that stands at its start row
+module _ (s : Search) (none : s.outlook ≡ None) (one : 1 ≤ start_of s.choices) (labels : entered s.choices ≡ []) (words : (n : ℕ) (e : End) → remaining s.choices n e ≡ whole s.choices n e) (most : (n : ℕ) (e : End) → turns_left s.choices n e ≡ whole_turns s.choices n e) where
+  pub start_stands : (asked : Asked) → SearchStands s asked
+  unfolding ChoicesStand LabelsStand LabelsBelow
+  start_stands asked = record {
     stands = record {
       from_one = one;
       known = subst (λ ls. length ls ≤ rows_from (start_of s.choices) asked.known) (sym labels) (omega arith);
@@ -173,9 +175,35 @@ at_start s none one labels words most = record {
     labels = subst (λ l. AreAdmitted l s.choices asked.known asked.end (asked.outcome (start_of s.choices))) (sym none)
         (subst (λ ls. tested (asked.outcome (start_of s.choices)) ls ≡ True) (sym labels) refl);
     below = subst (λ ls. AreBelow asked.variables ls) (sym labels) (All-nil (λ l. l.var < asked.variables));
-  };
-  left = λ asked. left_plainly s.choices s.outlook asked.known asked.end (asked.outcome (start_of s.choices)) none ∙ most asked.known asked.end;
-}
+  }
+
+  pub start_left : (asked : Asked) → left_by s asked ≡ most_turns s asked.known asked.end
+  unfolding start_of_search turns_from left_by whole_turns whole_turns_from start_of
+  start_left asked = left_plainly s.choices s.outlook asked.known asked.end (asked.outcome (start_of s.choices)) none ∙ most asked.known asked.end
+
+  pub start_labels : labels_of_search s ≡ []
+  unfolding labels_of_search
+  start_labels = labels
+
+  pub at_start : IsBlank s.memo → IsAtStart s
+  unfolding MemoStands MarksStand
+  at_start blank = record {
+    labels = start_labels;
+    fits = λ asked.
+        let s' = start_stands asked in
+        record { stands = s'.stands; labels = s'.labels; below = s'.below; memo = blank_remembers s.memo s.choices asked blank; marks = subst (TakeLess s.choices asked) (sym blank.marks) tt };
+    left = start_left;
+  }
+
+  pub moved : (old : Search) → s.memo.marks ≡ [] → ((asked : Asked) → MemoStands old asked → MemoStands s asked) → HasMoved old s
+  unfolding MarksStand
+  moved old unmarked memo = record {
+    labels = start_labels;
+    fits = λ asked f.
+        let s' = start_stands asked in
+        record { stands = s'.stands; labels = s'.labels; below = s'.below; memo = memo asked f.memo; marks = subst (TakeLess s.choices asked) (sym unmarked) tt };
+    left = start_left;
+  }
 
 -- where a row's test is open, and what would follow it is explored
 pub searches_exploring : (s : Search) (outlook : Outlook) (asked : Asked) → s.outlook ≡ Some outlook → StandsBy s.choices asked → StandsAtRowBy s.choices asked → AreBelow asked.variables (entered s.choices) → ((n : ℕ) (e : End) → words_ahead outlook n e ≡ length (after s.choices n e)) → ((n : ℕ) (e : End) → turns_ahead outlook n e ≡ turns_left_after s.choices n e) → test_from s.choices asked (entered s.choices) ≡ OpenTest → IsWithinRun s asked

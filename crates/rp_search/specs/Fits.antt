@@ -1,12 +1,10 @@
--- The inside of a search: how its choices and its outlook stand to what is asked, and how many turns are left. A caller
+-- Inside: how the choices and the outlook of a search stand to what is asked, and how many turns are left. A caller
 -- needs no more of it than the names `SearchFits` and `left_by`.
-use Rattle.std.specs.Prelude.{◌≡◌, ℕ, ◌+◌, ◌≤◌, List, [], ◌∷◌, ◌++◌, length, take, Option, Some, None}
-use Rattle.std.specs.List.{AllByRecursion}
+use Rattle.std.specs.Prelude.{◌≡◌, ℕ, ◌+◌, ◌≤◌, List, [], ◌∷◌, ◌++◌, length, Option, Some, None}
 use Rattle.rp_words.specs.declared.word.Label.{Label}
 use Rattle.rp_words.specs.declared.word.End.{End}
 use Rattle.rp_words.specs.declared.word.Seen.{Seen}
 use Rattle.rp_words.specs.declared.word.Seen.TheVariants.{True, NotTrue, Open as OpenTest}
-use Rattle.rp_words.specs.Mapping.{Mapping, labels_of}
 use Rattle.rp_pattern.specs.declared.choices.Choices.{Choices}
 use Rattle.rp_words.specs.Later.{AtEachLater}
 use Rattle.rp_pattern.specs.Choices.{start_of, entered, whole, whole_turns, remaining, turns_left, turns_left_below, after, turns_left_after, HasTop, AtRow, DividesAtRow}
@@ -15,16 +13,9 @@ use Rattle.rp_pattern.specs.Outlooks.{words_ahead, turns_ahead}
 use Rattle.rp_search.specs.declared.search.Search.{Search}
 use Rattle.rp_search.specs.Found.{Test, tested}
 use Rattle.rp_search.specs.Asked.{Asked, AreBelow, rows_from}
-
--- the tests refuse a word on its first rows already, so many of them
-abbrev pub IsRefusedWithin : ℕ → Test → Mapping → Type 0
-IsRefusedWithin rows test w = tested test (take rows (labels_of w)) ≡ NotTrue
-
--- These words are refused up to the rest: some that are refused on known rows, and then the rest.
-pub record RefusedUpTo (rows : ℕ) (test : Test) (ws rest : List Mapping) : Type 0 where
-  pub front : List Mapping
-  pub is : ws ≡ front ++ rest
-  pub refused : AllByRecursion (IsRefusedWithin rows test) front
+use Rattle.rp_search.specs.Refused.{RefusedUpTo}
+use Rattle.rp_search.specs.Memo.{Remembers}
+use Rattle.rp_search.specs.Work.{TakeLess}
 
 -- The choices fit: over the known rows and whatever comes later, the words of the pattern are some that are refused on
 -- known rows, and then those of the choices not given up, for which no more turns are left than for all. The start row is
@@ -83,13 +74,29 @@ LabelsStand s asked = AreAdmitted s.outlook s.choices asked.known asked.end (tes
 unfoldable pub LabelsBelow : Search → Asked → Type 0
 LabelsBelow s asked = AreBelow asked.variables (entered s.choices)
 
--- A search fits what is asked: the words that it has passed over are refused, its choices stand for all others, and its
--- labels are tested true and of variables that are tested. Where it has an outlook, all labels but the last are tested true, and
--- the outlook has as many words as would follow the last one's row, with no more turns left for them.
+-- what a search remembers of where it failed is so
+unfoldable pub MemoStands : Search → Asked → Type 0
+MemoStands s asked = Remembers s.memo s.choices asked
+
+-- marks of a search are left before their place is come to again
+unfoldable pub MarksStand : Search → Asked → Type 0
+MarksStand s asked = TakeLess s.choices asked s.memo.marks
+
+-- A search stands by what is asked: the words that it has passed over are refused, its choices stand for all others, and
+-- its labels are tested true and of variables that are tested. Where it has an outlook, all labels but the last are tested
+-- true, and the outlook has as many words as would follow the last one's row, with no more turns left for them.
+pub record SearchStands (s : Search) (asked : Asked) : Type 0 where
+  pub stands : ChoicesStand s asked
+  pub labels : LabelsStand s asked
+  pub below : LabelsBelow s asked
+
+-- A search fits what is asked: it stands by it, what it remembers of where it failed is so, and its marks are left in time.
 pub record SearchFits (s : Search) (asked : Asked) : Type 0 where
   pub stands : ChoicesStand s asked
   pub labels : LabelsStand s asked
   pub below : LabelsBelow s asked
+  pub memo : MemoStands s asked
+  pub marks : MarksStand s asked
 
 -- by what the test of the last label says: while it is open the turns for exploring, and else those of the choices as
 -- they stand

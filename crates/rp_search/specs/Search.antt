@@ -1,5 +1,5 @@
 -- What a caller needs of a search: what it is for, what a run of it comes to, and where it stands.
-use Rattle.std.specs.Prelude.{◌≡◌, ℕ, true, ◌+◌, ◌<◌, ◌≤◌, List, [], length, Result, Ok, OnOk}
+use Rattle.std.specs.Prelude.{◌≡◌, ℕ, true, ◌+◌, ◌<◌, ◌≤◌, List, [], length, Result, Ok, OnOk, IfSome}
 use Rattle.std.specs.List.{AllByRecursion}
 use Rattle.std.specs.declared.alloc.AllocError.{AllocError}
 use Rattle.rp_words.specs.declared.form.Form.{Form}
@@ -118,11 +118,18 @@ pub record IsAtStart (s : Search) : Type 0 where
   pub fits : (asked : Asked) → SearchFits s asked
   pub left : (asked : Asked) → left_by s asked ≡ most_turns s asked.known asked.end
 
--- It may run on tests: its start row is known, the labels of its words are of variables that are tested, it fits what
--- is asked, and its labels are those that were entered.
+-- It stands at its start row, as a new one does, and fits what it did: it remembers where it failed.
+pub record HasMoved (old new : Search) : Type 0 where
+  pub labels : labels_of_search new ≡ []
+  pub fits : (asked : Asked) → SearchFits old asked → SearchFits new asked
+  pub left : (asked : Asked) → left_by new asked ≡ most_turns new asked.known asked.end
+
+-- It may run on tests: its start row is known, the labels of its words are of variables that are tested, it is for the pattern that
+-- is asked of, if one is, it fits what is asked, and its labels are those that were entered.
 pub record CanRun (s : Search) (asked : Asked) (Entered : ℕ → List Label → Type 0) : Type 0 where
   pub known : start_of_search s ≤ asked.known
   pub variables : HasVariablesBelow asked.variables s
+  pub pattern : IfSome asked.pattern (λ f. IsSearchFor f s)
   pub fits : SearchFits s asked
   pub entered : Entered (start_of_search s) (labels_of_search s)
 

@@ -1,25 +1,34 @@
--- What one turn of a search does, within a run.
-use Rattle.std.specs.Prelude.{◌≡◌, ℕ, ◌+◌, ◌<◌, ◌≤◌, List, [], ◌∷◌, ◌++◌, take, Option, Some, None}
+-- Inside: what one turn of a search does, within a run.
+use Rattle.std.specs.Prelude.{◌≡◌, ℕ, ◌+◌, ◌<◌, ◌≤◌, List, [], ◌∷◌, ◌++◌, take, Option, Some, None, IfSome}
+use Rattle.std.specs.List.{AllByRecursion}
 use Rattle.rp_words.specs.declared.word.Label.{Label}
+use Rattle.rp_words.specs.Mapping.{Mapping}
 use Rattle.rp_words.specs.declared.word.End.{End}
 use Rattle.rp_words.specs.declared.word.End.TheVariants.{Open as OpenEnd}
 use Rattle.rp_words.specs.declared.word.Seen.{Seen}
 use Rattle.rp_words.specs.declared.word.Seen.TheVariants.{True, NotTrue, Open as OpenTest}
 use Rattle.rp_pattern.specs.declared.choices.Choices.{Choices}
 use Rattle.rp_pattern.specs.declared.outlook.Outlook.{Outlook}
-use Rattle.rp_pattern.specs.Choices.{entered, turns_left}
+use Rattle.rp_words.specs.Later.{AtEachLater}
+use Rattle.rp_words.specs.Words.{words}
+use Rattle.rp_pattern.specs.Choices.{start_of, entered, height, above, turns_left}
 use Rattle.rp_search.specs.declared.search.Search.{Search}
 use Rattle.rp_search.specs.declared.search.Outcome.{Outcome}
 use Rattle.rp_search.specs.declared.search.Outcome.TheVariants.{Match as MatchOutcome, NoMatch as NoMatchOutcome, Waits as WaitsOutcome, Paused as PausedOutcome}
 use Rattle.rp_search.specs.Found.{Test, tested, Match, NoMatch, Waits}
-use Rattle.rp_search.specs.Asked.{Asked, AreBelow}
-use Rattle.rp_search.specs.Fits.{ChoicesFit, SearchFits, test_from, left_by}
-use Rattle.rp_search.specs.Search.{HasVariablesBelow, found_by, labels_of_search, start_of_search}
+use Rattle.rp_search.specs.Asked.{Asked, AreBelow, rows_from}
+use Rattle.rp_search.specs.Refused.{RefusedUpTo}
+use Rattle.rp_search.specs.Lasting.{IsPassed, OpensAlike}
+use Rattle.rp_search.specs.Memo.{MeantBy}
+use Rattle.rp_search.specs.Fits.{ChoicesFit, SearchStands, test_from, left_by}
+use Rattle.rp_search.specs.Search.{HasVariablesBelow, found_by, labels_of_search, start_of_search, words_from}
 
--- What is asked covers a search: its start row is known, and the labels of its words are of variables that are tested.
+-- What is asked covers a search: its start row is known, the labels of its words are of variables that are tested, and it is for the
+-- pattern that is asked of, if one is.
 pub record Covers (asked : Asked) (s : Search) : Type 0 where
   pub known : start_of_search s ≤ asked.known
   pub variables : HasVariablesBelow asked.variables s
+  pub pattern : IfSome asked.pattern (λ f. (n : ℕ) (e : End) (row : ℕ) → words_from s n e row ≡ words n e f row)
 
 -- These labels are entered ones cut back to some depth.
 pub record AreCutBack (Entered : List Label → Type 0) (labels : List Label) : Type 0 where
@@ -40,11 +49,19 @@ pub record AddsLabel (Entered : List Label → Type 0) (labels : List Label) : T
 abbrev pub EntersAtMost : ℕ → ℕ → ℕ → Type 0
 EntersAtMost most old new = (old ≤ new) × (new ≤ old + most)
 
--- the choices went on by a turn: they fit, fewer turns are left, and their labels are tested true
+-- Of the words above any height only such were passed over as are refused on known rows. The stack fell no further than
+-- to there.
+abbrev pub PassesOver : Choices → Choices → ℕ → End → Test → Type 0
+PassesOver old new n e test = (h : ℕ) → h < height old → (h ≤ height new) × AtEachLater n e
+    (λ n' e'. RefusedUpTo (rows_from (start_of old) n) test (above old h n' e') (above new h n' e'))
+
+-- the choices went on by a turn: they fit, fewer turns are left, their labels are tested true, and only refused words were
+-- passed over
 pub record Goes (old new : Choices) (n : ℕ) (e : End) (test : Test) : Type 0 where
   pub stands : ChoicesFit new n e test
   pub admitted : tested test (entered new) ≡ True
   pub turns : turns_left new n e < turns_left old n e
+  pub passes : PassesOver old new n e test
 
 -- the choices went on by a turn, and their labels are of variables that are tested
 pub record GoesOn (old new : Choices) (asked : Asked) : Type 0 where
@@ -63,9 +80,9 @@ abbrev pub IsOpenAt : Option Outlook → Choices → Test → Type 0
 IsOpenAt None c test = Unit {0}
 IsOpenAt (Some outlook) c test = test (entered c) ≡ OpenTest
 
--- The search is within a run: it fits, and the test of a row that is explored is open.
+-- The search is within a run: it stands by what is asked, and the test of a row that is explored is open.
 pub record IsWithinRun (s : Search) (asked : Asked) : Type 0 where
-  pub fits : SearchFits s asked
+  pub fits : SearchStands s asked
   pub is_open : IsOpenAt s.outlook s.choices (test_from s.choices asked)
 
 -- the search with this outlook
@@ -85,3 +102,26 @@ pub record CountsTurns (budget : ℕ) (outcome : Outcome) (taken steps steps' : 
   pub counted : steps' ≡ steps + taken
   pub some : 0 < taken
   pub paused : outcome ≡ PausedOutcome → taken ≡ budget
+
+-- ---- for how long
+
+-- nothing was passed over: the words above any height stay
+abbrev pub PassesNothing : Choices → Choices → Asked → Type 0
+PassesNothing old new asked = (h : ℕ) → h < height old → AtEachLater asked.known asked.end (λ n e. above new h n e ≡ above old h n e)
+
+-- some words were passed over, before the rest, and fail from start rows below that one
+pub record PassedUpTo (asked : Asked) (c : Choices) (until : ℕ) (ws rest : List Mapping) : Type 0 where
+  pub front : List Mapping
+  pub is : ws ≡ front ++ rest
+  pub passed : AllByRecursion (IsPassed (MeantBy c) asked (start_of c) until) front
+
+-- of the words above any height only such were passed over
+abbrev pub PassesUntil : ℕ → Choices → Choices → Asked → Type 0
+PassesUntil until old new asked = OpensAlike (MeantBy old) asked × ((h : ℕ) → h < height old → AtEachLater asked.known asked.end (λ n e.
+    PassedUpTo asked old until (above old h n e) (above new h n e)))
+
+-- what became of the row that the preferred choice maps, as to later start rows, by what its test said
+abbrev pub SettledUntil : ℕ → Choices → Choices → Asked → Seen → Type 0
+SettledUntil until old new asked True = PassesNothing old new asked
+SettledUntil until old new asked NotTrue = start_of old < until → PassesUntil until old new asked
+SettledUntil until old new asked OpenTest = Unit {0}

@@ -4,7 +4,12 @@ ghost use Rattle.rp_words.specs.declared.word.Label.{Label};
 ghost use Rattle.rp_pattern.specs.Choices.{start_of, entered, IsSameWhole};
 ghost use Rattle.rp_search.specs.Asked.{AreBelow};
 ghost use Rattle.rp_search.specs.Fits.{StandsBy, StandsAtRowBy, test_from};
-ghost use Rattle.rp_search.specs.Turned.{AddsLabel, AreCutBack, EntersAtMost, Settled};
+ghost use Rattle.rp_words.specs.declared.word.Seen.TheVariants.{NotTrue};
+ghost use Rattle.rp_search.specs.Lasting.{LastsUntil, OfPattern, OpensAlike};
+ghost use Rattle.rp_search.specs.Memo.{AreOfPattern};
+ghost use Rattle.rp_search.specs.Turned.{AddsLabel, AreCutBack, EntersAtMost, Settled, SettledUntil};
+ghost use Rattle.rp_search.specs.Work.{SettledCosts, SettledEver, Sinks};
+ghost use Rattle.rp_words.specs.Numbers.{most_u64};
 
 use crate::conditions::Tests;
 use rp_pattern::Choices;
@@ -45,14 +50,40 @@ pub fn is_tested<T: Tests>(choices: &Choices, tests: &T) -> bool
     labels[labels.len() - 1].var < tests.variables()
 }
 
+/// Below which start row the last label is refused at its row: its own start row where that isn't known, or isn't wanted.
+fn lasts<T: Tests>(choices: &Choices, tests: &T, most: u64) -> u64
+    requires known { start_of choices.now ≤ (T.asked (T.subject tests.now)).known }
+    requires stands { StandsBy choices.now (T.asked (T.subject tests.now)) }
+    requires row { StandsAtRowBy choices.now (T.asked (T.subject tests.now)) }
+    requires below { AreBelow (T.asked (T.subject tests.now)).variables (entered choices.now) }
+    requires entered { T.entered tests.now (start_of choices.now) (entered choices.now) }
+    requires refused { test_from choices.now (T.asked (T.subject tests.now)) (entered choices.now) ≡ NotTrue }
+    ensures lasts { let a = T.asked (T.subject tests.now) in start_of choices.now < result →
+        OpensAlike (OfPattern a.pattern) a × LastsUntil (OfPattern a.pattern) a (start_of choices.now) (entered choices.now) result }
+    ensures ever { T.always (T.subject tests.now) → 0 < most → most_u64 ≤ result }
+{
+    if most == 0 {
+        return choices.start();
+    }
+    if tests.is_lasting() {
+        return tests.refused_until(choices.start(), choices.labels(), most);
+    }
+    choices.start()
+}
+
 /// Asks the test of the row that the preferred choice maps, and admits the row or gives the choice up where that is
-/// decided.
-pub fn settle<T: Tests>(choices: &mut Choices, tests: &mut T) -> Result<Seen, AllocError>
+/// decided. It also tells below which start row what was given up fails. So many start rows are looked at, at most, as it is given.
+pub fn settle<T: Tests>(
+    choices: &mut Choices,
+    tests: &mut T,
+    until: &mut u64,
+) -> Result<Seen, AllocError>
     requires known { start_of choices.old ≤ (T.asked (T.subject tests.old)).known }
     requires stands { StandsBy choices.old (T.asked (T.subject tests.old)) }
     requires row { StandsAtRowBy choices.old (T.asked (T.subject tests.old)) }
     requires below { AreBelow (T.asked (T.subject tests.old)).variables (entered choices.old) }
     requires entered { T.entered tests.old (start_of choices.old) (entered choices.old) }
+    requires pattern { AreOfPattern (T.asked (T.subject tests.old)).pattern choices.old }
     ensures same { IsSameWhole choices.old choices.new }
     ensures subject { T.subject tests.new ≡ T.subject tests.old }
     ensures entries { T.entries tests.new ≡ T.entries tests.old }
@@ -60,13 +91,19 @@ pub fn settle<T: Tests>(choices: &mut Choices, tests: &mut T) -> Result<Seen, Al
     ensures seen { IfOk result (λ seen.
         seen ≡ test_from choices.old (T.asked (T.subject tests.old)) (entered choices.old)) }
     ensures settled { IfOk result (Settled choices.old choices.new (T.asked (T.subject tests.old))) }
+    ensures until { IfOk result (SettledUntil until.new choices.old choices.new (T.asked (T.subject tests.old))) }
+    ensures sinks { let a = T.asked (T.subject tests.old) in OnOk result (Sinks choices.old choices.new a.known a.end) }
+    ensures costs { IfOk result (SettledCosts choices.old choices.new) }
+    ensures ever { T.always (T.subject tests.old) → 0 < until.old → IfOk result (SettledEver until.new) }
 {
     match tests.test(choices.start(), choices.labels()) {
         Seen::True => {
             choices.admit()?;
+            *until = u64::MAX;
             Ok(Seen::True)
         }
         Seen::NotTrue => {
+            *until = lasts(choices, tests, *until);
             choices.give_up();
             cut_back(choices, tests);
             Ok(Seen::NotTrue)

@@ -1,10 +1,11 @@
 //! What a search asks of the rows of a partition.
-ghost use Rattle.std.specs.Prelude.{◌≡◌, ◌≢◌, ℕ, ◌+◌, ◌<◌, ◌≤◌, List, [], ◌∷◌, ◌++◌, length, take, min, OnOk, OnErr};
+ghost use Rattle.std.specs.Prelude.{◌≡◌, ◌≢◌, ℕ, ◌+◌, ◌<◌, ◌≤◌, List, [], ◌∷◌, ◌++◌, length, take, min, IsTrue, OnOk, OnErr};
 ghost use Rattle.rp_words.specs.declared.word.Label.{Label};
 ghost use Rattle.rp_words.specs.declared.word.End.TheVariants.{Closed};
-ghost use Rattle.rp_words.specs.declared.word.Seen.TheVariants.{Open};
+ghost use Rattle.rp_words.specs.declared.word.Seen.TheVariants.{NotTrue, Open};
 ghost use Rattle.rp_words.specs.Numbers.{most_u64};
 ghost use Rattle.rp_search.specs.Asked.{Asked, AreBelow};
+ghost use Rattle.rp_search.specs.Lasting.{LastsUntil, OfPattern, OpensAlike};
 
 use rp_words::{End, Label, Seen};
 use std::alloc::AllocError;
@@ -30,6 +31,9 @@ pub trait Tests {
     /// How many calls of `enter` were made. It stays at 2^64 - 1.
     ghost entries: { Self → ℕ };
 
+    /// Whether each refusal lasts for ever, as where each row is judged alone: then they tell so.
+    ghost always: { Self.Subject → Type 0 };
+
     /// How many rows are known, from row 1 on.
     fn known(&self) -> u64
         ensures { result ≡ (asked (subject self.now)).known };
@@ -41,6 +45,25 @@ pub trait Tests {
     /// The variables below this number are tested.
     fn variables(&self) -> usize
         ensures { result ≡ (asked (subject self.now)).variables };
+
+    /// Whether it depends on its row and label alone that the test of a known row is open: a search over such tests remembers where
+    /// it failed, and asks how long its refusals last.
+    fn is_lasting(&self) -> bool
+        ensures alike { IsTrue result → OpensAlike (OfPattern (asked (subject self.now)).pattern) (asked (subject self.now)) }
+        ensures for_ever { always (subject self.now) → IsTrue result };
+
+    /// The last label is refused. From each start row below the one that is told, it is refused at the same row, whatever is mapped
+    /// before it. It costs a look at each start row that is passed, of which there are to be so many at most, this one counted; to tell
+    /// the start row itself promises nothing.
+    fn refused_until(&self, start: u64, labels: &[Label], most: u64) -> u64
+        requires from_one { 1 ≤ start }
+        requires some { 0 < length labels.now }
+        requires known { start + length labels.now ≤ (asked (subject self.now)).known + 1 }
+        requires below { AreBelow (asked (subject self.now)).variables labels.now }
+        requires entered { entered self.now start labels.now }
+        requires refused { (asked (subject self.now)).outcome start labels.now ≡ NotTrue }
+        ensures lasts { LastsUntil (OfPattern (asked (subject self.now)).pattern) (asked (subject self.now)) start labels.now result }
+        ensures for_ever { always (subject self.now) → result ≡ most_u64 };
 
     /// The condition of the last label at its row, where the labels begin at row `start`.
     fn test(&self, start: u64, labels: &[Label]) -> Seen

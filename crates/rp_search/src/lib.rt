@@ -17,10 +17,12 @@
 mod asking;
 mod conditions;
 mod laws;
+mod memo;
 mod search;
 mod steps;
+mod table;
 
 pub use conditions::Tests;
-pub use laws::{law_found, law_search};
+pub use laws::{law_agreement, law_found, law_search};
 pub use search::{Outcome, Search};
 pub use steps::Steps;

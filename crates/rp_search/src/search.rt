@@ -4,15 +4,16 @@
 //! While the test of the last label's row is open, the labels before it are tested true, and the search keeps an outlook
 //! over what would follow that row: only if a word does is there anything to wait for. What is explored then counts as
 //! left in place of the choice itself. A later run asks the open test again first.
-ghost use Rattle.std.specs.Prelude.{◌≡◌, ◌-◌, ◌+◌, ◌<◌, ◌≤◌, [], None, IfOk, OnOk, OnErr};
+ghost use Rattle.std.specs.Prelude.{◌≡◌, ◌-◌, ◌+◌, ◌<◌, ◌≤◌, [], None, IfOk, IfSome, OnOk, OnErr};
 ghost use Rattle.rp_words.specs.PatternForm.{form_of};
 
 mod explore;
 
 use crate::asking::{cut_back, enter_row, is_tested, settle};
 use crate::conditions::Tests;
+use crate::memo::{Mark, Memo, is_awake, mark_of, turns_asleep};
 use crate::steps::Steps;
-use rp_pattern::{Choices, Outlook, Taken};
+use rp_pattern::{Choices, Outlook, Prepared, Taken};
 use rp_words::{Label, Pattern, Seen};
 use std::alloc::{AllocError, Global};
 use std::sync::ledger::Ledger;
@@ -40,16 +41,29 @@ pub struct Search {
     /// Where the test of the row that the preferred choice maps is open: what would follow that row. Only if there is
     /// such a word is the search undecided.
     outlook: Option<Outlook>,
+    /// Where it failed, as far as the tests don't look back.
+    memo: Memo,
     /// The turns of the last run that had a budget and met no want of memory.
     taken: u32,
+    /// Those of all such runs since it was made. Only after the first ones does it remember where it failed.
+    turns: u32,
 }
 
-#[tactic(auto, unfolding(crate::specs::Search::start_of_search, crate::specs::Search::labels_of_search, crate::specs::Search::words_from, crate::specs::Search::turns_from, crate::specs::Search::turns_of_run, crate::specs::Fits::left_by, crate::specs::Fits::ChoicesStand, crate::specs::Fits::LabelsStand, crate::specs::Fits::LabelsBelow))]
+#[tactic(auto, unfolding(crate::specs::Search::start_of_search, crate::specs::Search::labels_of_search, crate::specs::Search::words_from, crate::specs::Search::turns_from, crate::specs::Search::turns_of_run, crate::specs::Fits::left_by, crate::specs::Fits::ChoicesStand, crate::specs::Fits::LabelsStand, crate::specs::Fits::LabelsBelow, crate::specs::Fits::MemoStands, crate::specs::Fits::MarksStand))]
 impl Search {
+    ghost use Rattle.rp_words.specs.declared.form.Form.{Form};
+    ghost use Rattle.rp_pattern.specs.Prepared.{Prepares};
+    ghost use Rattle.rp_words.specs.Numbers.{most_u64};
+    ghost use Rattle.rp_pattern.specs.Choices.{kept, start_of, top_weight};
+    ghost use Rattle.rp_pattern.specs.Ways.{IsNumbered, all_weight};
     ghost use Rattle.rp_search.specs.Asked.{AreBelow};
-    ghost use Rattle.rp_search.specs.Fits.{SearchFits, left_by, StandsBy, StandsAtRowBy};
-    ghost use Rattle.rp_search.specs.Search.{RunAnswers, CanRun, IsAtStart, IsSearchFor, IsForSamePattern, IsSameSearch, Lowers, TakesTurns, labels_of_search, start_of_search, turns_of_run};
+    ghost use Rattle.rp_search.specs.Bound.{BeginsWork, LastsForEver, MovesWork, RunWorks, Works};
+    ghost use Rattle.rp_search.specs.Fits.{MarksStand, MemoStands, SearchFits, left_by, StandsBy, StandsAtRowBy};
+    ghost use Rattle.rp_search.specs.Lasting.{OpensAlike};
+    ghost use Rattle.rp_search.specs.Memo.{IsDeadTop, IsMarkOfTop, MeantBy, Remembers};
+    ghost use Rattle.rp_search.specs.Search.{RunAnswers, CanRun, IsAtStart, HasMoved, IsSearchFor, IsForSamePattern, IsSameSearch, Lowers, TakesTurns, labels_of_search, start_of_search, turns_of_run};
     ghost use Rattle.rp_search.specs.Turned.{AddsLabel, CountsTurns, Covers, EntersAtMost, IsWithinRun, Turned};
+    ghost use Rattle.rp_search.specs.Work.{IsFresh, LastsAll, NoneIsOpen, Spent, added_by, counted, unmarked};
 
     /// A search from the row `start`, which is at least 1.
     pub fn new(alloc: Global, pattern: &Pattern, start: u64) -> Result<Search, AllocError>
@@ -57,11 +71,31 @@ impl Search {
         ensures pattern { IfOk result (IsSearchFor (form_of pattern.now)) }
         ensures start { IfOk result (λ s. start_of_search s ≡ start) }
         ensures at_start { IfOk result IsAtStart }
+        ensures works { IfOk result BeginsWork }
     {
         Ok(Search {
             choices: Choices::new(alloc, pattern, start)?,
             outlook: None,
+            memo: Memo::new(alloc),
             taken: 0,
+            turns: 0,
+        })
+    }
+
+    /// The same, for a pattern that was made ready: searches share it.
+    pub fn of(alloc: Global, prepared: &Prepared, start: u64) -> Result<Search, AllocError>
+        requires { 1 ≤ start }
+        ensures pattern { IfOk result (λ s. (f : Form) → Prepares f prepared.now → IsSearchFor f s) }
+        ensures start { IfOk result (λ s. start_of_search s ≡ start) }
+        ensures at_start { IfOk result IsAtStart }
+        ensures works { IfOk result BeginsWork }
+    {
+        Ok(Search {
+            choices: Choices::of(alloc, prepared, start)?,
+            outlook: None,
+            memo: Memo::new(alloc),
+            taken: 0,
+            turns: 0,
         })
     }
 
@@ -72,7 +106,22 @@ impl Search {
         ensures pattern { IsForSamePattern self.old self.new }
         ensures start { start_of_search self.new ≡ start }
         ensures at_start { IsAtStart self.new }
+        ensures works { BeginsWork self.new }
     {
+        self.choices.restart(start);
+        self.outlook = None;
+        self.memo.forget();
+    }
+
+    /// Begins at another row, as `restart` does, and remembers where it failed, for tests that go on.
+    pub fn move_to(&mut self, start: u64)
+        requires { 1 ≤ start }
+        ensures pattern { IsForSamePattern self.old self.new }
+        ensures start { start_of_search self.new ≡ start }
+        ensures moved { HasMoved self.old self.new }
+        ensures works { MovesWork self.old self.new }
+    {
+        self.memo.move_on(self.choices.start(), start);
         self.choices.restart(start);
         self.outlook = None;
     }
@@ -99,17 +148,24 @@ impl Search {
         ensures turns { TakesTurns budget result steps.old steps.new (T.entries tests.old) (T.entries tests.new) }
         ensures left { IfOk result (Lowers (steps.new - steps.old) self.old self.new (T.asked (T.subject tests.old))) }
         ensures taken { 0 < budget → OnOk result (steps.new ≡ steps.old + turns_of_run self.new) }
+        ensures works { IfOk result (λ outcome. T.always (T.subject tests.old) → NoneIsOpen (T.asked (T.subject tests.old)) →
+            RunWorks (steps.new - steps.old) self.old self.new (T.asked (T.subject tests.old)) outcome) }
 
         ensures nothing { budget ≡ 0 →
             (result ≡ Ok Outcome.Paused) × (self.new ≡ self.old) × (tests.new ≡ tests.old) × (steps.new ≡ steps.old) }
         ensures after_refusal { OnErr result (IsAtStart self.new) }
+        ensures lasts { OnOk result (T.always (T.subject tests.old) → LastsForEver self.old → LastsForEver self.new) }
     {
         if budget == 0 {
             return Ok(Outcome::Paused);
         }
-        match self.go_on(tests, budget, steps) {
+        let before = self.turns;
+        let rows = tests.known().saturating_sub(self.choices.start());
+        let asleep = turns_asleep(rows, before);
+        match self.go_on(tests, budget, asleep, steps) {
             Ok((outcome, taken)) => {
                 self.taken = taken;
+                self.turns = before.saturating_add(taken);
                 Ok(outcome)
             }
             Err(refused) => {
@@ -150,14 +206,16 @@ impl Search {
     {
         self.choices.reset();
         self.outlook = None;
+        self.memo.forget();
         tests.cut(0);
     }
 
-    /// Takes at most `budget` turns, and tells how many.
+    /// Takes at most `budget` turns, and tells how many. In so many of them nothing is remembered.
     fn go_on<T: Tests, L: Ledger>(
         &mut self,
         tests: &mut T,
         budget: u32,
+        asleep: u64,
         steps: &mut Steps<L>,
     ) -> Result<(Outcome, u32), AllocError>
         requires some { 0 < budget }
@@ -174,11 +232,15 @@ impl Search {
         ensures within { steps.new ≤ steps.old + budget }
         ensures entries { (T.entries tests.old ≤ T.entries tests.new)
             × (T.entries tests.new + steps.old ≤ T.entries tests.old + steps.new) }
+        ensures works { IfOk result (λ r. T.always (T.subject tests.old) → NoneIsOpen (T.asked (T.subject tests.old)) →
+            Works asleep r.1 self.old self.new (T.asked (T.subject tests.old)) r.0) }
+        ensures lasts { OnOk result (T.always (T.subject tests.old) → LastsAll self.old.memo → LastsAll self.new.memo) }
     {
         self.resume(tests)?;
         for turn in 0..budget {
             steps.tick();
-            let outcome = self.turn(tests)?;
+            let remembers = is_awake(asleep, turn);
+            let outcome = self.turn(remembers, tests)?;
             if outcome != Outcome::Paused {
                 return Ok((outcome, turn + 1));
             }
@@ -195,58 +257,157 @@ impl Search {
         ensures entries { T.entries tests.new ≡ T.entries tests.old }
         ensures entered { OnOk result (T.entered tests.new (start_of_search self.new) (labels_of_search self.new)) }
         ensures searches { OnOk result (IsWithinRun self.new (T.asked (T.subject tests.old))) }
+        ensures memo { OnOk result (MemoStands self.new (T.asked (T.subject tests.old))) }
         ensures left { OnOk result
             (left_by self.new (T.asked (T.subject tests.old)) ≤ left_by self.old (T.asked (T.subject tests.old))) }
+        ensures marks { OnOk result (MarksStand self.new (T.asked (T.subject tests.old))) }
+        ensures spent { OnOk result (NoneIsOpen (T.asked (T.subject tests.old)) → Spent 0 0
+            self.old.choices self.new.choices self.old.memo self.new.memo (T.asked (T.subject tests.old))) }
+        ensures lasts { OnOk result (T.always (T.subject tests.old) → LastsAll self.old.memo → LastsAll self.new.memo) }
     {
         let Some(outlook) = self.outlook.take() else {
             return Ok(());
         };
-        match settle(&mut self.choices, tests)? {
-            Seen::Open => self.outlook = Some(outlook),
-            Seen::True | Seen::NotTrue => {}
+        let mut until = self.memo.looks(self.choices.start());
+        match settle(&mut self.choices, tests, &mut until)? {
+            Seen::Open => {
+                self.outlook = Some(outlook);
+                Ok(())
+            }
+            Seen::True | Seen::NotTrue => {
+                self.memo.spend(self.choices.start(), until);
+                self.memo.note_failures(until, &self.choices, tests);
+                Ok(())
+            }
         }
-        Ok(())
     }
 
     /// Takes up one choice. It answers `Paused` where the search isn't at its end.
-    fn turn<T: Tests>(&mut self, tests: &mut T) -> Result<Outcome, AllocError>
+    fn turn<T: Tests>(&mut self, remembers: bool, tests: &mut T) -> Result<Outcome, AllocError>
         requires covers { Covers (T.asked (T.subject tests.old)) self.old }
         requires searches { IsWithinRun self.old (T.asked (T.subject tests.old)) }
+        requires memo { MemoStands self.old (T.asked (T.subject tests.old)) }
         requires entered { T.entered tests.old (start_of_search self.old) (labels_of_search self.old) }
+        requires marks { MarksStand self.old (T.asked (T.subject tests.old)) }
 
         ensures same { IsSameSearch self.old self.new }
         ensures subject { T.subject tests.new ≡ T.subject tests.old }
         ensures entries { EntersAtMost 1 (T.entries tests.old) (T.entries tests.new) }
         ensures entered { OnOk result (T.entered tests.new (start_of_search self.new) (labels_of_search self.new)) }
         ensures searches { OnOk result (IsWithinRun self.new (T.asked (T.subject tests.old))) }
+        ensures memo { OnOk result (MemoStands self.new (T.asked (T.subject tests.old))) }
         ensures turned { IfOk result (Turned 1 self.old self.new
             (T.asked (T.subject tests.old)) (left_by self.old (T.asked (T.subject tests.old)))) }
+        ensures marks { OnOk result (MarksStand self.new (T.asked (T.subject tests.old))) }
+        ensures spent { IfOk result (λ outcome. T.always (T.subject tests.old) → NoneIsOpen (T.asked (T.subject tests.old)) →
+            Spent (counted outcome) (added_by remembers self.old.choices)
+            self.old.choices self.new.choices self.old.memo self.new.memo (T.asked (T.subject tests.old))) }
+        ensures lasts { OnOk result (T.always (T.subject tests.old) → LastsAll self.old.memo → LastsAll self.new.memo) }
+        ensures held { IfOk result (λ outcome. outcome ≡ Outcome.NoMatch → self.new.memo.marks ≡ []) }
     {
         // To take an outlook out moves it, so most turns only look whether there is one.
         if self.outlook.is_none() {
-            return self.take_up(tests);
+            return self.take_up(remembers, tests);
         }
         match self.outlook.take() {
-            None => self.take_up(tests),
-            Some(outlook) => self.explore(outlook, tests),
+            None => self.take_up(remembers, tests),
+            Some(outlook) => self.explore(outlook, remembers, tests),
         }
     }
 
     /// Takes up the preferred choice.
     #[inline(always)]
-    fn take_up<T: Tests>(&mut self, tests: &mut T) -> Result<Outcome, AllocError>
+    fn take_up<T: Tests>(&mut self, remembers: bool, tests: &mut T) -> Result<Outcome, AllocError>
         requires covers { Covers (T.asked (T.subject tests.old)) self.old }
         requires none { self.old.outlook ≡ None }
         requires searches { IsWithinRun self.old (T.asked (T.subject tests.old)) }
+        requires memo { MemoStands self.old (T.asked (T.subject tests.old)) }
         requires entered { T.entered tests.old (start_of_search self.old) (labels_of_search self.old) }
+        requires marks { MarksStand self.old (T.asked (T.subject tests.old)) }
 
         ensures same { IsSameSearch self.old self.new }
         ensures subject { T.subject tests.new ≡ T.subject tests.old }
         ensures entries { EntersAtMost 1 (T.entries tests.old) (T.entries tests.new) }
         ensures entered { OnOk result (T.entered tests.new (start_of_search self.new) (labels_of_search self.new)) }
         ensures searches { OnOk result (IsWithinRun self.new (T.asked (T.subject tests.old))) }
+        ensures memo { OnOk result (MemoStands self.new (T.asked (T.subject tests.old))) }
         ensures turned { IfOk result (Turned 1 self.old self.new
             (T.asked (T.subject tests.old)) (left_by self.old (T.asked (T.subject tests.old)))) }
+        ensures marks { OnOk result (MarksStand self.new (T.asked (T.subject tests.old))) }
+        ensures spent { IfOk result (λ outcome. T.always (T.subject tests.old) → NoneIsOpen (T.asked (T.subject tests.old)) →
+            Spent (counted outcome) (added_by remembers self.old.choices)
+            self.old.choices self.new.choices self.old.memo self.new.memo (T.asked (T.subject tests.old))) }
+        ensures lasts { OnOk result (T.always (T.subject tests.old) → LastsAll self.old.memo → LastsAll self.new.memo) }
+        ensures held { IfOk result (λ outcome. outcome ≡ Outcome.NoMatch → self.new.memo.marks ≡ []) }
+    {
+        let mark = mark_of(remembers, &self.choices, tests);
+        let until = self.memo.failed_until(mark);
+        if self.choices.start() < until {
+            self.pass_over(until, tests);
+            return Ok(Outcome::Paused);
+        }
+        self.take_up_at(mark, tests)
+    }
+
+    /// Gives the preferred choice up, since each of its words is refused, as from each start row below that one.
+    fn pass_over<T: Tests>(&mut self, until: u64, tests: &mut T)
+        requires none { self.old.outlook ≡ None }
+        requires dead { IsDeadTop until self.old.choices (T.asked (T.subject tests.old)) }
+        requires alike { OpensAlike (MeantBy self.old.choices) (T.asked (T.subject tests.old)) }
+        requires searches { IsWithinRun self.old (T.asked (T.subject tests.old)) }
+        requires memo { MemoStands self.old (T.asked (T.subject tests.old)) }
+        requires entered { T.entered tests.old (start_of_search self.old) (labels_of_search self.old) }
+        requires marks { MarksStand self.old (T.asked (T.subject tests.old)) }
+
+        ensures same { IsSameSearch self.old self.new }
+        ensures subject { T.subject tests.new ≡ T.subject tests.old }
+        ensures entries { T.entries tests.new ≡ T.entries tests.old }
+        ensures entered { T.entered tests.new (start_of_search self.new) (labels_of_search self.new) }
+        ensures searches { IsWithinRun self.new (T.asked (T.subject tests.old)) }
+        ensures memo { MemoStands self.new (T.asked (T.subject tests.old)) }
+        ensures left { left_by self.new (T.asked (T.subject tests.old)) + 1 ≤ left_by self.old (T.asked (T.subject tests.old)) }
+        ensures marks { MarksStand self.new (T.asked (T.subject tests.old)) }
+        ensures spent { Spent 1 0
+            self.old.choices self.new.choices self.old.memo self.new.memo (T.asked (T.subject tests.old)) }
+        ensures lasts { start_of self.old.choices < most_u64 → most_u64 ≤ until → LastsAll self.old.memo → LastsAll self.new.memo }
+    {
+        self.choices.give_up();
+        cut_back(&self.choices, tests);
+        self.memo.note_failures(until, &self.choices, tests);
+    }
+
+    /// Takes up the preferred choice, which leaves the mark, if there is one, when it is split.
+    #[inline(always)]
+    fn take_up_at<T: Tests>(
+        &mut self,
+        mark: Option<Mark>,
+        tests: &mut T,
+    ) -> Result<Outcome, AllocError>
+        requires covers { Covers (T.asked (T.subject tests.old)) self.old }
+        requires none { self.old.outlook ≡ None }
+        requires marked { IfSome mark (IsMarkOfTop self.old.choices) }
+        requires searches { IsWithinRun self.old (T.asked (T.subject tests.old)) }
+        requires memo { MemoStands self.old (T.asked (T.subject tests.old)) }
+        requires entered { T.entered tests.old (start_of_search self.old) (labels_of_search self.old) }
+        requires marks { MarksStand self.old (T.asked (T.subject tests.old)) }
+        requires fresh { IsFresh self.old.memo mark }
+
+        ensures same { IsSameSearch self.old self.new }
+        ensures subject { T.subject tests.new ≡ T.subject tests.old }
+        ensures entries { EntersAtMost 1 (T.entries tests.old) (T.entries tests.new) }
+        ensures entered { OnOk result (T.entered tests.new (start_of_search self.new) (labels_of_search self.new)) }
+        ensures searches { OnOk result (IsWithinRun self.new (T.asked (T.subject tests.old))) }
+        ensures memo { OnOk result (MemoStands self.new (T.asked (T.subject tests.old))) }
+        ensures turned { IfOk result (Turned 1 self.old self.new
+            (T.asked (T.subject tests.old)) (left_by self.old (T.asked (T.subject tests.old)))) }
+        ensures marks { OnOk result (MarksStand self.new (T.asked (T.subject tests.old))) }
+        ensures spent { IfOk result (λ outcome. NoneIsOpen (T.asked (T.subject tests.old)) →
+            Spent (counted outcome) (unmarked mark self.old.choices)
+            self.old.choices self.new.choices self.old.memo self.new.memo (T.asked (T.subject tests.old))) }
+        ensures most { IsNumbered (kept self.old.choices) → top_weight self.old.choices ≤ all_weight (kept self.old.choices) }
+        ensures lasts { OnOk result (T.always (T.subject tests.old) → IfSome mark (λ m. most_u64 ≤ m.until) →
+            LastsAll self.old.memo → LastsAll self.new.memo) }
+        ensures held { IfOk result (λ outcome. outcome ≡ Outcome.NoMatch → self.new.memo.marks ≡ []) }
     {
         match self.choices.take_up(tests.known(), tests.end())? {
             Taken::Row => {
@@ -254,7 +415,10 @@ impl Search {
                 Ok(Outcome::Paused)
             }
             Taken::Split => {
+                // Without the mark the search goes on as well, and remembers less.
+                let _ = self.memo.set(mark);
                 cut_back(&self.choices, tests);
+                self.memo.note_failures(u64::MAX, &self.choices, tests);
                 Ok(Outcome::Paused)
             }
             Taken::Full => {
@@ -281,27 +445,40 @@ impl Search {
         requires row { StandsAtRowBy self.old.choices (T.asked (T.subject tests.old)) }
         requires new { AddsLabel (T.entered tests.old (start_of_search self.old)) (labels_of_search self.old) }
         requires below { AddsLabel (AreBelow (T.asked (T.subject tests.old)).variables) (labels_of_search self.old) }
+        requires memo { MemoStands self.old (T.asked (T.subject tests.old)) }
+        requires marks { MarksStand self.old (T.asked (T.subject tests.old)) }
 
         ensures same { IsSameSearch self.old self.new }
         ensures subject { T.subject tests.new ≡ T.subject tests.old }
         ensures entries { EntersAtMost 1 (T.entries tests.old) (T.entries tests.new) }
         ensures entered { OnOk result (T.entered tests.new (start_of_search self.new) (labels_of_search self.new)) }
         ensures searches { OnOk result (IsWithinRun self.new (T.asked (T.subject tests.old))) }
+        ensures memo { OnOk result (MemoStands self.new (T.asked (T.subject tests.old))) }
         ensures left { OnOk result
             (left_by self.new (T.asked (T.subject tests.old)) + 1 ≤ left_by self.old (T.asked (T.subject tests.old))) }
+        ensures marks { OnOk result (MarksStand self.new (T.asked (T.subject tests.old))) }
+        ensures spent { OnOk result (NoneIsOpen (T.asked (T.subject tests.old)) → Spent 1 0
+            self.old.choices self.new.choices self.old.memo self.new.memo (T.asked (T.subject tests.old))) }
+        ensures lasts { OnOk result (T.always (T.subject tests.old) → LastsAll self.old.memo → LastsAll self.new.memo) }
     {
         if !is_tested(&self.choices, tests) {
             self.choices.give_up();
             cut_back(&self.choices, tests);
+            self.memo.note_failures(u64::MAX, &self.choices, tests);
             return Ok(());
         }
         enter_row(&self.choices, tests)?;
-        match settle(&mut self.choices, tests)? {
+        let mut until = self.memo.looks(self.choices.start());
+        match settle(&mut self.choices, tests, &mut until)? {
             Seen::Open => {
                 self.outlook = Some(self.choices.after_row()?);
                 Ok(())
             }
-            Seen::True | Seen::NotTrue => Ok(()),
+            Seen::True | Seen::NotTrue => {
+                self.memo.spend(self.choices.start(), until);
+                self.memo.note_failures(until, &self.choices, tests);
+                Ok(())
+            }
         }
     }
 }

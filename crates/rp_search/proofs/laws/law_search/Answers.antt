@@ -11,22 +11,27 @@ use Rattle.rp_pattern.specs.Outlooks.{turns_ahead}
 use Rattle.rp_search.specs.Found.{Test}
 use Rattle.rp_search.specs.Asked.{Asked, AskedExtend, AreBelow, rows_from}
 use Rattle.rp_search.specs.Search.{start_of_search, turns_from}
-use Rattle.rp_search.specs.Fits.{ChoicesFit, AreAdmitted, unless_open, left_given, left_by, ChoicesStand, LabelsStand, LabelsBelow}
+use Rattle.rp_search.specs.Fits.{ChoicesFit, AreAdmitted, unless_open, left_given, left_by, ChoicesStand, LabelsStand, LabelsBelow, MarksStand, MemoStands}
 use Rattle.rp_search.proofs.ChoiceSteps.{now_later, stands_later, true_later, explores_later}
 use Rattle.rp_search.proofs.LeftAlike.{left_alike}
+use Rattle.rp_search.proofs.Marks.{remembers_later}
+use Rattle.rp_search.proofs.Spending.{less_later}
+use Rattle.rp_search.proofs.Moving.{work_grows}
 use Rattle.rp_search.proofs.laws.law_search.Goals as goal
 
 admitted_later : (outlook : Option Outlook) (c : Choices) (old new : Asked) → AskedExtend (start_of c) old new → ChoicesFit c old.known old.end (old.outcome (start_of c)) → AreAdmitted outlook c old.known old.end (old.outcome (start_of c)) → AreAdmitted outlook c new.known new.end (new.outcome (start_of c))
-admitted_later None c old new x s a = true_later old.known new.known old.end new.end (old.outcome (start_of c)) (new.outcome (start_of c)) x.later (entered c) (rows_from (start_of c) old.known) x.stay s.known a
-admitted_later (Some outlook) c old new x s a = explores_later old.known new.known old.end new.end (old.outcome (start_of c)) (new.outcome (start_of c)) x.later c outlook x.stay s.known a
+admitted_later None c old new x s a = true_later old.known new.known old.end new.end (old.outcome (start_of c)) (new.outcome (start_of c)) x.later (entered c) (rows_from (start_of c) old.known) (x.stay (start_of c) (omega arith)) s.known a
+admitted_later (Some outlook) c old new x s a = explores_later old.known new.known old.end new.end (old.outcome (start_of c)) (new.outcome (start_of c)) x.later c outlook (x.stay (start_of c) (omega arith)) s.known a
 
 pub returns-clause-stays : goal.returns-clause-stays
-unfolding start_of_search ChoicesStand LabelsStand LabelsBelow
+unfolding start_of_search ChoicesStand LabelsStand LabelsBelow MemoStands MarksStand
 returns-clause-stays c = λ s old new x f.
     record {
-      stands = stands_later old.known new.known old.end new.end (old.outcome (start_of s.choices)) (new.outcome (start_of s.choices)) x.later s.choices x.stay f.stands;
+      stands = stands_later old.known new.known old.end new.end (old.outcome (start_of s.choices)) (new.outcome (start_of s.choices)) x.later s.choices (x.stay (start_of s.choices) (omega arith)) f.stands;
       labels = admitted_later s.outlook s.choices old new x f.stands f.labels;
       below = subst (λ k. AreBelow k (entered s.choices)) (sym x.variables) f.below;
+      memo = remembers_later s.choices old new x s.memo f.memo;
+      marks = less_later s.choices old new s.memo.marks x f.marks;
     }
 
 either_bounded : (seen : Seen) (standing exploring most : ℕ) → standing ≤ most → exploring ≤ most → unless_open seen standing exploring ≤ most
@@ -51,3 +56,6 @@ returns-clause-same c = λ s old new on back f. left_alike s old new on back f.s
 pub returns-clause-variables : goal.returns-clause-variables
 returns-clause-variables c = λ form s k is below n e row.
     subst (λ ws. AllByRecursion (IsBelow k) ws) (sym (is.same_words n e row)) (c.law_labels.ensures k form below n e row)
+
+pub returns-clause-work : goal.returns-clause-work
+returns-clause-work c = work_grows

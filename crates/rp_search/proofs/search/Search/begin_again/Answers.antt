@@ -8,4 +8,4 @@ unfolding start_of_search
 returns-clause-at_start g c =
     let reset = c.reset.ensures in
     at_start _ refl (subst (λ i. 1 ≤ i) (sym reset.whole.start) c.requires) reset.labels
-    (λ n e. reset.remaining n e ∙ sym (reset.whole.words n e)) (λ n e. reset.left n e ∙ sym (reset.whole.left n e))
+    (λ n e. reset.remaining n e ∙ sym (reset.whole.words n e)) (λ n e. reset.left n e ∙ sym (reset.whole.left n e)) c.forget.ensures.blank

@@ -1,6 +1,7 @@
 use Rattle.std.proofs.Common.{◌≡◌, ◌+◌, ◌≤◌}
 use Rattle.rp_search.specs.Search.{start_of_search, labels_of_search}
-use Rattle.rp_search.proofs.RunSoFar.{RunsFor}
+use Rattle.rp_search.specs.Work.{LastsAll, NoneIsOpen}
+use Rattle.rp_search.proofs.RunSoFar.{RunsFor, RunSpends}
 use Rattle.rp_search.proofs.search.Search.go_on.Given as goal
 
 abbrev pub invariant-loop-turn : goal.invariant-loop-turn
@@ -11,3 +12,6 @@ invariant-loop-turn g l =
     × (g.T.Tests.entries l.tests ≤ g.T.Tests.entries l.fn.tests + l.turn)
     × (g.T.Tests.entries l.fn.tests ≤ g.T.Tests.entries l.tests)
     × (l.steps ≡ l.fn.steps + l.turn)
+    × (g.T.Tests.always (g.T.Tests.subject l.fn.tests) → NoneIsOpen (g.T.Tests.asked (g.T.Tests.subject l.fn.tests)) →
+    RunSpends l.fn.asleep l.turn l.fn.self l.self (g.T.Tests.asked (g.T.Tests.subject l.fn.tests)))
+    × (g.T.Tests.always (g.T.Tests.subject l.fn.tests) → LastsAll l.fn.self.memo → LastsAll l.self.memo)
