@@ -42,4 +42,4 @@ grid_outcome first second reach known e start labels = last_answer (row_answer f
 
 -- two variables are tested
 abbrev pub grid_asked : List Seen → List Seen → ℕ → ℕ → End → Asked
-grid_asked first second reach known e = record { known = known; end = e; variables = 2; outcome = grid_outcome first second reach known e }
+grid_asked first second reach known e = record { known = known; end = e; variables = 2; outcome = grid_outcome first second reach known e; pattern = None }

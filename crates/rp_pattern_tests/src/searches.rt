@@ -1,5 +1,6 @@
 //! Tests of whole searches. What is expected is worked out by hand.
 mod grid;
+mod random;
 mod refused;
 mod script;
 mod table;

@@ -24,6 +24,8 @@ pub struct Grid {
     pub entries: u64,
     /// How many calls of `test`.
     pub asked: Cell<u64>,
+    /// Whether a search may remember where it failed.
+    pub remembers: bool,
     ghost few: { known < 2 ^ 64 - 1 },
 }
 
@@ -42,6 +44,7 @@ impl Grid {
             calls: String::new(alloc),
             entries: 0,
             asked: Cell::new(0),
+            remembers: false,
         }
     }
 
@@ -58,6 +61,14 @@ impl Grid {
         grid.first.extend_from_slice(first)?;
         grid.second.extend_from_slice(second)?;
         Ok(grid)
+    }
+
+    /// How many rows are known.
+    pub fn rows(&self) -> u64
+        ensures known { result ≡ self.now.known }
+        ensures few { result < 2 ^ 64 - 1 }
+    {
+        self.known
     }
 
     /// No row is known again, and none is entered.
@@ -123,6 +134,8 @@ impl Tests for Grid {
 
     ghost entries = { λ t. t.entries };
 
+    ghost always = { λ t. ⊥ };
+
     fn known(&self) -> u64 {
         self.known
     }
@@ -133,6 +146,14 @@ impl Tests for Grid {
 
     fn variables(&self) -> usize {
         2
+    }
+
+    fn is_lasting(&self) -> bool {
+        self.remembers
+    }
+
+    fn refused_until(&self, _start: u64, _labels: &[Label], _most: u64) -> u64 {
+        u64::MAX
     }
 
     fn test(&self, start: u64, labels: &[Label]) -> Seen {

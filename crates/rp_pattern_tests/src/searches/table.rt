@@ -91,6 +91,8 @@ fn nested_forms(alloc: Global) -> Result<Vec<Form>, AllocError> {
 fn other_forms(alloc: Global) -> Result<Vec<Form>, AllocError> {
     let mut forms = vec![in alloc; Form::permute(alloc, vec![in alloc; a(), b(), a()]?)?]?;
     forms.push(Form::permute(alloc, vec![in alloc; any(alloc, a())?, b()]?)?)?;
+    let four = Form::permute(alloc, vec![in alloc; b(), a(), b(), a()]?)?;
+    forms.push(Form::alternation(alloc, four, b())?)?;
     forms.push(Form::permute(alloc, vec![in alloc; a(), Form::PartitionEnd]?)?)?;
     forms.push(any(alloc, Form::permute(alloc, vec![in alloc; a(), b()]?)?)?)?;
     let hidden = Form::exclusion(alloc, any(alloc, a())?)?;
@@ -204,14 +206,20 @@ fn counted<L: Ledger>(
     let mut steps = Steps::<L>::new(blank);
     let mut search = created(alloc, pattern)?;
     let decided = decide(&mut search, grid, budget, MANY, &mut steps)?;
-    Ok(is_found(grid, words, decided.outcome, search.labels()))
+    Ok(is_found(grid, 1, words, decided.outcome, search.labels()))
 }
 
-/// Whether this is what the words say, in their order: a refused word is passed over, and the first other one is waited
+/// Whether this is what the words from a row say, in their order: a refused word is passed over, and the first other one is waited
 /// for, if a test or the word itself is open, or else the match.
-fn is_found(grid: &Grid, words: &[Word], outcome: Outcome, labels: &[Label]) -> bool {
+pub fn is_found(
+    grid: &Grid,
+    start: u64,
+    words: &[Word],
+    outcome: Outcome,
+    labels: &[Label],
+) -> bool {
     for word in words {
-        match first_not_true(grid, &word.labels) {
+        match first_not_true(grid, start, &word.labels) {
             Seen::NotTrue => {}
             Seen::Open => return outcome == Outcome::Waits,
             Seen::True => {
@@ -225,9 +233,9 @@ fn is_found(grid: &Grid, words: &[Word], outcome: Outcome, labels: &[Label]) -> 
     outcome == Outcome::NoMatch
 }
 
-/// The first answer that isn't true, for the labels from row 1 on.
-fn first_not_true(grid: &Grid, labels: &[Label]) -> Seen {
-    let mut row: u64 = 1;
+/// The first answer that isn't true, for the labels from a row on.
+fn first_not_true(grid: &Grid, start: u64, labels: &[Label]) -> Seen {
+    let mut row = start;
     for label in labels {
         let seen = grid.answer(row, label.var);
         if seen != Seen::True {
@@ -262,7 +270,7 @@ fn nested_forms_agree(rt: HostRuntime) -> Result<(), Fail> {
 #[test]
 fn other_forms_agree(rt: HostRuntime) -> Result<(), Fail> {
     let alloc = rt.alloc();
-    assert_eq!(rt; agreeing(alloc, other_forms(alloc)?)?, 6 * 48);
+    assert_eq!(rt; agreeing(alloc, other_forms(alloc)?)?, 7 * 48);
     Ok(())
 }
 
@@ -309,8 +317,8 @@ fn no_row_is_known_of_nested_parts(rt: HostRuntime) -> Result<(), Fail> {
     let first = firsts(alloc, nested_forms(alloc)?, End::Closed)?;
     assert_eq!(rt; first.as_str(), "......");
     let first = firsts(alloc, other_forms(alloc)?, End::Open)?;
-    assert_eq!(rt; first.as_str(), "??????");
+    assert_eq!(rt; first.as_str(), "???????");
     let first = firsts(alloc, other_forms(alloc)?, End::Closed)?;
-    assert_eq!(rt; first.as_str(), "---.-.");
+    assert_eq!(rt; first.as_str(), "----.-.");
     Ok(())
 }

@@ -13,6 +13,7 @@ run-requires-2 g c =
     record {
       known = omega (arith, same, two, restart.start);
       variables = λ n e row. subst (λ ws. AllByRecursion (IsBelow 2) ws) (sym (restart.pattern.words n e row ∙ first.same.pattern.words n e row)) (c.in_ok-search.ensures.variables n e row);
+      pattern = tt;
       fits = restart.at_start.fits _;
       entered = c.cut.ensures.none refl 2 ∙ sym restart.at_start.labels;
     }
