@@ -10,3 +10,6 @@ pub mod Keys
 pub mod Kinds
 pub mod Allowed
 pub mod Sound
+-- What the conditions of a query depend on.
+pub mod Locality
+pub mod LooksBack

@@ -1,5 +1,5 @@
 //! The keys of partitions.
-ghost use Rattle.std.specs.Prelude.{◌≡◌, ◌<◌, IfOk, IfSome, length, not, position, zip};
+ghost use Rattle.std.specs.Prelude.{◌≡◌, ◌<◌, IfOk, IfSome, length, map, not, position, zip};
 ghost use Rattle.rp_value.specs.Rows.{admits, row_fault};
 ghost use Rattle.rp_query.specs.Keys.{key_kinds, key_of as key_is, kind_at, value_at as value_is};
 ghost use Rattle.rp_query.specs.QueryView.{data_of};
@@ -27,13 +27,19 @@ impl Query {
     pub fn key_fault(&self, key: &[Value]) -> Option<RowFault>
         ensures { result ≡ row_fault (key_kinds (data_of self.now)) key.now }
     {
-        let columns = self.partition();
-        if key.len() != columns.len() {
-            return Some(RowFault::Width);
-        }
-        let index = first_misplaced(self.table().columns(), columns, key)?;
-        Some(RowFault::Kind(index + 1))
+        fault_in(self.table().columns(), self.partition(), key)
     }
+}
+
+/// Why these are no values of some columns of a table, each by its number from 1.
+fn fault_in(table: &[Column], columns: &[usize], values: &[Value]) -> Option<RowFault>
+    ensures { result ≡ row_fault (map (kind_at table.now) columns.now) values.now }
+{
+    if values.len() != columns.len() {
+        return Some(RowFault::Width);
+    }
+    let index = first_misplaced(table, columns, values)?;
+    Some(RowFault::Kind(index + 1))
 }
 
 /// The value of a row in a column, from 1, null where there is none.

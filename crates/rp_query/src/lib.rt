@@ -6,17 +6,21 @@
 //!
 //! What a query is made of is seen as plain data: `specs/QueryView`, `Keys`, `Formulas`, `Scopes`, `Reach`, `SkipRules`
 //! and `Definitions`. What each query meets is `specs/Sound`, in the words of `Kinds` and `Allowed`: columns and totals
-//! that are named are there, kinds agree, offsets are at most 1,000, and no definition sees the whole match.
+//! that are named are there, kinds agree, offsets are at most 1,000, and no definition sees the whole match. On which rows
+//! of a match its conditions depend is `specs/Locality`, and which of them never look ahead `specs/LooksBack`.
 #![tactic(auto)]
 
+mod ahead;
 mod item;
 mod key;
 mod laws;
+mod locality;
 mod plan;
 mod query;
 
 pub use item::{Item, SkipFault};
 pub use laws::law_keys;
+pub use locality::{Leader, Locality, condition_is_local, goes_from_leader, goes_from_own_row};
 pub use plan::{
     Condition, Edge, Expr, Function, Navigation, Operation, RowsOf, Step, Total, Variables,
 };

@@ -1,8 +1,17 @@
 //! Queries, and what is computed for their matches.
 
+ghost use Rattle.std.specs.Prelude.{◌≡◌, ◌↔◌, IfSome, IsTrue, Some};
+ghost use Rattle.rp_query.specs.declared.locality.Leader.{Leader as Leads};
+ghost use Rattle.rp_query.specs.Locality.{ConditionsAreLocal, IsLeaderOf};
+ghost use Rattle.rp_query.specs.LooksBack.{ConditionsLookBack};
+ghost use Rattle.rp_query.specs.declared.locality.Locality.TheVariants.{Row};
 ghost use Rattle.rp_query.specs.Sound.{IsSound};
+ghost use Rattle.rp_words.specs.PatternForm.{form_of};
+ghost use Rattle.rp_pattern.specs.Prepared.{Prepares};
 
+use crate::locality::{Leader, Locality, leader_of};
 use crate::plan::{Condition, Expr, Total, Variables};
+use rp_pattern::Prepared;
 use rp_value::{Table, Text};
 use rp_words::Pattern;
 use std::alloc::{AllocError, Global};
@@ -85,7 +94,19 @@ pub struct QueryData {
 #[derive(Drop)]
 pub struct Query {
     parts: Rc<QueryData>,
+    /// Its pattern, made ready for searches.
+    prepared: Prepared,
+    /// Whether it is known that each condition judges its row alone.
+    judges_rows: bool,
+    /// Whether it is known that no condition looks ahead.
+    looks_back: bool,
+    /// A variable that each match begins with, if one is known.
+    lead: Option<Leader>,
     ghost sound: { IsSound parts.value },
+    ghost ready: { Prepares (form_of parts.value.pattern) prepared },
+    ghost alone: { IsTrue judges_rows ↔ ConditionsAreLocal Row parts.value.plan },
+    ghost back: { IsTrue looks_back → ConditionsLookBack parts.value.plan },
+    ghost led: { (l : Leads) → lead ≡ Some l → IsLeaderOf (form_of parts.value.pattern) l },
 }
 
 impl Plan {
@@ -116,8 +137,18 @@ impl Query {
         requires { IsSound parts }
         ensures { IfOk result (λ query. data_of query ≡ parts) }
     {
+        let prepared = Prepared::new(alloc, &parts.pattern)?;
+        let judges_rows = parts.plan.is_local(Locality::Row);
+        let looks_back = parts.plan.looks_back();
+        let lead = leader_of(&parts);
         let parts = Rc::new(alloc, parts)?;
-        Ok(Query { parts })
+        Ok(Query {
+            parts,
+            prepared,
+            judges_rows,
+            looks_back,
+            lead,
+        })
     }
 
     /// The text of the clause, as it was compiled.
@@ -139,6 +170,13 @@ impl Query {
         ensures { result.now ≡ (data_of self.now).pattern }
     {
         &self.parts.pattern
+    }
+
+    /// The row pattern, made ready for searches, which share it.
+    pub fn prepared(&self) -> &Prepared
+        ensures { Prepares (form_of (data_of self.now).pattern) result.now }
+    {
+        &self.prepared
     }
 
     /// The names of the output columns, in order.
@@ -184,6 +222,27 @@ impl Query {
         self.parts.plan.definition(variable)
     }
 
+    /// Whether no condition depends on more than the row that it judges.
+    pub fn judges_rows(&self) -> bool
+        ensures { IsTrue result ↔ ConditionsAreLocal Row (data_of self.now).plan }
+    {
+        self.judges_rows
+    }
+
+    /// Whether it is known that no condition looks at a row after one that it goes from.
+    pub fn looks_back(&self) -> bool
+        ensures { IsTrue result → ConditionsLookBack (data_of self.now).plan }
+    {
+        self.looks_back
+    }
+
+    /// A variable that each match begins with, and whether no other row is mapped to it. None: no such variable is known.
+    pub fn lead(&self) -> Option<Leader>
+        ensures { IfSome result (IsLeaderOf (form_of (data_of self.now).pattern)) }
+    {
+        self.lead
+    }
+
     /// What is kept of the rows for navigation and aggregates.
     pub fn totals(&self) -> &Rc<Vec<Total>>
         ensures { result.now ≡ (data_of self.now).plan.totals }
@@ -196,6 +255,13 @@ impl Query {
         ensures { IfOk result (λ query. data_of query ≡ data_of self.now) }
     {
         let parts = self.parts.clone()?;
-        Ok(Query { parts })
+        let prepared = self.prepared.share()?;
+        Ok(Query {
+            parts,
+            prepared,
+            judges_rows: self.judges_rows,
+            looks_back: self.looks_back,
+            lead: self.lead,
+        })
     }
 }
