@@ -1,4 +1,4 @@
--- The totals of labels.
+-- Inside: the totals of labels.
 use Rattle.std.specs.Prelude.{◌≡◌, ℕ, List, [], ◌∷◌, ◌++◌, map}
 use Rattle.rp_words.specs.declared.word.Label.{Label}
 use Rattle.rp_query.specs.declared.plan.Total.{Total}
