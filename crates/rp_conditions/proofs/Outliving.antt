@@ -25,7 +25,7 @@ seen_stays (Told F) j' h = ap seen_as h
 seen_stays (Told U) j' h = ap seen_as h
 seen_stays OpenJudgement j' h = tt
 
-goes_on_from : (first first' : ℕ) (p p' : Rows) (e e' : End) → first ≤ first' → GoesOn first p e p' e' → GoesOn first' p e p' e'
+pub goes_on_from : (first first' : ℕ) (p p' : Rows) (e e' : End) → first ≤ first' → GoesOn first p e p' e' → GoesOn first' p e p' e'
 goes_on_from first first' p p' e e' le g = record { later = g.later; same = λ row from known. g.same row (omega arith) known }
 
 by_stays : JudgementsStay → (s : Setting) (p' : Rows) (e' : End) (reach : ℕ) → LiesOnRows s → GoesOn (max 1 (s.start - reach)) s.rows s.ending p' e' → (o : Option Condition) →

@@ -1,4 +1,4 @@
--- What a tester is of, and which labels it has entered.
+-- Inside: what a tester is of, and which labels it has entered.
 use Rattle.std.specs.Prelude.{ℕ, ◌-◌, ◌^◌, ◌<◌, List, length}
 use Rattle.rp_words.specs.declared.word.Label.{Label}
 use Rattle.rp_query.specs.QueryView.{data_of}

@@ -2,5 +2,6 @@
 pub mod Tested
 pub mod Entered
 pub mod Outlives
+pub mod Locality
 -- The inside: what the tests owe their trait.
 pub mod Decided

@@ -3,6 +3,7 @@ use Rattle.std.specs.Prelude.{ℕ, ◌+◌, ◌-◌, List, length, Option, None,
 use Rattle.rp_words.specs.declared.word.Label.{Label}
 use Rattle.rp_words.specs.declared.word.End.{End}
 use Rattle.rp_words.specs.declared.word.Seen.{Seen}
+use Rattle.rp_words.specs.PatternForm.{form_of}
 use Rattle.rp_words.specs.declared.word.Seen.TheVariants.{True, NotTrue}
 use Rattle.rp_query.specs.declared.plan.Condition.{Condition}
 use Rattle.rp_query.specs.declared.query.QueryData.{QueryData}
@@ -51,4 +52,5 @@ asked_of t =
       end = t.ending;
       variables = length t.query.plan.definitions.items;
       outcome = outcome_of t;
+      pattern = Some (form_of t.query.pattern);
     }

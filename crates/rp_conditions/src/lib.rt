@@ -11,5 +11,5 @@ mod laws;
 mod tester;
 
 pub use entries::Entries;
-pub use laws::law_tests;
+pub use laws::{law_local_tests, law_tests};
 pub use tester::Tester;
