@@ -5,46 +5,46 @@ use Rattle.std.specs.Cmp.{IsEquivalence}
 use Rattle.std.proofs.lemmas.List.{append-nil}
 use Rattle.std.proofs.lemmas.List.Elements.{filter-append}
 use Rattle.std.specs.Map.{keys_of, lookup, values_of}
-use Rattle.std.specs.declared.vec.Vec.{Vec}
-use Rattle.std.specs.declared.alloc.Global.{Global}
 use Rattle.rp_value.specs.declared.value.Value.{Value}
-use Rattle.rp_input.specs.Gathering.{parts_of, with_row}
+use Rattle.rp_value.specs.RowLists.{rows_added}
+use Rattle.rp_value.specs.declared.row_list.RowList.{RowList}
+use Rattle.rp_input.specs.Gathering.{parts_added, with_row}
 use Rattle.rp_query.specs.Keys.{values_in}
 use Rattle.rp_input.specs.Partitions.{Part, partitions, rows_of_key, same_key}
 
 abbrev Entry : Type 0
-Entry = List Value × Vec (List Value) Global
+Entry = List Value × RowList
 
 -- a new key comes last
-pub parts_push : (entries : List Entry) (key : List Value) (rows : Vec (List Value) Global) (row : List Value) → rows.items ≡ row ∷ []
-    → parts_of (entries ++ (key, rows) ∷ []) ≡ parts_of entries ++ (key, row ∷ []) ∷ []
+pub parts_push : (entries : List Entry) (key : List Value) (rows : RowList) (row : List Value) → rows_added rows ≡ row ∷ []
+    → parts_added (entries ++ (key, rows) ∷ []) ≡ parts_added entries ++ (key, row ∷ []) ∷ []
 parts_push [] key rows row is = ap (λ l. (key, l) ∷ []) is
-parts_push (e ∷ entries) key rows row is = ap (λ l. (e.0, e.1.items) ∷ l) (parts_push entries key rows row is)
+parts_push (e ∷ entries) key rows row is = ap (λ l. (e.0, rows_added e.1) ∷ l) (parts_push entries key rows row is)
 
 -- where no key is the same
-pub with_row_new : (entries : List Entry) (key row : List Value) → lookup (same_key key) entries ≡ None → with_row (parts_of entries) key row ≡ parts_of entries ++ (key, row ∷ []) ∷ []
+pub with_row_new : (entries : List Entry) (key row : List Value) → lookup (same_key key) entries ≡ None → with_row (parts_added entries) key row ≡ parts_added entries ++ (key, row ∷ []) ∷ []
 with_row_new [] key row none = refl
 with_row_new (e ∷ entries) key row none = by (same_key key e.0) refl none (with_row_new entries key row)
   where
     by : (b : Bool) → same_key key e.0 ≡ b → cond b (Some e.1) (lookup (same_key key) entries) ≡ None
-        → (lookup (same_key key) entries ≡ None → with_row (parts_of entries) key row ≡ parts_of entries ++ (key, row ∷ []) ∷ [])
-        → with_row (parts_of (e ∷ entries)) key row ≡ parts_of (e ∷ entries) ++ (key, row ∷ []) ∷ []
+        → (lookup (same_key key) entries ≡ None → with_row (parts_added entries) key row ≡ parts_added entries ++ (key, row ∷ []) ∷ [])
+        → with_row (parts_added (e ∷ entries)) key row ≡ parts_added (e ∷ entries) ++ (key, row ∷ []) ∷ []
     by true is none more = absurd cc
-    by false is none more = rw is (ap (λ l. (e.0, e.1.items) ∷ l) (more none))
+    by false is none more = rw is (ap (λ l. (e.0, rows_added e.1) ∷ l) (more none))
 
 -- at the first key that is the same
-pub with_row_at : (entries : List Entry) (i : ℕ) (key row : List Value) (old new : Vec (List Value) Global) → i < length (keys_of entries)
+pub with_row_at : (entries : List Entry) (i : ℕ) (key row : List Value) (old new : RowList) → i < length (keys_of entries)
     → ((d : List Value) → same_key key (get_or (keys_of entries) i d) ≡ true) → ((d : List Value) (k : ℕ) → k < i → same_key key (get_or (keys_of entries) k d) ≡ false)
-    → slice_get (values_of entries) i ≡ Some old → new.items ≡ old.items ++ row ∷ []
-    → parts_of (set_value_at entries i new) ≡ with_row (parts_of entries) key row
+    → slice_get (values_of entries) i ≡ Some old → rows_added new ≡ rows_added old ++ row ∷ []
+    → parts_added (set_value_at entries i new) ≡ with_row (parts_added entries) key row
 with_row_at [] i key row old new within here before value gains = absurd (omega arith)
 with_row_at (e ∷ entries) zero key row old new within here before value gains =
     let same : same_key key e.0 ≡ true = here key in
     let is : e.1 ≡ old = cc in
-    rw same (ap (λ l. (e.0, l) ∷ parts_of entries) (gains ∙ ap (λ (v : Vec (List Value) Global). v.items ++ row ∷ []) (sym is)))
+    rw same (ap (λ l. (e.0, l) ∷ parts_added entries) (gains ∙ ap (λ (v : RowList). rows_added v ++ row ∷ []) (sym is)))
 with_row_at (e ∷ entries) (suc i) key row old new within here before value gains =
     let apart : same_key key e.0 ≡ false = before key zero (omega arith) in
-    rw apart (ap (λ l. (e.0, e.1.items) ∷ l) (with_row_at entries i key row old new (omega arith) here (λ d k h. before d (suc k) (omega arith)) value gains))
+    rw apart (ap (λ l. (e.0, rows_added e.1) ∷ l) (with_row_at entries i key row old new (omega arith) here (λ d k h. before d (suc k) (omega arith)) value gains))
 
 -- the partitions of another key than k
 abbrev others : List Value → List Part → List Part

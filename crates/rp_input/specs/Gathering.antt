@@ -1,5 +1,7 @@
--- How partitions are gathered, a row at a time.
+-- Inside: how partitions are gathered, a row at a time.
 use Rattle.std.specs.Prelude.{List, [], ◌∷◌, ◌++◌, map, if◌then◌else◌}
+use Rattle.rp_value.specs.RowLists.{rows_added}
+use Rattle.rp_value.specs.declared.row_list.RowList.{RowList}
 use Rattle.std.specs.declared.vec.Vec.{Vec}
 use Rattle.std.specs.declared.alloc.Global.{Global}
 use Rattle.rp_value.specs.declared.value.Value.{Value}
@@ -8,6 +10,10 @@ use Rattle.rp_input.specs.Partitions.{Part, same_key}
 -- partitions as plain lists: keys with their rows
 abbrev pub parts_of : List (List Value × Vec (List Value) Global) → List Part
 parts_of entries = map (λ entry. (entry.0, entry.1.items)) entries
+
+-- the same, of keys with the rows that were added for them
+abbrev pub parts_added : List (List Value × RowList) → List Part
+parts_added entries = map (λ entry. (entry.0, rows_added entry.1)) entries
 
 -- a row more in the partition of its key, which comes last where it is new
 abbrev pub with_row : List Part → List Value → List Value → List Part

@@ -4,15 +4,16 @@ ghost use Rattle.indexmap.specs.IndexMap.{get};
 ghost use Rattle.rp_query.specs.QueryView.{data_of};
 ghost use Rattle.rp_query.specs.Keys.{value_at as value_is, values_in};
 ghost use Rattle.rp_input.specs.Partitions.{partitions as partitions_are};
-ghost use Rattle.rp_input.specs.Gathering.{parts_of, with_row};
+ghost use Rattle.rp_input.specs.Gathering.{parts_added, parts_of, with_row};
 
 use indexmap::IndexMap;
 use rp_query::Query;
-use rp_value::{Cells, Row, Value};
+use rp_value::{Cells, Row, RowList, Value};
 use std::alloc::{AllocError, Global};
 
-/// The rows of each key, by the first appearance of the key.
-type Parts = IndexMap<Cells, Vec<Row>>;
+/// The rows of each key, by the first appearance of the key. They are copied, so that those of a key lie together: who goes
+/// over a partition then goes through memory in order. A text isn't copied but gets a further owner.
+type Parts = IndexMap<Cells, RowList>;
 
 /// The partitions of rows by the query, by first appearance: the key of each, and its rows as they came. After want of
 /// memory the rows are dropped.
@@ -25,58 +26,103 @@ pub fn partitions(
         partitions_are (data_of query.now).partition.items rows.items) }
 {
     let parts = gather(alloc, query.partition(), rows)?;
-    parts.into_iter().collect(alloc)
+    let lists = parts.into_iter().collect(alloc)?;
+    rows_of_lists(alloc, lists)
 }
 
 /// The partitions of rows by these columns, numbered from 1.
 fn gather(alloc: Global, columns: &[usize], rows: Vec<Row>) -> Result<Parts, AllocError>
-    ensures { IfOk result (λ parts. parts_of parts.entries ≡ partitions_are columns.now rows.items) }
+    ensures { IfOk result (λ parts. parts_added parts.entries ≡ partitions_are columns.now rows.items) }
 {
     let mut parts = IndexMap::new(alloc);
     let mut room = Vec::new(alloc);
+    let mut cells = Vec::new(alloc);
     for row in rows {
         let key = key_of(room, columns, &row)?;
-        room = add_row(alloc, &mut parts, key, row)?;
+        copy_cells(&mut cells, &row)?;
+        room = add_row(alloc, &mut parts, key, &mut cells)?;
     }
     Ok(parts)
 }
 
-/// Adds a row to the partition of its key, which comes last where it is new. Gives back the room of a key that isn't kept.
-fn add_row(alloc: Global, parts: &mut Parts, key: Cells, row: Row) -> Result<Vec<Value>, AllocError>
-    ensures { OnOk result (parts_of parts.new.entries ≡ with_row (parts_of parts.old.entries) key row) }
+/// The rows of each key, as a list each.
+fn rows_of_lists(
+    alloc: Global,
+    lists: Vec<(Cells, RowList)>,
+) -> Result<Vec<(Cells, Vec<Row>)>, AllocError>
+    ensures { IfOk result (λ parts. parts_of parts.items ≡ parts_added lists.items) }
+{
+    let mut parts = Vec::with_capacity(alloc, lists.len())?;
+    for (key, list) in lists {
+        push_part(&mut parts, key, list.into_rows()?)?;
+    }
+    Ok(parts)
+}
+
+fn push_part(
+    parts: &mut Vec<(Cells, Vec<Row>)>,
+    key: Cells,
+    rows: Vec<Row>,
+) -> Result<(), AllocError>
+    ensures { OnOk result (parts.new.items ≡ parts.old.items ++ (key, rows) ∷ []) }
+{
+    match parts.push((key, rows)) {
+        Ok(()) => Ok(()),
+        Err(_) => Err(AllocError),
+    }
+}
+
+/// Adds the row of these cells, which leave their list, to the partition of its key, which comes last where it is new.
+/// Gives back the room of a key that isn't kept.
+fn add_row(
+    alloc: Global,
+    parts: &mut Parts,
+    key: Cells,
+    cells: &mut Vec<Value>,
+) -> Result<Vec<Value>, AllocError>
+    ensures { OnOk result
+        (parts_added parts.new.entries ≡ with_row (parts_added parts.old.entries) key cells.old.items) }
 {
     match parts.get_index_of(&key) {
         Some(index) => {
-            push(&mut parts[index], row)?;
+            parts[index].push(cells)?;
             Ok(key.into_vec())
         }
         None => {
-            add_part(alloc, parts, key, row)?;
+            add_part(alloc, parts, key, cells)?;
             Ok(Vec::new(alloc))
         }
     }
 }
 
 /// Adds the partition of a new key, with its first row.
-fn add_part(alloc: Global, parts: &mut Parts, key: Cells, row: Row) -> Result<(), AllocError>
+fn add_part(
+    alloc: Global,
+    parts: &mut Parts,
+    key: Cells,
+    cells: &mut Vec<Value>,
+) -> Result<(), AllocError>
     requires { get ⟦<Cells as PartialEq>⟧.eq parts.old key ≡ None }
-    ensures { OnOk result (parts_of parts.new.entries ≡ parts_of parts.old.entries ++ (key, row ∷ []) ∷ []) }
+    ensures { OnOk result
+        (parts_added parts.new.entries ≡ parts_added parts.old.entries ++ (key, cells.old.items ∷ []) ∷ []) }
 {
-    let mut rows = Vec::new(alloc);
-    push(&mut rows, row)?;
+    let mut rows = RowList::new(alloc);
+    rows.push(cells)?;
     match parts.insert(key, rows) {
         Ok(_) => Ok(()),
         Err(_) => Err(AllocError),
     }
 }
 
-fn push(rows: &mut Vec<Row>, row: Row) -> Result<(), AllocError>
-    ensures { OnOk result (rows.new.items ≡ rows.old.items ++ row ∷ []) }
+/// Copies the cells of a row, in the place of what is there.
+fn copy_cells(cells: &mut Vec<Value>, row: &Row) -> Result<(), AllocError>
+    ensures { OnOk result (cells.new.items ≡ row.now) }
 {
-    match rows.push(row) {
-        Ok(()) => Ok(()),
-        Err(_) => Err(AllocError),
+    cells.clear();
+    for cell in row.cells() {
+        cells.push(cell.share()?)?;
     }
+    Ok(())
 }
 
 /// The key of a row: its values in these columns, in the room of an earlier key.

@@ -17,7 +17,8 @@ loop-row-preserved c =
     let gives : into_iter_items c.loop-row.row-iterator ≡ row ∷ into_iter_items c.next.new.self = grind (arith, common_steps, c.in-Some.ensures.steps) in
     record {
       gathered = c.in_ok-room.ensures
-          ∙ ap (λ parts. with_row parts c.in_ok-key.key row) inv.gathered
+          ∙ ap (λ parts. with_row parts c.in_ok-key.key c.copy_cells.new.cells.items) inv.gathered
+          ∙ ap (λ cells. with_row (partitions c.args.columns.now before) c.in_ok-key.key cells) c.in_ok-copy_cells.ensures
           ∙ ap (λ key. with_row (partitions c.args.columns.now before) key row) c.in_ok-key.ensures
           ∙ sym (partitions_more laws c.args.columns.now before row);
       left = append_assoc before (row ∷ []) (into_iter_items c.next.new.self) ∙ ap (λ t. before ++ t) (sym gives) ∙ inv.left;

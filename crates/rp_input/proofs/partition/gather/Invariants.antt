@@ -1,11 +1,11 @@
 use Rattle.std.proofs.Common.{◌≡◌, ◌++◌}
 use Rattle.std.specs.Vec.Iter.{into_iter_items}
-use Rattle.rp_input.specs.Gathering.{parts_of}
+use Rattle.rp_input.specs.Gathering.{parts_added}
 use Rattle.rp_input.specs.Partitions.{partitions}
 use Rattle.rp_input.proofs.partition.gather.Given as goal
 
 abbrev pub invariant-loop-row : goal.invariant-loop-row
 invariant-loop-row l = record {
-  gathered : parts_of l.parts.entries ≡ partitions l.columns l.yielded;
+  gathered : parts_added l.parts.entries ≡ partitions l.columns l.yielded;
   left : l.yielded ++ into_iter_items l.row-iterator ≡ l.fn.rows.items;
 }
