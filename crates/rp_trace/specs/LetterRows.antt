@@ -1,5 +1,5 @@
 -- The rows of a line, and what a search asks of them.
-use Rattle.std.specs.Prelude.{ℕ, List, length}
+use Rattle.std.specs.Prelude.{ℕ, List, length, None}
 use Rattle.rp_words.specs.declared.word.End.TheVariants.{Closed}
 use Rattle.rp_search.specs.Asked.{Asked}
 use Rattle.rp_trace.specs.declared.letters.Letters.{Letters}
@@ -12,4 +12,4 @@ line_of letters = letters.line.now
 
 -- what is asked of a line: a closed partition with a row for each letter, the variables A to Z, and the tests of the letters
 abbrev pub asked_of_line : List ℕ → Asked
-asked_of_line line = record { known = length line; end = Closed; variables = letter_count; outcome = letter_test line }
+asked_of_line line = record { known = length line; end = Closed; variables = letter_count; outcome = letter_test line; pattern = None }

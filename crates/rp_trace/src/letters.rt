@@ -54,6 +54,9 @@ impl Tests for Letters<'_> {
 
     ghost entries = { λ letters. letters.entries };
 
+    // A letter is refused alone, so for ever.
+    ghost always = { λ _. Unit {0} };
+
     fn known(&self) -> u64 {
         self.line.len() as u64
     }
@@ -64,6 +67,14 @@ impl Tests for Letters<'_> {
 
     fn variables(&self) -> usize {
         VARIABLES
+    }
+
+    fn is_lasting(&self) -> bool {
+        true
+    }
+
+    fn refused_until(&self, _start: u64, _labels: &[Label], _most: u64) -> u64 {
+        u64::MAX
     }
 
     fn test(&self, start: u64, labels: &[Label]) -> Seen {

@@ -50,6 +50,7 @@ find-requires-clause-can_run g c =
     record {
       known = omega (arith, new.start, ap length c.new-letters.ensures, c.requires.some);
       variables = λ n e row. subst (λ ws. AllByRecursion (IsBelow 26) ws) (sym (new.pattern.same_words n e row)) (c.law_labels.ensures 26 (form_of c.args.pattern.now) c.requires.lettered n e row);
+      pattern = tt;
       fits = new.at_start.fits _;
       entered = tt;
     }
