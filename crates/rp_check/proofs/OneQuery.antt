@@ -3,10 +3,8 @@ use Rattle.std.proofs.Common.{◌≡◌, ◌∙◌, ℕ, List, [], ◌∷◌, ma
 use Rattle.std.specs.Prelude.{max}
 use Rattle.rp_value.specs.declared.table.Column.{Column}
 use Rattle.rp_lexer.specs.Laws.{OneTokenList, NoTokensWithFault}
-use Rattle.rp_words.specs.PatternForm.{form_of}
 use Rattle.rp_syntax.specs.Clauses.{ClauseTree}
 use Rattle.rp_syntax.specs.ClauseGrammar.{Derives}
-use Rattle.rp_check.specs.declared.compiling.CompileFault.{CompileFault}
 use Rattle.rp_check.specs.declared.compiling.CompileFault.TheVariants as fault
 use Rattle.rp_check.specs.declared.fault.Fault.{Fault}
 use Rattle.rp_query.specs.declared.query.QueryData.{QueryData}
@@ -19,14 +17,14 @@ use Rattle.rp_query.specs.declared.plan.Condition.TheOpen.{Condition-F, Compare,
 use Rattle.rp_query.specs.declared.plan.Condition.TheViews.{roll-Condition}
 use Rattle.rp_query.specs.declared.plan.Condition.TheFolds.{map-Condition, fold-roll-Condition, ind-Condition}
 use Rattle.rp_check.specs.ClauseFaults.{faults}
-use Rattle.rp_check.specs.Compiled.{IsClauseOf, IsCompiled, IsCompileFault}
+use Rattle.rp_check.specs.Compiled.{IsClauseOf}
 use Rattle.rp_query.specs.Formulas as F
 use Rattle.rp_query.specs.Formulas.{Formula, value_formula, value_step, condition_formula, condition_step}
-use Rattle.rp_check.specs.OneQuery.{AreAlike, OneQuery, NoQueryWithFault}
+use Rattle.rp_check.specs.OneQuery.{OneQuery, NoQueryWithFault}
+use Rattle.rp_same_query.specs.SameQuery.{IsSameQuery}
 use Rattle.rp_check.specs.Queries.{greatest}
 use Rattle.rp_check.specs.QueryOf.{IsQueryOf}
 use Rattle.rp_query.specs.Reach.{rows_back, reach, reach_step, condition_reach, condition_reach_step}
-use Rattle.rp_check.specs.Shapes.{shape_of}
 
 -- how far back a formula looks
 abbrev formula_reach : Formula → ℕ
@@ -89,8 +87,8 @@ module _ {A : Type 0} (f : A → ℕ) (view : A → Formula) (by : (x : A) → f
   same_reach : (xs ys : List A) → map view xs ≡ map view ys → map f xs ≡ map f ys
   same_reach xs ys e = each_by xs ∙ (ap (map formula_reach) e ∙ sym (each_by ys))
 
-alike : (c : ClauseTree) (text : List ℕ) (columns : List Column) (q r : QueryData) → IsQueryOf c text columns q → IsQueryOf c text columns r → AreAlike q r
-alike c text columns q r a b =
+one_is_same : (c : ClauseTree) (text : List ℕ) (columns : List Column) (q r : QueryData) → IsQueryOf c text columns q → IsQueryOf c text columns r → IsSameQuery q r
+one_is_same c text columns q r a b =
     let measures : map value_formula q.plan.measures.items ≡ map value_formula r.plan.measures.items = a.measures ∙ sym b.measures in
     let truths : map condition_formula q.plan.conditions.items ≡ map condition_formula r.plan.conditions.items = a.conditions ∙ sym b.conditions in
     let back = same_reach reach value_formula reach_by_formula q.plan.measures.items r.plan.measures.items measures in
@@ -120,7 +118,7 @@ module _ (lists : OneTokenList) (text : List ℕ) where
 pub one_query : OneTokenList → OneQuery
 one_query lists text columns q r a b =
     let same = same_clause lists text a.clause b.clause a.written b.written in
-    alike a.clause text columns q r a.is (subst (λ c. IsQueryOf c text columns r) (sym same) b.is)
+    one_is_same a.clause text columns q r a.is (subst (λ c. IsQueryOf c text columns r) (sym same) b.is)
 
 not_both : (fs : List Fault) (f : Fault) (others : List Fault) → fs ≡ [] → fs ≡ f ∷ others → ⊥
 not_both fs f others none some = let clash : [] ≡ f ∷ others = sym none ∙ some in cc

@@ -22,7 +22,8 @@ use Rattle.rp_check.specs.Context.{naming_of}
 use Rattle.rp_query.specs.Formulas.{value_formula, condition_formula, plain_total}
 use Rattle.rp_query.specs.SkipRules.{rule_of}
 use Rattle.rp_check.specs.Reading.{Reads}
-use Rattle.rp_check.specs.Shapes.{shape_of, shaped}
+use Rattle.rp_same_query.specs.Shapes.{shape_of}
+use Rattle.rp_check.specs.Shapes.{shaped}
 use Rattle.rp_check.specs.Variables.{variables_of, context, numbered, union_of}
 use Rattle.rp_check.proofs.Telling.{tells_front, tells_behind, none_in_both}
 

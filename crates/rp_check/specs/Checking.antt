@@ -1,4 +1,4 @@
--- What was found of a clause so far.
+-- Inside: what was found of a clause so far.
 use Rattle.std.specs.Prelude.{◌≡◌, ℕ, List, [], ◌++◌, map, Bool, true, max}
 use Rattle.std.specs.declared.rc.Rc.{Rc}
 use Rattle.std.specs.declared.vec.Vec.{Vec}
@@ -20,7 +20,8 @@ use Rattle.rp_check.specs.Queries.{formulas, totals_of, terms_of_measures, terms
 use Rattle.rp_query.specs.SkipRules.{rule_of}
 use Rattle.rp_query.specs.Reach.{reach, condition_reach}
 use Rattle.rp_check.specs.Resolved.{number_at}
-use Rattle.rp_check.specs.Shapes.{shaped, shape_of}
+use Rattle.rp_same_query.specs.Shapes.{shape_of}
+use Rattle.rp_check.specs.Shapes.{shaped}
 use Rattle.rp_check.specs.Variables.{variables_of, numbered, union_of}
 
 -- what may be named, with these sets and classes

@@ -10,7 +10,8 @@ use Rattle.rp_check.specs.Queries.{formulas, totals_of, terms_of_measures, terms
 use Rattle.rp_query.specs.SkipRules.{rule_of}
 use Rattle.rp_query.specs.Reach.{reach, condition_reach}
 use Rattle.rp_check.specs.Resolved.{number_at}
-use Rattle.rp_check.specs.Shapes.{shaped, shape_of}
+use Rattle.rp_same_query.specs.Shapes.{shape_of}
+use Rattle.rp_check.specs.Shapes.{shaped}
 use Rattle.rp_check.specs.Variables.{variables_of, context}
 
 abbrev pub measuring : ClauseTree → List Column → Context
