@@ -1,5 +1,5 @@
 //! The cells of an item.
-ghost use Rattle.std.specs.Prelude.{◌≡◌, ◌++◌, length, map, nat_eq, IfOk, OnOk};
+ghost use Rattle.std.specs.Prelude.{◌≡◌, ◌++◌, ◌||◌, length, map, nat_eq, IfOk, OnOk};
 ghost use Rattle.std.specs.List.{list_any};
 ghost use Rattle.rp_value.specs.declared.value.Value.TheVariants.{Null};
 ghost use Rattle.rp_query.specs.QueryView.{data_of};
@@ -66,7 +66,14 @@ pub(crate) fn add_order<R: Rows>(
 fn is_key(query: &Query, column: usize) -> bool
     ensures { result ≡ is_key (data_of query.now) column }
 {
-    query.partition().contains(&column) || is_ordered(query.order(), column)
+    is_named(query.partition(), query.order(), column)
+}
+
+/// Whether one of these lists has the column.
+fn is_named(partition: &[usize], order: &[OrderColumn], column: usize) -> bool
+    ensures { result ≡ (list_any (nat_eq column) partition.now || list_any (λ o. nat_eq column o.column) order.now) }
+{
+    partition.contains(&column) || is_ordered(order, column)
 }
 
 fn is_ordered(order: &[OrderColumn], column: usize) -> bool
