@@ -88,7 +88,7 @@ pub gives_first : (q : QueryData) (p : Known) (place : Place) (result : Found) (
 gives_first q p place result a known found in_rows seen low ordered high rows =
     record { known = known; found = found; in_rows = in_rows; passed = []; rows = rows; seen = seen; fewer = omega (arith, seen, low); low = low; ordered = ordered; high = high }
 
-pub begins_giving : (q : QueryData) (p : Known) (w : Walker) (found : Ended) (a : Ahead) (run : Run) (taken : ℕ) → taken ≤ left_by run.search.value (asked_by q p) + 1 → IsGoing q w.state → Gives q p (place_of w.state) (result_of found) a → a.seen ≡ 0 → MatchTotalled q p w.state.at found → Serves q (run_of found) →
+pub begins_giving : (q : QueryData) (p : Known) (w : Walker) (found : Ended) (a : Ahead) (run : Run) (taken : ℕ) → taken ≤ left_by run.search.value (asked_by q p) + 1 → IsGoing q w.state → Gives q p (place_of w.state) (result_of found) a → a.seen ≡ 0 → MatchTotalled q p w.state.at found → Serves q p w.state.at (run_of found) →
     KeepsGoing taken q p w.state (Searching run) (record w { stage = Giving found a }) Went
 begins_giving q p w found a run taken few g gives seen totals serves =
     record {

@@ -1,5 +1,5 @@
 -- How a start row ends, and how the answer ends.
-use Rattle.std.proofs.Common.{◌≡◌, ℕ, zero, suc, ◌+◌, ◌-◌, ◌<◌, ◌≤◌, List, [], ◌∷◌, ◌++◌, length, length-append, map, Bool, true, false, cond, Option, Some, None, refl, sym, ap, ◌∙◌, subst, arith}
+use Rattle.std.proofs.Common.{◌≡◌, ℕ, zero, suc, ◌+◌, ◌-◌, ◌<◌, ◌≤◌, List, [], ◌∷◌, ◌++◌, length, length-append, map, Bool, true, false, cond, Option, Some, refl, sym, ap, ◌∙◌, subst, arith}
 use Rattle.std.specs.Prelude.{◌≢◌, slice_get, nat_le, nat_eq, max}
 use Rattle.std.proofs.lemmas.Bool.Decides.{nat_tests}
 use Rattle.rp_words.specs.declared.word.End.{End}
@@ -26,8 +26,8 @@ use Rattle.rp_walker.specs.declared.stage.Stage.TheVariants.{Begin, Giving}
 use Rattle.rp_walker.specs.declared.stage.Step.{Step}
 use Rattle.rp_walker.specs.declared.stage.Step.TheVariants.{Went, Gave, Idle}
 use Rattle.rp_walker.specs.declared.walker.Walker.{Walker}
-use Rattle.rp_walker.specs.Given.{result_of, run_of, shown_from, is_hidden}
-use Rattle.rp_walker.specs.Stages.{Gives, Serves, IsGoing, stage_left, starts_to, left_with}
+use Rattle.rp_walker.specs.Given.{result_of, shown_from, is_hidden}
+use Rattle.rp_walker.specs.Stages.{Gives, IsReady, IsGoing, stage_left, starts_to, left_with}
 use Rattle.rp_walker.specs.Walking.{KeepsGoing}
 use Rattle.rp_walker.proofs.Shown.{Adds, all_here}
 use Rattle.rp_walker.proofs.Steps.{leg_of, left_going, stands_going}
@@ -91,8 +91,11 @@ module _ (q : QueryData) (p : Known) (place : Place) (result : Found) (a : Ahead
 still_kept : (x y b first : ℕ) → x ≤ y → first ≤ max 1 (x - b) → first ≤ max 1 (y - b)
 still_kept x y b first h k = omega (arith, h, k)
 
+pub leads_later : SearchesLeadOn → (q : QueryData) (r : MatcherState) (result : Found) (next : Place) → after_found q (place_of r) result ≡ Goes [] next → r.at < next.start
+leads_later leads q r result next follows = (subst (LeadsOn (place_of r)) follows (leads q (place_of r) result)).0
+
 module _ (leads : SearchesLeadOn) (stays : SearchesLeadInRows) (q : QueryData) (p : Known) (w : Walker) (found : Ended) (a : Ahead) (g : IsGoing q w.state) (gives : Gives q p (place_of w.state) (result_of found) a)
-    (serves : Serves q (run_of found)) (not_past : a.seen ≤ w.state.here) (all : a.next ≡ a.end) (next : Place) (follows : after_found q (place_of w.state) (result_of found) ≡ Goes [] next) where
+    (run : Run) (not_past : a.seen ≤ w.state.here) (all : a.next ≡ a.end) (next : Place) (follows : after_found q (place_of w.state) (result_of found) ≡ Goes [] next) (ready : IsReady q p next.start run) where
   abbrev moved_on : MatcherState
   moved_on = record w.state { at = next.start; matches = next.matches; covered = next.covered; here = 0 }
 
@@ -125,15 +128,15 @@ module _ (leads : SearchesLeadOn) (stays : SearchesLeadInRows) (q : QueryData) (
         ended = subst (λ b. ended_by b q p moved_on) (sym g.going) tt;
       }
 
-  pub goes_to : KeepsGoing 1 q p w.state (Giving found a) (record w { state = moved_on; stage = Begin (Some (run_of found)) }) Went
+  pub goes_to : KeepsGoing 1 q p w.state (Giving found a) (record w { state = moved_on; stage = Begin (Some run) }) Went
   goes_to =
       record {
         given = refl;
         over = tt;
         first = refl;
-        stands = stands_going q p (record w { state = moved_on; stage = Begin (Some (run_of found)) }) going_on serves;
+        stands = stands_going q p (record w { state = moved_on; stage = Begin (Some run) }) going_on ready;
         in_rows = λ h. (let x : LeadsInRows p (Goes [] next) = subst (LeadsInRows p) follows (stays q p (place_of w.state) (result_of found) gives.known h.0 gives.in_rows) in (x.1, λ going. x.0));
-        lowers = omega (arith, left_going q p w.state (Giving found a) g.going gives.known, left_later q p w.state moved_on (Some (run_of found)) g.going later);
+        lowers = omega (arith, left_going q p w.state (Giving found a) g.going gives.known, left_later q p w.state moved_on (Some run) g.going later);
         follows = λ within_old. record { moves = moves_on within_old; is = refl };
       }
 
@@ -149,7 +152,7 @@ get_last : (xs : List Item) (x : Item) → slice_get (xs ++ x ∷ []) (length xs
 get_last [] x = refl
 get_last (y ∷ xs) x = get_last xs x
 
-module _ (q : QueryData) (p : Known) (w : Walker) (stage : Stage) (x : Item) (k : ℕ) (g : IsGoing q w.state) (some : 0 < left_with q p w.state stage)
+module _ (q : QueryData) (p : Known) (w : Walker) (stage last_stage : Stage) (x : Item) (k : ℕ) (g : IsGoing q w.state) (some : 0 < left_with q p w.state stage)
     (not_past : k ≤ w.state.here) (last : IsWithin q p w.state → LastItem (leg q p (place_of w.state)) k x) where
   abbrev gave_last : MatcherState
   gave_last = record w.state { here = k + 1; given = w.state.given + 1; over = true }
@@ -162,7 +165,7 @@ module _ (q : QueryData) (p : Known) (w : Walker) (stage : Stage) (x : Item) (k 
       let e : length (h.items ++ x ∷ []) ≡ k + 1 = omega (arith, h.many, length-append h.items (x ∷ [])) in
       (ap (λ u. length (leg_items u)) h.is ∙ e, subst IsEnd (sym h.is) tt, subst IsStop (sym h.is) tt)
 
-  gives_last : w.state.here ≡ k → KeepsGoing 1 q p w.state stage (record w { state = gave_last; stage = Begin None }) (Gave x)
+  gives_last : w.state.here ≡ k → KeepsGoing 1 q p w.state stage (record w { state = gave_last; stage = last_stage }) (Gave x)
   gives_last due =
       record {
         given = refl;
@@ -182,7 +185,7 @@ module _ (q : QueryData) (p : Known) (w : Walker) (stage : Stage) (x : Item) (k 
             };
       }
 
-  gave_last_before : w.state.here ≢ k → KeepsGoing 1 q p w.state stage (record w { state = was_last; stage = Begin None }) Idle
+  gave_last_before : w.state.here ≢ k → KeepsGoing 1 q p w.state stage (record w { state = was_last; stage = last_stage }) Idle
   gave_last_before other =
       record {
         given = refl;
@@ -201,7 +204,7 @@ module _ (q : QueryData) (p : Known) (w : Walker) (stage : Stage) (x : Item) (k 
       }
 
   -- whichever it is
-  pub ends_with : (new : Walker) (step : Step) → (w.state.here ≢ k → (step ≡ Idle) × (new ≡ record w { state = was_last; stage = Begin None })) → (w.state.here ≡ k → (step ≡ Gave x) × (new ≡ record w { state = gave_last; stage = Begin None })) →
+  pub ends_with : (new : Walker) (step : Step) → (w.state.here ≢ k → (step ≡ Idle) × (new ≡ record w { state = was_last; stage = last_stage })) → (w.state.here ≡ k → (step ≡ Gave x) × (new ≡ record w { state = gave_last; stage = last_stage })) →
       KeepsGoing 1 q p w.state stage new step
   ends_with new step other due = go (nat_eq w.state.here k) refl
     where

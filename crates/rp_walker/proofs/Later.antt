@@ -1,5 +1,5 @@
 -- A walker over rows that go on.
-use Rattle.std.proofs.Common.{◌≡◌, ℕ, suc, ◌+◌, ◌≤◌, length, Bool, true, false, refl, sym, ◌∙◌, subst, arith}
+use Rattle.std.proofs.Common.{◌≡◌, ℕ, suc, ◌+◌, ◌≤◌, length, Bool, true, false, Option, Some, None, refl, sym, ◌∙◌, subst, arith}
 use Rattle.std.specs.Prelude.{◌≢◌}
 use Rattle.rp_search.specs.declared.search.Search.{Search}
 use Rattle.rp_search.specs.Asked.{Asked, AskedExtend, rows_from}
@@ -23,9 +23,9 @@ use Rattle.rp_walker.specs.declared.stage.Ended.TheVariants.{Match as EndedMatch
 use Rattle.rp_walker.specs.declared.stage.Stage.{Stage}
 use Rattle.rp_walker.specs.declared.stage.Stage.TheVariants.{Begin, Searching, Giving}
 use Rattle.rp_walker.specs.declared.walker.Walker.{Walker}
-use Rattle.rp_walker.specs.Given.{result_of}
+use Rattle.rp_walker.specs.Given.{result_of, run_of}
 use Rattle.rp_walker.specs.Records.{place_of}
-use Rattle.rp_walker.specs.Stages.{Searches, Gives, Totalled, MatchTotalled, StageStands, asked_by}
+use Rattle.rp_walker.specs.Stages.{Searches, Serves, IsSpare, Gives, Totalled, MatchTotalled, StageStands, asked_by}
 use Rattle.rp_walker.specs.Walking.{stands_by, Stands, record_of, CanGoOn}
 
 not_waits : (found : Ended) → result_of found ≢ Waits
@@ -63,6 +63,20 @@ module _ (found_stays : FindingsStay) (fits_stay : SearchFitsStays) (tests : Tes
         totalled = totals_later start run one g (omega (arith, h.known, subst (λ i. length (labels_of_search run.search.value) ≤ rows_from i (count p)) h.begins short)) h.totalled;
       }
 
+  serves_later : (start : ℕ) (run : Run) → 1 ≤ start → GoesOnFrom (first_read q start) p p' → Serves q p start run → Serves q p' start run
+  serves_later start run one g h =
+      let extends : AskedExtend start (asked_by q p) (asked_by q p') = tests (tested_by q p) p'.rows p'.end start one sound g in
+      record {
+        begins = h.begins;
+        pattern = h.pattern;
+        fits = fits_stay run.search.value (asked_by q p) (asked_by q p') (subst (λ i. AskedExtend i (asked_by q p) (asked_by q p')) (sym h.begins) extends) h.fits;
+        plan = h.plan;
+      }
+
+  spare_later : (start : ℕ) (spare : Option Run) → 1 ≤ start → GoesOnFrom (first_read q start) p p' → IsSpare q p start spare → IsSpare q p' start spare
+  spare_later start None one g h = tt
+  spare_later start (Some run) one g h = record { serves = serves_later start run one g h.serves; labels = h.labels }
+
   match_later : (start : ℕ) (found : Ended) → 1 ≤ start → GoesOnFrom (first_read q start) p p' → AreKnown start (count p) (result_of found) → MatchTotalled q p start found → MatchTotalled q p' start found
   match_later start (EndedNoMatch run) one g known h = tt
   match_later start (EndedMatch run) one g known h = totals_later start run one g known h
@@ -84,9 +98,9 @@ module _ (found_stays : FindingsStay) (fits_stay : SearchFitsStays) (tests : Tes
       }
 
   stage_later : (r : MatcherState) (stage : Stage) → 1 ≤ r.at → GoesOnFrom (first_read q r.at) p p' → StageStands q p r stage → StageStands q p' r stage
-  stage_later r (Begin spare) one g h = h
+  stage_later r (Begin spare) one g h = spare_later r.at spare one g h
   stage_later r (Searching run) one g h = searches_later r.at run one g h
-  stage_later r (Giving found a) one g h = (gives_later (place_of r) found a one g h.0, h.1, match_later r.at found one g h.0.in_rows h.2, h.3)
+  stage_later r (Giving found a) one g h = (gives_later (place_of r) found a one g h.0, h.1, match_later r.at found one g h.0.in_rows h.2, serves_later r.at (run_of found) one g h.3)
 
   by_later : (b : Bool) (w : Walker) → (b ≡ false → GoesOnFrom (first_read q w.state.at) p p') → stands_by b q p w → stands_by b q p' w
   by_later true w g h = h

@@ -13,3 +13,5 @@ mod Later
 mod Public
 mod Continuing
 mod Lefts
+mod Working
+mod Seeing

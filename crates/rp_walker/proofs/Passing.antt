@@ -14,7 +14,7 @@ use Rattle.rp_walker.specs.Stages.{IsGoing, Gives, MatchTotalled, Serves}
 use Rattle.rp_walker.specs.Walking.{KeepsGoing}
 use Rattle.rp_walker.proofs.Steps.{past_hidden, past_shown, gives_hidden, gives_shown, left_going, stays_put, stands_going}
 
-module _ (q : QueryData) (p : Known) (w : Walker) (found : Ended) (a : Ahead) (g : IsGoing q w.state) (gives : Gives q p (place_of w.state) (result_of found) a) (totals : MatchTotalled q p w.state.at found) (serves : Serves q (run_of found)) where
+module _ (q : QueryData) (p : Known) (w : Walker) (found : Ended) (a : Ahead) (g : IsGoing q w.state) (gives : Gives q p (place_of w.state) (result_of found) a) (totals : MatchTotalled q p w.state.at found) (serves : Serves q p w.state.at (run_of found)) where
   went_to : (b : Ahead) → b.next ≡ a.next + 1 → b.end ≡ a.end → a.next < a.end → Gives q p (place_of w.state) (result_of found) b → b.seen ≤ w.state.here → KeepsGoing 1 q p w.state (Giving found a) (record w { stage = Giving found b }) Went
   went_to b next end more after enough =
       record {

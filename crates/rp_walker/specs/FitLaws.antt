@@ -1,4 +1,4 @@
--- What a matcher's steps mean for each partition that its record fits.
+-- Inside: what a matcher's steps mean for each partition that its record fits.
 use Rattle.std.specs.Prelude.{◌≡◌, ℕ, ◌≤◌, length, Some, slice_get, true, false}
 use Rattle.rp_query.specs.declared.query.QueryData.{QueryData}
 use Rattle.rp_query.specs.declared.item.Item.{Item}

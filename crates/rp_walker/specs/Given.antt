@@ -1,5 +1,5 @@
--- What is still to be looked at of a search's rows, once it has ended.
-use Rattle.std.specs.Prelude.{ℕ, zero, suc, ◌+◌, ◌-◌, Bool, false, List, [], ◌∷◌, Option, Some, None, slice_get, if◌then◌else◌}
+-- Inside: what is still to be looked at of a search's rows, once it has ended.
+use Rattle.std.specs.Prelude.{ℕ, zero, suc, ◌+◌, ◌-◌, ◌≤◌, ⊤, Bool, false, List, [], ◌∷◌, Option, Some, None, slice_get, if◌then◌else◌}
 use Rattle.rp_query.specs.declared.query.RowsPerMatch.{RowsPerMatch}
 use Rattle.rp_query.specs.declared.query.RowsPerMatch.TheVariants.{One}
 use Rattle.rp_words.specs.declared.word.Label.{Label}
@@ -38,3 +38,8 @@ result_of (EndedMatch run) = Match (labels_of_search run.search.value)
 abbrev pub run_of : Ended → Run
 run_of (EndedNoMatch run) = run
 run_of (EndedMatch run) = run
+
+-- a search without a match shows one row at most
+abbrev pub IsShort : Ended → Ahead → Type 0
+IsShort (EndedNoMatch run) a = a.end ≤ a.next + 1
+IsShort (EndedMatch run) a = ⊤

@@ -5,6 +5,7 @@ pub mod Walking
 pub mod Steps
 pub mod FitLaws
 pub mod LeftLaw
+pub mod Bound
 -- What one law alone cites: the older rule of AND and OR.
 pub mod EarlierFits
 -- The inside: the stages of a walker, its runs, and the rows that are still to be looked at.

@@ -1,4 +1,4 @@
--- What follows a search, as a leg of the walk without its items.
+-- Inside: what follows a search, as a leg of the walk without its items.
 use Rattle.std.specs.Prelude.{[], ◌∷◌, Result, Ok, Err}
 use Rattle.rp_query.specs.declared.item.Item.TheVariants.{Fault as FaultItem}
 use Rattle.rp_query.specs.declared.item.SkipFault.{SkipFault}

@@ -1,4 +1,4 @@
--- What turns of a run come to.
+-- Inside: what turns of a run come to.
 use Rattle.std.specs.Prelude.{◌≡◌, ℕ, ◌+◌, ◌≤◌, ⊤}
 use Rattle.rp_search.specs.declared.search.Outcome.{Outcome}
 use Rattle.rp_search.specs.declared.search.Outcome.TheVariants.{Match as MatchOutcome, NoMatch as NoMatchOutcome, Waits as WaitsOutcome, Paused as PausedOutcome}

@@ -1,5 +1,5 @@
--- How the stage of a walker stands to known rows, and what it has left.
-use Rattle.std.specs.Prelude.{◌≡◌, ℕ, suc, ◌+◌, ◌-◌, ◌<◌, ◌≤◌, false, List, ◌++◌, length, Option, Some, None, ⊤, nat_le, slice_get, if◌then◌else◌}
+-- Inside: how the stage of a walker stands to known rows, and what it has left.
+use Rattle.std.specs.Prelude.{◌≡◌, ℕ, suc, ◌+◌, ◌-◌, ◌<◌, ◌≤◌, false, List, [], ◌++◌, length, Option, Some, None, ⊤, nat_le, slice_get, if◌then◌else◌}
 use Rattle.rp_words.specs.PatternForm.{form_of}
 use Rattle.rp_words.specs.Words.{words}
 use Rattle.rp_words.specs.Turns.{turns, starts_turns}
@@ -55,15 +55,22 @@ abbrev pub MatchTotalled : QueryData → Known → ℕ → Ended → Type 0
 MatchTotalled q p start (EndedNoMatch run) = ⊤
 MatchTotalled q p start (EndedMatch run) = Totalled q p start run
 
--- A run is of the query, so that it can begin again from any row.
-pub record Serves (q : QueryData) (run : Run) : Type 0 where
+-- A run is of the query, and its search from this row fits what is known, so that it can begin again from any row.
+pub record Serves (q : QueryData) (p : Known) (start : ℕ) (run : Run) : Type 0 where
+  pub begins : start_of_search run.search.value ≡ start
   pub pattern : IsSearchFor (form_of q.pattern) run.search.value
+  pub fits : SearchFits run.search.value (asked_by q p)
   pub plan : plan_of run.totals ≡ totals_in q
 
--- a run that is kept, if any
-abbrev pub IsSpare : QueryData → Option Run → Type 0
-IsSpare q None = ⊤
-IsSpare q (Some run) = Serves q run
+-- A run is about to begin at a row.
+pub record IsReady (q : QueryData) (p : Known) (start : ℕ) (run : Run) : Type 0 where
+  pub serves : Serves q p start run
+  pub labels : labels_of_search run.search.value ≡ []
+
+-- a run that is kept for a row, if any
+abbrev pub IsSpare : QueryData → Known → ℕ → Option Run → Type 0
+IsSpare q p start None = ⊤
+IsSpare q p start (Some run) = IsReady q p start run
 
 -- The search at a place has ended, and the items of the rows ahead are still to come.
 pub record Gives (q : QueryData) (p : Known) (place : Place) (result : Found) (ahead : Ahead) : Type 0 where
@@ -89,9 +96,9 @@ pub record IsGoing (q : QueryData) (r : MatcherState) : Type 0 where
 
 -- what a stage holds stands over what is known
 abbrev pub StageStands : QueryData → Known → MatcherState → Stage → Type 0
-StageStands q p r (Begin spare) = IsSpare q spare
+StageStands q p r (Begin spare) = IsSpare q p r.at spare
 StageStands q p r (Searching run) = Searches q p r.at run
-StageStands q p r (Giving found ahead) = Gives q p (place_of r) (result_of found) ahead × (ahead.seen ≤ r.here) × MatchTotalled q p r.at found × Serves q (run_of found)
+StageStands q p r (Giving found ahead) = Gives q p (place_of r) (result_of found) ahead × (ahead.seen ≤ r.here) × MatchTotalled q p r.at found × Serves q p r.at (run_of found)
 
 -- turns of the present start row
 abbrev pub stage_left : QueryData → Known → MatcherState → Stage → ℕ

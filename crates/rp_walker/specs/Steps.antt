@@ -1,4 +1,4 @@
--- What steps do to the record of a matcher.
+-- Inside: what steps do to the record of a matcher.
 use Rattle.std.specs.Prelude.{◌≡◌, ℕ, ◌+◌, Bool, true, false, length, ⊤}
 use Rattle.rp_query.specs.declared.query.QueryData.{QueryData}
 use Rattle.rp_known.specs.Known.{Known}

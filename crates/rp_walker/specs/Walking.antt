@@ -1,4 +1,4 @@
--- What a step of a walker keeps.
+-- Inside: what a step of a walker keeps.
 use Rattle.std.specs.Prelude.{◌≡◌, ℕ, ◌+◌, ◌<◌, ◌≤◌, Bool, true, false, ⊤}
 use Rattle.rp_query.specs.declared.query.QueryData.{QueryData}
 use Rattle.rp_query.specs.Sound.{IsSound}

@@ -7,7 +7,7 @@ ghost use Rattle.rp_known.specs.Known.{known_in, count};
 ghost use Rattle.rp_known.specs.Items.{item_at, item_rows};
 ghost use Rattle.rp_known.specs.Walk.{after_found, last_row};
 ghost use Rattle.rp_known.specs.WalkLaws.{AreKnown};
-ghost use Rattle.rp_walker.specs.Given.{is_hidden, is_excluded, result_of};
+ghost use Rattle.rp_walker.specs.Given.{IsShort, is_hidden, is_excluded, result_of};
 ghost use Rattle.rp_walker.specs.Nexts.{leg_by};
 ghost use Rattle.rp_walker.specs.Records.{place_of};
 ghost use Rattle.rp_walker.specs.Stages.{rows_ahead, MatchTotalled};
@@ -103,6 +103,7 @@ pub(crate) fn ahead_of(query: &Query, place: Place, last: u64, found: &Ended) ->
     ensures low { place.start ≤ result.next }
     ensures ordered { result.next ≤ result.end }
     ensures high { result.end ≤ last + 1 }
+    ensures short { IsShort found.now result }
     ensures rows { item_rows (data_of query.now).plan.rows place (result_of found.now)
         ≡ rows_ahead (data_of query.now) place.start (result_of found.now) result }
 {

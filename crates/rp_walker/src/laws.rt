@@ -1,4 +1,5 @@
 //! Laws over the definitions alone. A call does nothing, and its caller may then use them.
+ghost use Rattle.rp_walker.specs.Bound.{ClosedIsDecided, LookingBackIsDecided, PollsAreSeen, SeenGrows, SeenIsSame, WalkerWorkGrows, WorkIsLinear};
 ghost use Rattle.rp_walker.specs.EarlierFits.{EarlierFits};
 ghost use Rattle.rp_walker.specs.FitLaws.{StepsMean, FitsStay, FirstFits, FitsInRows};
 ghost use Rattle.rp_walker.specs.LeftLaw.{LeftIsBounded, LeftIsSame};
@@ -46,4 +47,20 @@ pub fn law_left()
 {
     rp_search::law_search();
     rp_conditions::law_tests();
+}
+
+/// What is left to a walker before it finds a further match is linear in the rows: when it begins, and with each row that becomes
+/// known. Over a closed partition no test is open, and where no condition looks ahead none of a known row is.
+/// What is seen of a walker's search falls with each poll, rises with each row that becomes known, and is the same over as many rows.
+pub fn law_work()
+    ensures linear { WorkIsLinear }
+    ensures grows { WalkerWorkGrows }
+    ensures closed { ClosedIsDecided }
+    ensures back { LookingBackIsDecided }
+    ensures seen { PollsAreSeen }
+    ensures rises { SeenGrows }
+    ensures same { SeenIsSame }
+{
+    rp_search::law_search();
+    rp_eval::law_conditions();
 }

@@ -2,7 +2,7 @@
 ghost use Rattle.std.specs.Prelude.{◌≡◌, ◌≢◌, ◌+◌, ◌-◌, ◌^◌, ◌<◌, ◌≤◌, ℕ, Bool, true, false, length, Some, None, OnOk, OnErr, IfOk};
 ghost use Rattle.rp_query.specs.QueryView.{data_of};
 ghost use Rattle.rp_query.specs.declared.query.QueryData.{QueryData};
-ghost use Rattle.rp_known.specs.Known.{Known, known_in};
+ghost use Rattle.rp_known.specs.Known.{Known, count, known_in};
 ghost use Rattle.rp_known.specs.Plans.{first_read};
 ghost use Rattle.rp_known.specs.Walk.{found_at};
 ghost use Rattle.rp_walker.specs.declared.stage.Stage.TheVariants.{Begin as BeginStage, Searching as SearchingStage, Giving as GivingStage};
@@ -12,6 +12,7 @@ ghost use Rattle.rp_walker.specs.Steps.{Moves};
 ghost use Rattle.rp_search.specs.Fits.{left_by};
 ghost use Rattle.rp_walker.specs.Stages.{left_with, asked_by, IsGoing, Searches, Gives, MatchTotalled, Serves, IsSpare, StageStands};
 ghost use Rattle.rp_walker.specs.Walking.{KeepsGoing, GoesOnWell, stands_by, Stands, CanGoOn, record_of};
+ghost use Rattle.rp_walker.specs.Bound.{BeginsGiving, PollWorks, RemembersBy, Spends, StepSpends, last_turn, search_seen, work_anew, work_in};
 ghost use Rattle.rp_walker.specs.Polls.{left_in, entered_by, TurnsAreCounted, PollTakes, IdleTakes, GivenBy, PollLowers, Polled, Answers, StopsAtLast, GoesAlong, StartsAgain};
 
 use crate::ahead::Ahead;
@@ -19,7 +20,7 @@ use crate::giving::{ahead_of, is_hidden, make_item, next_of, place_of};
 use crate::laws::law_steps;
 use crate::poll::Poll;
 use crate::record::MatcherState;
-use crate::run::{Run, begin, run_on};
+use crate::run::{Run, begin, move_to, run_on};
 use crate::stage::{Ended, Stage, Step};
 use rp_conditions::Entries;
 use rp_eval::Rows;
@@ -41,13 +42,16 @@ pub struct Walker {
     entered: Entries,
 }
 
-#[tactic(auto, unfolding(crate::specs::Walking::record_of, crate::specs::Walking::Stands, crate::specs::Polls::left_in, crate::specs::Polls::entered_by))]
+#[tactic(auto, unfolding(crate::specs::Walking::record_of, crate::specs::Walking::Stands, crate::specs::Polls::left_in, crate::specs::Polls::entered_by, crate::specs::Bound::work_in, crate::specs::Bound::RemembersBy, crate::specs::Bound::search_seen))]
 impl Walker {
     /// A walker that has known nothing.
     pub fn new(alloc: Global) -> Walker
         ensures record { record_of result ≡ first_state }
         ensures entered { entered_by result ≡ 0 }
         ensures stands { (q : QueryData) (p : Known) → Stands q p result }
+        ensures work { (q : QueryData) (p : Known) (first row : ℕ) →
+            work_in first row q p result ≡ work_anew first row (count p) first_state }
+        ensures no_search { (q : QueryData) (p : Known) → search_seen q p result ≡ None }
     {
         Walker {
             alloc,
@@ -70,6 +74,9 @@ impl Walker {
         ensures record { record_of result ≡ state }
         ensures entered { entered_by result ≡ 0 }
         ensures stands { (q : QueryData) (p : Known) → CanGoOn q state → Stands q p result }
+        ensures work { (q : QueryData) (p : Known) (first row : ℕ) →
+            work_in first row q p result ≡ work_anew first row (count p) state }
+        ensures no_search { (q : QueryData) (p : Known) → search_seen q p result ≡ None }
     {
         Walker {
             alloc,
@@ -86,16 +93,27 @@ impl Walker {
         self.state
     }
 
-    /// Rows were dropped: those from this one on are kept.
+    /// Rows were dropped: those from this one on are kept. Where the answer is over, its last search is let go of too.
     pub fn keep_from(&mut self, first: u64)
         ensures record { record_of self.new ≡ record (record_of self.old) { first = first } }
         ensures stands { (q : QueryData) (p : Known) →
             ((record_of self.old).over ≡ false → first ≤ first_read q (record_of self.old).at) →
             Stands q p self.old → Stands q p self.new }
         ensures left { (q : QueryData) (p : Known) → left_in q p self.new ≡ left_in q p self.old }
+        ensures work { (q : QueryData) (p : Known) (first_choice row : ℕ) →
+            work_in first_choice row q p self.new ≡ work_in first_choice row q p self.old }
+        ensures search { (record_of self.old).over ≡ false → (first_choice row : ℕ) →
+            RemembersBy first_choice row self.new → RemembersBy first_choice row self.old }
+        ensures seen { (record_of self.old).over ≡ false → (q : QueryData) (p : Known) →
+            search_seen q p self.new ≡ search_seen q p self.old }
+        ensures let_go { (record_of self.old).over ≡ true → (q : QueryData) (p : Known) →
+            search_seen q p self.new ≡ None }
         ensures entered { entered_by self.new ≡ entered_by self.old }
     {
         self.state.first = first;
+        if self.state.over {
+            self.stage = Stage::Begin(None);
+        }
     }
 
     /// The first row that is still read.
@@ -114,6 +132,8 @@ impl Walker {
     /// `budget` turns, an item after one at least, and so does `Idle` while the answer goes on.
     /// A budget of 0 answers `Paused`, changes nothing and takes no memory. After `AllocError` the same item is still
     /// to come, and the search begins again from its start row.
+    /// Where each condition judges its row alone, no test is open and all that fails is remembered, a poll that finds no
+    /// further match takes no more turns than what is left falls by, and one if it is idle.
     pub fn poll<R: Rows, L: Ledger>(
         &mut self,
         query: &Query,
@@ -138,6 +158,8 @@ impl Walker {
         ensures lowers { IfOk result (PollLowers budget
             (left_in (data_of query.now) (known_in R.known R.ending rows.now) self.old)
             (left_in (data_of query.now) (known_in R.known R.ending rows.now) self.new)) }
+        ensures works { IfOk result (PollWorks (steps.new - steps.old)
+            (data_of query.now) (known_in R.known R.ending rows.now) self.old self.new) }
         ensures turns { TurnsAreCounted budget steps.old steps.new (entered_by self.old) (entered_by self.new) }
         ensures takes { IfOk result (PollTakes budget steps.old steps.new) }
         ensures idles { IfOk result (IdleTakes (record_of self.old) steps.old steps.new) }
@@ -194,7 +216,8 @@ impl Walker {
             (place_of self.old.state) (result_of found) ahead }
         requires totals { MatchTotalled (data_of query.now) (known_in R.known R.ending rows.now)
             self.old.state.at found }
-        requires serves { Serves (data_of query.now) (run_of found) }
+        requires serves { Serves (data_of query.now) (known_in R.known R.ending rows.now)
+            self.old.state.at (run_of found) }
         requires due { ahead.seen ≡ self.old.state.here }
         requires more { ahead.next < ahead.end }
         requires shown { is_hidden (data_of query.now).plan.rows self.old.state.at (result_of found) ahead.next
@@ -202,6 +225,8 @@ impl Walker {
         requires few { self.old.state.given < 2 ^ 128 - 1 }
         ensures kept { OnErr result (self.new ≡ self.old) }
         ensures keeps { IfOk result (KeepsGoing 1 (data_of query.now) (known_in R.known R.ending rows.now)
+            self.old.state (GivingStage found ahead) self.new) }
+        ensures works { IfOk result (StepSpends 1 (data_of query.now) (known_in R.known R.ending rows.now)
             self.old.state (GivingStage found ahead) self.new) }
     {
         // It brings in that row numbers have room for one more.
@@ -236,18 +261,27 @@ impl Walker {
         requires going { IsGoing (data_of query.now) self.old.state }
         requires gives { Gives (data_of query.now) (known_in R.known R.ending rows.now)
             (place_of self.old.state) (result_of found) ahead }
-        requires serves { Serves (data_of query.now) (run_of found) }
+        requires serves { Serves (data_of query.now) (known_in R.known R.ending rows.now)
+            self.old.state.at (run_of found) }
         requires not_past { ahead.seen ≤ self.old.state.here }
         requires all { ahead.next ≡ ahead.end }
         requires few { self.old.state.given < 2 ^ 128 - 1 }
-        ensures { KeepsGoing 1 (data_of query.now) (known_in R.known R.ending rows.now)
+        ensures keeps { KeepsGoing 1 (data_of query.now) (known_in R.known R.ending rows.now)
+            self.old.state (GivingStage found ahead) self.new result }
+        ensures works { StepSpends 1 (data_of query.now) (known_in R.known R.ending rows.now)
             self.old.state (GivingStage found ahead) self.new result }
     {
         rp_known::law_legs();
         let place = place_of(&self.state);
         match next_of(query, place, rows.last(), &found) {
-            Ok(next) => self.go_to(next, found.into_run()),
-            Err(fault) => self.end_with(Item::Fault(fault), ahead.seen),
+            Ok(next) => {
+                let run = move_to(found.into_run(), next.start);
+                self.go_to(next, run)
+            }
+            Err(fault) => {
+                self.stage = Stage::Begin(Some(found.into_run()));
+                self.end_with(Item::Fault(fault), ahead.seen)
+            }
         }
     }
 
@@ -266,16 +300,15 @@ impl Walker {
         Step::Went
     }
 
-    /// The answer ends with this item, which comes after so many of the present search.
+    /// The answer ends with this item, which comes after so many of the present search. The search stays for now.
     fn end_with(&mut self, item: Item, before: u64) -> Step
         requires few { self.old.state.given < 2 ^ 128 - 1 }
         requires room { before < 2 ^ 64 - 1 }
         ensures given { self.old.state.here ≢ before → (result ≡ Step.Idle)
-            × (self.new ≡ record self.old { state = was_last self.old.state; stage = BeginStage None }) }
+            × (self.new ≡ record self.old { state = was_last self.old.state }) }
         ensures gives { self.old.state.here ≡ before → (result ≡ Step.Gave item)
-            × (self.new ≡ record self.old { state = gave_last before self.old.state; stage = BeginStage None }) }
+            × (self.new ≡ record self.old { state = gave_last before self.old.state }) }
     {
-        self.stage = Stage::Begin(None);
         self.state.over = true;
         if self.state.here != before {
             return Step::Idle;
@@ -300,11 +333,14 @@ impl Walker {
             (place_of self.old.state) (result_of found) ahead }
         requires totals { MatchTotalled (data_of query.now) (known_in R.known R.ending rows.now)
             self.old.state.at found }
-        requires serves { Serves (data_of query.now) (run_of found) }
+        requires serves { Serves (data_of query.now) (known_in R.known R.ending rows.now)
+            self.old.state.at (run_of found) }
         requires not_past { ahead.seen ≤ self.old.state.here }
         requires few { self.old.state.given < 2 ^ 128 - 1 }
         ensures kept { OnErr result (self.new ≡ self.old) }
         ensures keeps { IfOk result (KeepsGoing 1 (data_of query.now) (known_in R.known R.ending rows.now)
+            self.old.state (GivingStage found ahead) self.new) }
+        ensures works { IfOk result (StepSpends 1 (data_of query.now) (known_in R.known R.ending rows.now)
             self.old.state (GivingStage found ahead) self.new) }
         ensures steps { steps.new ≡ steps.old + 1 }
     {
@@ -332,11 +368,14 @@ impl Walker {
             ≡ result_of found }
         requires totals { MatchTotalled (data_of query.now) (known_in R.known R.ending rows.now)
             self.old.state.at found }
-        requires serves { Serves (data_of query.now) (run_of found) }
-        ensures { (run : Run) (taken : ℕ) →
+        requires serves { Serves (data_of query.now) (known_in R.known R.ending rows.now)
+            self.old.state.at (run_of found) }
+        ensures keeps { (run : Run) (taken : ℕ) →
             taken ≤ left_by run.search.value (asked_by (data_of query.now) (known_in R.known R.ending rows.now)) + 1 →
             KeepsGoing taken (data_of query.now) (known_in R.known R.ending rows.now)
             self.old.state (SearchingStage run) self.new result }
+        ensures went { result ≡ Step.Went }
+        ensures gives { BeginsGiving (known_in R.known R.ending rows.now) found self.old self.new }
     {
         rp_known::law_legs();
         let place = place_of(&self.state);
@@ -361,6 +400,8 @@ impl Walker {
         requires searches { Searches (data_of query.now) (known_in R.known R.ending rows.now) self.old.state.at run }
         ensures kept { OnErr result (self.new ≡ self.old) }
         ensures keeps { IfOk result (λ r. KeepsGoing r.1 (data_of query.now) (known_in R.known R.ending rows.now)
+            self.old.state (SearchingStage run) self.new r.0) }
+        ensures works { IfOk result (λ r. StepSpends r.1 (data_of query.now) (known_in R.known R.ending rows.now)
             self.old.state (SearchingStage run) self.new r.0) }
         ensures taken { IfOk result (λ r. (0 < r.1) × (steps.new ≡ steps.old + r.1)) }
         ensures turns { TurnsAreCounted budget steps.old steps.new entered.old entered.new }
@@ -388,7 +429,9 @@ impl Walker {
             self.old.state self.old.stage }
         requires past { length (R.known rows.now) < self.old.state.at }
         requires few { self.old.state.given < 2 ^ 128 - 1 }
-        ensures { KeepsGoing 1 (data_of query.now) (known_in R.known R.ending rows.now)
+        ensures keeps { KeepsGoing 1 (data_of query.now) (known_in R.known R.ending rows.now)
+            self.old.state self.old.stage self.new result }
+        ensures works { StepSpends 1 (data_of query.now) (known_in R.known R.ending rows.now)
             self.old.state self.old.stage self.new result }
     {
         match rows.end() {
@@ -411,10 +454,12 @@ impl Walker {
         requires some { 0 < budget }
         requires going { IsGoing (data_of query.now) self.old.state }
         requires stage { self.old.stage ≡ BeginStage None }
-        requires spare { IsSpare (data_of query.now) spare }
+        requires spare { IsSpare (data_of query.now) (known_in R.known R.ending rows.now) self.old.state.at spare }
         requires few { self.old.state.given < 2 ^ 128 - 1 }
         ensures kept { OnErr result (self.new ≡ self.old) }
         ensures keeps { IfOk result (λ r. KeepsGoing r.1 (data_of query.now) (known_in R.known R.ending rows.now)
+            self.old.state (BeginStage spare) self.new r.0) }
+        ensures works { IfOk result (λ r. StepSpends r.1 (data_of query.now) (known_in R.known R.ending rows.now)
             self.old.state (BeginStage spare) self.new r.0) }
         ensures taken { IfOk result (λ r. (0 < r.1) × (steps.new ≡ steps.old + r.1)) }
         ensures turns { TurnsAreCounted budget steps.old steps.new entered.old entered.new }
@@ -445,6 +490,8 @@ impl Walker {
         requires few { self.old.state.given < 2 ^ 128 - 1 }
         ensures kept { OnErr result (self.new ≡ record self.old { stage = BeginStage None }) }
         ensures keeps { IfOk result (λ r. KeepsGoing r.1 (data_of query.now) (known_in R.known R.ending rows.now)
+            self.old.state self.old.stage self.new r.0) }
+        ensures works { IfOk result (λ r. StepSpends r.1 (data_of query.now) (known_in R.known R.ending rows.now)
             self.old.state self.old.stage self.new r.0) }
         ensures taken { IfOk result (λ r. (0 < r.1) × (steps.new ≡ steps.old + r.1)) }
         ensures turns { TurnsAreCounted budget steps.old steps.new entered.old entered.new }
@@ -484,6 +531,9 @@ impl Walker {
             Polled (data_of query.now) (known_in R.known R.ending rows.now) self.old.state self.new.state answer) }
         ensures moves { IsWithin (data_of query.now) (known_in R.known R.ending rows.now) self.old.state →
             Moves (data_of query.now) (known_in R.known R.ending rows.now) self.old.state self.new.state }
+        ensures works { IfOk result (λ answer. Spends (steps.new - steps.old) (last_turn answer)
+            (data_of query.now) (known_in R.known R.ending rows.now)
+            self.old.state self.old.stage self.new.state self.new.stage) }
         ensures turns { TurnsAreCounted budget steps.old steps.new entered.old entered.new }
         ensures takes { IfOk result (PollTakes budget steps.old steps.new) }
         ensures idles { IfOk result (IdleTakes self.old.state steps.old steps.new) }

@@ -1,10 +1,14 @@
 use Rattle.std.specs.Box.{with_value}
 use Rattle.rp_walker.specs.declared.run.Run.{Run}
-use Rattle.std.proofs.Common.{◌≡◌, ◌-◌, ◌≤◌, sym, subst, ap, ◌∙◌, arith}
+use Rattle.std.proofs.Common.{◌≡◌, ℕ, ◌-◌, ◌≤◌, sym, subst, ap, ◌∙◌, arith}
 use Rattle.rp_words.specs.PatternForm.{form_of}
 use Rattle.rp_search.specs.Fits.{SearchFits}
 use Rattle.rp_search.specs.declared.search.Search.{Search}
-use Rattle.rp_search.specs.Search.{CanRun, HasVariablesBelow, labels_of_search, start_of_search}
+use Rattle.rp_search.specs.Bound.{RunWorks}
+use Rattle.rp_search.specs.Search.{CanRun, HasVariablesBelow, IsSearchFor, labels_of_search, start_of_search, turns_of_run}
+use Rattle.rp_search.specs.Work.{NoneIsOpen}
+use Rattle.rp_query.specs.declared.locality.Locality.TheVariants.{Row}
+use Rattle.rp_query.specs.Locality.{ConditionsAreLocal}
 use Rattle.rp_query.specs.QueryView.{data_of}
 use Rattle.rp_eval.specs.Entered.{AreTotals}
 use Rattle.rp_query.specs.QueryView.{totals_in}
@@ -12,6 +16,7 @@ use Rattle.rp_conditions.specs.Tested.{Tested, asked_of}
 use Rattle.rp_conditions.specs.Entered.{tested_by as tester_of, HasEntered}
 use Rattle.rp_known.specs.Known.{known_in}
 use Rattle.rp_known.specs.Plans.{tested_by}
+use Rattle.rp_walker.specs.Stages.{asked_by}
 use Rattle.rp_walker.proofs.Running.{ran_of}
 use Rattle.rp_walker.proofs.run.run_on.Goals as goal
 
@@ -28,6 +33,7 @@ run-ran-requires g c =
       known = subst (λ (t : Tested). start_of_search s ≤ (asked_of t).known) same (omega (arith, h.begins, h.known));
       variables = subst (λ (t : Tested). HasVariablesBelow (asked_of t).variables s) same
           (c.law_search.ensures.variables (form_of q.pattern) s _ h.pattern c.plan-plan.ensures.sound.variables);
+      pattern = subst (λ (t : Tested). IsSearchFor (form_of t.query.pattern) s) same h.pattern;
       fits = subst (λ (t : Tested). SearchFits s (asked_of t)) same h.fits;
       entered = c.new-tester.ensures.entered (start_of_search s) (labels_of_search s)
           (subst (λ i. AreTotals c.args.run.totals p.rows i (labels_of_search s)) (sym h.begins) h.totalled.totals);
@@ -52,3 +58,18 @@ returns-clause-ran g c =
     c.in_ok-outcome.ensures.answers c.in_ok-outcome.ensures.left (omega (arith, c.in_ok-outcome.ensures.taken c.requires.some))
     (c.into_parts-totals.ensures.totals ∙ ap (λ (t : Tested). totals_in t.query) same)
     (subst (λ i. AreTotals totals p.rows i (labels_of_search s)) same_start (subst (λ (t : Tested). AreTotals totals t.rows (start_of_search s) (labels_of_search s)) same here))
+
+pub returns-clause-works : goal.returns-clause-works
+returns-clause-works g c = λ alone decided.
+    let q = data_of c.args.query.now in
+    let p = known_in g.R.Rows.known g.R.Rows.ending c.args.rows.now in
+    let s = c.run-ran.new.self in
+    let o = c.in_ok-outcome.outcome in
+    let steps : ℕ = c.run-ran.new.steps - c.args.steps.now in
+    let is : c.deref_mut.result.now ≡ c.args.run.search.value = c.deref_mut.ensures.value in
+    let subject : tester_of c.new-tester.result ≡ tested_by q p = c.new-tester.ensures.subject in
+    let taken : steps ≡ turns_of_run s = omega (arith, c.in_ok-outcome.ensures.taken c.requires.some) in
+    let works =
+    c.in_ok-outcome.ensures.works (subst (λ (t : Tested). ConditionsAreLocal Row t.query.plan) (sym subject) alone) (subst (λ (t : Tested). NoneIsOpen (asked_of t)) (sym subject) decided) in
+    subst (λ t. RunWorks t c.args.run.search.value s (asked_by q p) o) taken
+    (subst (λ (x : Search). RunWorks steps x s (asked_by q p) o) is (subst (λ (t : Tested). RunWorks steps c.deref_mut.result.now s (asked_of t) o) subject works))

@@ -7,6 +7,7 @@ use Rattle.rp_known.specs.WalkLaws.{AreKnown}
 use Rattle.rp_walker.specs.Given.{result_of}
 use Rattle.rp_walker.specs.Stages.{Gives}
 use Rattle.rp_walker.proofs.Begins.{gives_first, begins_giving}
+use Rattle.rp_walker.proofs.Working.{begins_giving_rows}
 use Rattle.rp_walker.proofs.walker.Walker.begin_giving.Goals as goal
 
 pub ahead_of-ahead-requires-clause-in_rows : goal.ahead_of-ahead-requires-clause-in_rows
@@ -17,8 +18,8 @@ ahead_of-ahead-requires-clause-in_rows g c =
     let known : AreKnown r.at (count p) (result_of c.args.found) = subst (AreKnown r.at (count p)) c.requires.found (c.law_legs.ensures.known q p r.at c.requires.known) in
     subst (λ (place : Place). AreKnown place.start c.last.result (result_of c.args.found)) (sym c.place_of-place.ensures) (subst (λ n. AreKnown r.at n (result_of c.args.found)) (sym c.last.ensures) known)
 
-pub returns : goal.returns
-returns g c = λ run taken few.
+pub returns-clause-keeps : goal.returns-clause-keeps
+returns-clause-keeps g c = λ run taken few.
     let q = data_of c.args.query.now in
     let p = known_in g.R.Rows.known g.R.Rows.ending c.args.rows.now in
     let w = c.args.self.now in
@@ -33,3 +34,11 @@ returns g c = λ run taken few.
     (subst (λ (x : Place). Gives q p x (result_of c.args.found) a) here
     (gives_first q p c.place_of-place.result (result_of c.args.found) a (omega (arith, start, c.requires.known)) found in_rows e.seen e.low e.ordered (omega (arith, e.high, c.last.ensures)) e.rows))
     e.seen c.requires.totals c.requires.serves
+
+pub returns-clause-gives : goal.returns-clause-gives
+returns-clause-gives g c =
+    let p = known_in g.R.Rows.known g.R.Rows.ending c.args.rows.now in
+    let w = c.args.self.now in
+    let e = c.ahead_of-ahead.ensures in
+    let start : c.place_of-place.result.start ≡ w.state.at = ap (λ (x : Place). x.start) c.place_of-place.ensures in
+    begins_giving_rows p c.args.found w c.ahead_of-ahead.result (omega (arith, start, e.low)) (omega (arith, e.high, c.last.ensures)) e.short

@@ -11,6 +11,7 @@ use Rattle.rp_walker.specs.Records.{place_of}
 use Rattle.rp_walker.specs.Steps.{ended_by}
 use Rattle.rp_walker.specs.Stages.{IsGoing}
 use Rattle.rp_walker.proofs.Steps.{past_shown, gives_shown, gave, not_yet, left_going, stays_put, stands_going, IsLastIn, never_last}
+use Rattle.rp_walker.proofs.Working.{gives_on, same_spends}
 use Rattle.rp_walker.proofs.walker.Walker.give_item.Goals as goal
 
 pub returns-in-None-clause-keeps : goal.returns-in-None-clause-keeps
@@ -57,3 +58,15 @@ returns-in-Some-clause-keeps g c =
             is = (refl, is_here.at);
           };
     }
+
+pub returns-in-None-clause-works : goal.returns-in-None-clause-works
+returns-in-None-clause-works g c =
+    same_spends (data_of c.args.query.now) (known_in g.R.Rows.known g.R.Rows.ending c.args.rows.now) c.args.self.now.state (GivingStage c.args.found c.args.ahead)
+
+pub returns-in-Some-clause-works : goal.returns-in-Some-clause-works
+returns-in-Some-clause-works g c =
+    let r = c.args.self.now.state in
+    let a = c.args.ahead in
+    let going = c.requires.going.going in
+    gives_on (data_of c.args.query.now) (known_in g.R.Rows.known g.R.Rows.ending c.args.rows.now) r (record r { here = a.seen + 1; given = r.given + 1 }) c.args.found a (past_shown a)
+    going going refl refl refl refl c.requires.more

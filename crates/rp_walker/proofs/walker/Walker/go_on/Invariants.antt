@@ -1,6 +1,7 @@
 use Rattle.std.proofs.Common.{◌≡◌, ◌+◌, ◌-◌, ◌≤◌, false}
 use Rattle.rp_query.specs.QueryView.{data_of}
 use Rattle.rp_known.specs.Known.{known_in}
+use Rattle.rp_walker.specs.Bound.{Spends}
 use Rattle.rp_walker.specs.Records.{IsWithin, PlaceStays}
 use Rattle.rp_walker.specs.Steps.{Moves}
 use Rattle.rp_walker.specs.Walking.{stands_by}
@@ -17,6 +18,7 @@ invariant-loop-left g l = record {
       ≤ left_with (data_of l.query) (known_in g.R.Rows.known g.R.Rows.ending l.rows) l.fn.self.state l.fn.self.stage;
   moved : IsWithin (data_of l.query) (known_in g.R.Rows.known g.R.Rows.ending l.rows) l.fn.self.state →
       Moves (data_of l.query) (known_in g.R.Rows.known g.R.Rows.ending l.rows) l.fn.self.state l.self.state;
+  worked : Spends (l.fn.budget - l.left) 0 (data_of l.query) (known_in g.R.Rows.known g.R.Rows.ending l.rows) l.fn.self.state l.fn.self.stage l.self.state l.self.stage;
   within : l.left ≤ l.fn.budget;
   counted : l.steps + l.left ≡ l.fn.steps + l.fn.budget;
   entered : l.entered + l.left ≤ l.fn.entered + l.fn.budget;

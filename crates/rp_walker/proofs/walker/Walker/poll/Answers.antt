@@ -1,4 +1,4 @@
-use Rattle.std.proofs.Common.{◌≡◌, None, refl, ap, subst}
+use Rattle.std.proofs.Common.{◌≡◌, ℕ, ◌-◌, arith, None, refl, ap, subst}
 use Rattle.rp_query.specs.QueryView.{data_of}
 use Rattle.rp_known.specs.Known.{known_in}
 use Rattle.rp_walker.specs.Records.{IsWithin}
@@ -9,6 +9,9 @@ use Rattle.rp_walker.specs.Polls.{Polled, Answers, StopsAtLast, StartsAgain, lef
 use Rattle.rp_walker.proofs.Begins.{if_ok_map}
 use Rattle.rp_walker.proofs.Steps.{stands_counted}
 use Rattle.rp_walker.proofs.Public.{answers, stops_at_last, goes_along, stays_along, on_err_map}
+use Rattle.rp_walker.specs.declared.poll.Poll.TheVariants.{Idle, Paused}
+use Rattle.rp_walker.specs.Bound.{PollWorks, Spends, last_turn}
+use Rattle.rp_walker.proofs.Working.{none_spends, poll_works}
 use Rattle.rp_walker.proofs.walker.Walker.poll.Goals as goal
 
 pub returns-clause-stands : goal.returns-clause-stands
@@ -84,3 +87,27 @@ returns-clause-out_of_memory g c =
     let new = c.go_on-answer.new.self in
     on_err_map ((new.state.given ≡ c.args.self.now.state.given) × (new.stage ≡ Begin None)) (StartsAgain q k c.args.self.now.state.given new.state (left_with q k new.state new.stage)) c.go_on-answer.result
     (λ kept. record { given = kept.0; left = ap (λ s. left_with q k new.state s) kept.1 }) c.go_on-answer.ensures.kept
+
+pub returns-clause-works : goal.returns-clause-works
+returns-clause-works g c =
+    let q = data_of c.args.query.now in
+    let k = known_in g.R.Rows.known g.R.Rows.ending c.args.rows.now in
+    let w = c.args.self.now in
+    let new = c.go_on-answer.new.self in
+    let taken : ℕ = c.go_on-answer.new.steps - c.args.steps.now in
+    if_ok_map (λ answer. Spends taken (last_turn answer) q k w.state w.stage new.state new.stage) (PollWorks taken q k w (record new { entered = c.go_on-answer.new.entered })) c.go_on-answer.result
+    (λ answer spends. poll_works taken q k w (record new { entered = c.go_on-answer.new.entered }) answer spends) c.go_on-answer.ensures.works
+
+pub returns-then-budget-eq0-clause-works : goal.returns-then-budget-eq0-clause-works
+returns-then-budget-eq0-clause-works g c =
+    let q = data_of c.args.query.now in
+    let k = known_in g.R.Rows.known g.R.Rows.ending c.args.rows.now in
+    let w = c.args.self.now in
+    poll_works (c.args.steps.now - c.args.steps.now) q k w w Paused (none_spends (c.args.steps.now - c.args.steps.now) 0 q k w.state w.stage (omega arith))
+
+pub returns-then-self-clause-works : goal.returns-then-self-clause-works
+returns-then-self-clause-works g c =
+    let q = data_of c.args.query.now in
+    let k = known_in g.R.Rows.known g.R.Rows.ending c.args.rows.now in
+    let w = c.args.self.now in
+    poll_works (c.args.steps.now - c.args.steps.now) q k w w Idle (none_spends (c.args.steps.now - c.args.steps.now) 1 q k w.state w.stage (omega arith))

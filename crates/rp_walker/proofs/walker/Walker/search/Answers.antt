@@ -1,9 +1,12 @@
-use Rattle.std.proofs.Common.{◌≡◌, ap, ◌∙◌, subst, arith}
+use Rattle.std.proofs.Common.{◌≡◌, sym, ap, ◌∙◌, subst, arith}
+use Rattle.rp_search.specs.declared.search.Outcome.TheVariants.{Paused, Waits}
 use Rattle.rp_search.specs.Search.{turns_of_run}
 use Rattle.rp_query.specs.QueryView.{data_of}
 use Rattle.rp_known.specs.Known.{known_in}
 use Rattle.rp_walker.specs.Runs.{Ran}
 use Rattle.rp_walker.proofs.Begins.{searches_on, search_waits}
+use Rattle.rp_walker.specs.Bound.{RunSpends}
+use Rattle.rp_walker.proofs.Working.{search_spends, match_begins, no_match_begins}
 use Rattle.rp_walker.proofs.walker.Walker.search.Goals as goal
 
 pub returns-in-Paused-clause-keeps : goal.returns-in-Paused-clause-keeps
@@ -25,9 +28,53 @@ returns-in-Waits-clause-keeps g c =
 pub returns-in-Match-clause-keeps : goal.returns-in-Match-clause-keeps
 returns-in-Match-clause-keeps g c =
     let taken : c.turns_taken-taken.result ≡ turns_of_run c.in_ok-outcome.run'.search.value = c.turns_taken-taken.ensures ∙ ap turns_of_run c.deref.ensures in
-    c.begin_giving.ensures c.args.run c.turns_taken-taken.result (omega (arith, taken, c.in_ok-outcome.ensures.ran.falls))
+    c.begin_giving.ensures.keeps c.args.run c.turns_taken-taken.result (omega (arith, taken, c.in_ok-outcome.ensures.ran.falls))
 
 pub returns-in-NoMatch-clause-keeps : goal.returns-in-NoMatch-clause-keeps
 returns-in-NoMatch-clause-keeps g c =
     let taken : c.turns_taken-taken.result ≡ turns_of_run c.in_ok-outcome.run'.search.value = c.turns_taken-taken.ensures ∙ ap turns_of_run c.deref.ensures in
-    c.begin_giving-in-NoMatch.ensures c.args.run c.turns_taken-taken.result (omega (arith, taken, c.in_ok-outcome.ensures.ran.falls))
+    c.begin_giving-in-NoMatch.ensures.keeps c.args.run c.turns_taken-taken.result (omega (arith, taken, c.in_ok-outcome.ensures.ran.falls))
+
+pub returns-in-Paused-clause-works : goal.returns-in-Paused-clause-works
+returns-in-Paused-clause-works g c =
+    let w = c.args.self.now in
+    let q = data_of c.args.query.now in
+    let p = known_in g.R.Rows.known g.R.Rows.ending c.args.rows.now in
+    let run = c.in_ok-outcome.run' in
+    let taken : c.turns_taken-taken.result ≡ turns_of_run run.search.value = c.turns_taken-taken.ensures ∙ ap turns_of_run c.deref.ensures in
+    let same = c.in_ok-outcome.ensures.ran.searches.begins ∙ sym c.requires.searches.begins in
+    let spends = subst (λ o. RunSpends q p c.args.run run o) c.in-Paused.is c.in_ok-outcome.ensures.works in
+    search_spends q p w.state c.args.run run Paused c.turns_taken-taken.result c.requires.going.going taken same spends
+
+pub returns-in-Waits-clause-works : goal.returns-in-Waits-clause-works
+returns-in-Waits-clause-works g c =
+    let w = c.args.self.now in
+    let q = data_of c.args.query.now in
+    let p = known_in g.R.Rows.known g.R.Rows.ending c.args.rows.now in
+    let run = c.in_ok-outcome.run' in
+    let taken : c.turns_taken-taken.result ≡ turns_of_run run.search.value = c.turns_taken-taken.ensures ∙ ap turns_of_run c.deref.ensures in
+    let same = c.in_ok-outcome.ensures.ran.searches.begins ∙ sym c.requires.searches.begins in
+    let spends = subst (λ o. RunSpends q p c.args.run run o) c.in-Waits.is c.in_ok-outcome.ensures.works in
+    search_spends q p w.state c.args.run run Waits c.turns_taken-taken.result c.requires.going.going taken same spends
+
+pub returns-in-Match-clause-works : goal.returns-in-Match-clause-works
+returns-in-Match-clause-works g c =
+    let w = c.args.self.now in
+    let q = data_of c.args.query.now in
+    let p = known_in g.R.Rows.known g.R.Rows.ending c.args.rows.now in
+    let run = c.in_ok-outcome.run' in
+    let taken : c.turns_taken-taken.result ≡ turns_of_run run.search.value = c.turns_taken-taken.ensures ∙ ap turns_of_run c.deref.ensures in
+    let same = c.in_ok-outcome.ensures.ran.searches.begins ∙ sym c.requires.searches.begins in
+    let spends = subst (λ o. RunSpends q p c.args.run run o) c.in-Match.is c.in_ok-outcome.ensures.works in
+    match_begins q p w c.begin_giving.new.self c.args.run run c.turns_taken-taken.result c.begin_giving.result c.requires.going.going taken same c.begin_giving.ensures.went spends c.begin_giving.ensures.gives
+
+pub returns-in-NoMatch-clause-works : goal.returns-in-NoMatch-clause-works
+returns-in-NoMatch-clause-works g c =
+    let w = c.args.self.now in
+    let q = data_of c.args.query.now in
+    let p = known_in g.R.Rows.known g.R.Rows.ending c.args.rows.now in
+    let run = c.in_ok-outcome.run' in
+    let taken : c.turns_taken-taken.result ≡ turns_of_run run.search.value = c.turns_taken-taken.ensures ∙ ap turns_of_run c.deref.ensures in
+    let same = c.in_ok-outcome.ensures.ran.searches.begins ∙ sym c.requires.searches.begins in
+    let spends = subst (λ o. RunSpends q p c.args.run run o) c.in-NoMatch.is c.in_ok-outcome.ensures.works in
+    no_match_begins q p w c.begin_giving-in-NoMatch.new.self c.args.run run c.turns_taken-taken.result c.begin_giving-in-NoMatch.result c.requires.going.going taken same c.begin_giving-in-NoMatch.ensures.went spends c.begin_giving-in-NoMatch.ensures.gives
