@@ -11,6 +11,7 @@ use Rattle.rp_known.specs.Walk.{known}
 use Rattle.rp_schedules.specs.Schedules.{Grows}
 use Rattle.rp_schedules.specs.Records.{Row, known_of_rows, Held, fresh, Fits, seen_part, StandsFor, Polls, item, idle, paused, PollFits, or_fresh, Nodes, Calls, row_taken, close_taken, polled, no_memory, saved, restarted, begun_anew, nothing_done, Runs, none, more, RunGivesFront}
 use Rattle.rp_schedules.proofs.RecordLaws.{Lower, row_fits, close_fits, fresh_fits, row_steps, close_steps, poll_steps, same_known}
+use Rattle.rp_schedules.proofs.SameFits.{Formulas, calls_by_same}
 use Rattle.rp_schedules.proofs.ScheduleLaws.{gives_front}
 
 abbrev pick : {P A : Type 0} → P ⊎ (P → ⊥) → A → A → A
@@ -25,7 +26,7 @@ pick_other : {P A : Type 0} (d : P ⊎ (P → ⊥)) (x y : A) → (P → ⊥) �
 pick_other (inl p) x y h = absurd (h p)
 pick_other (inr n) x y h = refl
 
-module _ {Key : Type 0} (key_cases : (j k : Key) → (j ≡ k) ⊎ (j ≢ k)) (lower : Lower) (q : QueryData) (sound : IsSound q) (grows : Grows (known_of_rows q)) (whole : Key → List Row) where
+module _ {Key : Type 0} (key_cases : (j k : Key) → (j ≡ k) ⊎ (j ≢ k)) (lower : Lower) (formulas : Formulas) (q : QueryData) (sound : IsSound q) (grows : Grows (known_of_rows q)) (whole : Key → List Row) where
   -- a record, or none, that fits its partition and stands for this
   record Matches (key : Key) (o : Option Held) (s : Standing) : Type 0 where
     fits : Fits q (whole key) (or_fresh o)
@@ -199,9 +200,9 @@ module _ {Key : Type 0} (key_cases : (j k : Key) → (j ≡ k) ⊎ (j ≢ k)) (l
 
   scheduled : {events : List (Event Key Item)} {nodes : Nodes Key} → Runs q whole events nodes → Scheduled events nodes
   scheduled none = record { world = at_start; schedule = no_event; follows = record { now = λ a key. fresh_matches key; saves = λ a. tt } }
-  scheduled (more {e = e} {new = new} r c) =
+  scheduled (more {e = e} {old = old} {new = new} r c) =
       let s = scheduled r in
-      let n = next s.world s.follows e new c in
+      let n = next s.world s.follows e new (calls_by_same formulas q whole old new e sound c) in
       record { world = n.world; schedule = one_more s.schedule n.happens; follows = n.follows }
 
   -- an idle poll says that all that is known was given
@@ -245,7 +246,7 @@ module _ {Key : Type 0} (key_cases : (j k : Key) → (j ≡ k) ⊎ (j ≢ k)) (l
         given = g.given;
         all = λ full after call.
             g.all (record { rows = λ k l h. m.stands.taken k l ∙ full.rows k l h; close = m.stands.closed ∙ ap is_some full.close })
-            (idles (m.stands.given ∙ idle_call a key call refl m.fits ∙ ap length (sym (same_known lower q sound (whole key) (or_fresh (nodes.now a key)) (s.world.now a key) m.fits m.stands))));
+            (idles (m.stands.given ∙ idle_call a key (calls_by_same formulas q whole nodes after (Done a key Idles) sound call) refl m.fits ∙ ap length (sym (same_known lower q sound (whole key) (or_fresh (nodes.now a key)) (s.world.now a key) m.fits m.stands))));
       }
 
   pub nodes_agree : (events : List (Event Key Item)) (nodes : Nodes Key) (a b : ℕ) (key : Key) (place : ℕ) (x y : Item) → Runs q whole events nodes

@@ -5,6 +5,8 @@ use Rattle.rp_words.specs.declared.word.End.{End}
 use Rattle.rp_words.specs.declared.word.End.TheVariants.{Open, Closed}
 use Rattle.rp_query.specs.declared.query.QueryData.{QueryData}
 use Rattle.rp_query.specs.declared.item.Item.{Item}
+use Rattle.rp_query.specs.Sound.{IsSound}
+use Rattle.rp_same_query.specs.SameQuery.{IsSameQuery}
 use Rattle.rp_known.specs.Known.{Known}
 use Rattle.rp_known.specs.Plans.{first_read}
 use Rattle.rp_known.specs.Walk.{known, answer}
@@ -124,12 +126,21 @@ pub data Calls {Key : Type 0} (q : QueryData) (whole : Key → List Row) : Nodes
   begun_anew : {old new : Nodes Key} {a : ℕ} → Becomes a (λ _. None) old new → Calls q whole old (BegunAnew a) new
   nothing_done : {w : Nodes Key} {a : ℕ} → Calls q whole w (Refused a) w
 
--- a run of the nodes, from fresh ones
+-- A call of a node that has the same query. Each process compiles the clause for itself, so a node has a query of its own,
+-- and another one once it goes on in another process.
+pub record CallsBySame {Key : Type 0} (q : QueryData) (whole : Key → List Row) (old : Nodes Key) (e : Event Key Item)
+    (new : Nodes Key) : Type 0 where
+  pub query : QueryData
+  pub same : IsSameQuery q query
+  pub sound : IsSound query
+  pub calls : Calls query whole old e new
+
+-- a run of the nodes, from fresh ones, each call by a query that is the same as this one
 pub data Runs {Key : Type 0} (q : QueryData) (whole : Key → List Row) : List (Event Key Item) → Nodes Key
     → Type 0 where
   none : Runs q whole [] (record { now = λ _ _. None; saved = λ _. [] })
   more : {events : List (Event Key Item)} {e : Event Key Item} {old new : Nodes Key} → Runs q whole events old
-      → Calls q whole old e new → Runs q whole (events ++ e ∷ []) new
+      → CallsBySame q whole old e new → Runs q whole (events ++ e ∷ []) new
 
 -- ---- what runs give
 
@@ -147,7 +158,7 @@ pub record RunGivesFront {Key : Type 0} (q : QueryData) (whole : Key → List Ro
   pub given : (place : ℕ) (x : Item)
       → Contains events (Done a key (Gives place x)) ↔ IsAtPlace count (answer_on q (whole key)) place x
   pub all : HoldsWhole (whole key) (record_at nodes a key).feed →
-      (after : Nodes Key) → Calls q whole nodes (Done a key Idles) after → count ≡ length (answer_on q (whole key))
+      (after : Nodes Key) → CallsBySame q whole nodes (Done a key Idles) after → count ≡ length (answer_on q (whole key))
 
 -- A fresh record fits, and one that fits goes on fitting with one more row of the partition or its close, and
 -- without the rows that its walk doesn't read any more; then the same numbers were taken. Its front is in the

@@ -1,0 +1,207 @@
+-- Queries that are the same have the same known answer: what it rests on is the same, wherever the parts of each are kept.
+use Rattle.std.proofs.Common.{◌≡◌, ◌∙◌, ℕ, zero, suc, ◌-◌, Bool, true, ◌||◌, cond, List, [], ◌∷◌, ◌++◌, map, length, Option, Some, None, refl, sym, ap}
+use Rattle.std.specs.Prelude.{nat_eq, nat_le, slice_get, option_map}
+use Rattle.std.specs.List.{list_any}
+use Rattle.std.proofs.lemmas.Option.{slice_get-map}
+use mathlib.Core.Path.{fun_ext}
+use Rattle.rp_value.specs.declared.table.Column.{Column}
+use Rattle.rp_value.specs.declared.value.Value.{Value}
+use Rattle.rp_value.specs.declared.value.Value.TheVariants.{Null}
+use Rattle.rp_words.specs.declared.word.Label.{Label}
+use Rattle.rp_words.specs.PatternForm.{form_of}
+use Rattle.rp_words.specs.Words.{words}
+use Rattle.rp_search.specs.Found.{Found, Match, NoMatch, Waits, found}
+use Rattle.rp_query.specs.declared.plan.Condition.{Condition}
+use Rattle.rp_query.specs.declared.plan.Expr.{Expr}
+use Rattle.rp_query.specs.declared.plan.Total.{Total}
+use Rattle.rp_query.specs.declared.plan.Variables.{Variables}
+use Rattle.rp_query.specs.declared.plan.Variables.TheVariants.{Universal, Among}
+use Rattle.rp_query.specs.declared.query.OrderColumn.{OrderColumn}
+use Rattle.rp_query.specs.declared.query.QueryData.{QueryData}
+use Rattle.rp_query.specs.declared.query.RowsPerMatch.{RowsPerMatch}
+use Rattle.rp_query.specs.declared.query.SkipTo.{SkipTo}
+use Rattle.rp_query.specs.declared.query.SkipTo.TheVariants as skip
+use Rattle.rp_query.specs.declared.item.Item.{Item}
+use Rattle.rp_query.specs.declared.item.Item.TheVariants.{Row as RowItem}
+use Rattle.rp_query.specs.Definitions.{condition_at, definition_of}
+use Rattle.rp_query.specs.Formulas.{Formula, plain_total, members_of, value_formula, condition_formula}
+use Rattle.rp_query.specs.QueryView.{totals_in}
+use Rattle.rp_query.specs.Scopes.{includes}
+use Rattle.rp_query.specs.SkipRules.{SkipRule, PastLastRow, ToNextRow, ToFirst, ToLast, rule_of}
+use Rattle.rp_query.specs.Sound.{IsSound}
+use Rattle.rp_same_query.specs.SameQuery.{IsSameQuery, WordsFollow}
+use Rattle.rp_eval.specs.ByFormula.{by, ValuesFollow, JudgementsFollow}
+use Rattle.rp_eval.specs.ValueOf.{Setting, value_of, seen_as}
+use Rattle.rp_conditions.specs.Tested.{last_row, seen_by, seen_at, outcome_of}
+use Rattle.rp_known.specs.declared.place.Place.{Place}
+use Rattle.rp_known.specs.Known.{Known, count}
+use Rattle.rp_known.specs.Plans.{tested_by, setting_of, before_ready, values_of, shows_all, columns_beside, leading, trailing, row_cells, no_measures}
+use Rattle.rp_known.specs.Skips.{first_place, last_place, skipped, start_after, next_start}
+use Rattle.rp_known.specs.Items.{item_rows, row_item, item_at, items_of}
+use Rattle.rp_known.specs.Walk.{after_items, after_match, after_found, found_at, at_last, searched, leg, and_then, walk, known, ComesTo, here, on}
+use Rattle.rp_known.specs.Walk.{first_place as first_of_walk}
+
+same_head : {A : Type 0} (x y : A) (xs ys : List A) → x ∷ xs ≡ y ∷ ys → x ≡ y
+same_head x y xs ys e = cc
+
+same_tail : {A : Type 0} (x y : A) (xs ys : List A) → x ∷ xs ≡ y ∷ ys → xs ≡ ys
+same_tail x y xs ys e = cc
+
+same_some : {A : Type 0} (x y : A) → Some x ≡ Some y → x ≡ y
+same_some x y e = cc
+
+-- ---- conditions and measures
+
+module _ (judgements : JudgementsFollow) (values : ValuesFollow) (s : Setting) (ts : List Total) (totals : map plain_total ts ≡ map plain_total s.totals) where
+  seen_same : (o u : Option Condition) → option_map condition_formula o ≡ option_map condition_formula u → seen_by (by s ts) u ≡ seen_by s o
+  seen_same None None e = refl
+  seen_same None (Some d) e = absurd cc
+  seen_same (Some c) None e = absurd cc
+  seen_same (Some c) (Some d) e = ap seen_as (judgements s ts c d totals (sym (same_some (condition_formula c) (condition_formula d) e)))
+
+  values_same : (xs ys : List Expr) → map value_formula xs ≡ map value_formula ys → values_of (by s ts) ys ≡ values_of s xs
+  values_same [] [] e = refl
+  values_same [] (y ∷ ys) e = absurd cc
+  values_same (x ∷ xs) [] e = absurd cc
+  values_same (x ∷ xs) (y ∷ ys) e =
+      ap (λ v. before_ready v (values_of (by s ts) ys)) (values s ts x y totals (sym (same_head (value_formula x) (value_formula y) (map value_formula xs) (map value_formula ys) e)))
+      ∙ ap (before_ready (value_of s x)) (values_same xs ys (same_tail (value_formula x) (value_formula y) (map value_formula xs) (map value_formula ys) e))
+
+condition_same : (cs ds : List Condition) → map condition_formula cs ≡ map condition_formula ds → (o : Option (Option ℕ))
+    → option_map condition_formula (condition_at cs o) ≡ option_map condition_formula (condition_at ds o)
+condition_same cs ds e None = refl
+condition_same cs ds e (Some None) = refl
+condition_same cs ds e (Some (Some place)) =
+    sym (slice_get-map condition_formula cs place) ∙ ap (λ fs. slice_get fs place) e ∙ slice_get-map condition_formula ds place
+
+-- ---- the cells of an item
+
+abbrev leading_by : RowsPerMatch → List ℕ → List OrderColumn → List ℕ
+leading_by rows partition order = cond (shows_all rows) (partition ++ map (λ o. o.column) order) partition
+
+abbrev trailing_by : RowsPerMatch → List Column → List ℕ → List OrderColumn → List ℕ
+trailing_by rows table partition order =
+    cond (shows_all rows) (columns_beside (λ number. list_any (nat_eq number) partition || list_any (λ o. nat_eq number o.column) order) 1 table) []
+
+abbrev nulls : List Formula → List Value
+nulls fs = map (λ _. Null) fs
+
+null_each : (xs : List Expr) → map (λ _. Null) xs ≡ nulls (map value_formula xs)
+null_each [] = refl
+null_each (x ∷ xs) = ap (λ vs. Null ∷ vs) (null_each xs)
+
+-- ---- the skip rule
+
+abbrev includes_by : Option (List ℕ) → ℕ → Bool
+includes_by None var = true
+includes_by (Some members) var = list_any (nat_eq var) members
+
+includes_are : (variables : Variables) (var : ℕ) → includes variables var ≡ includes_by (members_of variables) var
+includes_are Universal var = refl
+includes_are (Among members) var = refl
+
+abbrev skipped_by : SkipRule → List Label → Option ℕ
+skipped_by ToNextRow labels = Some 1
+skipped_by PastLastRow labels = Some (length labels)
+skipped_by (ToFirst members) labels = first_place (λ l. includes_by members l.var) labels
+skipped_by (ToLast members) labels = last_place (λ l. includes_by members l.var) labels
+
+skipped_are : (rule : SkipTo) (labels : List Label) → skipped rule labels ≡ skipped_by (rule_of rule) labels
+skipped_are skip.PastLastRow labels = refl
+skipped_are skip.NextRow labels = refl
+skipped_are (skip.First variables) labels = ap (λ test. first_place test labels) (fun_ext (λ (l : Label). includes_are variables l.var))
+skipped_are (skip.Last variables) labels = ap (λ test. last_place test labels) (fun_ext (λ (l : Label). includes_are variables l.var))
+
+-- ---- the walk
+
+module _ (judgements : JudgementsFollow) (values : ValuesFollow) (same_words : WordsFollow) (q r : QueryData) (same : IsSameQuery q r) (sound : IsSound q) (sound_too : IsSound r) where
+  definition_same : (v : ℕ) → option_map condition_formula (definition_of q.plan v) ≡ option_map condition_formula (definition_of r.plan v)
+  definition_same v =
+      condition_same q.plan.conditions.items r.plan.conditions.items same.conditions (slice_get q.plan.definitions.items v)
+      ∙ ap (λ ds. option_map condition_formula (condition_at r.plan.conditions.items (slice_get ds v))) same.definitions
+
+  next_same : (start : ℕ) (labels : List Label) → next_start r.plan.skip start labels ≡ next_start q.plan.skip start labels
+  next_same start [] = refl
+  next_same start (l ∷ ls) =
+      ap (start_after start)
+      (skipped_are r.plan.skip (l ∷ ls) ∙ ap (λ rule. skipped_by rule (l ∷ ls)) (sym same.skip) ∙ sym (skipped_are q.plan.skip (l ∷ ls)))
+
+  after_same : (place : Place) (result : Found) → after_found r place result ≡ after_found q place result
+  after_same place Waits = refl
+  after_same place NoMatch = refl
+  after_same place (Match labels) = ap (after_match place labels) (next_same place.start labels)
+
+  leading_same : leading r ≡ leading q
+  leading_same =
+      ap (λ x. leading_by x r.partition.items r.order.items) (sym same.rows)
+      ∙ ap (λ x. leading_by q.plan.rows x r.order.items) (sym same.partition)
+      ∙ ap (λ x. leading_by q.plan.rows q.partition.items x) (sym same.order)
+
+  trailing_same : trailing r ≡ trailing q
+  trailing_same =
+      ap (λ x. trailing_by x r.table r.partition.items r.order.items) (sym same.rows)
+      ∙ ap (λ x. trailing_by q.plan.rows x r.partition.items r.order.items) (sym same.table)
+      ∙ ap (λ x. trailing_by q.plan.rows q.table x r.order.items) (sym same.partition)
+      ∙ ap (λ x. trailing_by q.plan.rows q.table q.partition.items x) (sym same.order)
+
+  no_measures_same : no_measures r ≡ no_measures q
+  no_measures_same = null_each r.plan.measures.items ∙ ap nulls (sym same.measures) ∙ sym (null_each q.plan.measures.items)
+
+  module _ (p : Known) where
+    seen_at_same : (start : ℕ) (labels : List Label) (o : Option Label)
+        → seen_at (tested_by r p) (last_row (tested_by r p) start labels) o ≡ seen_at (tested_by q p) (last_row (tested_by q p) start labels) o
+    seen_at_same start labels None = refl
+    seen_at_same start labels (Some l) =
+        seen_same judgements values (last_row (tested_by q p) start labels) (totals_in r) (sym same.totals) (definition_of q.plan l.var) (definition_of r.plan l.var) (definition_same l.var)
+
+    outcome_same : (start : ℕ) → outcome_of (tested_by r p) start ≡ outcome_of (tested_by q p) start
+    outcome_same start = fun_ext (λ (labels : List Label). seen_at_same start labels (slice_get labels (length labels - 1)))
+
+    found_same : (start : ℕ) → found_at r p start ≡ found_at q p start
+    found_same start =
+        ap (λ test. found test (words (count p) p.end (form_of r.pattern) start)) (outcome_same start)
+        ∙ ap (λ ws. found (outcome_of (tested_by q p) start) (ws start))
+        (same_words (form_of r.pattern) (form_of q.pattern) (sym same.pattern) sound_too.bounds sound.bounds (count p) p.end)
+
+    cells_same : (row : ℕ) (number : Option ℕ) → row_item r p row number ≡ row_item q p row number
+    cells_same row number =
+        ap (λ columns (measures : List Value). RowItem number (row_cells p.rows row columns ++ measures ++ row_cells p.rows row (trailing r))) leading_same
+        ∙ ap (λ columns (measures : List Value). RowItem number (row_cells p.rows row (leading q) ++ measures ++ row_cells p.rows row columns)) trailing_same
+
+    item_same : (place : Place) (result : Found) (row : ℕ) → item_at r p place result row ≡ item_at q p place result row
+    item_same place Waits row = refl
+    item_same place NoMatch row =
+        ap (λ (shown : List Value → Item). Some (shown (no_measures r))) (cells_same row None)
+        ∙ ap (λ measures. Some (row_item q p row None measures)) no_measures_same
+    item_same place (Match labels) row =
+        ap (λ (shown : List Value → Item). option_map shown (values_of (setting_of r p place.start labels (suc place.matches) row) r.plan.measures.items))
+        (cells_same row (Some (suc place.matches)))
+        ∙ ap (option_map (row_item q p row (Some (suc place.matches))))
+        (values_same judgements values (setting_of q p place.start labels (suc place.matches) row) (totals_in r) (sym same.totals) q.plan.measures.items r.plan.measures.items same.measures)
+
+    items_same : (place : Place) (result : Found) → items_of r p place result ≡ items_of q p place result
+    items_same place result =
+        ap (λ shows. map (item_at r p place result) (item_rows shows place result)) (sym same.rows)
+        ∙ ap (λ (shown : ℕ → Option Item). map shown (item_rows q.plan.rows place result)) (fun_ext (item_same place result))
+
+    searched_same : (place : Place) (result : Found) → searched r p place result ≡ searched q p place result
+    searched_same place result =
+        ap (λ items. after_items items (after_found r place result)) (items_same place result)
+        ∙ ap (after_items (items_of q p place result)) (after_same place result)
+
+    pub leg_same : (place : Place) → leg r p place ≡ leg q p place
+    leg_same place =
+        ap (λ found. cond (nat_le place.start (count p)) found (at_last p.end))
+        (searched_same place (found_at r p place.start) ∙ ap (searched q p place) (found_same place.start))
+
+    walk_same : (legs : ℕ) (place : Place) → walk legs r p place ≡ walk legs q p place
+    walk_same zero place = refl
+    walk_same (suc legs) place =
+        ap (λ gone. and_then gone (walk legs r p)) (leg_same place) ∙ ap (and_then (leg q p place)) (fun_ext (walk_same legs))
+
+    pub known_same : known r p ≡ known q p
+    known_same = walk_same (suc (suc (count p) - 1)) first_of_walk
+
+    pub comes_same : {from to : Place} {d : ℕ} → ComesTo r p from d to → ComesTo q p from d to
+    comes_same here = here
+    comes_same (on {place = place} goes comes) = on (sym (leg_same place) ∙ goes) (comes_same comes)
