@@ -1,8 +1,8 @@
 -- A poll, and the rows that are dropped after it.
-use Rattle.std.proofs.Common.{◌≡◌, inl, inr, ℕ, ◌+◌, ◌≤◌, min, Bool, true, false, cond, List, Result, Ok, Err, refl, sym, ap, ◌∙◌, subst, arith}
+use Rattle.std.proofs.Common.{◌≡◌, inl, inr, ℕ, ◌+◌, ◌≤◌, min, Bool, true, false, cond, List, [], ◌∷◌, Result, Ok, Err, refl, sym, ap, ◌∙◌, subst, arith}
 use Rattle.std.specs.Prelude.{nat_le, IsErr}
 use Rattle.std.proofs.lemmas.Bool.Decides.{nat_tests}
-use Rattle.rp_feed.specs.Fed.{Fed, IsOrdered, front_of, is_taken, forgotten}
+use Rattle.rp_feed.specs.Fed.{Fed, Numbered, AscendFrom, IsOrdered, front_of, is_taken, rows_from, forgotten}
 use Rattle.rp_query.specs.declared.query.QueryData.{QueryData}
 use Rattle.rp_query.specs.Sound.{IsSound}
 use Rattle.rp_known.specs.Known.{Known, count}
@@ -13,6 +13,7 @@ use Rattle.rp_walker.specs.declared.poll.Poll.TheVariants.{Item as ItemPoll, Idl
 use Rattle.rp_walker.specs.declared.record.MatcherState.{MatcherState}
 use Rattle.rp_walker.specs.declared.walker.Walker.{Walker}
 use Rattle.rp_walker.specs.FitLaws.{AgreesFrom}
+use Rattle.rp_walker.specs.Bound.{SeenIsSame, search_seen}
 use Rattle.rp_walker.specs.LeftLaw.{LeftIsSame}
 use Rattle.rp_walker.specs.Polls.{left_in, Answers, AnswerIs, GivenBy, StopsAtLast, GoesAlong}
 use Rattle.rp_walker.specs.Records.{horizon_of, IsLastStart, StandsInRows}
@@ -20,7 +21,7 @@ use Rattle.rp_walker.specs.Walking.{record_of, Stands, StandsStays}
 use Rattle.rp_schedules.specs.Schedules.{Gives, Pauses}
 use Rattle.rp_schedules.specs.Records.{Row, Held, Fits, Polls, item, idle, paused, PollFits, RecordsStay, seen_part}
 use Rattle.rp_node.specs.PartRows.{known_count, known_by}
-use Rattle.rp_node.specs.Polling.{act_by, HoldsNoMore, PolledTo}
+use Rattle.rp_node.specs.Polling.{act_by, HoldsNoMore, OnlyDrops, PolledTo}
 use Rattle.rp_node.proofs.Feeds.{Feeds, drops_agree, seen_agrees}
 
 -- rows that agree from a row on agree from a later one on
@@ -38,6 +39,18 @@ agrees_itself first p =
     }
 
 -- ---- what dropping leaves
+
+-- rows that ascend from a number on are all from there on
+all_kept : (n k : ℕ) (rows : List Numbered) → n ≤ k → AscendFrom k rows → rows_from n rows ≡ rows
+all_kept n k [] le a = refl
+all_kept n k ((m, row) ∷ rows) le a =
+    let from = a.0 in
+    let t : nat_le n m ≡ true = grind (arith, nat_tests) in
+    ap (λ b. cond b ((m, row) ∷ rows_from n rows) (rows_from n rows)) t ∙ ap (λ (rs : List Numbered). (m, row) ∷ rs) (all_kept n (m + 1) rows (omega (arith, le, from)) a.1)
+
+-- where nothing is dropped, rows alone are dropped
+pub drops_none : (fed : Fed) → IsOrdered fed → OnlyDrops fed fed
+drops_none fed is = record { first = omega arith; rows = sym (all_kept fed.first fed.first fed.rows (omega arith) is.ascend); taken = λ n. refl; closed = refl }
 
 -- the rows below a number were dropped, if it is above the first
 pub data Forgets (before : ℕ) (fed new : Fed) : Type 0 where
@@ -81,6 +94,14 @@ module _ (laws : Feeds) (fed new : Fed) (before : ℕ) (is : IsOrdered fed) (wit
   closed_after (kept h e) = ap (λ (z : Fed). z.closed) e
   closed_after (dropped h e) = ap (λ (z : Fed). z.closed) e
 
+  pub drops_after : Forgets before fed new → OnlyDrops fed new
+  drops_after forgot = record { first = low_after forgot; rows = rows_after forgot; taken = taken_after forgot; closed = closed_after forgot }
+    where
+      rows_after : Forgets before fed new → new.rows ≡ rows_from new.first fed.rows
+      rows_after (kept h e) =
+          ap (λ (z : Fed). z.rows) e ∙ sym (all_kept fed.first fed.first fed.rows (omega arith) is.ascend) ∙ ap (λ (z : Fed). rows_from z.first fed.rows) (sym e)
+      rows_after (dropped h e) = ap (λ (z : Fed). z.rows) e ∙ ap (λ (z : Fed). rows_from z.first fed.rows) (sym e)
+
   -- a record that fits goes on fitting
   pub fits_after : (q : QueryData) (whole : List Row) (r : MatcherState) (r' : MatcherState) → RecordsStay q whole → Forgets before fed new → r' ≡ record r { first = new.first }
       → (r.over ≡ false → before ≤ first_read q r.at) → Fits q whole (record { feed = fed; state = r }) → Fits q whole (record { feed = new; state = r' })
@@ -122,6 +143,9 @@ module _ (laws : Feeds) (q : QueryData) (fed new : Fed) (w : Walker) (is : IsOrd
 
   same_count : IsOrdered new → count (known_by new) ≡ count (known_by fed)
   same_count is' = known_count new is'.least ∙ front_after laws fed new (min horizon (front_of fed + 1)) is within_front forgot ∙ sym (known_count fed is.least)
+
+  pub search_after : SeenIsSame → IsOrdered new → search_seen q (known_by new) w ≡ search_seen q (known_by fed) w
+  search_after same is' = same q (known_by fed) (known_by new) w (same_count is')
 
   pub in_rows_after : IsOrdered new → (r : MatcherState) → r ≡ record (record_of w) { first = new.first } → StandsInRows (known_by fed) (record_of w) → StandsInRows (known_by new) r
   in_rows_after is' r e h =
@@ -169,13 +193,14 @@ itself_taken : (q : QueryData) (whole : List Row) (r : Held) → Fits q whole r 
 itself_taken q whole r fits = record { fits = fits; taken = λ n l. refl; closed = refl; polls = paused refl }
 
 -- a poll that does nothing
-pub still_polled : {E : Type 0} (q : QueryData) (r : Held) → PolledTo {E = E} q r r (Ok PausedPoll)
-still_polled q r = record { polls = λ whole fits. itself_taken q whole r fits; given = refl; last = λ e. absurd (cc) }
+pub still_polled : {E : Type 0} (q : QueryData) (r : Held) → IsOrdered r.feed → PolledTo {E = E} q r r (Ok PausedPoll)
+still_polled q r is = record { polls = λ whole fits. itself_taken q whole r fits; drops = drops_none r.feed is; refused = tt; given = refl; last = λ e. absurd (cc) }
 
-pub refused_polled : {E : Type 0} (q : QueryData) (old new : Held) (result : Result Poll E) → IsErr result
-    → ((whole : List Row) → Fits q whole old → PollFits q whole old new Pauses) → new.state.given ≡ old.state.given → PolledTo q old new result
-refused_polled q old new (Ok p) e h g = absurd (cc)
-refused_polled q old new (Err f) e h g = record { polls = h; given = g; last = λ i. absurd (cc) }
+pub refused_polled : {E : Type 0} (q : QueryData) (fed : Fed) (old new : MatcherState) (result : Result Poll E) → IsErr result → IsOrdered fed
+    → ((whole : List Row) → Fits q whole (record { feed = fed; state = old }) → PollFits q whole (record { feed = fed; state = old }) (record { feed = fed; state = new }) Pauses) → new.given ≡ old.given
+    → PolledTo q (record { feed = fed; state = old }) (record { feed = fed; state = new }) result
+refused_polled q fed old new (Ok p) e is h g = absurd (cc)
+refused_polled q fed old new (Err f) e is h g = record { polls = h; drops = drops_none fed is; refused = refl; given = g; last = λ i. absurd (cc) }
 
 given_dropped : (old r : MatcherState) (f : ℕ) (answer : Poll) → GivenBy old r answer → GivenBy old (record r { first = f }) answer
 given_dropped old r f (ItemPoll i x) h = h
@@ -186,10 +211,10 @@ module _ (laws : Feeds) (q : QueryData) (fed : Fed) (old mid : MatcherState) (st
   seen : (whole : List Row) → Fits q whole (record { feed = fed; state = old }) → AgreesFrom fed.first (known_by fed) (seen_part whole fed)
   seen whole fits = seen_agrees laws whole fed fits.feed ((stay whole).front_within (record { feed = fed; state = old }) fits)
 
-  pub polled_err : {E : Type 0} (result : Result Poll E) → IsErr result → GoesAlong q (known_by fed) old mid → mid.given ≡ old.given
+  pub polled_err : {E : Type 0} (result : Result Poll E) → IsErr result → IsOrdered fed → GoesAlong q (known_by fed) old mid → mid.given ≡ old.given
       → PolledTo q (record { feed = fed; state = old }) (record { feed = fed; state = mid }) result
-  polled_err result e moves given =
-      refused_polled q (record { feed = fed; state = old }) (record { feed = fed; state = mid }) result e
+  polled_err result e is moves given =
+      refused_polled q fed old mid result e is
       (λ whole fits. record {
         fits = fits_polled q whole fed old mid (seen whole fits) fits first moves;
         taken = λ n l. refl;
@@ -199,16 +224,18 @@ module _ (laws : Feeds) (q : QueryData) (fed : Fed) (old mid : MatcherState) (st
       given
 
   pub polled_ok : {E : Type 0} (answer : Poll) (after : Held) → GoesAlong q (known_by fed) old mid → Answers q (known_by fed) old mid answer → GivenBy old mid answer → StopsAtLast q (known_by fed) old mid answer
-      → after.state ≡ record mid { first = after.feed.first } → ((n : ℕ) → is_taken after.feed n ≡ is_taken fed n) → after.feed.closed ≡ fed.closed
+      → after.state ≡ record mid { first = after.feed.first } → OnlyDrops fed after.feed
       → ((whole : List Row) → Fits q whole (record { feed = fed; state = mid }) → Fits q whole after)
       → PolledTo {E = E} q (record { feed = fed; state = old }) after (Ok answer)
-  polled_ok {E = E} answer after moves answers given stops state taken closed fits_on = record {
+  polled_ok {E = E} answer after moves answers given stops state drops fits_on = record {
     polls = λ whole fits. record {
       fits = fits_on whole (fits_polled q whole fed old mid (seen whole fits) fits first moves);
-      taken = λ n l. taken n;
-      closed = closed;
+      taken = λ n l. drops.taken n;
+      closed = drops.closed;
       polls = polls_by q whole fed old mid (seen whole fits) fits answer after (ap (λ (r : MatcherState). r.given) state) answers;
     };
+    drops = drops;
+    refused = tt;
     given = subst (λ (r : MatcherState). GivenBy old r answer) (sym state) (given_dropped old mid after.feed.first answer given);
     last = λ idle whole fits going.
         (let is : answer ≡ IdlePoll = idle_is idle in

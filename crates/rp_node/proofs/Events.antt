@@ -1,5 +1,5 @@
 -- Calls of a node as events.
-use Rattle.std.proofs.Common.{◌≡◌, ◌≢◌, ℕ, Bool, true, false, cond, List, [], ◌∷◌, Option, Some, None, Result, Ok, Err, refl, sym, ap, ◌∙◌, subst}
+use Rattle.std.proofs.Common.{◌≡◌, ◌≢◌, ℕ, Bool, true, false, cond, List, [], ◌∷◌, Option, Some, None, Ok, Err, refl, sym, ap, ◌∙◌, subst}
 use Rattle.std.specs.Option.{option_map_or}
 use Rattle.std.specs.Cmp.Lexicographic.{pointwise}
 use Rattle.rp_value.specs.declared.value.Value.{Value}
@@ -7,19 +7,18 @@ use Rattle.rp_value.specs.declared.row.RowFault.{RowFault}
 use Rattle.rp_value.specs.contracts.value.ValuePartialEq.TheImpl.{eq-value}
 use Rattle.rp_query.specs.Keys.{key_of}
 use Rattle.rp_query.specs.declared.item.Item.{Item}
+use Rattle.rp_query.specs.declared.query.QueryData.{QueryData}
 use Rattle.rp_feed.specs.declared.answer.Taken.{Taken}
 use Rattle.rp_feed.specs.declared.answer.Taken.TheVariants.{New}
 use Rattle.rp_feed.specs.Fed.{IsFree, with_taken, with_close}
 use Rattle.rp_feed.specs.Answers.{Answer, IsDue, NewRowsAreDue}
 use Rattle.rp_feed.specs.declared.packet.Packet.TheVariants.{Row as RowPacket, Close as ClosePacket}
-use Rattle.rp_checkpoint.specs.declared.node_data.NodeData.{NodeData}
-use Rattle.rp_schedules.specs.Schedules.{StaysElsewhere, Act}
-use Rattle.rp_schedules.specs.Records.{Held, Fits, PollFits, or_fresh, record_at, with_fed, row_taken, close_taken, polled, no_memory}
+use Rattle.rp_schedules.specs.Schedules.{StaysElsewhere, Act, Event}
+use Rattle.rp_schedules.specs.Records.{Held, Fits, PollFits, or_fresh, record_at, with_fed, Calls, CallsBySame, row_taken, close_taken, polled, no_memory}
 use Rattle.rp_node.specs.declared.fault.NodeFault.TheVariants as node
 use Rattle.rp_node.specs.NodeSeen.{Entries, NodeSeen, same_key, entry_at, with_entry}
 use Rattle.rp_node.specs.Accepting.{feed_answer, packet_fault, record_for, told}
-use Rattle.rp_node.specs.Restarting.{records_from}
-use Rattle.rp_node.specs.Events.{World, Wholes, IsCallOf, RowsAreEvents, ClosesAreEvents, PollsAreEvents, RefusedPollsAreEvents, RestartsAreOne}
+use Rattle.rp_node.specs.Events.{World, Wholes, IsCallOf, RowsAreEvents, ClosesAreEvents, PollsAreEvents, RefusedPollsAreEvents}
 use Rattle.rp_node.proofs.Nodes.{SameKeys}
 use Rattle.rp_node.proofs.Entries.{entry_there}
 
@@ -41,7 +40,7 @@ entry_other exact key other v (e ∷ es) apart = go (same_key key e.0) (same_key
     go false true h k later = ap (λ b. cond b (Some e.1) (entry_at (with_entry key v es) other)) k
     go false false h k later = ap (λ b. cond b (Some e.1) (entry_at (with_entry key v es) other)) k ∙ later
 
-module _ (exact : SameKeys) (a : ℕ) (w w' : World) (old new : NodeSeen) (call : IsCallOf a w w' old new) (key : List Value) (held : Held) (put : new.records ≡ with_entry key held old.records) where
+module _ (exact : SameKeys) (a : ℕ) (q : QueryData) (w w' : World) (old new : NodeSeen) (call : IsCallOf q a w w' old new) (key : List Value) (held : Held) (put : new.records ≡ with_entry key held old.records) where
   stays : StaysElsewhere a key w w'
   stays = record {
     nodes = call.nodes;
@@ -55,6 +54,11 @@ module _ (exact : SameKeys) (a : ℕ) (w w' : World) (old new : NodeSeen) (call 
   was : record_at w a key ≡ or_fresh (entry_at old.records key)
   was = ap or_fresh (call.before key)
 
+module _ {q : QueryData} {whole : Wholes} {a : ℕ} {w w' : World} {old new : NodeSeen} {e : Event (List Value) Item} (call : IsCallOf q a w w' old new) where
+  -- what it does by the node's own query
+  by_same : Calls old.query whole w e w' → CallsBySame q whole w e w'
+  by_same calls = record { query = old.query; same = call.same; sound = call.sound; calls = calls }
+
 -- ---- rows and closes
 
 abbrev as_answer : Taken → Answer
@@ -66,57 +70,48 @@ answered_new None (Ok t) h = let e : t ≡ New = cc in ap (λ (t : Taken). as_an
 answered_new None (Err f) h = absurd (cc)
 
 pub rows_are_events : SameKeys → NewRowsAreDue → RowsAreEvents
-rows_are_events exact due whole a w w' old new n row call answer accepted there =
+rows_are_events exact due q whole a w w' old new n row call answer accepted there =
     let key : List Value = key_of old.query row in
     let before : Held = record_for old (RowPacket n row) in
     let is : IsDue before.feed n = due (pointwise eq-value.it) before.feed n row (answered_new (packet_fault old.query (RowPacket n row)) (feed_answer before.feed (RowPacket n row)) answer) in
-    let same = was exact a w w' old new call key (with_fed before (with_taken n row before.feed)) accepted.records in
-    row_taken n row is.least there
+    let same = was exact a q w w' old new call key (with_fed before (with_taken n row before.feed)) accepted.records in
+    by_same call
+    (row_taken n row is.least there
     (subst (λ (h : Held). IsFree h.feed n) (sym same) is.free)
-    (now exact a w w' old new call key (with_fed before (with_taken n row before.feed)) accepted.records ∙ ap (λ (h : Held). Some (with_fed h (with_taken n row h.feed))) (sym same))
-    (stays exact a w w' old new call key (with_fed before (with_taken n row before.feed)) accepted.records)
+    (now exact a q w w' old new call key (with_fed before (with_taken n row before.feed)) accepted.records ∙ ap (λ (h : Held). Some (with_fed h (with_taken n row h.feed))) (sym same))
+    (stays exact a q w w' old new call key (with_fed before (with_taken n row before.feed)) accepted.records))
 
 pub closes_are_events : SameKeys → ClosesAreEvents
-closes_are_events exact whole a w w' old new key count call accepted all =
+closes_are_events exact q whole a w w' old new key count call accepted all =
     let before : Held = record_for old (ClosePacket key count) in
-    let same = was exact a w w' old new call key (with_fed before (with_close count before.feed)) accepted.records in
-    close_taken
-    (now exact a w w' old new call key (with_fed before (with_close count before.feed)) accepted.records
+    let same = was exact a q w w' old new call key (with_fed before (with_close count before.feed)) accepted.records in
+    by_same call
+    (close_taken
+    (now exact a q w w' old new call key (with_fed before (with_close count before.feed)) accepted.records
     ∙ ap (λ (h : Held). Some (with_fed h (with_close count h.feed))) (sym same)
     ∙ ap (λ c. Some (with_fed (record_at w a key) (with_close c (record_at w a key).feed))) all)
-    (stays exact a w w' old new call key (with_fed before (with_close count before.feed)) accepted.records)
+    (stays exact a q w w' old new call key (with_fed before (with_close count before.feed)) accepted.records))
 
 -- ---- polls
 
-module _ (exact : SameKeys) (whole : Wholes) (a : ℕ) (w w' : World) (old new : NodeSeen) (key : List Value) (call : IsCallOf a w w' old new) where
+module _ (exact : SameKeys) (whole : Wholes) (a : ℕ) (q : QueryData) (w w' : World) (old new : NodeSeen) (key : List Value) (call : IsCallOf q a w w' old new) where
   -- the record before a poll and after it are those of the world
   fits_on : (before after : Held) → entry_at old.records key ≡ Some before → new.records ≡ with_entry key after old.records → {act : Act Item} → (Fits old.query (whole key) before → PollFits old.query (whole key) before after act)
       → Fits old.query (whole key) (record_at w a key) → PollFits old.query (whole key) (record_at w a key) (record_at w' a key) act
   fits_on before after there put {act} polls =
       let is_before : record_at w a key ≡ before = ap or_fresh (call.before key ∙ there) in
-      let is_after : record_at w' a key ≡ after = ap or_fresh (now exact a w w' old new call key after put) in
+      let is_after : record_at w' a key ≡ after = ap or_fresh (now exact a q w w' old new call key after put) in
       subst (λ (h : Held). Fits old.query (whole key) h → PollFits old.query (whole key) h (record_at w' a key) act) (sym is_before)
       (subst (λ (h : Held). Fits old.query (whole key) before → PollFits old.query (whole key) before h act) (sym is_after) polls)
 
 pub polls_are_events : SameKeys → PollsAreEvents
-polls_are_events exact whole a w w' old new key answer call p =
-    polled (fits_on exact whole a w w' old new key call p.before p.after p.there p.records (p.polled.polls (whole key)))
-    (stays exact a w w' old new call key p.after p.records)
+polls_are_events exact q whole a w w' old new key answer call p =
+    by_same call
+    (polled (fits_on exact whole a q w w' old new key call p.before p.after p.there p.records (p.polled.polls (whole key)))
+    (stays exact a q w w' old new call key p.after p.records))
 
 pub refused_polls_are_events : SameKeys → RefusedPollsAreEvents
-refused_polls_are_events exact whole a w w' old new key call p =
-    no_memory (fits_on exact whole a w w' old new key call p.before p.after p.there p.records (p.polled.polls (whole key)))
-    (stays exact a w w' old new call key p.after p.records)
-
--- ---- restarts
-
-pub restarts_are_one : RestartsAreOne
-restarts_are_one q bytes saved restarted s r =
-    let kept : s.kept ≡ r.kept = ok_is s.kept r.kept (sym s.is ∙ r.is) in
-    some_is restarted saved (sym r.records ∙ ap (λ (k : NodeData). records_from q [] k.partitions) (sym kept) ∙ s.records)
-  where
-    ok_is : {E : Type 0} (x y : NodeData) → ◌≡◌ {A = Result NodeData E} (Ok x) (Ok y) → x ≡ y
-    ok_is x y h = cc
-
-    some_is : (x y : Entries Held) → Some x ≡ Some y → x ≡ y
-    some_is x y h = cc
+refused_polls_are_events exact q whole a w w' old new key call p =
+    by_same call
+    (no_memory (fits_on exact whole a q w w' old new key call p.before p.after p.there p.records (p.polled.polls (whole key)))
+    (stays exact a q w w' old new call key p.after p.records))

@@ -1,5 +1,5 @@
 -- What calls make of a node's map.
-use Rattle.std.proofs.Common.{◌≡◌, ◌≢◌, ◌⊎◌, inl, inr, ℕ, zero, suc, ◌≤◌, Bool, true, false, cond, ◌||◌, ◌+◌, arith, List, [], ◌∷◌, None, Some, Result, Ok, Err, refl, sym, ap, ◌∙◌, subst}
+use Rattle.std.proofs.Common.{◌≡◌, ◌≢◌, ◌⊎◌, inl, inr, ℕ, zero, suc, ◌≤◌, Bool, true, false, cond, ◌||◌, ◌+◌, ◌-◌, arith, Option, List, [], ◌∷◌, None, Some, Result, Ok, Err, refl, sym, ap, ◌∙◌, subst}
 use Rattle.std.specs.Prelude.{◌↔◌, slice_get, position, is_some, nat_lt, ◌==◌, OnOk, OnErr, IfOk}
 use Rattle.std.specs.Option.{option_map_or}
 use Rattle.std.proofs.lemmas.Bool.Decides.{nat_tests}
@@ -32,6 +32,7 @@ use Rattle.rp_node.specs.declared.fault.NodeFault.{NodeFault}
 use Rattle.rp_walker.specs.Records.{first_state}
 use Rattle.rp_walker.specs.Walking.{record_of}
 use Rattle.rp_walker.specs.LeftLaw.{LeftIsBounded}
+use Rattle.rp_walker.specs.Bound.{SearchSeen, SeenRises, SeenWorks}
 use Rattle.rp_walker.specs.Polls.{entered_by, PollLowers, PollTakes, TurnsAreCounted}
 use Rattle.rp_schedules.specs.Records.{Held, with_fed, or_fresh, fresh}
 use Rattle.rp_node.specs.declared.partition.Partition.{Partition}
@@ -39,9 +40,10 @@ use Rattle.rp_node.specs.PartRows.{known_by, known_count, end_of}
 use Rattle.rp_node.specs.Joined.{Joined, IsOfKey, IsPartition, Work, held_of, work_of}
 use Rattle.rp_node.specs.NodeSeen.{Map, AllJoined, IsBounded, AreBounded, entries_by, node_by, same_key, entry_at, with_entry, or_no_work, work_at}
 use Rattle.rp_node.specs.declared.fault.NodeFault.TheVariants as node
-use Rattle.rp_node.specs.Accepting.{feed_answer, fed_with, packet_fault, packet_key, packet_answer, record_for, told, Accepted}
+use Rattle.rp_node.specs.Bound.{KeyWorks}
+use Rattle.rp_node.specs.Accepting.{rows_taken, feed_answer, fed_with, packet_fault, packet_key, packet_answer, record_for, told, Accepted}
 use Rattle.rp_node.specs.Polling.{told_poll, HoldsNoMore, HoldsNoMoreAt, PolledTo, PolledAt, IsUnknown, NodePolls}
-use Rattle.rp_node.specs.Taking.{TakenBy, TakenAt, IsAdded, AddedAs, MapTakes, PolledPlace}
+use Rattle.rp_node.specs.Taking.{TakenBy, TakenAt, IsAdded, AddedAs, MapTakes, PolledPlace, held_at, work_done}
 use Rattle.rp_node.proofs.Keys.{packet_keeps, packet_begins}
 use Rattle.rp_node.proofs.Entries.{at_is, at_none, insert_is, set_is, set_same, entry_there}
 
@@ -81,7 +83,7 @@ all_bounded bounded q (e ∷ es) a = (one a.0.joined, all_bounded bounded q es a
     one : Joined q e.1 → IsBounded q (held_of e.1) (work_of q e.1)
     one j =
         let b = bounded q (known_by e.1.feed) e.1.walker j.stands in
-        record { left = subst (λ n. (work_of q e.1).left ≤ all_turns n (end_of e.1.feed) (form_of q.pattern)) (known_count e.1.feed j.feed.ordered.least) b }
+        record { feed = j.feed; left = subst (λ n. (work_of q e.1).left ≤ all_turns n (end_of e.1.feed) (form_of q.pattern)) (known_count e.1.feed j.feed.ordered.least) b }
 
 -- keys are the same where their values are equal
 abbrev pub SameKeys : Type 0
@@ -113,8 +115,12 @@ module _ (exact : SameKeys) (keys : KeysFit) (q : QueryData) (packet : Packet) (
             record {
               records = ap (entries_by held_of) t.now ∙ set_is held_of key.items t.later es i f.first ∙ ap (λ r. with_entry key.items r (entries_by held_of es)) now;
               left = (work_of q t.later).left;
+              search = (work_of q t.later).search;
+              rises = subst (λ o. SeenRises (rows_taken (or_fresh o).feed packet) (work_done q es key.items).search (work_of q t.later).search) (sym held)
+                  (subst (λ o. SeenRises (rows_taken p.feed packet) (or_no_work o).search (work_of q t.later).search) (sym work)
+                  (subst (λ (f : Fed). SeenRises (front_of f - front_of p.feed) (work_of q p).search (work_of q t.later).search) feed t.taken.search));
               work = ap (entries_by (work_of q)) t.now ∙ set_is (work_of q) key.items t.later es i f.first
-                  ∙ ap (λ n. with_entry key.items (record { left = (work_of q t.later).left; entered = n }) (entries_by (work_of q) es)) (ap entered_by t.taken.walker ∙ ap (λ o. (or_no_work o).entered) (sym work));
+                  ∙ ap (λ n. with_entry key.items (record { left = (work_of q t.later).left; entered = n; search = (work_of q t.later).search }) (entries_by (work_of q) es)) (ap entered_by t.taken.walker ∙ ap (λ o. (or_no_work o).entered) (sym work));
             });
         unchanged = λ d. t.now ∙ ap (set_value_at es i) (same_part p t.later (t.taken.feed ∙ unchanged_by result (fed_with packet p.feed) p.feed d) t.taken.walker) ∙ set_same es i p t.there;
       }
@@ -161,8 +167,10 @@ module _ (exact : SameKeys) (keys : KeysFit) (q : QueryData) (packet : Packet) (
                 records = ap (entries_by held_of) a.now ∙ insert_is held_of key a.later es
                     ∙ ap (λ r. with_entry key.items r (entries_by held_of es)) (a.held ∙ ap (λ o. with_fed (or_fresh o) (fed_with packet (or_fresh o).feed)) (sym held));
                 left = (work_of q a.later).left;
+                search = (work_of q a.later).search;
+                rises = subst (λ o. SeenRises (rows_taken (held_at es key.items).feed packet) (or_no_work o).search (work_of q a.later).search) (sym work) a.search;
                 work = ap (entries_by (work_of q)) a.now ∙ insert_is (work_of q) key a.later es
-                    ∙ ap (λ n. with_entry key.items (record { left = (work_of q a.later).left; entered = n }) (entries_by (work_of q) es)) (a.entered ∙ ap (λ o. (or_no_work o).entered) (sym work));
+                    ∙ ap (λ n. with_entry key.items (record { left = (work_of q a.later).left; entered = n; search = (work_of q a.later).search }) (entries_by (work_of q) es)) (a.entered ∙ ap (λ o. (or_no_work o).entered) (sym work));
               });
           unchanged = λ differs. added_kept result differs t.added t.refused;
         }
@@ -207,12 +215,15 @@ module _ (q : QueryData) (packet : Packet) (es : Map) (key : Vec Value Global) (
       let state : record_of p'.walker ≡ first_state = ap record_of t.walker ∙ ap (λ (h : Held). h.state) held in
       λ i. record { feed = feed i; state = state i }
 
-  pub added_ok : (new : Map) (taken : Taken) → entered_by p.walker ≡ 0 → TakenBy q packet p p' (Ok taken) → new ≡ insert_entry (λ j k. same_key j.items k.items) es key p' → AddedAs q packet es key new (Ok taken)
-  added_ok new taken entered t now =
+  none_seen : (o o' : Option SearchSeen) (rows : ℕ) → o ≡ None → SeenRises rows o o' → o' ≡ None
+  none_seen o o' rows none rises = subst (λ z. SeenRises rows z o') none rises
+
+  pub added_ok : (new : Map) (taken : Taken) → entered_by p.walker ≡ 0 → (work_of q p).search ≡ None → TakenBy q packet p p' (Ok taken) → new ≡ insert_entry (λ j k. same_key j.items k.items) es key p' → AddedAs q packet es key new (Ok taken)
+  added_ok new taken entered none t now =
       let is : ◌≡◌ {A = Answer} (Ok taken) (Ok New) = ap (λ (z : Taken). as_answer z) (fresh_taken packet taken (sym (told_of (Ok taken) t))) in
       record {
         answer = told_of (Ok taken) t;
-        added = record { is = is; later = p'; joined = t.joined; held = held_taken (Ok taken) is t; entered = ap entered_by t.walker ∙ entered; now = now };
+        added = record { is = is; later = p'; joined = t.joined; held = held_taken (Ok taken) is t; entered = ap entered_by t.walker ∙ entered; search = none_seen (work_of q p).search (work_of q p').search (front_of p'.feed - front_of p.feed) none t.search; now = now };
         refused = tt;
       }
 
@@ -248,7 +259,7 @@ module _ (q : QueryData) (packet : Packet) (es new : Map) (result : Answer) (fit
   new_told (Err f) e = absurd (cc)
 
   pub accept_taken : told result ≡ Ok New → Accepted (node_by q es) packet (node_by q new)
-  accept_taken e = let m = t.taken (new_told result e) in record { query = refl; records = m.records; left = m.left; work = m.work }
+  accept_taken e = let m = t.taken (new_told result e) in record { query = refl; records = m.records; left = m.left; search = m.search; rises = m.rises; work = m.work }
 
   pub accept_unchanged : told result ≢ Ok New → node_by q new ≡ node_by q es
   accept_unchanged d = ap (node_by q) (t.unchanged (λ e. d (ap told e)))
@@ -293,8 +304,8 @@ module _ (q : QueryData) (key : List Value) (es new : Map) (i : ℕ) (all : AllJ
       ok_is answer e = let i : answer ≡ IdlePoll = cc in ap (λ (a : Poll). part_answer a) i
 
       same_told : (z : Result Poll AllocError) → PolledTo q (held_of t.before) (held_of t.later) z → PolledTo q (held_of t.before) (held_of t.later) (told_poll z)
-      same_told (Ok answer) h = record { polls = h.polls; given = h.given; last = λ e. h.last (ok_is answer e) }
-      same_told (Err e) h = record { polls = h.polls; given = h.given; last = λ i. absurd (cc) }
+      same_told (Ok answer) h = record { polls = h.polls; drops = h.drops; refused = tt; given = h.given; last = λ e. h.last (ok_is answer e) }
+      same_told (Err e) h = record { polls = h.polls; drops = h.drops; refused = h.refused; given = h.given; last = λ i. absurd (cc) }
 
   pub poll_polls : NodePolls (node_by q es) (node_by q new) key (told_poll result)
   poll_polls = go result t.polled
@@ -321,6 +332,34 @@ module _ (q : QueryData) (key : List Value) (es new : Map) (i : ℕ) (all : AllJ
   pub poll_turns : TurnsAreCounted budget s s' (work_at (node_by q es) key).entered (work_at (node_by q new) key).entered
   poll_turns = subst (λ (w : Work). TurnsAreCounted budget s s' w.entered (work_at (node_by q new) key).entered) (sym work_before)
       (subst (λ (w : Work). TurnsAreCounted budget s s' (work_of q t.before).entered w.entered) (sym work_after) t.turns)
+
+  record_before : entry_at (entries_by held_of es) key ≡ Some (held_of t.before)
+  record_before = at_is held_of key es t.before found
+
+  record_after : entry_at (entries_by held_of new) key ≡ Some (held_of t.later)
+  record_after = ap (λ es'. entry_at es' key) (ap (entries_by held_of) t.now ∙ set_is held_of key t.later es i first) ∙ entry_there key (held_of t.later) (entries_by held_of es) itself
+
+  abbrev PartWorks : Held → Held → Work → Work → Poll → Type 0
+  PartWorks b a w w' answer = SeenWorks (s' - s) q (known_by b.feed) w.search w'.search b.state a.state answer
+
+  key_works : (answer : Poll) → PartWorks (held_of t.before) (held_of t.later) (work_of q t.before) (work_of q t.later) answer → KeyWorks (s' - s) (node_by q es) (node_by q new) key answer
+  key_works answer h b a before after =
+      let b_is : held_of t.before ≡ b = is_some_of (sym record_before ∙ before) in
+      let a_is : held_of t.later ≡ a = is_some_of (sym record_after ∙ after) in
+      subst (λ (z : Held). PartWorks z a (work_at (node_by q es) key) (work_at (node_by q new) key) answer) b_is
+      (subst (λ (z : Held). PartWorks (held_of t.before) z (work_at (node_by q es) key) (work_at (node_by q new) key) answer) a_is
+      (subst (λ (w : Work). PartWorks (held_of t.before) (held_of t.later) w (work_at (node_by q new) key) answer) (sym work_before)
+      (subst (λ (w : Work). PartWorks (held_of t.before) (held_of t.later) (work_of q t.before) w answer) (sym work_after) h)))
+    where
+      is_some_of : {x y : Held} → Some x ≡ Some y → x ≡ y
+      is_some_of e = cc
+
+  pub poll_works : IfOk (told_poll result) (KeyWorks (s' - s) (node_by q es) (node_by q new) key)
+  poll_works = go result t.works
+    where
+      go : (r : Result Poll AllocError) → IfOk r (PartWorks (held_of t.before) (held_of t.later) (work_of q t.before) (work_of q t.later)) → IfOk (told_poll r) (KeyWorks (s' - s) (node_by q es) (node_by q new) key)
+      go (Ok answer) h = key_works answer h
+      go (Err e) h = tt
 
   pub poll_held : OnOk (told_poll result) (1 ≤ budget → HoldsNoMoreAt (node_by q new) key)
   poll_held = go result t.held

@@ -1,19 +1,21 @@
 -- A packet that is taken leaves the walk standing.
-use Rattle.std.proofs.Common.{◌≡◌, ◌≤◌, ℕ, Bool, true, false, cond, List, Option, Some, None, Ok, Err, refl, sym, ◌∙◌, subst, arith}
+use Rattle.std.proofs.Common.{◌≡◌, ◌≤◌, ◌-◌, ap, ℕ, Bool, true, false, cond, List, Option, Some, None, Ok, Err, refl, sym, ◌∙◌, subst, arith}
 use Rattle.std.specs.Prelude.{nat_lt, ◌==◌}
 use Rattle.rp_value.specs.declared.value.Value.{Value}
 use Rattle.rp_feed.specs.declared.answer.Taken.TheVariants.{New, Repeat, Old}
 use Rattle.rp_feed.specs.declared.answer.FeedFault.TheVariants as fault
 use Rattle.rp_feed.specs.Limits.{greatest_number}
-use Rattle.rp_feed.specs.Fed.{Fed, IsOrdered, IsFeed, with_taken, with_close}
+use Rattle.rp_feed.specs.Fed.{Fed, IsOrdered, IsFeed, front_of, with_taken, with_close}
 use Rattle.rp_feed.specs.Answers.{Answer, IsDue, IsDueClose, after, memory_aside, close_answer, closed_answer, has_above}
 use Rattle.rp_query.specs.declared.query.QueryData.{QueryData}
 use Rattle.rp_query.specs.Sound.{IsSound}
+use Rattle.rp_known.specs.Known.{count}
 use Rattle.rp_known.specs.WalkLaws.{GoesOnFrom}
 use Rattle.rp_known.specs.Plans.{first_read}
+use Rattle.rp_walker.specs.Bound.{SeenGrows, SeenRises, search_seen}
 use Rattle.rp_walker.specs.Walking.{record_of, StandsStays, StandsCanGoOn}
 use Rattle.rp_node.specs.declared.partition.Partition.{Partition}
-use Rattle.rp_node.specs.PartRows.{known_by}
+use Rattle.rp_node.specs.PartRows.{known_by, known_count}
 use Rattle.rp_node.specs.Joined.{Joined}
 use Rattle.rp_node.proofs.Feeds.{Feeds, row_goes_on, close_goes_on}
 use Rattle.rp_node.proofs.Dropping.{goes_from}
@@ -51,6 +53,15 @@ joined_later stays can q sound p new j is later = record {
   first = j.first ∙ sym later.first;
   in_rows = (omega (arith, j.in_rows.0, later.goes.later.0), λ going. omega (arith, j.in_rows.1 going, later.goes.later.0));
 }
+
+-- What is seen of its search rises with the rows that become known.
+pub search_later : SeenGrows → (q : QueryData) (p : Partition) (new : Fed) → IsOrdered p.feed → IsOrdered new → Later p.feed new →
+    SeenRises (front_of new - front_of p.feed) (search_seen q (known_by p.feed) p.walker) (search_seen q (known_by new) p.walker)
+search_later grows q p new is is' later =
+    let rows : count (known_by new) - count (known_by p.feed) ≡ front_of new - front_of p.feed =
+    ap (λ n. n - count (known_by p.feed)) (known_count new is'.least) ∙ ap (λ n. front_of new - n) (known_count p.feed is.least) in
+    subst (λ n. SeenRises n (search_seen q (known_by p.feed) p.walker) (search_seen q (known_by new) p.walker)) rows
+    (grows q (known_by p.feed) (known_by new) p.walker later.goes.later.0)
 
 -- a close takes no memory
 pub close_no_memory : (fed : Fed) (count : ℕ) → memory_aside (close_answer fed count) ≡ close_answer fed count

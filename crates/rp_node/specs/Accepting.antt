@@ -1,5 +1,5 @@
 -- What a node answers to a packet, and what the packet leaves behind.
-use Rattle.std.specs.Prelude.{◌≡◌, ◌⊎◌, ℕ, List, Option, Result, Ok, Err}
+use Rattle.std.specs.Prelude.{◌≡◌, ◌⊎◌, ◌-◌, ℕ, List, Option, Result, Ok, Err}
 use Rattle.std.specs.Option.{option_map_or}
 use Rattle.std.specs.Cmp.Lexicographic.{pointwise}
 use Rattle.rp_value.specs.declared.value.Value.{Value}
@@ -12,10 +12,11 @@ use Rattle.rp_query.specs.Keys.{key_kinds, key_of}
 use Rattle.rp_feed.specs.declared.answer.Taken.{Taken}
 use Rattle.rp_feed.specs.declared.answer.FeedFault.{FeedFault}
 use Rattle.rp_feed.specs.declared.answer.FeedFault.TheVariants as feed
-use Rattle.rp_feed.specs.Fed.{Fed, with_taken, with_close}
+use Rattle.rp_feed.specs.Fed.{Fed, front_of, with_taken, with_close}
 use Rattle.rp_feed.specs.Answers.{Answer, row_answer, close_answer}
 use Rattle.rp_feed.specs.declared.packet.Packet.{Packet}
 use Rattle.rp_feed.specs.declared.packet.Packet.TheVariants.{Row, Close}
+use Rattle.rp_walker.specs.Bound.{SearchSeen, SeenRises}
 use Rattle.rp_schedules.specs.Records.{Held, with_fed, or_fresh}
 use Rattle.rp_node.specs.declared.fault.NodeFault.{NodeFault}
 use Rattle.rp_node.specs.declared.fault.NodeFault.TheVariants as node
@@ -58,6 +59,10 @@ abbrev pub fed_with : Packet → Fed → Fed
 fed_with (Row number cells) fed = with_taken number cells fed
 fed_with (Close key count) fed = with_close count fed
 
+-- how many rows more are known once the packet is taken
+abbrev pub rows_taken : Fed → Packet → ℕ
+rows_taken fed packet = front_of (fed_with packet fed) - front_of fed
+
 -- the record of the packet's key, fresh where nothing of that key was accepted
 abbrev pub record_for : NodeSeen → Packet → Held
 record_for n packet = or_fresh (entry_at n.records (packet_key n.query packet))
@@ -73,14 +78,17 @@ abbrev pub IsAnswered : NodeSeen → Packet → Result Taken NodeFault → Type 
 IsAnswered n packet result = (result ≡ Err node.OutOfMemory) ⊎ (result ≡ packet_answer n packet)
 
 -- What a packet that is New leaves behind: its key's record has taken it, and the turns left of that partition
--- may have risen.
+-- may have risen, those that are seen of its search by so many a row.
 pub record Accepted (old : NodeSeen) (packet : Packet) (new : NodeSeen) : Type 0 where
   pub query : new.query ≡ old.query
   pub records : new.records ≡ with_entry (packet_key old.query packet)
       (with_fed (record_for old packet) (fed_with packet (record_for old packet).feed)) old.records
   pub left : ℕ
+  pub search : Option SearchSeen
+  pub rises : SeenRises (rows_taken (record_for old packet).feed packet) (work_at old (packet_key old.query packet)).search search
   pub work : new.work ≡ with_entry (packet_key old.query packet) (record {
     left =
         left;
     entered = (work_at old (packet_key old.query packet)).entered;
+    search = search;
   }) old.work

@@ -5,7 +5,7 @@ use Rattle.rp_codec.specs.declared.reply.Reply.{Reply}
 use Rattle.rp_query.specs.declared.query.QueryData.{QueryData}
 use Rattle.rp_schedules.specs.Records.{Held}
 use Rattle.rp_wire.specs.declared.request.Request.{Request}
-use Rattle.rp_node.specs.NodeSeen.{Entries, NodeSeen}
+use Rattle.rp_node.specs.NodeSeen.{Entries, NodeSeen, AllBounded}
 use Rattle.rp_node.specs.Keeping.{kept_of}
 use Rattle.rp_node.specs.Restarting.{IsRefused, RestartsTo}
 use Rattle.rp_node.specs.declared.fault.RestartFault.{RestartFault}
@@ -30,10 +30,11 @@ abbrev pub HasSaved : QueryData → Option (List ℕ) → Entries Held → Type 
 HasSaved q None records = records ≡ []
 HasSaved q (Some bytes) records = RestartsTo q bytes records
 
--- It goes back to what was saved, or to its beginning where nothing was.
+-- It goes back to what was saved, or to its beginning where nothing was, and each record is bounded.
 pub record GoesBack (old : NodeSeen) (saved : Option (List ℕ)) (new : NodeSeen) : Type 0 where
   pub query : new.query ≡ old.query
   pub records : HasSaved old.query saved new.records
+  pub bounded : AllBounded new
 
 -- a request leaves what the node can go back to
 pub restarts_still : (old : NodeSeen) (asked : Request) (reply : Option Reply) (new : NodeSeen) (bytes : List ℕ)

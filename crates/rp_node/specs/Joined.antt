@@ -1,5 +1,5 @@
 -- How a partition's walk stands to its feed, and the partition to its key.
-use Rattle.std.specs.Prelude.{◌≡◌, ℕ, List, [], ◌∷◌, None, ⊤}
+use Rattle.std.specs.Prelude.{◌≡◌, ℕ, List, [], ◌∷◌, Option, None, ⊤}
 use Rattle.rp_value.specs.declared.value.Value.{Value}
 use Rattle.rp_value.specs.Rows.{row_fault}
 use Rattle.rp_value.specs.Tables.{kinds_of}
@@ -9,6 +9,7 @@ use Rattle.rp_feed.specs.Fed.{IsFeed, Numbered}
 use Rattle.rp_walker.specs.Walking.{record_of, Stands}
 use Rattle.rp_walker.specs.Records.{StandsInRows}
 use Rattle.rp_walker.specs.Polls.{left_in, entered_by}
+use Rattle.rp_walker.specs.Bound.{SearchSeen, search_seen}
 use Rattle.rp_schedules.specs.Records.{Held}
 use Rattle.rp_node.specs.declared.partition.Partition.{Partition}
 use Rattle.rp_node.specs.PartRows.{known_by}
@@ -40,10 +41,16 @@ pub record IsPartition (q : QueryData) (key : List Value) (p : Partition) : Type
 abbrev pub held_of : Partition → Held
 held_of p = record { feed = p.feed; state = record_of p.walker }
 
--- the turns that it has left, and the rows that its searches have entered
+-- the turns that it has left, the rows that its searches have entered, and what is seen of its search
 pub record Work : Type 0 where
   pub left : ℕ
   pub entered : ℕ
+  pub search : Option SearchSeen
 
 abbrev pub work_of : QueryData → Partition → Work
-work_of q p = record { left = left_in q (known_by p.feed) p.walker; entered = entered_by p.walker }
+work_of q p =
+    record {
+      left = left_in q (known_by p.feed) p.walker;
+      entered = entered_by p.walker;
+      search = search_seen q (known_by p.feed) p.walker;
+    }

@@ -11,7 +11,8 @@ use Rattle.rp_words.specs.PatternForm.{form_of}
 use Rattle.rp_words.specs.Turns.{all_turns}
 use Rattle.rp_query.specs.declared.query.QueryData.{QueryData}
 use Rattle.rp_query.specs.contracts.query.QueryData.{the_row as query_row}
-use Rattle.rp_feed.specs.Fed.{Fed, front_of}
+use Rattle.rp_feed.specs.Fed.{Fed, IsFeed, front_of}
+use Rattle.rp_walker.specs.Bound.{SearchSeen}
 use Rattle.rp_walker.specs.declared.record.MatcherState.{MatcherState}
 use Rattle.rp_walker.specs.contracts.record.MatcherState.{the_row as state_row}
 use Rattle.rp_schedules.specs.Records.{Held}
@@ -38,7 +39,8 @@ with_entry key v [] = (key, v) ∷ []
 with_entry key v (e ∷ es) = if same_key key e.0 then (e.0, v) ∷ es else e ∷ with_entry key v es
 
 -- What contracts see of a node: its query, the record of each key of which a packet was accepted, and beside
--- it, key by key, the turns that its polls have left at most and the rows that its searches have entered.
+-- it, key by key, the turns that its polls have left at most, the rows that its searches have entered and what is seen
+-- of the search.
 pub record NodeSeen : Type 0 where
   pub query : QueryData
   pub records : Entries Held
@@ -60,13 +62,20 @@ held_code =
       state = t.1;
     }) (λ _. refl)
 
+abbrev search_code : Coded SearchSeen
+search_code =
+    code_by (ℕ × (ℕ × ℕ)) (coded× coded_ℕ (coded× coded_ℕ coded_ℕ)) (λ s. (s.first, (s.row, s.left))) (λ t. record {
+      first =
+          t.0;
+      row = t.1.0;
+      left = t.1.1;
+    }) (λ _. refl)
+
 abbrev work_code : Coded Work
 work_code =
-    code_by (ℕ × ℕ) (coded× coded_ℕ coded_ℕ) (λ w. (w.left, w.entered)) (λ t. record {
-      left =
-          t.0;
-      entered = t.1;
-    }) (λ _. refl)
+    code_by (ℕ × (ℕ × Option SearchSeen))
+    (coded× coded_ℕ (coded× coded_ℕ (coded_option search_code)))
+    (λ w. (w.left, (w.entered, w.search))) (λ t. record { left = t.0; entered = t.1.0; search = t.1.1 }) (λ _. refl)
 
 abbrev entries_code : {V : Type 0} → Coded V → Coded (Entries V)
 entries_code code = coded_list (coded× (coded_list value_row.coded) code)
@@ -96,10 +105,12 @@ abbrev pub AllJoined : QueryData → Map → Type 0
 AllJoined q [] = ⊤
 AllJoined q (e ∷ es) = IsPartition q e.0.items e.1 × AllJoined q es
 
--- ---- the turns that are left
+-- ---- the bounds of each record
 
--- so many turns are left for a record at most: as all starts of its known rows take
+-- What is held of a partition is bounded: its feed is one, so no row below the first is held and no more beyond the front than
+-- may be. And so many turns are left for it at most as all starts of its known rows take.
 pub record IsBounded (q : QueryData) (r : Held) (w : Work) : Type 0 where
+  pub feed : IsFeed r.feed
   pub left : w.left ≤ all_turns (front_of r.feed) (end_of r.feed) (form_of q.pattern)
 
 abbrev pub AreBounded : QueryData → Entries Held → Entries Work → Type 0
@@ -108,13 +119,13 @@ AreBounded q [] (w ∷ ws) = ⊥
 AreBounded q (r ∷ rs) [] = ⊥
 AreBounded q (r ∷ rs) (w ∷ ws) = IsBounded q r.1 w.1 × AreBounded q rs ws
 
--- no partition has more turns left
+-- each record is bounded, whether it fits a whole partition or not
 abbrev pub AllBounded : NodeSeen → Type 0
 AllBounded n = AreBounded n.query n.records n.work
 
 -- no work was done for a key that isn't there
 abbrev pub or_no_work : Option Work → Work
-or_no_work None = record { left = 0; entered = 0 }
+or_no_work None = record { left = 0; entered = 0; search = None }
 or_no_work (Some w) = w
 
 abbrev pub work_at : NodeSeen → List Value → Work

@@ -1,13 +1,13 @@
 -- What a poll of a node comes to.
-use Rattle.std.specs.Prelude.{◌≡◌, ◌+◌, ◌≤◌, ◌⊎◌, false, List, None, Some, Result, Ok, Err}
+use Rattle.std.specs.Prelude.{◌≡◌, ◌+◌, ◌≤◌, ◌⊎◌, ℕ, false, List, None, Some, Result, Ok, Err, IfOk, OnErr}
 use Rattle.std.specs.declared.alloc.AllocError.{AllocError}
 use Rattle.rp_value.specs.declared.value.Value.{Value}
 use Rattle.rp_query.specs.declared.query.QueryData.{QueryData}
-use Rattle.rp_feed.specs.Fed.{front_of}
+use Rattle.rp_feed.specs.Fed.{Fed, front_of, is_taken, rows_from}
 use Rattle.rp_query.specs.declared.item.Item.{Item}
 use Rattle.rp_walker.specs.declared.poll.Poll.{Poll}
 use Rattle.rp_walker.specs.declared.poll.Poll.TheVariants.{Item as ItemPoll, Idle as IdlePoll, Paused as PausedPoll}
-use Rattle.rp_walker.specs.Polls.{GivenBy}
+use Rattle.rp_walker.specs.Polls.{GivenBy, PollLowers}
 use Rattle.rp_walker.specs.Records.{horizon_of, IsLastStart}
 use Rattle.rp_schedules.specs.Schedules.{Act, Gives, Idles, Pauses}
 use Rattle.rp_schedules.specs.Records.{Row, Held, Fits, PollFits, seen_part}
@@ -15,7 +15,7 @@ use Rattle.rp_node.specs.declared.fault.NodeFault.{NodeFault}
 use Rattle.rp_node.specs.declared.fault.NodeFault.TheVariants.{UnknownPartition, OutOfMemory}
 use Rattle.rp_node.specs.PartRows.{known_by}
 use Rattle.rp_node.specs.Joined.{Work}
-use Rattle.rp_node.specs.NodeSeen.{NodeSeen, entry_at, with_entry}
+use Rattle.rp_node.specs.NodeSeen.{NodeSeen, entry_at, with_entry, work_at}
 
 abbrev pub act_by : Poll → Act Item
 act_by (ItemPoll place x) = Gives place x
@@ -45,9 +45,20 @@ HoldsNoMore q r = horizon_of q (known_by r.feed) r.state ≤ r.feed.first ⊎ (f
 abbrev pub HoldsNoMoreAt : NodeSeen → List Value → Type 0
 HoldsNoMoreAt n key = (r : Held) → entry_at n.records key ≡ Some r → HoldsNoMore n.query r
 
--- What a poll makes of a record: whichever whole partition the record fits, the answer is by what is known of it.
+-- What a poll leaves of a feed: rows below a number are dropped, and nothing else. The rows from there on are held as before,
+-- the same numbers were taken, and the close is the same.
+pub record OnlyDrops (before after : Fed) : Type 0 where
+  pub first : before.first ≤ after.first
+  pub rows : after.rows ≡ rows_from after.first before.rows
+  pub taken : (n : ℕ) → is_taken after n ≡ is_taken before n
+  pub closed : after.closed ≡ before.closed
+
+-- What a poll makes of a record: whichever whole partition the record fits, the answer is by what is known of it. And of every
+-- record, whether it fits one or not, rows alone are dropped, and none where no memory is left.
 pub record PolledTo {E : Type 0} (q : QueryData) (old new : Held) (result : Result Poll E) : Type 0 where
   pub polls : (whole : List Row) → Fits q whole old → PollFits q whole old new (act_of result)
+  pub drops : OnlyDrops old.feed new.feed
+  pub refused : OnErr result (new.feed ≡ old.feed)
   pub given : given_by old new result
   -- where it is idle and the answer isn't over, the walk comes to no later start row
   pub last : result ≡ Ok IdlePoll → (whole : List Row) → Fits q whole old → new.state.over ≡ false
@@ -74,3 +85,11 @@ NodePolls old new key (Ok answer) = PolledAt old new key (Ok answer)
 NodePolls old new key (Err UnknownPartition) = IsUnknown old new key
 NodePolls old new key (Err OutOfMemory) = PolledAt old new key (Err OutOfMemory)
 NodePolls old new key (Err other) = ⊥
+
+-- An answer goes by its budget: one of 0 is answered by a pause that changes nothing, wherever the key is known. A poll that is
+-- paused takes its budget off the turns that are left, an item one at least, and no more rows are entered than the budget.
+pub record GoesByBudget (budget : ℕ) (old new : NodeSeen) (key : List Value) (answer : Result Poll NodeFault) : Type 0 where
+  pub lowers : IfOk answer (PollLowers budget (work_at old key).left (work_at new key).left)
+  pub enters : (work_at new key).entered ≤ (work_at old key).entered + budget
+  pub pauses : budget ≡ 0 → (answer ≡ Ok PausedPoll) ⊎ (answer ≡ Err UnknownPartition)
+  pub nothing : budget ≡ 0 → new ≡ old

@@ -15,9 +15,9 @@ use Rattle.rp_wire.specs.declared.request.Request.{Request}
 use Rattle.rp_wire.specs.declared.request.Request.TheVariants as request
 use Rattle.rp_node.specs.declared.fault.NodeFault.{NodeFault}
 use Rattle.rp_node.specs.declared.fault.NodeFault.TheVariants as node
-use Rattle.rp_node.specs.NodeSeen.{NodeSeen}
+use Rattle.rp_node.specs.NodeSeen.{NodeSeen, AllBounded}
 use Rattle.rp_node.specs.Accepting.{Accepted, IsAnswered}
-use Rattle.rp_node.specs.Polling.{NodePolls}
+use Rattle.rp_node.specs.Polling.{GoesByBudget, NodePolls}
 
 -- ---- replies
 
@@ -58,14 +58,16 @@ pub record Takes (old : NodeSeen) (packet : Packet) (answer : Result Taken NodeF
   pub taken : answer ≡ Ok New → Accepted old packet new
   pub unchanged : answer ≢ Ok New → new ≡ old
 
--- The request's call was answered, and this is the reply to that, if it has one.
+-- The request's call was answered, a poll by its budget, and this is the reply to that, if it has one.
 abbrev pub Calls : NodeSeen → Request → Option Reply → NodeSeen → Type 0
 Calls old (request.Packet packet) reply new =
     (answer : Result Taken NodeFault) × Takes old packet answer new × (packet_reply answer ≡ reply)
 Calls old (request.Poll key budget) reply new =
-    (answer : Result Poll NodeFault) × NodePolls old new key answer × (poll_reply key answer ≡ reply)
+    (answer : Result Poll NodeFault) × NodePolls old new key answer × GoesByBudget budget old new key answer
+    × (poll_reply key answer ≡ reply)
 
--- A request does what its call does, and the query stays.
+-- A request does what its call does, the query stays, and each record is bounded.
 pub record Does (old : NodeSeen) (asked : Request) (reply : Option Reply) (new : NodeSeen) : Type 0 where
   pub query : new.query ≡ old.query
+  pub bounded : AllBounded new
   pub calls : Calls old asked reply new

@@ -1,5 +1,5 @@
--- What the inner calls for a packet do to a node's map.
-use Rattle.std.specs.Prelude.{◌≡◌, ◌≢◌, ◌≤◌, ℕ, List, Result, Ok, None, Some, OnOk, OnErr, IfOk, slice_get}
+-- Inside: what the inner calls for a packet do to a node's map.
+use Rattle.std.specs.Prelude.{◌≡◌, ◌≢◌, ◌≤◌, ◌-◌, ℕ, List, Option, Result, Ok, None, Some, OnOk, OnErr, IfOk, slice_get}
 use Rattle.std.specs.Map.{values_of}
 use Rattle.std.specs.declared.vec.Vec.{Vec}
 use Rattle.std.specs.declared.alloc.Global.{Global}
@@ -8,17 +8,19 @@ use Rattle.indexmap.specs.IndexMap.{insert_entry, set_value_at}
 use Rattle.rp_value.specs.declared.value.Value.{Value}
 use Rattle.rp_query.specs.declared.query.QueryData.{QueryData}
 use Rattle.rp_feed.specs.declared.answer.Taken.TheVariants.{New}
-use Rattle.rp_feed.specs.Fed.{Numbered, fed_from}
+use Rattle.rp_feed.specs.Fed.{Numbered, fed_from, front_of}
 use Rattle.rp_feed.specs.Answers.{Answer, after, memory_aside}
 use Rattle.rp_feed.specs.declared.packet.Packet.{Packet}
 use Rattle.rp_walker.specs.declared.poll.Poll.{Poll}
 use Rattle.rp_walker.specs.declared.poll.Poll.TheVariants.{Paused as PausedPoll}
+use Rattle.rp_walker.specs.Bound.{SearchSeen, SeenRises, SeenWorks}
 use Rattle.rp_walker.specs.Polls.{entered_by, PollLowers, PollTakes, TurnsAreCounted}
 use Rattle.rp_schedules.specs.Records.{Held, fresh, with_fed, or_fresh}
 use Rattle.rp_node.specs.declared.partition.Partition.{Partition}
-use Rattle.rp_node.specs.Joined.{Joined, IsOfKey, held_of, work_of}
+use Rattle.rp_node.specs.Joined.{Joined, IsOfKey, Work, held_of, work_of}
+use Rattle.rp_node.specs.PartRows.{known_by}
 use Rattle.rp_node.specs.NodeSeen.{Map, AllJoined, entries_by, same_key, entry_at, with_entry, or_no_work}
-use Rattle.rp_node.specs.Accepting.{feed_answer, fed_with, packet_fault, packet_key}
+use Rattle.rp_node.specs.Accepting.{feed_answer, fed_with, packet_fault, packet_key, rows_taken}
 use Rattle.rp_node.specs.Polling.{HoldsNoMore, PolledTo}
 
 -- the partition at a place is joined
@@ -35,6 +37,7 @@ pub record TakenBy (q : QueryData) (packet : Packet) (before later : Partition) 
   pub answer : memory_aside result ≡ feed_answer before.feed packet
   pub feed : later.feed ≡ after result (fed_with packet before.feed) before.feed
   pub walker : later.walker ≡ before.walker
+  pub search : SeenRises (front_of later.feed - front_of before.feed) (work_of q before).search (work_of q later).search
 
 -- the partition at a place takes it
 pub record TakenAt (q : QueryData) (packet : Packet) (es : Map) (place : ℕ) (new : Map)
@@ -53,6 +56,7 @@ pub record IsAdded (q : QueryData) (packet : Packet) (es : Map) (key : Vec Value
   pub joined : Joined q later
   pub held : held_of later ≡ with_fed fresh (fed_with packet fresh.feed)
   pub entered : entered_by later.walker ≡ 0
+  pub search : (work_of q later).search ≡ None
   pub now : new ≡ insert_entry (λ j k. same_key j.items k.items) es key later
 
 pub record AddedAs (q : QueryData) (packet : Packet) (es : Map) (key : Vec Value Global) (new : Map)
@@ -74,6 +78,8 @@ pub record PolledPlace (q : QueryData) (es : Map) (place : ℕ) (new : Map) (bud
   pub lowers : IfOk result (PollLowers budget (work_of q before).left (work_of q later).left)
   pub turns : TurnsAreCounted budget steps steps' (work_of q before).entered (work_of q later).entered
   pub takes : IfOk result (PollTakes budget steps steps')
+  pub works : IfOk result (SeenWorks (steps' - steps) q (known_by before.feed) (work_of q before).search (work_of q later).search
+      (held_of before).state (held_of later).state)
   pub held : OnOk result (1 ≤ budget → HoldsNoMore q (held_of later))
   pub none : budget ≡ 0 → (result ≡ Ok PausedPoll) × (later ≡ before) × (steps' ≡ steps)
 
@@ -81,16 +87,19 @@ pub record PolledPlace (q : QueryData) (es : Map) (place : ℕ) (new : Map) (bud
 abbrev pub held_at : Map → List Value → Held
 held_at es key = or_fresh (entry_at (entries_by held_of es) key)
 
-abbrev pub entered_at : QueryData → Map → List Value → ℕ
-entered_at q es key = (or_no_work (entry_at (entries_by (work_of q) es) key)).entered
+abbrev pub work_done : QueryData → Map → List Value → Work
+work_done q es key = or_no_work (entry_at (entries_by (work_of q) es) key)
 
 -- the key's record has taken it
 pub record MapTaken (q : QueryData) (packet : Packet) (key : List Value) (es new : Map) : Type 0 where
   pub records : entries_by held_of new
       ≡ with_entry key (with_fed (held_at es key) (fed_with packet (held_at es key).feed)) (entries_by held_of es)
   pub left : ℕ
+  pub search : Option SearchSeen
+  pub rises : SeenRises (rows_taken (held_at es key).feed packet) (work_done q es key).search search
   pub work : entries_by (work_of q) new
-      ≡ with_entry key (record { left = left; entered = entered_at q es key }) (entries_by (work_of q) es)
+      ≡ with_entry key (record { left = left; entered = (work_done q es key).entered; search = search })
+      (entries_by (work_of q) es)
 
 -- the partition of a key takes it
 pub record MapTakes (q : QueryData) (packet : Packet) (key : List Value) (es new : Map)

@@ -2,6 +2,7 @@
 ghost use Rattle.std.specs.Prelude.{◌≡◌, [], IfOk, IfErr, OnOk};
 ghost use Rattle.std.specs.Option.{ForSome};
 ghost use Rattle.rp_query.specs.QueryView.{data_of};
+ghost use Rattle.rp_node.specs.NodeSeen.{AllBounded};
 ghost use Rattle.rp_node.specs.Restarting.{IsRefused, RestartsTo};
 ghost use Rattle.rp_serve.specs.Rounds.{kept_bytes};
 ghost use Rattle.rp_node.specs.GoingBack.{Begins, CanRestart};
@@ -28,6 +29,7 @@ pub fn begin(alloc: Global, query: Query, saved: Option<Vec<u8>>) -> Result<Begu
     ensures begins { IfOk result (λ begun. Begins (data_of query) (kept_bytes saved) begun.refused
         begun.node (kept_bytes begun.saved)) }
     ensures again { IfOk result (λ begun. ForSome begun.saved (λ bytes. CanRestart begun.node.query bytes.items)) }
+    ensures bounded { IfOk result (λ begun. AllBounded begun.node) }
 {
     match saved {
         None => Ok(with_nothing(alloc, query, None)),
@@ -40,6 +42,7 @@ fn go_on(alloc: Global, query: Query, bytes: Vec<u8>) -> Result<Begun, AllocErro
     ensures begins { IfOk result (λ begun. Begins (data_of query) (Some bytes.items) begun.refused
         begun.node (kept_bytes begun.saved)) }
     ensures again { IfOk result (λ begun. ForSome begun.saved (λ bytes. CanRestart begun.node.query bytes.items)) }
+    ensures bounded { IfOk result (λ begun. AllBounded begun.node) }
 {
     match Node::restart(alloc, query, bytes.as_slice()) {
         Ok(node) => Ok(Begun {
@@ -55,6 +58,7 @@ fn go_on(alloc: Global, query: Query, bytes: Vec<u8>) -> Result<Begun, AllocErro
 fn with_nothing(alloc: Global, query: Query, refused: Option<RestartFault>) -> Begun
     ensures query { result.node.query ≡ data_of query }
     ensures none { result.node.records ≡ [] }
+    ensures bounded { AllBounded result.node }
     ensures saved { result.saved ≡ None }
     ensures refused { result.refused ≡ refused }
 {

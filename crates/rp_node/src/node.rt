@@ -1,5 +1,5 @@
 //! Partitions by key.
-ghost use Rattle.std.specs.Prelude.{◌≡◌, ◌≢◌, ◌⊎◌, ◌<◌, ◌≤◌, [], Ok, Err, Some, IfErr, IfOk, OnOk};
+ghost use Rattle.std.specs.Prelude.{◌≡◌, ◌≢◌, ◌⊎◌, ◌-◌, ◌<◌, ◌≤◌, [], Ok, Err, Some, IfErr, IfOk, OnOk};
 ghost use Rattle.indexmap.specs.IndexMap.{index_map_len};
 ghost use Rattle.rp_query.specs.QueryView.{data_of};
 ghost use Rattle.rp_feed.specs.declared.answer.Taken.TheVariants.{New};
@@ -7,6 +7,7 @@ ghost use Rattle.rp_feed.specs.declared.packet.Packet.TheVariants.{Row as RowPac
 ghost use Rattle.rp_walker.specs.Polls.{PollLowers, PollTakes, TurnsAreCounted};
 ghost use Rattle.rp_node.specs.NodeSeen.{AllBounded, AllJoined, work_at};
 ghost use Rattle.rp_node.specs.Accepting.{Accepted, IsAnswered};
+ghost use Rattle.rp_node.specs.Bound.{KeyWorks};
 ghost use Rattle.rp_node.specs.Polling.{HoldsNoMoreAt, NodePolls};
 ghost use Rattle.rp_checkpoint.specs.Checkpoints.{checkpoint};
 ghost use Rattle.rp_node.specs.Keeping.{kept_of};
@@ -57,6 +58,7 @@ impl Node {
         ensures query { result.query ≡ data_of query }
         ensures none { result.records ≡ [] }
         ensures no_work { result.work ≡ [] }
+        ensures bounded { AllBounded result }
     {
         Node {
             alloc,
@@ -169,6 +171,8 @@ impl Node {
     /// Polls the partition of a key: takes at most `budget` turns, until an item comes or nothing is left to give. A
     /// budget of 0 answers `Paused` where the key is known, and changes nothing. After `OutOfMemory` the same item is
     /// still to come.
+    /// Where each condition judges its row alone, no test of a known row is open and all that fails is remembered, a poll
+    /// that finds no further match takes no more turns than what is left falls by, and one if it is idle.
     pub fn poll<L: Ledger>(
         &mut self,
         key: &[Value],
@@ -183,6 +187,7 @@ impl Node {
         ensures turns { TurnsAreCounted budget steps.old steps.new
             (work_at self.old key.now).entered (work_at self.new key.now).entered }
         ensures takes { IfOk result (PollTakes budget steps.old steps.new) }
+        ensures works { IfOk result (KeyWorks (steps.new - steps.old) self.old self.new key.now) }
         ensures held { OnOk result (1 ≤ budget → HoldsNoMoreAt self.new key.now) }
         ensures paused { budget ≡ 0 → (result ≡ Ok Poll.Paused) ⊎ (result ≡ Err NodeFault.UnknownPartition) }
         ensures nothing { budget ≡ 0 → (self.new ≡ self.old) × (steps.new ≡ steps.old) }

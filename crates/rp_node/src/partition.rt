@@ -1,15 +1,17 @@
 //! A partition at a node.
-ghost use Rattle.std.specs.Prelude.{◌≡◌, ℕ, ◌≤◌, List, OnOk, IfOk};
+ghost use Rattle.std.specs.Prelude.{◌≡◌, ℕ, ◌-◌, ◌≤◌, true, false, None, List, OnOk, IfOk};
 ghost use Rattle.rp_value.specs.declared.value.Value.{Value as Cell};
 ghost use Rattle.rp_query.specs.QueryView.{data_of};
 ghost use Rattle.rp_query.specs.declared.query.QueryData.{QueryData};
-ghost use Rattle.rp_feed.specs.Fed.{is_taken};
 ghost use Rattle.rp_feed.specs.declared.packet.Packet.TheVariants.{Row as RowPacket, Close as ClosePacket};
 ghost use Rattle.rp_walker.specs.Walking.{record_of};
+ghost use Rattle.rp_known.specs.Known.{Known};
+ghost use Rattle.rp_walker.specs.Bound.{SeenWorks, search_seen};
 ghost use Rattle.rp_walker.specs.Polls.{entered_by, PollLowers, PollTakes, TurnsAreCounted};
 ghost use Rattle.rp_schedules.specs.Records.{fresh, Fits};
 ghost use Rattle.rp_node.specs.Joined.{Joined, held_of, work_of};
-ghost use Rattle.rp_node.specs.Polling.{HoldsNoMore, PolledTo};
+ghost use Rattle.rp_node.specs.PartRows.{known_by};
+ghost use Rattle.rp_node.specs.Polling.{HoldsNoMore, OnlyDrops, PolledTo};
 ghost use Rattle.rp_node.specs.Taking.{KeepsKey, TakenBy};
 
 use crate::part_rows::PartRows;
@@ -17,7 +19,7 @@ use rp_feed::{Feed, FeedFault, Taken};
 use rp_query::Query;
 use rp_search::Steps;
 use rp_value::{Row, Value};
-use rp_walker::{Poll, Walker, law_walkers};
+use rp_walker::{Poll, Walker, law_walkers, law_work};
 use std::alloc::{AllocError, Global};
 use std::sync::ledger::Ledger;
 
@@ -34,6 +36,7 @@ impl Partition {
         ensures joined { (q : QueryData) → Joined q result }
         ensures held { held_of result ≡ fresh }
         ensures entered { entered_by result.walker ≡ 0 }
+        ensures no_search { (q : QueryData) (p : Known) → search_seen q p result.walker ≡ None }
     {
         let feed = Feed::new(alloc);
         let _front = feed.front();
@@ -52,6 +55,7 @@ impl Partition {
         rp_feed::law_rows();
         rp_feed::law_front();
         law_walkers();
+        law_work();
         let _plan = query.plan();
         let taken = self.feed.take(number, row);
         let _front = self.feed.front();
@@ -72,6 +76,7 @@ impl Partition {
         rp_feed::law_rows();
         rp_feed::law_front();
         law_walkers();
+        law_work();
         let _plan = query.plan();
         let taken = self.feed.close(count);
         let _front = self.feed.front();
@@ -95,6 +100,10 @@ impl Partition {
         ensures turns { TurnsAreCounted budget steps.old steps.new (entered_by self.old.walker)
             (entered_by self.new.walker) }
         ensures takes { IfOk result (PollTakes budget steps.old steps.new) }
+        ensures works { IfOk result (SeenWorks (steps.new - steps.old)
+            (data_of query.now) (known_by self.old.feed)
+            (work_of (data_of query.now) self.old).search (work_of (data_of query.now) self.new).search
+            (held_of self.old).state (held_of self.new).state) }
         ensures held { OnOk result (1 ≤ budget → HoldsNoMore (data_of query.now) (held_of self.new)) }
         ensures nothing { budget ≡ 0 → (result ≡ Ok Poll.Paused) × (self.new ≡ self.old) × (steps.new ≡ steps.old) }
     {
@@ -102,6 +111,7 @@ impl Partition {
             return Ok(Poll::Paused);
         }
         law_walkers();
+        law_work();
         rp_schedules::law_schedules();
         rp_feed::law_rows();
         rp_feed::law_front();
@@ -119,14 +129,18 @@ impl Partition {
         ensures keeps { KeepsKey (data_of query.now) self.old.feed.rows self.new.feed.rows }
         ensures state { record_of self.new.walker
             ≡ record (record_of self.old.walker) { first = self.new.feed.first } }
-        ensures taken { (n : ℕ) → is_taken self.new.feed n ≡ is_taken self.old.feed n }
-        ensures closed { self.new.feed.closed ≡ self.old.feed.closed }
+        ensures drops { OnlyDrops self.old.feed self.new.feed }
         ensures fits { (whole : List (List Cell)) → Fits (data_of query.now) whole (held_of self.old) →
             Fits (data_of query.now) whole (held_of self.new) }
-        ensures left { work_of (data_of query.now) self.new ≡ work_of (data_of query.now) self.old }
+        ensures left { (work_of (data_of query.now) self.new).left ≡ (work_of (data_of query.now) self.old).left }
+        ensures entered { entered_by self.new.walker ≡ entered_by self.old.walker }
+        ensures search { (record_of self.old.walker).over ≡ false →
+            (work_of (data_of query.now) self.new).search ≡ (work_of (data_of query.now) self.old).search }
+        ensures let_go { (record_of self.old.walker).over ≡ true → (work_of (data_of query.now) self.new).search ≡ None }
         ensures held { HoldsNoMore (data_of query.now) (held_of self.new) }
     {
         law_walkers();
+        law_work();
         rp_walker::law_left();
         rp_feed::law_rows();
         rp_feed::law_front();

@@ -1,11 +1,12 @@
-use Rattle.std.proofs.Common.{inl, ◌∙◌, ◌≤◌, Result, IfOk, OnOk, refl, sym, subst}
+use Rattle.std.proofs.Common.{ℕ, ◌-◌, inl, ◌∙◌, ◌≤◌, Result, IfOk, OnOk, refl, sym, subst}
 use Rattle.rp_query.specs.QueryView.{data_of}
 use Rattle.rp_walker.specs.declared.poll.Poll.{Poll}
 use Rattle.rp_walker.specs.Polls.{PollLowers}
 use Rattle.rp_node.specs.declared.fault.NodeFault.{NodeFault}
 use Rattle.rp_node.specs.NodeSeen.{node_by, work_at}
+use Rattle.rp_node.specs.Bound.{KeyWorks}
 use Rattle.rp_node.specs.Polling.{HoldsNoMoreAt, NodePolls}
-use Rattle.rp_node.proofs.Nodes.{joined_at, all_bounded, poll_unknown, poll_joined, poll_polls, poll_lowers, poll_turns, poll_held, poll_paused, poll_nothing}
+use Rattle.rp_node.proofs.Nodes.{joined_at, all_bounded, poll_unknown, poll_joined, poll_polls, poll_lowers, poll_turns, poll_held, poll_works, poll_paused, poll_nothing}
 use Rattle.rp_node.proofs.node.Node.poll.Goals as goal
 
 pub poll_at-answer-requires-clause-joined : goal.poll_at-answer-requires-clause-joined
@@ -79,3 +80,13 @@ pub returns-in-Some-clause-paused : goal.returns-in-Some-clause-paused
 returns-in-Some-clause-paused g c = λ z. inl (c.told_poll.ensures
     ∙ poll_paused (data_of c.self.inside.query) c.args.key.now c.self.inside.partitions.entries c.poll_at-answer.new.partitions.entries c.in-Some.place c.self.invariant (sym c.in-Some.ensures.index)
     ((c.law_same_rows.ensures c.args.key.now c.args.key.now).1 refl) c.args.budget c.args.steps.now c.poll_at-answer.new.steps c.poll_at-answer.result c.poll_at-answer.ensures.polled z)
+
+pub returns-in-Some-clause-works : goal.returns-in-Some-clause-works
+returns-in-Some-clause-works g c =
+    let q = data_of c.self.inside.query in
+    let es = c.self.inside.partitions.entries in
+    let new = c.poll_at-answer.new.partitions.entries in
+    let taken : ℕ = c.poll_at-answer.new.steps - c.args.steps.now in
+    rw (← c.self.view_is) (subst (λ (r : Result Poll NodeFault). IfOk r (KeyWorks taken (node_by q es) (node_by q new) c.args.key.now)) (sym c.told_poll.ensures)
+    (poll_works q c.args.key.now es new c.in-Some.place c.self.invariant (sym c.in-Some.ensures.index)
+    ((c.law_same_rows.ensures c.args.key.now c.args.key.now).1 refl) c.args.budget c.args.steps.now c.poll_at-answer.new.steps c.poll_at-answer.result c.poll_at-answer.ensures.polled))

@@ -10,7 +10,7 @@ use Rattle.rp_node.specs.PartRows.{known_by}
 use Rattle.rp_known.specs.Known.{Known}
 use Rattle.rp_node.proofs.Rows.{known_alike}
 use Rattle.rp_node.proofs.Feeds.{Feeds}
-use Rattle.rp_node.proofs.Dropping.{Forgets, forgets, needed, bound_after, stands_after, left_after, in_rows_after, holds_after, fits_after, within_front}
+use Rattle.rp_node.proofs.Dropping.{Forgets, forgets, needed, bound_after, stands_after, left_after, search_after, in_rows_after, holds_after, drops_after, fits_after, within_front}
 use Rattle.rp_node.proofs.Keys.{dropped_keeps}
 use Rattle.rp_node.proofs.partition.Partition.drop_rows.Goals as goal
 
@@ -71,14 +71,26 @@ returns-clause-joined c = record {
   in_rows = in_rows_after (feeds c) (q c) (fed c) (new c) c.args.self.now.walker (ordered c) c.horizon-horizon.result (horizon c) (forgot c) (can c) c.front-front.ensures.feed.ordered (record_of c.keep_from.new.self) (state c) c.requires.joined.in_rows;
 }
 
+pub returns-clause-drops : goal.returns-clause-drops
+returns-clause-drops c =
+    drops_after (feeds c) (fed c) (new c) (min c.horizon-horizon.result (front_of (fed c) + 1)) (ordered c)
+    (within_front (feeds c) (q c) (fed c) (new c) c.args.self.now.walker (ordered c) c.horizon-horizon.result (horizon c) (forgot c) (can c)) (forgot c)
+
 pub returns-clause-keeps : goal.returns-clause-keeps
 returns-clause-keeps c = dropped_keeps (q c) (min c.horizon-horizon.result (front_of (fed c) + 1)) (fed c) (new c) (forgot c)
 
 pub returns-clause-left : goal.returns-clause-left
 returns-clause-left c =
-    let l = c.keep_from.ensures.left (q c) (known_by (new c))
-    ∙ left_after (feeds c) (q c) (fed c) (new c) c.args.self.now.walker (ordered c) c.horizon-horizon.result (horizon c) (forgot c) (can c) c.law_left.ensures.same c.plan-plan.ensures.sound c.requires.joined.stands in
-    λ i. record { left = l i; entered = c.keep_from.ensures.entered i }
+    c.keep_from.ensures.left (q c) (known_by (new c))
+    ∙ left_after (feeds c) (q c) (fed c) (new c) c.args.self.now.walker (ordered c) c.horizon-horizon.result (horizon c) (forgot c) (can c) c.law_left.ensures.same c.plan-plan.ensures.sound c.requires.joined.stands
+
+pub returns-clause-search : goal.returns-clause-search
+returns-clause-search c = λ going.
+    c.keep_from.ensures.seen going (q c) (known_by (new c))
+    ∙ search_after (feeds c) (q c) (fed c) (new c) c.args.self.now.walker (ordered c) c.horizon-horizon.result (horizon c) (forgot c) (can c) c.law_work.ensures.same c.front-front.ensures.feed.ordered
+
+pub returns-clause-let_go : goal.returns-clause-let_go
+returns-clause-let_go c = λ over. c.keep_from.ensures.let_go over (q c) (known_by (new c))
 
 pub returns-clause-fits : goal.returns-clause-fits
 returns-clause-fits c = λ whole fits.
