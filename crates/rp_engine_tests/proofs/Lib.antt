@@ -1,1 +1,1 @@
-mod GoingOn
+pub mod GoingOn

@@ -75,6 +75,7 @@ fn begun(alloc: Global, query: &Query) -> Result<(Search, Totals), AllocError>
 }
 
 /// A run over the rows that are known now.
+#[tactic(auto, using(crate::proofs::GoingOn::for_same))]
 fn run<L: Ledger>(
     query: &Query,
     rows: &AllRows,
