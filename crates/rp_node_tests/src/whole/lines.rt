@@ -107,7 +107,8 @@ fn more_than_a_block(rt: HostRuntime) -> Result<(), Fail> {
 }
 
 /// Partition `a` is answered at once. In `b`, whose last part never comes, each start row has twice as many words to be
-/// refused as the row after it: far more turns in all than a poll takes.
+/// refused as the row after it: far more turns in all than a poll takes. Its test counts what is mapped before, so that no refusal
+/// is remembered.
 fn slow(alloc: Global) -> Result<String, AllocError> {
     let mut input = String::from_str(alloc, "sym,t,p\na,1,1\na,2,0\n")?;
     for row in 1..16 {
@@ -116,7 +117,8 @@ fn slow(alloc: Global) -> Result<String, AllocError> {
     Ok(input)
 }
 
-const SLOW: &str = "PARTITION BY sym MEASURES COUNT(*) AS c PATTERN ((A | B)* C) DEFINE C AS p = 0";
+const SLOW: &str =
+    "PARTITION BY sym MEASURES COUNT(*) AS c PATTERN ((A | B)* C) DEFINE C AS p = 0 * COUNT(A.*)";
 
 /// What was found in `a` is written before the search in `b` is over.
 #[test]
