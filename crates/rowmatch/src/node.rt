@@ -38,7 +38,8 @@ fn begun(rt: &HostRuntime, job: &NodeJob, query: Query) -> Result<Begun, Program
     let saved = read_state(rt, job.state.as_str())?;
     let begun = begin(rt.alloc(), query, saved)?;
     if let Some(why) = begun.refused {
-        let _ = eprintln!(rt; "rowmatch: checkpoint refused: {why}");
+        let fault = ProgramFault::Checkpoint(why);
+        let _ = eprintln!(rt; "rowmatch: {fault}");
     }
     Ok(begun)
 }
