@@ -1,4 +1,5 @@
--- The rows that are kept, as a known partition. The lemmas stand here and not in proofs/, since what an impl owes its trait can only be cited from specs/.
+-- Inside: the rows that are kept, as a known partition. The lemmas stand here and not in proofs/, since what an impl owes its trait can
+-- only be cited from specs/.
 use Rattle.std.proofs.Common.{◌≡◌, ℕ, zero, suc, ◌+◌, ◌-◌, ◌^◌, ◌<◌, ◌≤◌, List, [], ◌∷◌, ◌++◌, length, length-append, replicate, Bool, true, false, cond, None, refl, ap, ◌∙◌, arith}
 use Rattle.std.specs.Prelude.{slice_get, ◌==◌}
 use Rattle.std.proofs.lemmas.List.{length-replicate}

@@ -1,4 +1,4 @@
--- What contracts see of a matcher.
+-- Inside: what contracts see of a matcher.
 use Rattle.std.specs.Prelude.{ℕ, refl}
 use Rattle.std.specs.Coded.{Coded, code_by, coded×, coded_list, coded_ℕ}
 use Rattle.rp_value.specs.contracts.value.Value.{the_row as value_row}

@@ -1,4 +1,4 @@
--- How a matcher's parts stand to each other, and what a poll comes to.
+-- Inside: how a matcher's parts stand to each other, and what a poll comes to.
 use Rattle.std.specs.Prelude.{◌≡◌, ℕ, ◌≤◌, ◌<◌, ◌⊎◌, false, Result, IfOk}
 use Rattle.std.specs.declared.alloc.AllocError.{AllocError}
 use Rattle.rp_query.specs.declared.query.QueryData.{QueryData}

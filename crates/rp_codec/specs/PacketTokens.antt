@@ -1,4 +1,4 @@
--- The tokens of the lines of packets and polls.
+-- Inside: the tokens of the lines of packets and polls.
 use Rattle.std.specs.Prelude.{ℕ, ◌++◌, List, [], ◌∷◌, codes, decimal}
 use Rattle.json.specs.Token.{Token, begin_object, end_object, key, number}
 use Rattle.rp_value.specs.declared.value.Value.{Value}

@@ -1,4 +1,4 @@
--- The tokens of a reply's line.
+-- Inside: the tokens of a reply's line.
 use Rattle.std.specs.Prelude.{ℕ, ◌++◌, List, [], ◌∷◌, map, true, Option, Some, None, codes, decimal}
 use Rattle.std.specs.Fmt.{signed_decimal}
 use Rattle.json.specs.Token.{Token, begin_object, end_object, begin_array, end_array}

@@ -1,4 +1,4 @@
--- A reply whose numbers are in the ranges of their types, as each reply's are.
+-- Inside: a reply whose numbers are in the ranges of their types, as each reply's are.
 use Rattle.std.specs.Prelude.{ℕ, ◌<◌, ◌^◌, List, Option, Some, None, All, ⊤}
 use Rattle.std.specs.Int.Signed.{mag}
 use Rattle.rp_value.specs.declared.value.Value.{Value}

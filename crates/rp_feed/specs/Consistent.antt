@@ -1,4 +1,4 @@
--- What is true of a feed's fields.
+-- Inside: what is true of a feed's fields.
 use Rattle.std.specs.Prelude.{◌≡◌, ℕ, ◌+◌, ◌≤◌, length, Option, None, Some, ⊤}
 use Rattle.rp_feed.specs.Limits.{greatest_number, most_beyond}
 use Rattle.rp_feed.specs.Slots.{Slots, leading, EndsFilled}

@@ -1,4 +1,4 @@
--- What is cut off the bytes that were read last.
+-- Inside: what is cut off the bytes that were read last.
 use Rattle.std.specs.Prelude.{◌≡◌, ◌<◌, ◌≤◌, List, ℕ, [], ◌∷◌, ◌++◌, take, Bool, MatchBool}
 use Rattle.rp_io.specs.Lines.{IsLfFree, line_feed}
 use Rattle.rp_io.specs.Pending.{pending_of}

@@ -1,4 +1,4 @@
--- What is read and not yet cut into lines.
+-- Inside: what is read and not yet cut into lines.
 use Rattle.std.specs.Prelude.{◌≡◌, ℕ, ◌+◌, ◌-◌, ◌*◌, List, ◌∷◌, ◌++◌, drop, vec_len, Option}
 use Rattle.std.specs.Io.KnownBytes.{prepend_known}
 use Rattle.rp_io.specs.declared.lines.Lines.{Lines}

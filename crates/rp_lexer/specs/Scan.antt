@@ -1,4 +1,4 @@
--- What the scanners find in what is left of a text. No public contract cites it: it stands here since a contract may name
+-- Inside: what the scanners find in what is left of a text. No public contract cites it: it stands here since a contract may name
 -- only what is in specs/.
 use Rattle.std.specs.Prelude.{◌≡◌, ◌≢◌, ℕ, ◌<◌, ◌≤◌, Bool, true, false, if◌then◌else◌, Option, Some, None, List, [], ◌∷◌, length, map, take, slice_index}
 use Rattle.std.specs.Borrow.{Bor}

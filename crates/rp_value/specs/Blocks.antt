@@ -1,4 +1,4 @@
--- Rows whose cells lie one after another.
+-- Inside: rows whose cells lie one after another.
 use Rattle.std.specs.Prelude.{ℕ, zero, suc, List, [], ◌∷◌, take, drop}
 
 -- so many lists of this many cells each, cut off from the front one after another

@@ -1,4 +1,4 @@
--- The rows of a list that is made row by row.
+-- Inside: the rows of a list that is made row by row.
 use Rattle.std.specs.Prelude.{List, ◌++◌}
 use Rattle.std.specs.List.{flat_map}
 use Rattle.rp_value.specs.Blocks.{cut_apart}

@@ -1,4 +1,4 @@
--- How items are written: those of partitions one after another, those of a partition one at a time.
+-- Inside: how items are written: those of partitions one after another, those of a partition one at a time.
 use Rattle.std.specs.Prelude.{◌≡◌, ℕ, suc, ◌+◌, List, [], ◌∷◌, ◌++◌, drop, Option}
 use Rattle.std.specs.Io.KnownBytes.{Appends}
 use Rattle.std.specs.List.{flat_map}

@@ -1,4 +1,4 @@
--- Lines that are the compact text of a request.
+-- Inside: lines that are the compact text of a request.
 use Rattle.std.specs.Prelude.{◌≡◌, ◌<◌, ◌^◌, ℕ, List}
 use Rattle.rp_feed.specs.declared.packet.Packet.TheVariants as packet
 use Rattle.rp_codec.specs.Within.{AreCells}
