@@ -3,10 +3,9 @@
 import os
 import resource
 import socket
-import struct
+from itertools import groupby
 
-import sockets
-from sockets import CLAUSE, TABLE, Node, close, main, poll, read_all, row, run, talk
+from sockets import CLAUSE, TABLE, Conversation, Node, close, main, poll, read_all, row, run, sealed, talk
 
 LINES = (
     '{"row":1,"cells":["x",1,10]}\n{"poll":["x"],"budget":0}\n{"poll":["x"],"budget":1000}\n'
@@ -42,6 +41,51 @@ def refusals(checks, folder):
     )
     checks.same("refusals, the last without a line feed", talk(node, lines), wanted)
     checks.same("six lines", node.ended()[1], "rowmatch: connection 1: 6 lines, saved\n")
+
+
+IDLE, PAUSED = '{"idle":["x"]}\n', '{"paused":["x"]}\n'
+
+
+def paused_between(checks, folder):
+    """Polls of one turn: the items are those of long polls, and each comes after polls that are paused, be it after all rows or after
+    each. (Between two replies that aren't paused lie two turns at least: a row that comes is taken up, and then the next one is.)"""
+    node = Node(f"{folder}/state", connections=2)
+    of_y = ROWS.replace('"x"', '"y"') + close(6, ["y"])
+    with Conversation(node) as conversation:
+        told = []
+        for line in ROWS.splitlines(keepends=True) + [close(6, ["x"])]:
+            checks.same("a row, polled by turns", conversation.ask(line), '{"taken":"new"}\n')
+            told.append([reply for reply, _ in groupby(conversation.drain(["x"], 1))])
+    waits = [[PAUSED, IDLE]] * 5
+    checks.same("paused after each row", told, waits + [[PAUSED, ITEM, PAUSED, IDLE], [PAUSED, END, IDLE]])
+    with Conversation(node) as conversation:
+        for line in of_y.splitlines(keepends=True):
+            conversation.ask(line)
+        told = [reply.replace('"y"', '"x"') for reply, _ in groupby(conversation.drain(["y"], 1))]
+    checks.same("paused between the items", told, [PAUSED, ITEM, PAUSED, END, IDLE])
+    checks.same("the node's end", node.ended()[0], 0)
+
+
+def no_turn(checks, folder):
+    """A poll without a turn is paused, and changes nothing: neither what is kept, nor how many turns are left to the next item."""
+    states = [f"{folder}/a", f"{folder}/b"]
+    for state, polls in zip(states, ("", poll(["x"], 0) * 2)):
+        node = Node(state)
+        replies = talk(node, ROWS + close(6, ["x"]) + polls)
+        checks.same("polls without a turn", replies.splitlines(keepends=True)[7:], [PAUSED] * polls.count("\n"))
+        node.ended()
+    first, second = (open(state, "rb").read() for state in states)
+    checks.same("what is kept after them", second, first)
+    node = Node(states[0])
+    with Conversation(node) as conversation:
+        by_turns = conversation.drain(["x"], 1)
+    node.ended()
+    node = Node(states[1])
+    with Conversation(node) as conversation:
+        for number, reply in enumerate(by_turns, 1):
+            checks.same(f"no turn before poll {number}", conversation.ask(poll(["x"], 0)), PAUSED)
+            checks.same(f"poll {number} of one turn", conversation.ask(poll(["x"], 1)), reply)
+    node.ended()
 
 
 def several_connections(checks, folder):
@@ -103,6 +147,29 @@ def broken_states(checks, folder):
     node = Node(state)
     checks.same("the file as it was", "".join(node.told), "")
     checks.same("the file as it was: known", talk(node, poll(["x"])), '{"idle":["x"]}\n')
+    node.ended()
+
+
+def altered_states(checks, folder):
+    """Files whose digest is right and whose object isn't: the node says why, and begins with nothing."""
+    state = f"{folder}/state"
+    node = Node(state)
+    talk(node, ROWS + poll(["x"]) * 2)
+    node.ended()
+    with open(state, "rb") as file:
+        _, text = file.read().split(b"\n")
+    refused(checks, state, sealed(b"[]"), "a list", "NotJson")
+    refused(checks, state, sealed(text[:-1]), "an object that doesn't end", "NotJson")
+    for old, new, kind in [
+        (b'"version":2', b'"version":3', "Version"), (b',"version":2', b"", "Version"), (b'"over":false,', b"", "BadField"),
+        (b'"given":"1"', b'"given":1', "BadField"), (b'"key":["x"]', b'"key":[1]', "BadState"), (b'"at":6', b'"at":9', "BadState"),
+    ]:
+        checks.same(f"{old} is there once", text.count(old), 1)
+        refused(checks, state, sealed(text.replace(old, new)), f"{old} as {new}", kind)
+    with open(state, "wb") as file:
+        file.write(sealed(text))
+    node = Node(state)
+    checks.same("the object as it was", ("".join(node.told), talk(node, poll(["x"]))), ("", IDLE))
     node.ended()
 
 
@@ -183,14 +250,25 @@ def rude_clients(checks, folder):
     checks.same("the length of the longest line", len(longest), 65537)
     checks.same("the longest line and one longer", talk(node, longest + row(1, [text + "y", 1, 10]) + row(1, ["x", 1, 10])),
                 '{"taken":"new"}\n{"refused":"TooLong"}\n{"taken":"new"}\n')
-    with node.connect() as connection:
-        connection.sendall(row(2, ["x", 2, 8]).encode())
-        checks.same("a reply before the reset", connection.recv(100), b'{"taken":"new"}\n')
-        connection.setsockopt(socket.SOL_SOCKET, socket.SO_LINGER, struct.pack("ii", 1, 0))
+    with Conversation(node) as conversation:
+        checks.same("a reply before the reset", conversation.ask(row(2, ["x", 2, 8])), '{"taken":"new"}\n')
+        conversation.reset()
     checks.same("what came before the reset was kept", talk(node, row(2, ["x", 2, 8])), '{"taken":"repeat"}\n')
     status, told = node.ended()
     checks.same("a client that resets: status", status, 0)
     checks.true("a client that resets: told", "rowmatch: device: read\n" in told, told)
+
+
+def quiet_node(checks, folder):
+    """Without --verbose a node says nothing of connections, but for the error of each that has one."""
+    node = Node(f"{folder}/state", connections=4, quiet=True)
+    checks.same("a quiet node answers", talk(node, row(1, ["x", 1, 10])), '{"taken":"new"}\n')
+    for number in (2, 3):
+        with Conversation(node) as conversation:
+            checks.same("a reply before the reset", conversation.ask(row(number, ["x", number, 8])), '{"taken":"new"}\n')
+            conversation.reset()
+    checks.same("and then", talk(node, row(3, ["x", 3, 8])), '{"taken":"repeat"}\n')
+    checks.same("what a quiet node says", node.ended(), (0, "rowmatch: device: read\n" * 2))
 
 
 def silent_clients(checks, folder):
@@ -250,6 +328,6 @@ def texts(checks, folder):
 
 if __name__ == "__main__":
     main([
-        worked_lines, refusals, several_connections, killed, broken_states, addresses, states_that_fail, full_disk,
-        read_only_folder, rude_clients, silent_clients, many_connections, texts,
+        worked_lines, refusals, paused_between, no_turn, several_connections, killed, broken_states, altered_states, addresses,
+        states_that_fail, full_disk, read_only_folder, rude_clients, quiet_node, silent_clients, many_connections, texts,
     ])

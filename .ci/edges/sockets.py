@@ -1,13 +1,16 @@
 """What the edges of `node` and `source` share: a node that runs, and lines over a connection."""
+import hashlib
 import json
 import os
 import shutil
 import signal
 import socket
+import struct
 import subprocess
 import sys
 import tempfile
 import threading
+import time
 
 TABLE = "sym text, t int, p int"
 # a fall and then a rise
@@ -19,15 +22,17 @@ PROGRAM = os.path.abspath(sys.argv[1] if len(sys.argv) > 1 else "crates/rowmatch
 
 
 class Node:
-    """A node of the program, listening at a port of loopback that the system chose."""
+    """A node of the program, listening at a port of loopback that the system chose. A quiet one, without --verbose, doesn't say which:
+    it is given one that was free. With `variables` of the environment it runs under these too."""
 
-    def __init__(self, state, connections=1, clause=CLAUSE, options=(), limit=None, table=TABLE):
-        words = [PROGRAM, "node", "--table", table, "--clause", clause, "--listen", "127.0.0.1:0"]
-        words += ["--state", state, "--connections", str(connections), "--verbose", *options]
-        self.process = subprocess.Popen(words, stdin=subprocess.DEVNULL, stderr=subprocess.PIPE, text=True, preexec_fn=limit)
+    def __init__(self, state, connections=1, clause=CLAUSE, options=(), limit=None, table=TABLE, quiet=False, variables=None):
+        self.port = free_port() if quiet else None
+        words = [PROGRAM, "node", "--table", table, "--clause", clause, "--listen", f"127.0.0.1:{self.port or 0}"]
+        words += ["--state", state, "--connections", str(connections), *([] if quiet else ["--verbose"]), *options]
+        self.process = subprocess.Popen(words, stdin=subprocess.DEVNULL, stderr=subprocess.PIPE, text=True, preexec_fn=limit,
+                                        env={**os.environ, **(variables or {})})
         self.told = []
-        self.port = None
-        for line in self.process.stderr:
+        for line in [] if quiet else self.process.stderr:
             if line.startswith("rowmatch: listening at "):
                 self.port = int(line.rsplit(":", 1)[1])
                 break
@@ -40,9 +45,17 @@ class Node:
             self.told.append(line)
 
     def connect(self):
-        connection = socket.create_connection(("127.0.0.1", self.port), timeout=60)
-        connection.setsockopt(socket.IPPROTO_TCP, socket.TCP_NODELAY, 1)
-        return connection
+        """A connection. A node that has just begun may not listen yet."""
+        until = time.monotonic() + 60
+        while True:
+            try:
+                connection = socket.create_connection(("127.0.0.1", self.port), timeout=60)
+                connection.setsockopt(socket.IPPROTO_TCP, socket.TCP_NODELAY, 1)
+                return connection
+            except ConnectionRefusedError:
+                if self.process.poll() is not None or time.monotonic() > until:
+                    raise
+                time.sleep(0.01)
 
     def kill(self):
         self.process.send_signal(signal.SIGKILL)
@@ -53,6 +66,11 @@ class Node:
         status = self.process.wait(timeout=120)
         self.reader.join(timeout=60)
         return status, "".join(self.told)
+
+
+def free_port():
+    with socket.create_server(("127.0.0.1", 0)) as server:
+        return server.getsockname()[1]
 
 
 def read_all(connection):
@@ -90,11 +108,41 @@ def send_all(connection, text):
         pass
 
 
-def run(*words, stdin=b""):
+class Conversation:
+    """A connection to a node over which each line waits for its reply."""
+
+    def __init__(self, node):
+        self.connection = node.connect()
+        self.replies = self.connection.makefile("rb")
+
+    def __enter__(self):
+        return self
+
+    def __exit__(self, *_):
+        self.replies.close()
+        self.connection.close()
+
+    def ask(self, line):
+        self.connection.sendall(line.encode())
+        return self.replies.readline().decode()
+
+    def drain(self, key, budget=100000):
+        """The replies to polls until one is idle, or refused, or none comes."""
+        told = [self.ask(poll(key, budget))]
+        while told[-1] and not told[-1].startswith(('{"idle":', '{"refused":')):
+            told.append(self.ask(poll(key, budget)))
+        return told
+
+    def reset(self):
+        """Ends the connection by a reset in place of an end."""
+        self.connection.setsockopt(socket.SOL_SOCKET, socket.SO_LINGER, struct.pack("ii", 1, 0))
+
+
+def run(*words, stdin=b"", variables=None):
     """Status, standard output and standard error of the program."""
     if isinstance(stdin, str):
         stdin = stdin.encode()
-    done = subprocess.run([PROGRAM, *words], input=stdin, capture_output=True, timeout=300)
+    done = subprocess.run([PROGRAM, *words], input=stdin, capture_output=True, timeout=300, env={**os.environ, **(variables or {})})
     return done.returncode, done.stdout.decode(), done.stderr.decode()
 
 
@@ -108,6 +156,11 @@ def poll(key, budget=100000):
 
 def close(count, key):
     return json.dumps({"close": count, "key": key}, separators=(",", ":")) + "\n"
+
+
+def sealed(text):
+    """A file of a node with this object, behind its digest."""
+    return hashlib.sha256(text).hexdigest().encode() + b"\n" + text
 
 
 class Checks:

@@ -6,7 +6,7 @@ import socket
 import subprocess
 import threading
 
-from sockets import CLAUSE, PROGRAM, TABLE, Node, main, poll, row, run, talk
+from sockets import CLAUSE, PROGRAM, TABLE, Node, free_port, main, poll, row, run, talk
 
 CSV = "sym,t,p\nx,2,8\ny,1,5\nx,1,10\nx,3,6\nx,4,7\nx,6,9\nx,5,9\n"
 ITEMS = [
@@ -137,10 +137,33 @@ def bad_peers(checks, folder):
     for name, replies, wanted in cases:
         checks.same(name, source(peer(replies), stdin=one), wanted)
     good = [new, idle, new, end, idle]
-    status, _, told = source(peer(good), peer(['{"refused":"TooFar"}\n']), stdin=one)
-    checks.same("the second node refuses", (status, told), (1, "rowmatch: node 2: refused\n"))
-    status, _, told = source(peer(good), peer(good), peer([idle]), stdin=one)
-    checks.same("a bad reply of the third node", (status, told), (1, "rowmatch: node 3: bad reply\n"))
+    cases = [
+        ("the second node refuses", [peer(['{"refused":"TooFar"}\n'])], (1, "1 " + end, "rowmatch: node 2: refused\n")),
+        ("it answers what can't be", [peer(["nope\n"])], (1, "1 " + end, "rowmatch: node 2: bad reply\n")),
+        ("it ends without a reply", [peer([])], (1, "1 " + end, "rowmatch: node 2: bad reply\n")),
+        ("it refuses behind an item", [peer([new, end, '{"refused":"UnknownPartition"}\n'])],
+         (1, "1 " + end + "2 " + end, "rowmatch: node 2: refused\n")),
+        ("it isn't there", [f"127.0.0.1:{free_port()}"], (3, "1 " + end, "rowmatch: device: connect\n")),
+        ("a bad reply of the third node", [peer(good), peer([idle])], (1, "1 " + end + "2 " + end, "rowmatch: node 3: bad reply\n")),
+    ]
+    for name, others, wanted in cases:
+        checks.same(name, source(peer(good), *others, stdin=one), wanted)
+
+
+def streams(checks, folder):
+    """Standard output that takes nothing, standard input that is a folder, and an input without a row."""
+    node = Node(f"{folder}/state", connections=2)
+    words = [PROGRAM, "source", *TEXTS, f"127.0.0.1:{node.port}"]
+    with open("/dev/full", "wb") as full:
+        done = subprocess.run(words, input=CSV.encode(), stdout=full, stderr=subprocess.PIPE, timeout=60)
+    checks.same("items that are not taken", (done.returncode, done.stderr), (3, b"rowmatch: device: write\n"))
+    checks.same("no row", source(words[-1], stdin="sym,t,p\n"), (0, "", ""))
+    told = node.ended()[1].splitlines()
+    checks.same("nothing is sent without a row", told[-1], "rowmatch: connection 2: 0 lines, saved")
+    place = os.open(folder, os.O_RDONLY)
+    done = subprocess.run(words, stdin=place, capture_output=True, timeout=60)
+    os.close(place)
+    checks.same("a folder as input", (done.returncode, done.stdout, done.stderr), (3, b"", b"rowmatch: device: read\n"))
 
 
 def faults(checks, folder):
@@ -171,4 +194,4 @@ def small_budget(checks, folder):
 
 
 if __name__ == "__main__":
-    main([two_nodes, examples, killed, bad_peers, faults, small_budget])
+    main([two_nodes, examples, killed, bad_peers, streams, faults, small_budget])
