@@ -169,7 +169,7 @@ impl Choices {
 
     /// Takes up the preferred choice, over the rows 1 to n and that end. Where memory is refused, nothing is said of the
     /// choices on the stack: `reset` them.
-    #[inline]
+    #[inline(always)]
     pub fn take_up(&mut self, n: u64, end: End) -> Result<Taken, AllocError>
         requires { n < most_u64 }
         ensures whole { IsSameWhole self.old self.new }
@@ -184,6 +184,7 @@ impl Choices {
     }
 
     /// Puts the whole on the stack, if nothing was taken up yet.
+    #[inline(always)]
     fn begin(&mut self) -> Result<(), AllocError>
         ensures whole { IsSameWhole self.old self.new }
         ensures begun { OnOk result (HasBegun self.new) }
@@ -235,7 +236,7 @@ impl Choices {
     }
 
     /// The row is mapped as the preferred choice says.
-    #[inline]
+    #[inline(always)]
     pub fn admit(&mut self) -> Result<(), AllocError>
         requires { AtRow self.old }
         ensures whole { IsSameWhole self.old self.new }
@@ -256,7 +257,7 @@ impl Choices {
     }
 
     /// The preferred choice is given up. It takes no memory.
-    #[inline]
+    #[inline(always)]
     pub fn give_up(&mut self)
         requires { HasTop self.old }
         ensures whole { IsSameWhole self.old self.new }

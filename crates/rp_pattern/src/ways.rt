@@ -110,6 +110,7 @@ impl Ways {
     }
 
     /// Drops all choices, and keeps their room.
+    #[inline(never)]
     pub(crate) fn clear(&mut self)
         ensures kept { kept_of self.new ≡ kept_of self.old }
         ensures cleared { stack_of self.new ≡ [] }
@@ -121,6 +122,7 @@ impl Ways {
     }
 
     /// Puts the whole pattern on the empty stack. Where memory is refused, the stack is empty.
+    #[inline(never)]
     pub(crate) fn begin(&mut self, start: u64) -> Result<(), AllocError>
         requires { stack_of self.old ≡ [] }
         ensures kept { kept_of self.new ≡ kept_of self.old }
