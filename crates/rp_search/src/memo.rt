@@ -135,16 +135,15 @@ impl Memo {
         ensures lasts { LastsAll self.old → LastsAll self.new }
         ensures asks { LastsAll self.old → (self.new.marks ≡ []) ⊎ (0 < result) }
     {
+        let Some(mark) = self.marks.top() else {
+            return 0;
+        };
+        let until = mark.until;
         self.allowed = self.allowed.saturating_add(4);
-        match self.marks.top() {
-            None => 0,
-            Some(mark) => {
-                if mark.until == u64::MAX {
-                    return self.allowed;
-                }
-                self.allowed.min(mark.until.saturating_sub(start))
-            }
+        if until == u64::MAX {
+            return self.allowed;
         }
+        self.allowed.min(until.saturating_sub(start))
     }
 
     /// From the start row to that one start rows were looked at.

@@ -57,7 +57,7 @@ impl Search {
     ghost use Rattle.rp_pattern.specs.Choices.{kept, start_of, top_weight};
     ghost use Rattle.rp_pattern.specs.Ways.{IsNumbered, all_weight};
     ghost use Rattle.rp_search.specs.Asked.{AreBelow};
-    ghost use Rattle.rp_search.specs.Bound.{BeginsWork, LastsForEver, MovesWork, RunWorks, Works};
+    ghost use Rattle.rp_search.specs.Bound.{BeginsWork, LastsForEver, MovesWork, RunWorks, Works, turns_before};
     ghost use Rattle.rp_search.specs.Fits.{MarksStand, MemoStands, SearchFits, left_by, StandsBy, StandsAtRowBy};
     ghost use Rattle.rp_search.specs.Lasting.{OpensAlike};
     ghost use Rattle.rp_search.specs.Memo.{IsDeadTop, IsMarkOfTop, MeantBy, Remembers};
@@ -99,18 +99,20 @@ impl Search {
         })
     }
 
-    /// Begins at another row, as a new search for the same pattern does. It takes no memory, and keeps the room that it
-    /// has. Tests that are used further are to be cut back to no label.
+    /// Begins at another row, as a new search for the same pattern does, for which no turns are counted yet. It takes no
+    /// memory, and keeps the room that it has. Tests that are used further are to be cut back to no label.
     pub fn restart(&mut self, start: u64)
         requires { 1 ≤ start }
         ensures pattern { IsForSamePattern self.old self.new }
         ensures start { start_of_search self.new ≡ start }
         ensures at_start { IsAtStart self.new }
         ensures works { BeginsWork self.new }
+        ensures anew { turns_before self.new ≡ 0 }
     {
         self.choices.restart(start);
         self.outlook = None;
         self.memo.forget();
+        self.turns = 0;
     }
 
     /// Begins at another row, as `restart` does, and remembers where it failed, for tests that go on.
@@ -438,6 +440,7 @@ impl Search {
 
     /// The preferred choice maps a new row: its label is entered, and its test asked. No word has a label that isn't
     /// tested, so a choice that begins with one has no words and is given up.
+    #[inline(always)]
     fn map_row<T: Tests>(&mut self, tests: &mut T) -> Result<(), AllocError>
         requires covers { Covers (T.asked (T.subject tests.old)) self.old }
         requires none { self.old.outlook ≡ None }
