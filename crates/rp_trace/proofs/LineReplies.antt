@@ -9,6 +9,8 @@ use Rattle.rp_words.specs.LabelLaws.{IsBelow}
 use Rattle.rp_words.specs.Mapping.{Mapping, labels_of}
 use Rattle.rp_words.specs.Words.{words}
 use Rattle.rp_search.specs.Found.{Test, Found, Match, found, tested, status, unless_refused, Status, Good, Refused, Undecided}
+use Rattle.rp_search.specs.declared.search.Search.{Search}
+use Rattle.rp_search.specs.Search.{IsForSamePattern, IsSearchFor}
 use Rattle.rp_trace.specs.LetterTest.{letter_test}
 use Rattle.rp_trace.specs.Replies.{search_text, found_text}
 
@@ -36,3 +38,10 @@ search-text form [] tested start ws end some same first is ends = absurd (omega 
 search-text form (letter ∷ letters) tested start ws end some same first is ends =
     ap (λ t. found_text (found (letter_test t 1) (words (length t) Closed form 1))) (sym same) ∙ ap (λ u. found_text (found (letter_test tested 1) u)) (sym is)
     ∙ ap (λ i. found_text (found (letter_test tested i) ws)) (sym first) ∙ ap found_text ends
+
+-- a search stays one for its pattern
+pub still_for : (form : Form) (old new : Search) → IsSearchFor form old → IsForSamePattern old new → IsSearchFor form new
+still_for form old new is same = record {
+  same_words = λ n e row. same.words n e row ∙ is.same_words n e row;
+  same_turns = λ n e row. same.turns n e row ∙ is.same_turns n e row;
+}

@@ -2,7 +2,7 @@
 ghost use Rattle.std.specs.Prelude.{◌≡◌, IfOk, MatchBool};
 ghost use Rattle.rp_words.specs.declared.word.End.TheVariants.{Closed};
 ghost use Rattle.rp_search.specs.Found.{Match, NoMatch};
-ghost use Rattle.rp_search.specs.Search.{CanRun, found_by, labels_of_search};
+ghost use Rattle.rp_search.specs.Search.{CanRun, IsForSamePattern, found_by, labels_of_search};
 
 use rp_search::{Outcome, Search, Steps, Tests};
 use std::alloc::AllocError;
@@ -19,7 +19,8 @@ pub fn find<T: Tests, L: Ledger>(
 ) -> Result<bool, AllocError>
     requires closed { (T.asked (T.subject tests.old)).end ≡ Closed }
     requires can_run { CanRun search.old (T.asked (T.subject tests.old)) (T.entered tests.old) }
-    ensures { IfOk result (λ is_match. MatchBool is_match
+    ensures pattern { IsForSamePattern search.old search.new }
+    ensures found { IfOk result (λ is_match. MatchBool is_match
         (found_by search.old (T.asked (T.subject tests.old)) ≡ Match (labels_of_search search.new))
         (found_by search.old (T.asked (T.subject tests.old)) ≡ NoMatch)) }
 {

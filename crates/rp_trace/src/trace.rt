@@ -2,6 +2,7 @@
 ghost use Rattle.std.specs.Prelude.{◌≡◌, ℕ, ◌<◌, ◌≤◌, ◌++◌, true, length, IfOk, IfSome, OnOk, OnErr, All};
 ghost use Rattle.rp_words.specs.PatternForm.{form_of};
 ghost use Rattle.rp_words.specs.Variables.{are_below};
+ghost use Rattle.rp_search.specs.Search.{IsSearchFor};
 ghost use Rattle.rp_io.specs.Counts.{raised};
 ghost use Rattle.rp_io.specs.Reading.{ReadsWithin};
 ghost use Rattle.rp_trace.specs.Faults.{run_told};
@@ -63,55 +64,62 @@ pub fn run_trace<R: Intake, W: Outlet>(
 {
     let mut lines = Lines::new(alloc, reads, MAX_LINE + 1);
     let mut line = Vec::new(alloc);
+    // One search for all lines: the pattern is compiled once, and its room is kept from line to line.
+    let mut search = Search::new(alloc, pattern, 1)?;
     let mut text = Vec::new(alloc);
     while lines.next(reader, &mut line)? {
-        push_reply(alloc, &mut text, pattern, line.as_slice())?;
+        push_reply(&mut text, pattern, &mut search, line.as_slice())?;
         write_block(writer, &mut text)?;
     }
-    push_last(alloc, &mut text, pattern, line.as_slice())?;
+    push_last(&mut text, pattern, &mut search, line.as_slice())?;
     write_all(writer, text.as_slice())?;
     Ok(())
 }
 
 /// Adds what is written for the part behind the last LF, which is a line unless it is empty.
 fn push_last(
-    alloc: Global,
     text: &mut Vec<u8>,
     pattern: &Pattern,
+    search: &mut Search,
     part: &[u8],
 ) -> Result<(), AllocError>
-    requires { are_below letter_count (form_of pattern.now) ≡ true }
+    requires letters { are_below letter_count (form_of pattern.now) ≡ true }
+    requires is_for { IsSearchFor (form_of pattern.now) search.old }
     ensures { OnOk result (text.new.items ≡ text.old.items ++ last_reply (form_of pattern.now) part.now) }
 {
     if part.is_empty() {
         return Ok(());
     }
-    push_reply(alloc, text, pattern, part)
+    push_reply(text, pattern, search, part)
 }
 
 /// Adds what is written for a line.
 fn push_reply(
-    alloc: Global,
     text: &mut Vec<u8>,
     pattern: &Pattern,
+    search: &mut Search,
     line: &[u8],
 ) -> Result<(), AllocError>
-    requires { are_below letter_count (form_of pattern.now) ≡ true }
-    ensures { OnOk result (text.new.items ≡ text.old.items ++ reply_to (form_of pattern.now) line.now) }
+    requires letters { are_below letter_count (form_of pattern.now) ≡ true }
+    requires is_for { IsSearchFor (form_of pattern.now) search.old }
+    ensures is_for { IsSearchFor (form_of pattern.now) search.new }
+    ensures added { OnOk result (text.new.items ≡ text.old.items ++ reply_to (form_of pattern.now) line.now) }
 {
-    push_answer(alloc, text, pattern, line)?;
+    push_answer(text, pattern, search, line)?;
     text.push(b'\n')?;
     Ok(())
 }
 
 fn push_answer(
-    alloc: Global,
     text: &mut Vec<u8>,
     pattern: &Pattern,
+    search: &mut Search,
     line: &[u8],
 ) -> Result<(), AllocError>
-    requires { are_below letter_count (form_of pattern.now) ≡ true }
-    ensures { OnOk result (text.new.items ≡ text.old.items ++ reply_text (form_of pattern.now) line.now) }
+    requires letters { are_below letter_count (form_of pattern.now) ≡ true }
+    requires is_for { IsSearchFor (form_of pattern.now) search.old }
+    ensures is_for { IsSearchFor (form_of pattern.now) search.new }
+    ensures added { OnOk result (text.new.items ≡ text.old.items ++ reply_text (form_of pattern.now) line.now) }
 {
     if !is_looked_at(line) {
         return text.extend_from_slice(b"refused");
@@ -119,31 +127,33 @@ fn push_answer(
     if line.is_empty() {
         return text.extend_from_slice(b"none");
     }
-    push_match::<Brand>(alloc, text, pattern, line, Blank::new(1))
+    push_match::<Brand>(text, pattern, search, line, Blank::new(1))
 }
 
-/// Adds the labels of the match at row 1. The search's turns aren't counted.
+/// Adds the labels of the match at row 1. The search begins anew, and keeps its room; its turns aren't counted.
 fn push_match<L: Ledger>(
-    alloc: Global,
     text: &mut Vec<u8>,
-    pattern: &Pattern,
+    _pattern: &Pattern,
+    search: &mut Search,
     line: &[u8],
     blank: Blank,
 ) -> Result<(), AllocError>
-    requires lettered { are_below letter_count (form_of pattern.now) ≡ true }
+    requires lettered { are_below letter_count (form_of _pattern.now) ≡ true }
+    requires is_for { IsSearchFor (form_of _pattern.now) search.old }
     requires some { 0 < length line.now }
     requires short { length line.now ≤ longest_line }
     requires name { blank.name ≡ L.name }
     requires parts { blank.parts ≡ L.parts }
     requires counts { 0 < blank.parts }
-    ensures { OnOk result (text.new.items ≡ text.old.items ++ search_text (form_of pattern.now) line.now) }
+    ensures is_for { IsSearchFor (form_of _pattern.now) search.new }
+    ensures added { OnOk result (text.new.items ≡ text.old.items ++ search_text (form_of _pattern.now) line.now) }
 {
     // The labels of a pattern's words are of its variables, so that each is a letter.
     law_labels();
     let mut steps = Steps::<L>::new(blank);
     let mut letters = Letters::new(line);
-    let mut search = Search::new(alloc, pattern, 1)?;
-    if !find(&mut search, &mut letters, &mut steps)? {
+    search.restart(1);
+    if !find(search, &mut letters, &mut steps)? {
         return text.extend_from_slice(b"none");
     }
     push_labels(text, search.labels())

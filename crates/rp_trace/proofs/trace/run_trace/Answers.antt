@@ -1,4 +1,4 @@
-use Rattle.std.proofs.Common.{rules, ◌≡◌, ◌++◌, Err, refl, ap, sym, inr, ◌∙◌}
+use Rattle.std.proofs.Common.{rules, ◌≡◌, [], ◌++◌, Err, refl, ap, sym, inr, ◌∙◌}
 use Rattle.rp_words.specs.PatternForm.{form_of}
 use Rattle.rp_io.specs.Pending.{coming}
 use Rattle.rp_trace.specs.Replies.{last_reply, reply_to}
@@ -17,10 +17,22 @@ use Rattle.rp_trace.proofs.trace.run_trace.Goals as goal
 pub loop-text-init : goal.loop-text-init
 loop-text-init g c = record {
   replied = Replied-start (form_of c.args.pattern.now) (g.R.Intake.remaining c.args.reader.now) (g.W.Outlet.contents c.args.writer.now) _ c.new-text.result.items c.new-lines.ensures.pending c.new-text.ensures.items;
+  is_for = c.in_ok-search.ensures.pattern;
   kept = c.new-lines.ensures.kept;
   write = refl;
   reads = no_reads c.args.reads c.new-lines.result.reads _ _ _ _ c.new-lines.ensures.reads;
 }
+
+pub returns-in_err-search-clause-front : goal.returns-in_err-search-clause-front
+returns-in_err-search-clause-front g c =
+    let contents = g.W.Outlet.contents c.args.writer.now in
+    on_err_from _ (Replied-fault (form_of c.args.pattern.now) (g.R.Intake.remaining c.args.reader.now) (coming c.new-lines.result (g.R.Intake.remaining c.args.reader.now)) contents contents contents []
+    (Replied-start (form_of c.args.pattern.now) (g.R.Intake.remaining c.args.reader.now) contents _ [] c.new-lines.ensures.pending refl) (front_none contents []))
+
+pub returns-in_err-search-clause-reads : goal.returns-in_err-search-clause-reads
+returns-in_err-search-clause-reads g c =
+    let told : run_told c.from_residual.result ≡ Other = let is : c.from_residual.result ≡ Err OutOfMemory = search rules in ap run_told is in
+    rw told (reads_stop _ _ _ _ _ _ _ _ _ _ (no_reads c.args.reads c.new-lines.result.reads _ _ _ _ c.new-lines.ensures.reads))
 
 pub returns-in_err-next-clause-front : goal.returns-in_err-next-clause-front
 returns-in_err-next-clause-front g c =
@@ -40,10 +52,11 @@ loop-text-preserved g c =
     let next = coming c.next.new.self (g.R.Intake.remaining c.next.new.reader) in
     let now = g.W.Outlet.contents c.loop-text.writer in
     let takes = rw c.loop-text.invariant.kept at c.in_ok-next.ensures.line (search rules) in
-    let text : c.push_reply.new.text.items ≡ c.loop-text.text.items ++ reply_to form c.next.new.line.items = c.in_ok-push_reply.ensures ∙ ap (λ t. c.loop-text.text.items ++ reply_to form t) c.as_slice.ensures.value in
+    let text : c.push_reply.new.text.items ≡ c.loop-text.text.items ++ reply_to form c.next.new.line.items = c.in_ok-push_reply.ensures.added ∙ ap (λ t. c.loop-text.text.items ++ reply_to form t) c.as_slice.ensures.value in
     let more = Replied-more form input (coming c.loop-text.lines (g.R.Intake.remaining c.loop-text.reader)) next contents now c.loop-text.text.items c.push_reply.new.text.items c.next.new.line.items c.loop-text.invariant.replied takes text in
     record {
       replied = Replied-moved form input next contents now (g.W.Outlet.contents c.write_block.new.writer) c.push_reply.new.text.items c.write_block.new.text.items more c.in_ok-write_block.ensures.ok;
+      is_for = c.push_reply.ensures.is_for;
       kept = c.in_ok-next.ensures.kept ∙ c.loop-text.invariant.kept;
       write = c.in_ok-write_block.ensures.no_failure ∙ c.loop-text.invariant.write;
       reads = reads_more _ _ _ _ _ _ _ _ _ _ c.loop-text.invariant.reads _ _ _ _ _ c.in_ok-next.ensures.calls
@@ -58,7 +71,7 @@ returns-in_err-write_block-clause-front g c =
     let next = coming c.next.new.self (g.R.Intake.remaining c.next.new.reader) in
     let now = g.W.Outlet.contents c.loop-text.writer in
     let takes = rw c.loop-text.invariant.kept at c.in_ok-next.ensures.line (search rules) in
-    let text : c.push_reply.new.text.items ≡ c.loop-text.text.items ++ reply_to form c.next.new.line.items = c.in_ok-push_reply.ensures ∙ ap (λ t. c.loop-text.text.items ++ reply_to form t) c.as_slice.ensures.value in
+    let text : c.push_reply.new.text.items ≡ c.loop-text.text.items ++ reply_to form c.next.new.line.items = c.in_ok-push_reply.ensures.added ∙ ap (λ t. c.loop-text.text.items ++ reply_to form t) c.as_slice.ensures.value in
     let more = Replied-more form input (coming c.loop-text.lines (g.R.Intake.remaining c.loop-text.reader)) next contents now c.loop-text.text.items c.push_reply.new.text.items c.next.new.line.items c.loop-text.invariant.replied takes text in
     on_err_from _ (Replied-fault form input next contents now (g.W.Outlet.contents c.write_block.new.writer) c.push_reply.new.text.items more c.in_err-write_block.ensures.err)
 
@@ -91,8 +104,8 @@ returns-clause-written g c =
 pub returns-in_err-next-clause-reads : goal.returns-in_err-next-clause-reads
 returns-in_err-next-clause-reads g c =
     let fault = c.in_err-next.field-0.0 in
-    let is : c.from_residual.result ≡ Err (trace_fault fault) = search rules in
-    let told : run_told c.from_residual.result ≡ line_told fault = ap run_told is ∙ sym (next_told fault) in
+    let is : c.from_residual-in_err-next.result ≡ Err (trace_fault fault) = search rules in
+    let told : run_told c.from_residual-in_err-next.result ≡ line_told fault = ap run_told is ∙ sym (next_told fault) in
     rw told (reads_fail _ _ _ _ _ _ _ _ _ _ c.loop-text.invariant.reads _ _ _ _ _ c.in_err-next.ensures.calls
     fault c.in_err-next.ensures.failures c.in_err-next.ensures.told
     (λ late. c.in_err-next.ensures.reads (rw late refl)) (λ late. c.in_err-next.ensures.gives (inr (rw late refl))))
