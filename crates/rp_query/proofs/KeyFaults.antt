@@ -47,7 +47,7 @@ none_fails t x xs h = go (t x) refl h
         (e, ap (λ b. cond b (Some (passed t xs)) None) rest)
     go false e k = let some : nat_lt 0 (suc (length xs)) ≡ true = grind (arith, nat_tests) in absurd (cc)
 
-none_fails_more : {X : Type 0} (t : X → Bool) (x : X) (xs : List X) → t x ≡ true → position (λ y. not (t y)) xs ≡ None → position (λ y. not (t y)) (x ∷ xs) ≡ None
+pub none_fails_more : {X : Type 0} (t : X → Bool) (x : X) (xs : List X) → t x ≡ true → position (λ y. not (t y)) xs ≡ None → position (λ y. not (t y)) (x ∷ xs) ≡ None
 none_fails_more t x xs e h =
     let rest : nat_lt (passed t xs) (length xs) ≡ false = some_or_none (nat_lt (passed t xs) (length xs)) (passed t xs) h in
     let all : nat_lt (1 + passed t xs) (suc (length xs)) ≡ false = grind (arith, nat_tests) in
@@ -85,7 +85,7 @@ pub record Fits (kinds : List Kind) (values : List Value) : Type 0 where
   pub width : length values ≡ length kinds
   pub admitted : position (λ p. not (admits p.0 p.1)) (zip kinds values) ≡ None
 
-fits_of : (kinds : List Kind) (values : List Value) → row_fault kinds values ≡ None → Fits kinds values
+pub fits_of : (kinds : List Kind) (values : List Value) → row_fault kinds values ≡ None → Fits kinds values
 fits_of kinds values h = go (length values == length kinds) refl h
   where
     mapped : (o : Option ℕ) → option_map (λ k. KindAt (k + 1)) o ≡ None → o ≡ None
@@ -97,7 +97,7 @@ fits_of kinds values h = go (length values == length kinds) refl h
     go false e k = absurd (cc)
 
 -- each column's kind admits the row's value
-column_admits : (columns : List Column) (row : List Value) → Fits (kinds_of columns) row → (column : ℕ) → admits (kind_at columns column) (value_at column row) ≡ true
+pub column_admits : (columns : List Column) (row : List Value) → Fits (kinds_of columns) row → (column : ℕ) → admits (kind_at columns column) (value_at column row) ≡ true
 column_admits columns row fits column = go (column == 0)
   where
     found : (o : Option Column) (v : Option Value) → slice_get columns (column - 1) ≡ o → slice_get row (column - 1) ≡ v → admits (kind_or o) (unwrap_or v Null) ≡ true

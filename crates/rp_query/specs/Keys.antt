@@ -1,5 +1,5 @@
 -- The keys of partitions.
-use Rattle.std.specs.Prelude.{◌≡◌, ℕ, ◌-◌, List, map, Option, None, Some, slice_get, unwrap_or}
+use Rattle.std.specs.Prelude.{◌≡◌, ℕ, ◌-◌, List, map, All, Option, None, Some, slice_get, unwrap_or}
 use Rattle.rp_value.specs.declared.table.Column.{Column}
 use Rattle.rp_value.specs.declared.value.Kind.{Kind}
 use Rattle.rp_value.specs.declared.value.Kind.TheVariants.{Int as IntKind}
@@ -12,6 +12,10 @@ use Rattle.rp_query.specs.declared.query.QueryData.{QueryData}
 -- the value of a row in a column, from 1, and null where it has none
 abbrev pub value_at : ℕ → List Value → Value
 value_at column row = unwrap_or (cell_at row column) Null
+
+-- these are rows of a table of these columns
+abbrev pub AreRowsOver : List Column → List (List Value) → Type 0
+AreRowsOver columns rows = All (λ row. row_fault (kinds_of columns) row ≡ None) rows
 
 -- the values of a row in some columns
 abbrev pub values_in : List ℕ → List Value → List Value

@@ -24,4 +24,4 @@ pub use locality::{Leader, Locality, condition_is_local, goes_from_leader, goes_
 pub use plan::{
     Condition, Edge, Expr, Function, Navigation, Operation, RowsOf, Step, Total, Variables,
 };
-pub use query::{OrderColumn, Plan, Query, QueryData, RowsPerMatch, SkipTo};
+pub use query::{OrderColumn, OutputColumn, Plan, Query, QueryData, RowsPerMatch, SkipTo, Source};

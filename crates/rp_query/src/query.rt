@@ -12,7 +12,7 @@ ghost use Rattle.rp_pattern.specs.Prepared.{Prepares};
 use crate::locality::{Leader, Locality, leader_of};
 use crate::plan::{Condition, Expr, Total, Variables};
 use rp_pattern::Prepared;
-use rp_value::{Table, Text};
+use rp_value::{Kind, Table, Text};
 use rp_words::Pattern;
 use std::alloc::{AllocError, Global};
 use std::rc::Rc;
@@ -37,6 +37,26 @@ pub struct OrderColumn {
     pub column: usize,
     /// Whether greater values come first.
     pub descending: bool,
+}
+
+/// Where the cells of an output column come from.
+#[derive(Clone, Copy, Debug, PartialEq, Eq)]
+pub enum Source {
+    /// The table's column of this number, from 1.
+    Column(usize),
+    /// The plan's measure at this place, from 0.
+    Measure(usize),
+}
+
+/// A column of the output.
+#[derive(Drop)]
+pub struct OutputColumn {
+    /// Its name.
+    pub name: Text,
+    /// The kind of its cells, of which each may be null.
+    pub kind: Kind,
+    /// Where its cells come from.
+    pub from: Source,
 }
 
 /// Where the next search starts after a match, with names resolved.
@@ -78,8 +98,10 @@ pub struct QueryData {
     pub table: Table,
     /// The row pattern, its variables numbered by first appearance.
     pub pattern: Pattern,
-    /// The names of the output columns.
-    pub output: Vec<Text>,
+    /// The names of the pattern variables, by number.
+    pub variables: Vec<Text>,
+    /// The output columns: a row of output has a cell for each, in this order.
+    pub output: Vec<OutputColumn>,
     /// The greatest offset of PREV, 0 where there is none.
     pub reach: u64,
     /// The columns of PARTITION BY, from 1.
@@ -179,8 +201,15 @@ impl Query {
         &self.prepared
     }
 
-    /// The names of the output columns, in order.
-    pub fn output(&self) -> &[Text]
+    /// The names of the pattern variables, by number.
+    pub fn variables(&self) -> &[Text]
+        ensures { result.now ≡ (data_of self.now).variables.items }
+    {
+        self.parts.variables.as_slice()
+    }
+
+    /// The output columns, in order.
+    pub fn output(&self) -> &[OutputColumn]
         ensures { result.now ≡ (data_of self.now).output.items }
     {
         self.parts.output.as_slice()
