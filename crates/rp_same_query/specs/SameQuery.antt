@@ -16,6 +16,7 @@ pub record IsSameQuery (q r : QueryData) : Type 0 where
   pub text : q.text ≡ r.text
   pub table : q.table ≡ r.table
   pub pattern : shape_of (form_of q.pattern) ≡ shape_of (form_of r.pattern)
+  pub variables : q.variables.items ≡ r.variables.items
   pub output : q.output.items ≡ r.output.items
   pub reach : q.reach ≡ r.reach
   pub partition : q.partition.items ≡ r.partition.items
