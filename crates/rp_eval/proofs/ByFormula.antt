@@ -35,28 +35,28 @@ use Rattle.rp_eval.specs.ByFormula.{by, ValuesFollow, JudgementsFollow}
 
 -- ---- what a formula comes to
 
-abbrev is_of : Option (List ℕ) → ℕ → Bool
+abbrev pub is_of : Option (List ℕ) → ℕ → Bool
 is_of None var = true
 is_of (Some members) var = list_any (nat_eq var) members
 
-abbrev rows_by : Option (List ℕ) → ℕ → List Label → List ℕ
+abbrev pub rows_by : Option (List ℕ) → ℕ → List Label → List ℕ
 rows_by members row [] = []
 rows_by members row (l ∷ ls) = cond (is_of members l.var) (row ∷ rows_by members (row + 1) ls) (rows_by members (row + 1) ls)
 
-abbrev listed_by : Setting → Bool → Option PlainTotal → List ℕ
+abbrev pub listed_by : Setting → Bool → Option PlainTotal → List ℕ
 listed_by s is_final None = []
 listed_by s is_final (Some k) = listed k.function (rows_by k.members s.start (seen_labels s is_final))
 
-abbrev aggregate_by : Setting → Bool → Option PlainTotal → Value
+abbrev pub aggregate_by : Setting → Bool → Option PlainTotal → Value
 aggregate_by s is_final None = Null
 aggregate_by s is_final (Some k) = aggregate s.rows k.function (rows_by k.members s.start (seen_labels s is_final))
 
-abbrev among_by : Setting → List PlainTotal → Bool → RowsOf → List ℕ
+abbrev pub among_by : Setting → List PlainTotal → Bool → RowsOf → List ℕ
 among_by s ks is_final EveryRow = rows_of Universal s.start (seen_labels s is_final)
 among_by s ks is_final (ListedBy number) = listed_by s is_final (slice_get ks number)
 
 -- no condition has a value
-abbrev formula_value : Setting → List PlainTotal → Formula → Cell
+abbrev pub formula_value : Setting → List PlainTotal → Formula → Cell
 formula_value s ks (F.Literal v) = Ready v
 formula_value s ks (F.Cell n) = cell_from s.rows s.ending n.column n.step (place_in n.edge n.places (among_by s ks n.is_final n.rows_of))
 formula_value s ks (F.Aggregated number is_final) = Ready (aggregate_by s is_final (slice_get ks number))
@@ -82,7 +82,7 @@ rows_are Universal row (l ∷ ls) = ap (λ r. row ∷ r) (rows_are Universal (ro
 rows_are (Among members) row (l ∷ ls) = ap (λ r. cond (list_any (nat_eq l.var) members.items) (row ∷ r) r) (rows_are (Among members) (row + 1) ls)
 
 -- the setting without its plan
-abbrev bare : Setting → Setting
+abbrev pub bare : Setting → Setting
 bare s = by s []
 
 listed_are : (s : Setting) (is_final : Bool) (o : Option Total) → rows_listed s is_final o ≡ listed_by (bare s) is_final (option_map plain_total o)
@@ -98,7 +98,7 @@ among_are s is_final EveryRow = refl
 among_are s is_final (ListedBy number) = listed_are s is_final (slice_get s.totals number) ∙ ap (listed_by (bare s) is_final) (sym (slice_get-map plain_total s.totals number))
 
 module _ (s : Setting) where
-  abbrev kept : List PlainTotal
+  abbrev pub kept : List PlainTotal
   kept = map plain_total s.totals
 
   abbrev Follows : Expr → Type 0
@@ -114,7 +114,7 @@ module _ (s : Setting) where
   layer_follows (Classifier names) = refl
   layer_follows (Arithmetic o a b) = ap (λ z. calculated o z (value_of s b.value.0)) a.value.1 ∙ ap (λ z. calculated o (formula_value (bare s) kept (value_formula a.value.0)) z) b.value.1
 
-  value_follows : (x : Expr) → Follows x
+  pub value_follows : (x : Expr) → Follows x
   value_follows = ind-Expr Follows (λ x y is.
       subst (λ z. Follows (roll-Expr z)) is
       (rw (
