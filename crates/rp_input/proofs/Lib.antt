@@ -5,6 +5,7 @@ mod Takes
 mod TakenRecords
 mod Filled
 mod Orders
+mod RowsFit
 mod Sinking
 mod NotText
 mod Numbering

@@ -7,5 +7,6 @@ pub mod Orders
 pub mod Partitions
 pub mod Gathering
 pub mod Numbered
+pub mod Fitting
 -- The inside of reading a text.
 pub mod Standing

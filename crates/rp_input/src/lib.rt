@@ -13,6 +13,7 @@
 mod fields;
 mod header;
 mod input;
+mod laws;
 mod number;
 mod order;
 mod partition;
@@ -22,6 +23,7 @@ mod taking;
 mod texts;
 
 pub use input::read_rows;
+pub use laws::law_fitting;
 pub use number::number_rows;
 pub use order::{law_orders, order_rows};
 pub use partition::partitions;
