@@ -11,13 +11,15 @@ use Rattle.rp_query.specs.declared.query.QueryData.{QueryData}
 use Rattle.rp_eval.specs.Laws.{ValuesStay}
 use Rattle.rp_query.specs.Sound.{IsSound}
 use Rattle.rp_query.specs.declared.item.Item.{Item}
+use Rattle.rp_query.specs.declared.item.Item.TheVariants.{Row as RowItem}
+use Rattle.rp_eval.specs.Partition.{row_at}
 use Rattle.rp_known.specs.declared.place.Place.{Place}
 use Rattle.rp_known.specs.Known.{Known, count}
 use Rattle.rp_known.specs.WalkLaws.{GoesOnFrom}
-use Rattle.rp_known.specs.Plans.{first_read, no_measures}
+use Rattle.rp_known.specs.Plans.{first_read, setting_of, cells_in}
 use Rattle.rp_known.specs.WalkLaws.{AreKnown}
-use Rattle.rp_known.specs.Items.{unexcluded, match_rows, item_rows, row_item, item_at}
-use Rattle.rp_known.proofs.Values.{measures_stay, cells_stay}
+use Rattle.rp_known.specs.Items.{unexcluded, match_rows, item_rows, item_at}
+use Rattle.rp_known.proofs.Values.{match_stays, alone_stays}
 
 -- ---- the rows of a search's items are known
 
@@ -58,21 +60,20 @@ rows_within shows place n (Match (l ∷ ls)) h k = match_within shows place.star
 abbrev pub Settled : (ℕ → Option Item) → (ℕ → Option Item) → ℕ → Type 0
 Settled f g row = (x : Item) → f row ≡ Some x → g row ≡ Some x
 
-of_measures : (f g : List Value → Item) → ((vs : List Value) → g vs ≡ f vs) → (m m' : Option (List Value)) → ((vs : List Value) → m ≡ Some vs → m' ≡ Some vs) → (x : Item) →
-    option_map f m ≡ Some x → option_map g m' ≡ Some x
-of_measures f g same None m' h x e = cc
-of_measures f g same (Some vs) m' h x e = ap (option_map g) (h vs refl) ∙ ap (λ z. Some z) (same vs) ∙ e
+of_cells : (f : List Value → Item) → (m m' : Option (List Value)) → ((vs : List Value) → m ≡ Some vs → m' ≡ Some vs) → (x : Item) → option_map f m ≡ Some x → option_map f m' ≡ Some x
+of_cells f None m' h x e = cc
+of_cells f (Some vs) m' h x e = ap (option_map f) (h vs refl) ∙ e
 
 module _ (law : ValuesStay) (q : QueryData) (p p' : Known) (reaches : IsSound q) (place : Place) (one : 1 ≤ place.start) (g : GoesOnFrom (first_read q place.start) p p') where
-  row_stays : (r : ℕ) (number : Option ℕ) (vs : List Value) → place.start ≤ r → r ≤ count p → row_item q p' r number vs ≡ row_item q p r number vs
-  row_stays r number vs low high = rw (cells_stay q p p' r vs (g.same r (omega (arith, one, low)) high)) refl
+  row_same : (r : ℕ) → place.start ≤ r → r ≤ count p → row_at p'.rows r ≡ row_at p.rows r
+  row_same r low high = g.same r (omega (arith, one, low)) high
 
   item_settles : (result : Found) → AreKnown place.start (count p) result → (r : ℕ) → (place.start ≤ r) × (r ≤ count p) → Settled (item_at q p place result) (item_at q p' place result) r
   item_settles Waits k r h x e = cc
-  item_settles NoMatch k r h x e = ap (λ z. Some z) (row_stays r None (no_measures q) h.0 h.1) ∙ e
+  item_settles NoMatch k r h x e = ap (λ cells. Some (RowItem None cells)) (alone_stays p.rows p'.rows r q.output.items (row_same r h.0 h.1)) ∙ e
   item_settles (Match ls) k r h x e =
-      of_measures (row_item q p r (Some (suc place.matches))) (row_item q p' r (Some (suc place.matches))) (λ vs. row_stays r (Some (suc place.matches)) vs h.0 h.1) _ _
-      (measures_stay law q p p' reaches place.start ls (suc place.matches) r one k g) x e
+      of_cells (RowItem (Some (suc place.matches))) (cells_in q (setting_of q p place.start ls (suc place.matches) r) q.output.items) (cells_in q (setting_of q p' place.start ls (suc place.matches) r) q.output.items)
+      (match_stays law q p p' reaches place.start ls (suc place.matches) r one k g (row_same r h.0 h.1)) x e
 
   pub all_settle : (result : Found) → AreKnown place.start (count p) result → (rows : List ℕ) → AreWithin place.start (count p) rows →
       AllByRecursion (Settled (item_at q p place result) (item_at q p' place result)) rows

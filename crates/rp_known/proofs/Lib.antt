@@ -4,7 +4,8 @@ mod Values
 mod Items
 mod Legs
 mod InRows
-mod Columns
 mod Growth
 mod Short
+mod Named
+mod Typed
 mod Earlier

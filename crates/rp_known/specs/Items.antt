@@ -1,6 +1,5 @@
 -- The items of a search.
 use Rattle.std.specs.Prelude.{ℕ, suc, ◌+◌, ◌&&◌, Bool, true, false, List, [], ◌∷◌, length, map, nat_lt, Option, Some, None, option_map, if◌then◌else◌}
-use Rattle.rp_value.specs.declared.value.Value.{Value}
 use Rattle.rp_query.specs.declared.query.RowsPerMatch.{RowsPerMatch}
 use Rattle.rp_query.specs.declared.query.RowsPerMatch.TheVariants.{One, AllShowEmpty, AllOmitEmpty, AllWithUnmatched}
 use Rattle.rp_words.specs.declared.word.Label.{Label}
@@ -10,7 +9,7 @@ use Rattle.rp_query.specs.declared.item.Item.{Item}
 use Rattle.rp_query.specs.declared.item.Item.TheVariants.{Row as RowItem}
 use Rattle.rp_known.specs.declared.place.Place.{Place}
 use Rattle.rp_known.specs.Known.{Known}
-use Rattle.rp_known.specs.Plans.{setting_of, values_of, cells_of, no_measures}
+use Rattle.rp_known.specs.Plans.{setting_of, cells_in, cells_alone}
 
 abbrev pub shows_empty : RowsPerMatch → Bool
 shows_empty One = true
@@ -41,15 +40,13 @@ item_rows shows place NoMatch = if shows_unmatched shows && nat_lt place.covered
 item_rows shows place (Match []) = if shows_empty shows then place.start ∷ [] else []
 item_rows shows place (Match (l ∷ ls)) = match_rows shows place.start (l ∷ ls)
 
-abbrev pub row_item : QueryData → Known → ℕ → Option ℕ → List Value → Item
-row_item q p row number measures = RowItem number (cells_of q p row measures)
-
 -- the item at a row, or none where a measure is open
 abbrev pub item_at : QueryData → Known → Place → Found → ℕ → Option Item
 item_at q p place Waits row = None
-item_at q p place NoMatch row = Some (row_item q p row None (no_measures q))
+item_at q p place NoMatch row = Some (RowItem None (cells_alone p.rows row q.output.items))
 item_at q p place (Match labels) row =
-    option_map (row_item q p row (Some (suc place.matches))) (values_of (setting_of q p place.start labels (suc place.matches) row) q.plan.measures.items)
+    option_map (RowItem (Some (suc place.matches)))
+    (cells_in q (setting_of q p place.start labels (suc place.matches) row) q.output.items)
 
 -- the items of a search, each where it is ready
 abbrev pub items_of : QueryData → Known → Place → Found → List (Option Item)

@@ -5,5 +5,7 @@ pub mod Skips
 pub mod Items
 pub mod Walk
 pub mod WalkLaws
+pub mod Named
+pub mod Typed
 -- What one law alone cites: the older rule of AND and OR.
 pub mod Earlier

@@ -1,11 +1,10 @@
 -- What a query's plan says of the rows of a partition: its conditions, its measures, and the cells of an item.
-use Rattle.std.specs.Prelude.{ℕ, ◌+◌, ◌-◌, max, ◌||◌, Bool, true, false, List, [], ◌∷◌, ◌++◌, map, Option, None, Some, option_map, nat_eq, if◌then◌else◌}
-use Rattle.std.specs.List.{list_any}
+use Rattle.std.specs.Prelude.{ℕ, ◌-◌, max, List, [], ◌∷◌, map, Option, None, Some, option_map, slice_get}
 use Rattle.rp_value.specs.declared.value.Value.{Value}
 use Rattle.rp_value.specs.declared.value.Value.TheVariants.{Null}
-use Rattle.rp_value.specs.declared.table.Column.{Column}
-use Rattle.rp_query.specs.declared.query.RowsPerMatch.{RowsPerMatch}
-use Rattle.rp_query.specs.declared.query.RowsPerMatch.TheVariants.{One, AllShowEmpty, AllOmitEmpty, AllWithUnmatched}
+use Rattle.rp_query.specs.declared.query.OutputColumn.{OutputColumn}
+use Rattle.rp_query.specs.declared.query.Source.{Source}
+use Rattle.rp_query.specs.declared.query.Source.TheVariants as source
 use Rattle.rp_words.specs.declared.word.Label.{Label}
 use Rattle.rp_query.specs.declared.plan.Expr.{Expr}
 use Rattle.rp_query.specs.declared.query.QueryData.{QueryData}
@@ -34,55 +33,36 @@ abbrev pub setting_of : QueryData → Known → ℕ → List Label → ℕ → �
 setting_of q p start labels number row =
     record { rows = p.rows; ending = p.end; start = start; labels = labels; current = row; number = number; totals = totals_in q }
 
+-- the value of a measure
+abbrev pub measured : Setting → Option Expr → Cell
+measured s None = Ready Null
+measured s (Some x) = value_of s x
+
+-- ---- the cells of an item
+
+-- what an output column has at the row that is looked at: a column of the table its cell there, a measure its value, which may be open
+abbrev pub shown_in : QueryData → Setting → Source → Cell
+shown_in q s (source.Column n) = Ready (cell s.rows n s.current)
+shown_in q s (source.Measure i) = measured s (slice_get q.plan.measures.items i)
+
+-- what it has at a row that is in no match
+abbrev pub shown_alone : Rows → ℕ → Source → Value
+shown_alone p row (source.Column n) = cell p n row
+shown_alone p row (source.Measure i) = Null
+
 abbrev pub before_ready : Cell → Option (List Value) → Option (List Value)
 before_ready Open later = None
 before_ready (Ready v) later = option_map (λ vs. v ∷ vs) later
 
--- the values of these expressions, or none where one is open
-abbrev pub values_of : Setting → List Expr → Option (List Value)
-values_of s [] = Some []
-values_of s (x ∷ xs) = before_ready (value_of s x) (values_of s xs)
+-- the values of cells, or none where one is open
+abbrev pub values_of : List Cell → Option (List Value)
+values_of [] = Some []
+values_of (c ∷ cs) = before_ready c (values_of cs)
 
--- ---- the cells of an item
+-- the cells of these output columns at a row of a match
+abbrev pub cells_in : QueryData → Setting → List OutputColumn → Option (List Value)
+cells_in q s columns = values_of (map (λ o. shown_in q s o.from) columns)
 
--- under ALL ROWS PER MATCH an item has every column of its row
-abbrev pub shows_all : RowsPerMatch → Bool
-shows_all One = false
-shows_all AllShowEmpty = true
-shows_all AllOmitEmpty = true
-shows_all AllWithUnmatched = true
-
--- the columns of PARTITION BY and ORDER BY
-abbrev pub key_columns : QueryData → List ℕ
-key_columns q = q.partition.items ++ map (λ o. o.column) q.order.items
-
-abbrev pub is_key : QueryData → ℕ → Bool
-is_key q number = list_any (nat_eq number) q.partition.items || list_any (λ o. nat_eq number o.column) q.order.items
-
--- the numbers of columns, from this one on, that don't pass
-abbrev pub columns_beside : (ℕ → Bool) → ℕ → List Column → List ℕ
-columns_beside test number [] = []
-columns_beside test number (c ∷ cs) =
-    if test number then columns_beside test (number + 1) cs else number ∷ columns_beside test (number + 1) cs
-
--- the columns of neither PARTITION BY nor ORDER BY
-abbrev pub other_columns : QueryData → List ℕ
-other_columns q = columns_beside (is_key q) 1 q.table
-
--- the columns before the measures, and those after them
-abbrev pub leading : QueryData → List ℕ
-leading q = if shows_all q.plan.rows then key_columns q else q.partition.items
-
-abbrev pub trailing : QueryData → List ℕ
-trailing q = if shows_all q.plan.rows then other_columns q else []
-
-abbrev pub row_cells : Rows → ℕ → List ℕ → List Value
-row_cells p row columns = map (λ column. cell p column row) columns
-
--- the cells of an item at a row
-abbrev pub cells_of : QueryData → Known → ℕ → List Value → List Value
-cells_of q p row measures = row_cells p.rows row (leading q) ++ measures ++ row_cells p.rows row (trailing q)
-
--- a null for each measure
-abbrev pub no_measures : QueryData → List Value
-no_measures q = map (λ _. Null) q.plan.measures.items
+-- and at a row that is in none
+abbrev pub cells_alone : Rows → ℕ → List OutputColumn → List Value
+cells_alone p row columns = map (λ o. shown_alone p row o.from) columns

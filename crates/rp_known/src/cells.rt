@@ -1,22 +1,14 @@
 //! The cells of an item.
-ghost use Rattle.std.specs.Prelude.{◌≡◌, ◌++◌, ◌||◌, length, map, nat_eq, IfOk, OnOk};
-ghost use Rattle.std.specs.List.{list_any};
-ghost use Rattle.rp_value.specs.declared.value.Value.TheVariants.{Null};
+ghost use Rattle.std.specs.Prelude.{◌≡◌, ◌++◌, Some, None, option_map, option_copied, IfOk, OnOk, if◌then◌else◌};
 ghost use Rattle.rp_query.specs.QueryView.{data_of};
+ghost use Rattle.rp_eval.specs.Looks.{setting_of, Looks};
 ghost use Rattle.rp_eval.specs.Partition.{cell};
-ghost use Rattle.rp_known.specs.Plans.{other_columns, is_key, shows_all, row_cells};
+ghost use Rattle.rp_known.specs.Plans.{cells_alone, cells_in, measured, shown_alone, shown_in};
 
-use rp_eval::Rows;
-use rp_query::{Expr, OrderColumn, Query, RowsPerMatch};
-use rp_value::{Column, Value};
+use rp_eval::{Cell, Rows, View, measure};
+use rp_query::{Expr, OutputColumn, Query, Source};
+use rp_value::Value;
 use std::alloc::AllocError;
-
-/// Whether an item has all columns of its row.
-pub(crate) fn shows_all(rows: RowsPerMatch) -> bool
-    ensures { result ≡ shows_all rows }
-{
-    rows != RowsPerMatch::One
-}
 
 /// The value in a column of a row.
 fn cell<R: Rows>(rows: &R, row: u64, column: usize) -> Result<Value, AllocError>
@@ -31,81 +23,77 @@ fn cell<R: Rows>(rows: &R, row: u64, column: usize) -> Result<Value, AllocError>
     }
 }
 
-/// Adds the cells of a row in these columns.
-pub(crate) fn add_columns<R: Rows>(
+/// What an output column has at a row that is in no match.
+fn shown_alone<R: Rows>(rows: &R, row: u64, from: Source) -> Result<Value, AllocError>
+    ensures { IfOk result (λ value. value ≡ shown_alone (R.known rows.now) row from) }
+{
+    match from {
+        Source::Column(column) => cell(rows, row, column),
+        Source::Measure(_) => Ok(Value::Null),
+    }
+}
+
+/// Adds the cells of these output columns at a row that is in no match.
+pub(crate) fn add_alone<R: Rows>(
     cells: &mut Vec<Value>,
+    columns: &[OutputColumn],
     rows: &R,
     row: u64,
-    columns: &[usize],
 ) -> Result<(), AllocError>
-    ensures { OnOk result (cells.new.items ≡ cells.old.items ++ row_cells (R.known rows.now) row columns.now) }
+    ensures { OnOk result (cells.new.items ≡ cells.old.items ++ cells_alone (R.known rows.now) row columns.now) }
 {
     for column in columns {
-        cells.push(cell(rows, row, *column)?)?;
+        cells.push(shown_alone(rows, row, column.from)?)?;
     }
     Ok(())
 }
 
-/// Adds the cells of a row in the columns of ORDER BY.
-pub(crate) fn add_order<R: Rows>(
-    cells: &mut Vec<Value>,
-    rows: &R,
-    row: u64,
-    order: &[OrderColumn],
-) -> Result<(), AllocError>
-    ensures { OnOk result (cells.new.items
-        ≡ cells.old.items ++ row_cells (R.known rows.now) row (map (λ o. o.column) order.now)) }
+/// The value of a measure at the row that is looked at.
+fn measured<'a, R: Rows>(expr: Option<&'a Expr>, view: &View<'a, R>) -> Result<Cell, AllocError>
+    requires { Looks R.known view.now }
+    ensures { IfOk result (λ cell.
+        cell ≡ measured (setting_of R.known R.ending view.now) (option_copied expr.entry)) }
 {
-    for ordered in order {
-        cells.push(cell(rows, row, ordered.column)?)?;
+    match expr {
+        Some(expr) => measure(expr, view),
+        None => Ok(Cell::Ready(Value::Null)),
     }
-    Ok(())
 }
 
-/// Whether PARTITION BY or ORDER BY has the column.
-fn is_key(query: &Query, column: usize) -> bool
-    ensures { result ≡ is_key (data_of query.now) column }
+/// What an output column has at the row of a match that is looked at.
+fn shown_in<'a, R: Rows>(
+    query: &'a Query,
+    view: &View<'a, R>,
+    from: Source,
+) -> Result<Cell, AllocError>
+    requires { Looks R.known view.now }
+    ensures { IfOk result (λ cell.
+        cell ≡ shown_in (data_of query.now) (setting_of R.known R.ending view.now) from) }
 {
-    is_named(query.partition(), query.order(), column)
+    match from {
+        Source::Column(column) => Ok(Cell::Ready(cell(view.rows, view.current, column)?)),
+        Source::Measure(place) => { measured(query.plan().measures.as_slice().get(place), view) }
+    }
 }
 
-/// Whether one of these lists has the column.
-fn is_named(partition: &[usize], order: &[OrderColumn], column: usize) -> bool
-    ensures { result ≡ (list_any (nat_eq column) partition.now || list_any (λ o. nat_eq column o.column) order.now) }
-{
-    partition.contains(&column) || is_ordered(order, column)
-}
-
-fn is_ordered(order: &[OrderColumn], column: usize) -> bool
-    ensures { result ≡ list_any (λ o. nat_eq column o.column) order.now }
-{
-    order.iter().any(|ordered| column == ordered.column)
-}
-
-/// Adds the cells of a row in the columns that neither PARTITION BY nor ORDER BY has.
-pub(crate) fn add_others<R: Rows>(
+/// Adds the cells of these output columns at the row of a match that is looked at, and tells whether they are all ready.
+pub(crate) fn add_shown<'a, R: Rows>(
     cells: &mut Vec<Value>,
-    rows: &R,
-    row: u64,
-    query: &Query,
-) -> Result<(), AllocError>
-    ensures { OnOk result (cells.new.items ≡ cells.old.items
-        ++ row_cells (R.known rows.now) row (other_columns (data_of query.now))) }
+    query: &'a Query,
+    columns: &[OutputColumn],
+    view: &View<'a, R>,
+) -> Result<bool, AllocError>
+    requires { Looks R.known view.now }
+    ensures { IfOk result (λ ready.
+        option_map (λ vs. cells.old.items ++ vs)
+        (cells_in (data_of query.now) (setting_of R.known R.ending view.now) columns.now)
+        ≡ (if ready then Some cells.new.items else None)) }
 {
-    for place in 0..query.table().columns().len() {
-        if !is_key(query, place + 1) {
-            cells.push(cell(rows, row, place + 1)?)?;
+    for column in columns {
+        match shown_in(query, view, column.from)? {
+            Cell::Open => return Ok(false),
+            Cell::Ready(value) => cells.push(value)?,
         }
     }
-    Ok(())
-}
-
-/// Adds a null for each measure.
-pub(crate) fn add_nulls(cells: &mut Vec<Value>, measures: &[Expr]) -> Result<(), AllocError>
-    ensures { OnOk result (cells.new.items ≡ cells.old.items ++ map (λ _. Null) measures.now) }
-{
-    for _measure in measures {
-        cells.push(Value::Null)?;
-    }
-    Ok(())
+    Ok(true)
 }

@@ -1,5 +1,7 @@
 //! Laws over the definitions alone. A call does nothing, and its caller may then use them.
 ghost use Rattle.rp_known.specs.Earlier.{EarlierBegins, EarlierWalkStays, EarlierLegStays};
+ghost use Rattle.rp_known.specs.Named.{KnownIsNamed};
+ghost use Rattle.rp_known.specs.Typed.{KnownIsTyped};
 ghost use Rattle.rp_known.specs.WalkLaws.{KnownGrows, WalkStays, LegStays, KnownIsShort, LegsLeadOn, SearchesLeadOn, MatchesAreKnown, FindingsStay, WalkIsInRows, SearchesLeadInRows, ContinuationsGoOn};
 
 /// The laws of the known answer. What is known of an open partition begins what is known of every continuation, its
@@ -16,6 +18,15 @@ pub fn law_known()
     rp_search::law_found();
     rp_eval::law_values();
     rp_conditions::law_tests();
+}
+
+/// The laws of output rows. Each that is known has a cell for each output column, in their order: what that column has at a row
+/// of the match, or at a row that is in none. Over rows of the query's table it is null or of the column's kind.
+pub fn law_named()
+    ensures named { KnownIsNamed }
+    ensures typed { KnownIsTyped }
+{
+    rp_eval::law_kinds();
 }
 
 /// The laws of one leg of the walk: it leads to a later row, if at all, and a match is of known rows, so that a walk

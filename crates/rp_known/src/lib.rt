@@ -10,7 +10,7 @@ mod making;
 mod place;
 mod skips;
 
-pub use laws::{law_earlier, law_known, law_legs};
+pub use laws::{law_earlier, law_known, law_legs, law_named};
 pub use making::{match_item, unmatched_item};
 pub use place::Place;
 pub use rp_query::{Item, SkipFault};

@@ -1,6 +1,0 @@
-use Rattle.std.proofs.Common.{◌≡◌, ◌++◌, take}
-use Rattle.rp_known.specs.Plans.{row_cells}
-use Rattle.rp_known.proofs.cells.add_columns.Given as goal
-
-abbrev pub invariant-loop-column : goal.invariant-loop-column
-invariant-loop-column g l = l.cells.items ≡ l.fn.cells.items ++ row_cells (g.R.Rows.known l.rows) l.row (take l.column-index l.columns)
