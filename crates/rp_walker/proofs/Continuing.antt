@@ -15,9 +15,9 @@ use Rattle.rp_query.specs.declared.item.SkipFault.{SkipFault}
 use Rattle.rp_known.specs.declared.place.Place.{Place}
 use Rattle.rp_known.specs.Known.{Known, count}
 use Rattle.rp_known.specs.WalkLaws.{Continues, GoesOnFrom}
-use Rattle.rp_known.specs.Plans.{first_read, setting_of, values_of}
+use Rattle.rp_known.specs.Plans.{first_read, setting_of, cells_in}
 use Rattle.rp_known.specs.Skips.{next_start}
-use Rattle.rp_known.specs.Items.{item_at, item_rows, row_item}
+use Rattle.rp_known.specs.Items.{item_at, item_rows}
 use Rattle.rp_known.specs.Walk.{Leg, Goes, Pauses, Ends, after_item, after_items, after_match, after_found, found_at, at_last, searched, leg, leg_items, and_then, walk, first_place, known, here}
 use Rattle.rp_known.specs.WalkLaws.{IsPrefixOf, Stays, LegStays, WalkStays, LeadsOn, LegsLeadOn, IsInRows, WalkIsInRows}
 use Rattle.rp_walker.specs.declared.record.MatcherState.{MatcherState}
@@ -66,14 +66,14 @@ abbrev IsInside : Option Item → Type 0
 IsInside None = ⊤
 IsInside (Some x) = is_last x ≡ false
 
-measured_inside : (q : QueryData) (p : Known) (row : ℕ) (number : Option ℕ) (m : Option (List Value)) → IsInside (option_map (row_item q p row number) m)
-measured_inside q p row number None = tt
-measured_inside q p row number (Some vs) = refl
+row_inside : (number : Option ℕ) (cells : Option (List Value)) → IsInside (option_map (RowItem number) cells)
+row_inside number None = tt
+row_inside number (Some cells) = refl
 
 item_inside : (q : QueryData) (p : Known) (place : Place) (f : Found) (row : ℕ) → IsInside (item_at q p place f row)
 item_inside q p place Waits row = tt
 item_inside q p place NoMatch row = refl
-item_inside q p place (Match ls) row = measured_inside q p row (Some (suc place.matches)) (values_of (setting_of q p place.start ls (suc place.matches) row) q.plan.measures.items)
+item_inside q p place (Match ls) row = row_inside (Some (suc place.matches)) (cells_in q (setting_of q p place.start ls (suc place.matches) row) q.output.items)
 
 rows_only : (q : QueryData) (p : Known) (place : Place) (f : Found) (rows : List ℕ) (t : Leg) → EndsOnly t → EndsOnly (after_items (map (item_at q p place f) rows) t)
 rows_only q p place f [] t h = h

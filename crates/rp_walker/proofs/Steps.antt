@@ -9,18 +9,19 @@ use Rattle.rp_walker.specs.Steps.{IsDone, IsStop, ended_by, Moves, IsEnd}
 use Rattle.rp_query.specs.declared.query.QueryData.{QueryData}
 use Rattle.rp_known.specs.Known.{Known, count}
 use Rattle.rp_query.specs.declared.item.Item.{Item}
+use Rattle.rp_query.specs.declared.item.Item.TheVariants.{Row as RowItem}
 use Rattle.rp_walker.specs.declared.ahead.Ahead.{Ahead}
 use Rattle.rp_walker.specs.declared.walker.Walker.{Walker}
 use Rattle.rp_walker.specs.declared.record.MatcherState.{MatcherState}
 use Rattle.rp_walker.specs.declared.stage.Stage.{Stage}
 use Rattle.rp_known.specs.declared.place.Place.{Place}
-use Rattle.rp_known.specs.Items.{item_at, item_rows, items_of, row_item}
+use Rattle.rp_known.specs.Items.{item_at, item_rows, items_of}
 use Rattle.rp_walker.specs.Given.{is_hidden, shown_from}
 use Rattle.rp_walker.specs.Stages.{Gives, rows_ahead, IsGoing, StageStands, stage_left, starts_to, left_with}
 use Rattle.rp_walker.specs.Walking.{stands_by}
 use Rattle.rp_walker.proofs.Shown.{IsHere, item_here, none_here}
 use Rattle.rp_value.specs.declared.value.Value.{Value}
-use Rattle.rp_known.specs.Plans.{setting_of, values_of}
+use Rattle.rp_known.specs.Plans.{setting_of, cells_in}
 
 -- ---- rows ahead
 
@@ -130,9 +131,9 @@ IsLastIn (Some x) = IsLast x
 pub never_last : (q : QueryData) (p : Known) (place : Place) (result : Found) (row : ℕ) → IsLastIn (item_at q p place result row) → ⊥
 never_last q p place Waits row h = h
 never_last q p place NoMatch row h = h
-never_last q p place (Match labels) row h = go (values_of (setting_of q p place.start labels (suc place.matches) row) q.plan.measures.items) h
+never_last q p place (Match labels) row h = go (cells_in q (setting_of q p place.start labels (suc place.matches) row) q.output.items) h
   where
-    go : (o : Option (List Value)) → IsLastIn (option_map (row_item q p row (Some (suc place.matches))) o) → ⊥
+    go : (o : Option (List Value)) → IsLastIn (option_map (RowItem (Some (suc place.matches))) o) → ⊥
     go None h = h
     go (Some values) h = h
 
