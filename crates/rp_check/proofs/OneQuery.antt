@@ -97,6 +97,7 @@ one_is_same c text columns q r a b =
       text = a.text ∙ sym b.text;
       table = a.table ∙ sym b.table;
       pattern = a.pattern ∙ sym b.pattern;
+      variables = a.variables ∙ sym b.variables;
       output = a.output ∙ sym b.output;
       reach =
           a.reach ∙ (ap (λ ns. max (greatest ns) (greatest (map condition_reach q.plan.conditions.items))) back

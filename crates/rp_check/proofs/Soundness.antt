@@ -12,11 +12,13 @@ use Rattle.rp_words.specs.PatternForm.{form_of}
 use Rattle.rp_syntax.specs.Terms.{Term}
 use Rattle.rp_syntax.specs.Clauses.{ClauseTree, DefinitionTree}
 use Rattle.rp_query.specs.declared.plan.Condition.{Condition}
+use Rattle.rp_query.specs.declared.query.OutputColumn.{OutputColumn}
 use Rattle.rp_query.specs.declared.query.QueryData.{QueryData}
 use Rattle.rp_check.specs.QueryOf.{IsQueryOf, measured_totals, measuring, defining}
 use Rattle.rp_check.specs.ClauseFaults.{faults, each, name_faults, listing_faults, expression_faults, pattern_faults, union_faults, partition_faults, order_faults, measure_faults, definition_faults, skip_faults}
 use Rattle.rp_query.specs.Allowed.{each_leaf, goes_near, runs, asks_rows_alone, is_running, is_of_rows, is_near, is_of_variables, skips_to_variables}
-use Rattle.rp_query.specs.Kinds.{is_value, is_truth}
+use Rattle.rp_query.specs.Kinds.{are_texts, is_value, is_truth}
+use Rattle.rp_value.specs.declared.value.Value.TheVariants as value
 use Rattle.rp_check.specs.Context.{Context, column_named, is_name}
 use Rattle.rp_query.specs.Definitions.{condition_at}
 use Rattle.rp_query.specs.Formulas.{Formula, PlainTotal, plain_total, value_formula, condition_formula}
@@ -24,7 +26,9 @@ use Rattle.rp_check.specs.Queries.{formulas, totals_of, terms_of_measures, terms
 use Rattle.rp_query.specs.SkipRules.{rule_of}
 use Rattle.rp_query.specs.Reach.{reach, condition_reach}
 use Rattle.rp_check.specs.Resolved.{number_at, totals}
-use Rattle.rp_query.specs.Sound.{IsSound, IsColumn}
+use Rattle.rp_query.specs.Sound.{IsSound, IsColumn, source_is_of}
+use Rattle.rp_check.specs.Output.{texts, key_columns, measure_columns, other_columns, output_of}
+use Rattle.rp_check.proofs.ColumnsFit.{AllFit, columns_fit, others_fit, in_order_fits, measures_fit, source_by_formula}
 use Rattle.rp_check.specs.Variables.{variables_of}
 use Rattle.rp_check.proofs.Clean.{none_left, none_right, holds, each_clean, found_within}
 use Rattle.rp_check.proofs.KindsAgree.{measures_well, definitions_well}
@@ -64,6 +68,10 @@ module _ (ds : List DefinitionTree) where
   pub definition_there : (names : List (List ℕ)) (variable place : ℕ) → slice_get (map (definition_place ds) names) variable ≡ Some (Some place) → place < length ds
   definition_there names variable place e = place_within (slice_get names variable) place (sym (slice_get-map (definition_place ds) names variable) ∙ e)
 
+named_texts : (names : List (List ℕ)) → are_texts (map value.Text names) ≡ true
+named_texts [] = refl
+named_texts (name ∷ names) = named_texts names
+
 -- what holds of all conditions holds of a variable's
 pub of_definition : (P : Condition → Type 0) (conditions : List Condition) → All P conditions → (o : Option (Option ℕ)) (c : Condition) → condition_at conditions o ≡ Some c → P c
 of_definition P conditions all None c e = cc
@@ -87,11 +95,11 @@ module _ (c : ClauseTree) (columns : List Column) (written : List ℕ) (d : Quer
   measures_clean = none_left (each (measure_faults (measuring c columns)) c.measures) _ expressions
 
   values : AllByRecursion (λ f. is_value columns (map plain_total d.plan.totals.value.items) f ≡ true) (map value_formula d.plan.measures.items)
-  values = rw is.measures (measures_well (measuring c columns) (totals_of (defining c columns) (terms_of_definitions c.definitions)) (map plain_total d.plan.totals.value.items) c.measures [] []
+  values = rw is.measures (measures_well (measuring c columns) (named_texts (variables_of c.pattern)) (totals_of (defining c columns) (terms_of_definitions c.definitions)) (map plain_total d.plan.totals.value.items) c.measures [] []
       measures_clean is.totals)
 
   truths : AllByRecursion (λ f. is_truth columns (map plain_total d.plan.totals.value.items) f ≡ true) (map condition_formula d.plan.conditions.items)
-  truths = rw is.conditions (definitions_well (defining c columns) [] (map plain_total d.plan.totals.value.items) c.definitions [] (measured_totals c columns) definitions_clean
+  truths = rw is.conditions (definitions_well (defining c columns) (named_texts (variables_of c.pattern)) [] (map plain_total d.plan.totals.value.items) c.definitions [] (measured_totals c columns) definitions_clean
       (is.totals ∙ ap (λ ts. measured_totals c columns ++ ts) (sym (append-nil (totals_of (defining c columns) (terms_of_definitions c.definitions))))))
 
   -- what each formula of the definitions passes, each condition does
@@ -132,6 +140,27 @@ module _ (c : ClauseTree) (columns : List Column) (written : List ℕ) (d : Quer
       (λ earlier n e. column_there columns n.text (holds _ _ _ (none_left _ _ e))) [] (map (λ o. o.name) c.order)
       (none_left (each (order_faults columns c.partition) (map (λ o. o.name) c.order)) _ (none_right (each (partition_faults columns) c.partition) _ listing))
 
+  names_there : AllByRecursion (λ name. is_some (column_named name columns) ≡ true) (texts c.partition)
+  names_there = each_made (λ name. is_some (column_named name columns) ≡ true) (λ n. n.text) c.partition
+      (each_clean (λ n. is_some (column_named n.text columns) ≡ true) (partition_faults columns) (λ earlier n e. holds _ _ _ (none_left _ _ e)) [] c.partition
+      (none_left (each (partition_faults columns) c.partition) _ listing))
+
+  order_there : AllByRecursion (λ name. is_some (column_named name columns) ≡ true) (texts (map (λ o. o.name) c.order))
+  order_there = each_made (λ name. is_some (column_named name columns) ≡ true) (λ n. n.text) (map (λ o. o.name) c.order)
+      (each_clean (λ n. is_some (column_named n.text columns) ≡ true) (order_faults columns c.partition) (λ earlier n e. holds _ _ _ (none_left _ _ e)) [] (map (λ o. o.name) c.order)
+      (none_left (each (order_faults columns c.partition) (map (λ o. o.name) c.order)) _ (none_right (each (partition_faults columns) c.partition) _ listing)))
+
+  shown : AllFit columns (map plain_total d.plan.totals.value.items) (map value_formula d.plan.measures.items) (output_of c columns)
+  shown =
+      let all = map plain_total d.plan.totals.value.items in
+      let fs = map value_formula d.plan.measures.items in
+      let partition = texts c.partition in
+      let order = texts (map (λ o. o.name) c.order) in
+      in_order_fits columns all fs c.rows (key_columns columns partition) (key_columns columns order) (measure_columns (measuring c columns) 0 c.measures) (other_columns partition order 1 columns)
+      (columns_fit columns all fs partition names_there) (columns_fit columns all fs order order_there)
+      (measures_fit (measuring c columns) (named_texts (variables_of c.pattern)) (totals_of (defining c columns) (terms_of_definitions c.definitions)) all fs c.measures [] [] [] 0 refl is.measures measures_clean is.totals)
+      (others_fit columns all fs partition order [] columns 1 refl refl)
+
   condition_count : length d.plan.conditions.items ≡ length c.definitions
   condition_count =
       sym (length-map d.plan.conditions.items condition_formula) ∙ (ap length is.conditions
@@ -139,6 +168,11 @@ module _ (c : ClauseTree) (columns : List Column) (written : List ℕ) (d : Quer
 
   reaching : All (λ p. condition_reach p ≤ d.reach) d.plan.conditions.items
   reaching = All-from_recursion (λ p. condition_reach p ≤ d.reach) d.plan.conditions.items (covered condition_reach d.plan.conditions.items d.reach (let e = is.reach in omega arith))
+
+  all_given : (output : List OutputColumn) → AllFit d.table (map plain_total d.plan.totals.value.items) (map value_formula d.plan.measures.items) output
+      → AllByRecursion (λ o. source_is_of d o.kind o.from ≡ true) output
+  all_given [] h = tt
+  all_given (o ∷ os) h = (source_by_formula d o.kind o.from ∙ h.0, all_given os h.1)
 
   pub sound : IsSound d
   sound = record {
@@ -150,6 +184,9 @@ module _ (c : ClauseTree) (columns : List Column) (written : List ℕ) (d : Quer
         let names = variables_of c.pattern in
         subst (λ n. skips_to_variables n (rule_of d.plan.skip) ≡ true) (sym count) (subst (λ r. skips_to_variables (length names) r ≡ true) (sym is.skip)
         (skip_named (measuring c columns) (length names) (sets_named names c.subsets columns false unions_clean) c.skip skip_clean));
+    names = ap length is.variables ∙ sym count;
+    output = subst (AllPass (λ o. source_is_of d o.kind o.from)) (sym is.output) (All-from_recursion (λ o. source_is_of d o.kind o.from ≡ true) (output_of c columns)
+        (all_given (output_of c columns) (subst (λ table. AllFit table (map plain_total d.plan.totals.value.items) (map value_formula d.plan.measures.items) (output_of c columns)) (sym is.table) shown)));
     definitions = λ variable place e. rw condition_count (definition_there c.definitions (variables_of c.pattern) variable place (rw (← is.definitions) e));
     measures = All-from_recursion (λ e. reach e ≤ d.reach) d.plan.measures.items (covered reach d.plan.measures.items d.reach (let e = is.reach in omega arith));
     conditions = reaching;

@@ -19,6 +19,7 @@ use Rattle.rp_check.specs.Checked.{Tells, FirstFaultOr}
 use Rattle.rp_check.specs.Checking.{IsNamed, ArePlaces, IsPlanned, IsMadeOf, spoken}
 use Rattle.rp_check.specs.ClauseFaults.{faults, name_faults, listing_faults, expression_faults, shown_faults}
 use Rattle.rp_check.specs.Context.{naming_of}
+use Rattle.rp_check.specs.Output.{output_with}
 use Rattle.rp_query.specs.Formulas.{value_formula, condition_formula, plain_total}
 use Rattle.rp_query.specs.SkipRules.{rule_of}
 use Rattle.rp_check.specs.Reading.{Reads}
@@ -50,7 +51,8 @@ is_query c written columns n l p d named listed planned made = record {
   text = made.text;
   table = made.table;
   pattern = ap (λ q. shape_of (form_of q)) made.pattern ∙ named.pattern;
-  output = made.output;
+  variables = ap (λ v. v.items) made.variables ∙ named.variables;
+  output = made.output ∙ ap (output_with c columns) planned.shown;
   reach = rw (made.measures, made.conditions) made.reach;
   partition = ap (λ v. v.items) made.partition ∙ listed.partition;
   order = ap (λ v. v.items) made.order ∙ listed.order;

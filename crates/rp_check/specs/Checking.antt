@@ -16,7 +16,8 @@ use Rattle.rp_query.specs.declared.query.QueryData.{QueryData}
 use Rattle.rp_check.specs.declared.names.NamedSet.{NamedSet}
 use Rattle.rp_check.specs.Context.{Context, naming_of, column_named}
 use Rattle.rp_query.specs.Formulas.{value_formula, condition_formula, plain_total}
-use Rattle.rp_check.specs.Queries.{formulas, totals_of, terms_of_measures, terms_of_definitions, rule_meant, rows_shown, definition_place, output_of, order_column, greatest}
+use Rattle.rp_check.specs.Queries.{formulas, totals_of, terms_of_measures, terms_of_definitions, rule_meant, rows_shown, definition_place, order_column, greatest}
+use Rattle.rp_check.specs.Output.{measure_columns, output_with}
 use Rattle.rp_query.specs.SkipRules.{rule_of}
 use Rattle.rp_query.specs.Reach.{reach, condition_reach}
 use Rattle.rp_check.specs.Resolved.{number_at}
@@ -44,6 +45,7 @@ pub record ArePlaces (variables : List (List ℕ)) (columns : List Column) (c : 
 
 pub record IsPlanned (measuring defining : Context) (c : ClauseTree) (p : Planned) : Type 0 where
   pub measures : map value_formula p.measures.items ≡ formulas measuring [] (terms_of_measures c.measures)
+  pub shown : p.shown.items ≡ measure_columns measuring 0 c.measures
   pub skip : rule_of p.skip ≡ rule_meant measuring c.skip
   pub conditions : map condition_formula p.conditions.items
       ≡ formulas defining (totals_of measuring (terms_of_measures c.measures)) (terms_of_definitions c.definitions)
@@ -56,7 +58,8 @@ pub record IsMadeOf (c : ClauseTree) (written : List ℕ) (columns : List Column
   pub text : d.text ≡ written
   pub table : d.table ≡ columns
   pub pattern : d.pattern ≡ n.pattern
-  pub output : d.output.items ≡ output_of c columns
+  pub variables : d.variables ≡ n.variables
+  pub output : d.output.items ≡ output_with c columns p.shown.items
   pub reach : d.reach ≡ max (greatest (map reach p.measures.items)) (greatest (map condition_reach p.conditions.items))
   pub partition : d.partition ≡ l.partition
   pub order : d.order ≡ l.order

@@ -6,7 +6,8 @@ use Rattle.rp_syntax.specs.Clauses.{ClauseTree}
 use Rattle.rp_query.specs.declared.query.QueryData.{QueryData}
 use Rattle.rp_check.specs.Context.{Context, column_named}
 use Rattle.rp_query.specs.Formulas.{PlainTotal, value_formula, condition_formula, plain_total}
-use Rattle.rp_check.specs.Queries.{formulas, totals_of, terms_of_measures, terms_of_definitions, rule_meant, rows_shown, definition_place, output_of, greatest, order_column}
+use Rattle.rp_check.specs.Queries.{formulas, totals_of, terms_of_measures, terms_of_definitions, rule_meant, rows_shown, definition_place, greatest, order_column}
+use Rattle.rp_check.specs.Output.{output_of}
 use Rattle.rp_query.specs.SkipRules.{rule_of}
 use Rattle.rp_query.specs.Reach.{reach, condition_reach}
 use Rattle.rp_check.specs.Resolved.{number_at}
@@ -29,6 +30,7 @@ pub record IsQueryOf (c : ClauseTree) (written : List ℕ) (columns : List Colum
   pub text : d.text ≡ written
   pub table : d.table ≡ columns
   pub pattern : shape_of (form_of d.pattern) ≡ shaped (variables_of c.pattern) c.pattern
+  pub variables : d.variables.items ≡ variables_of c.pattern
   pub output : d.output.items ≡ output_of c columns
   -- the greatest offset of PREV in the plan
   pub reach : d.reach

@@ -17,11 +17,13 @@ use crate::lists::{
     add_unions, allow_definitions, allow_measures, order_columns, partition_columns, variable_sets,
 };
 use crate::names::{NamedSet, Names};
+use crate::output::output_of;
 use crate::pattern::{first_exclusion, read};
 use crate::place::fault;
-use crate::shown::{classes, definition_places, output_names, whole_reach};
+use crate::shown::{classes, definition_places, whole_reach};
 use rp_query::{
-    Condition, Expr, OrderColumn, Plan, Query, QueryData, RowsPerMatch as RowsShown, SkipTo, Total,
+    Condition, Expr, OrderColumn, OutputColumn, Plan, Query, QueryData, RowsPerMatch as RowsShown,
+    SkipTo, Total,
 };
 use rp_syntax::{Clause, Pattern as Written, RowsPerMatch};
 use rp_value::{Column, Table, Text, Value};
@@ -50,6 +52,8 @@ pub(crate) struct Places {
 #[derive(Drop)]
 pub(crate) struct Planned {
     pub(crate) measures: Vec<Expr>,
+    /// The measures as columns of the output.
+    pub(crate) shown: Vec<OutputColumn>,
     pub(crate) conditions: Vec<Condition>,
     pub(crate) skip: SkipTo,
     pub(crate) totals: Rc<Vec<Total>>,
@@ -140,7 +144,14 @@ fn plan_all(
         classes,
     };
     let mut totals = Vec::new(alloc);
-    let measures = measures(alloc, &measuring, &mut totals, clause.measures.as_slice())?;
+    let mut shown = Vec::new(alloc);
+    let measures = measures(
+        alloc,
+        &measuring,
+        &mut totals,
+        &mut shown,
+        clause.measures.as_slice(),
+    )?;
     let conditions = conditions(alloc, &defining, &mut totals, clause.definitions.as_slice())?;
     let totals = Rc::new(alloc, totals)?;
     let skip = skip_to(alloc, &measuring, &clause.skip)?;
@@ -148,6 +159,7 @@ fn plan_all(
         alloc,
         Planned {
             measures,
+            shown,
             conditions,
             skip,
             totals,
@@ -253,19 +265,12 @@ fn assembled(
     ensures { IfOk result
         (IsMadeOf (clause_tree clause.now) clause.now.text table.now named.value places.value planned.value) }
 {
-    let output = output_names(
-        alloc,
-        clause.rows,
-        clause.partition.as_slice(),
-        clause.order.as_slice(),
-        clause.measures.as_slice(),
-        table.columns(),
-    )?;
     let text = clause.text.share()?;
     let table = table.share()?;
     let named = Box::into_inner(named);
     let places = Box::into_inner(places);
     let planned = Box::into_inner(planned);
+    let output = output_of(alloc, clause, table.columns(), planned.shown)?;
     let reach = whole_reach(planned.measures.as_slice(), planned.conditions.as_slice());
     let plan = Plan {
         measures: planned.measures,
@@ -279,6 +284,7 @@ fn assembled(
         text,
         table,
         pattern: named.pattern,
+        variables: named.variables,
         output,
         reach,
         partition: places.partition,

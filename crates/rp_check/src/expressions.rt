@@ -1,6 +1,6 @@
 //! The expressions of MEASURES and DEFINE, and the skip's variable.
 
-ghost use Rattle.std.specs.Prelude.{◌≡◌, map};
+ghost use Rattle.std.specs.Prelude.{◌≡◌, ◌++◌, map, IfOk};
 ghost use Rattle.rp_syntax.specs.Terms.{term_of};
 ghost use Rattle.rp_syntax.specs.Clauses.{measure_tree, definition_tree};
 ghost use Rattle.rp_query.specs.Formulas.{plain_total, value_formula, condition_formula};
@@ -8,32 +8,59 @@ ghost use Rattle.rp_check.specs.Context.{context_of};
 ghost use Rattle.rp_check.specs.ClauseFaults.{each, value_faults, condition_faults, measure_faults, definition_faults, skip_faults};
 ghost use Rattle.rp_check.specs.Queries.{IsResolved, AreResolved, terms_of_measures, terms_of_definitions, rule_meant};
 ghost use Rattle.rp_query.specs.SkipRules.{rule_of};
-ghost use Rattle.rp_check.specs.Checked.{FirstFaultOr};
+ghost use Rattle.rp_check.specs.Checked.{FirstFaultOr, sort_known};
+ghost use Rattle.rp_check.specs.Output.{value_kind, measure_columns};
+ghost use Rattle.rp_check.specs.Sorts.{sort_of};
+ghost use Rattle.rp_query.specs.declared.query.Source.TheVariants as source;
 
 use crate::expr::resolve;
 use crate::fault::{CheckFault, CheckKind};
 use crate::names::Names;
 use crate::operand::{condition, value};
 use crate::place::{fault, variables};
-use rp_query::{Condition, Expr, SkipTo, Total};
-use rp_syntax::{Definition, Expr as Written, Measure, Skip};
-use std::alloc::Global;
+use crate::resolved::Resolved;
+use rp_query::{Condition, Expr, OutputColumn, SkipTo, Source, Total};
+use rp_syntax::{Definition, Expr as Written, Measure, Name, Skip};
+use rp_value::Kind;
+use std::alloc::{AllocError, Global};
 
-/// A measure's expression, which begins at the offset and must be a value.
+/// A value of the clause, its names resolved.
+#[derive(Drop)]
+struct TypedExpr {
+    expr: Expr,
+    kind: Kind,
+}
+
+/// The kind of a value.
+fn kind_in(operand: &Resolved) -> Kind
+    ensures { result ≡ value_kind (sort_known operand.now) }
+{
+    match operand {
+        Resolved::Value(_, kind) => *kind,
+        Resolved::Condition(_) => Kind::Text,
+    }
+}
+
+/// A measure's expression, which begins at the offset and must be a value, and its kind.
 fn measured(
     alloc: Global,
     names: &Names,
     totals: &mut Vec<Total>,
     at: usize,
     expr: &Written,
-) -> Result<Expr, CheckFault>
+) -> Result<TypedExpr, CheckFault>
     ensures { FirstFaultOr (value_faults (context_of names.now) (term_of expr.now) at)
         (λ e. IsResolved (context_of names.now) (map plain_total totals.old.items) (term_of expr.now)
-        (value_formula e) (map plain_total totals.new.items)) result }
+        (value_formula e.expr) (map plain_total totals.new.items)
+        × (e.kind ≡ value_kind (sort_of (context_of names.now) (term_of expr.now)))) result }
 {
     let found = resolve(alloc, names, totals, expr)?;
+    let kind = kind_in(&found);
     match value(found) {
-        Some(expr) => Ok(Box::into_inner(expr)),
+        Some(expr) => Ok(TypedExpr {
+            expr: Box::into_inner(expr),
+            kind,
+        }),
         None => Err(fault(CheckKind::KindMismatch, at)),
     }
 }
@@ -57,25 +84,39 @@ fn defined(
     }
 }
 
-/// The measures, with names resolved. Their totals are put behind those before them.
+/// The measures, with names resolved. Their totals are put behind those before them, and each is shown in the output.
 pub(crate) fn measures(
     alloc: Global,
     names: &Names,
     totals: &mut Vec<Total>,
+    shown: &mut Vec<OutputColumn>,
     written: &[Measure],
 ) -> Result<Vec<Expr>, CheckFault>
     ensures { FirstFaultOr (each (measure_faults (context_of names.now)) (map measure_tree written.now))
         (λ es. AreResolved (context_of names.now) (map plain_total totals.old.items)
         (terms_of_measures (map measure_tree written.now)) (map value_formula es.items)
-        (map plain_total totals.new.items)) result }
+        (map plain_total totals.new.items)
+        × (shown.new.items
+        ≡ shown.old.items ++ measure_columns (context_of names.now) 0 (map measure_tree written.now))) result }
 {
     let mut exprs = Vec::new(alloc);
     for i in 0..written.len() {
         let measure = &written[i];
-        let expr = measured(alloc, names, totals, measure.at, &measure.expr)?;
-        exprs.push(expr)?;
+        let typed = measured(alloc, names, totals, measure.at, &measure.expr)?;
+        let column = shown_as(&measure.name, typed.kind, i)?;
+        exprs.push(typed.expr)?;
+        shown.push(column)?;
     }
     Ok(exprs)
+}
+
+/// The measure at this place, as a column of the output.
+fn shown_as(name: &Name, kind: Kind, place: usize) -> Result<OutputColumn, AllocError>
+    ensures { IfOk result (λ o. o ≡ record { name = name.now.text; kind = kind; from = source.Measure place }) }
+{
+    let name = name.text.share()?;
+    let from = Source::Measure(place);
+    Ok(OutputColumn { name, kind, from })
 }
 
 /// The conditions of DEFINE, with names resolved. Their totals are put behind those before them.
