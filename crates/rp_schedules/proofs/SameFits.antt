@@ -28,6 +28,7 @@ same_either_way q r s = record {
   text = sym s.text;
   table = sym s.table;
   pattern = sym s.pattern;
+  variables = sym s.variables;
   output = sym s.output;
   reach = sym s.reach;
   partition = sym s.partition;

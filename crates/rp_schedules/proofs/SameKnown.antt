@@ -1,12 +1,9 @@
 -- Queries that are the same have the same known answer: what it rests on is the same, wherever the parts of each are kept.
-use Rattle.std.proofs.Common.{◌≡◌, ◌∙◌, ℕ, zero, suc, ◌-◌, Bool, true, ◌||◌, cond, List, [], ◌∷◌, ◌++◌, map, length, Option, Some, None, refl, sym, ap}
+use Rattle.std.proofs.Common.{◌≡◌, ◌∙◌, ℕ, zero, suc, ◌-◌, Bool, true, cond, List, [], ◌∷◌, map, length, Option, Some, None, refl, sym, ap}
 use Rattle.std.specs.Prelude.{nat_eq, nat_le, slice_get, option_map}
 use Rattle.std.specs.List.{list_any}
 use Rattle.std.proofs.lemmas.Option.{slice_get-map}
 use mathlib.Core.Path.{fun_ext}
-use Rattle.rp_value.specs.declared.table.Column.{Column}
-use Rattle.rp_value.specs.declared.value.Value.{Value}
-use Rattle.rp_value.specs.declared.value.Value.TheVariants.{Null}
 use Rattle.rp_words.specs.declared.word.Label.{Label}
 use Rattle.rp_words.specs.PatternForm.{form_of}
 use Rattle.rp_words.specs.Words.{words}
@@ -16,28 +13,29 @@ use Rattle.rp_query.specs.declared.plan.Expr.{Expr}
 use Rattle.rp_query.specs.declared.plan.Total.{Total}
 use Rattle.rp_query.specs.declared.plan.Variables.{Variables}
 use Rattle.rp_query.specs.declared.plan.Variables.TheVariants.{Universal, Among}
-use Rattle.rp_query.specs.declared.query.OrderColumn.{OrderColumn}
+use Rattle.rp_query.specs.declared.query.OutputColumn.{OutputColumn}
 use Rattle.rp_query.specs.declared.query.QueryData.{QueryData}
-use Rattle.rp_query.specs.declared.query.RowsPerMatch.{RowsPerMatch}
 use Rattle.rp_query.specs.declared.query.SkipTo.{SkipTo}
 use Rattle.rp_query.specs.declared.query.SkipTo.TheVariants as skip
+use Rattle.rp_query.specs.declared.query.Source.{Source}
+use Rattle.rp_query.specs.declared.query.Source.TheVariants as source
 use Rattle.rp_query.specs.declared.item.Item.{Item}
 use Rattle.rp_query.specs.declared.item.Item.TheVariants.{Row as RowItem}
 use Rattle.rp_query.specs.Definitions.{condition_at, definition_of}
-use Rattle.rp_query.specs.Formulas.{Formula, plain_total, members_of, value_formula, condition_formula}
+use Rattle.rp_query.specs.Formulas.{plain_total, members_of, value_formula, condition_formula}
 use Rattle.rp_query.specs.QueryView.{totals_in}
 use Rattle.rp_query.specs.Scopes.{includes}
 use Rattle.rp_query.specs.SkipRules.{SkipRule, PastLastRow, ToNextRow, ToFirst, ToLast, rule_of}
 use Rattle.rp_query.specs.Sound.{IsSound}
 use Rattle.rp_same_query.specs.SameQuery.{IsSameQuery, WordsFollow}
 use Rattle.rp_eval.specs.ByFormula.{by, ValuesFollow, JudgementsFollow}
-use Rattle.rp_eval.specs.ValueOf.{Setting, value_of, seen_as}
+use Rattle.rp_eval.specs.ValueOf.{Setting, seen_as}
 use Rattle.rp_conditions.specs.Tested.{last_row, seen_by, seen_at, outcome_of}
 use Rattle.rp_known.specs.declared.place.Place.{Place}
 use Rattle.rp_known.specs.Known.{Known, count}
-use Rattle.rp_known.specs.Plans.{tested_by, setting_of, before_ready, values_of, shows_all, columns_beside, leading, trailing, row_cells, no_measures}
+use Rattle.rp_known.specs.Plans.{tested_by, setting_of, before_ready, measured, shown_in, cells_in, cells_alone}
 use Rattle.rp_known.specs.Skips.{first_place, last_place, skipped, start_after, next_start}
-use Rattle.rp_known.specs.Items.{item_rows, row_item, item_at, items_of}
+use Rattle.rp_known.specs.Items.{item_rows, item_at, items_of}
 use Rattle.rp_known.specs.Walk.{after_items, after_match, after_found, found_at, at_last, searched, leg, and_then, walk, known, ComesTo, here, on}
 use Rattle.rp_known.specs.Walk.{first_place as first_of_walk}
 
@@ -59,13 +57,11 @@ module _ (judgements : JudgementsFollow) (values : ValuesFollow) (s : Setting) (
   seen_same (Some c) None e = absurd cc
   seen_same (Some c) (Some d) e = ap seen_as (judgements s ts c d totals (sym (same_some (condition_formula c) (condition_formula d) e)))
 
-  values_same : (xs ys : List Expr) → map value_formula xs ≡ map value_formula ys → values_of (by s ts) ys ≡ values_of s xs
-  values_same [] [] e = refl
-  values_same [] (y ∷ ys) e = absurd cc
-  values_same (x ∷ xs) [] e = absurd cc
-  values_same (x ∷ xs) (y ∷ ys) e =
-      ap (λ v. before_ready v (values_of (by s ts) ys)) (values s ts x y totals (sym (same_head (value_formula x) (value_formula y) (map value_formula xs) (map value_formula ys) e)))
-      ∙ ap (before_ready (value_of s x)) (values_same xs ys (same_tail (value_formula x) (value_formula y) (map value_formula xs) (map value_formula ys) e))
+  measured_same : (o u : Option Expr) → option_map value_formula o ≡ option_map value_formula u → measured (by s ts) u ≡ measured s o
+  measured_same None None e = refl
+  measured_same None (Some y) e = absurd cc
+  measured_same (Some x) None e = absurd cc
+  measured_same (Some x) (Some y) e = values s ts x y totals (sym (same_some (value_formula x) (value_formula y) e))
 
 condition_same : (cs ds : List Condition) → map condition_formula cs ≡ map condition_formula ds → (o : Option (Option ℕ))
     → option_map condition_formula (condition_at cs o) ≡ option_map condition_formula (condition_at ds o)
@@ -74,21 +70,8 @@ condition_same cs ds e (Some None) = refl
 condition_same cs ds e (Some (Some place)) =
     sym (slice_get-map condition_formula cs place) ∙ ap (λ fs. slice_get fs place) e ∙ slice_get-map condition_formula ds place
 
--- ---- the cells of an item
-
-abbrev leading_by : RowsPerMatch → List ℕ → List OrderColumn → List ℕ
-leading_by rows partition order = cond (shows_all rows) (partition ++ map (λ o. o.column) order) partition
-
-abbrev trailing_by : RowsPerMatch → List Column → List ℕ → List OrderColumn → List ℕ
-trailing_by rows table partition order =
-    cond (shows_all rows) (columns_beside (λ number. list_any (nat_eq number) partition || list_any (λ o. nat_eq number o.column) order) 1 table) []
-
-abbrev nulls : List Formula → List Value
-nulls fs = map (λ _. Null) fs
-
-null_each : (xs : List Expr) → map (λ _. Null) xs ≡ nulls (map value_formula xs)
-null_each [] = refl
-null_each (x ∷ xs) = ap (λ vs. Null ∷ vs) (null_each xs)
+measure_same : (xs ys : List Expr) → map value_formula xs ≡ map value_formula ys → (place : ℕ) → option_map value_formula (slice_get xs place) ≡ option_map value_formula (slice_get ys place)
+measure_same xs ys e place = sym (slice_get-map value_formula xs place) ∙ ap (λ fs. slice_get fs place) e ∙ slice_get-map value_formula ys place
 
 -- ---- the skip rule
 
@@ -131,22 +114,6 @@ module _ (judgements : JudgementsFollow) (values : ValuesFollow) (same_words : W
   after_same place NoMatch = refl
   after_same place (Match labels) = ap (after_match place labels) (next_same place.start labels)
 
-  leading_same : leading r ≡ leading q
-  leading_same =
-      ap (λ x. leading_by x r.partition.items r.order.items) (sym same.rows)
-      ∙ ap (λ x. leading_by q.plan.rows x r.order.items) (sym same.partition)
-      ∙ ap (λ x. leading_by q.plan.rows q.partition.items x) (sym same.order)
-
-  trailing_same : trailing r ≡ trailing q
-  trailing_same =
-      ap (λ x. trailing_by x r.table r.partition.items r.order.items) (sym same.rows)
-      ∙ ap (λ x. trailing_by q.plan.rows x r.partition.items r.order.items) (sym same.table)
-      ∙ ap (λ x. trailing_by q.plan.rows q.table x r.order.items) (sym same.partition)
-      ∙ ap (λ x. trailing_by q.plan.rows q.table q.partition.items x) (sym same.order)
-
-  no_measures_same : no_measures r ≡ no_measures q
-  no_measures_same = null_each r.plan.measures.items ∙ ap nulls (sym same.measures) ∙ sym (null_each q.plan.measures.items)
-
   module _ (p : Known) where
     seen_at_same : (start : ℕ) (labels : List Label) (o : Option Label)
         → seen_at (tested_by r p) (last_row (tested_by r p) start labels) o ≡ seen_at (tested_by q p) (last_row (tested_by q p) start labels) o
@@ -163,21 +130,26 @@ module _ (judgements : JudgementsFollow) (values : ValuesFollow) (same_words : W
         ∙ ap (λ ws. found (outcome_of (tested_by q p) start) (ws start))
         (same_words (form_of r.pattern) (form_of q.pattern) (sym same.pattern) sound_too.bounds sound.bounds (count p) p.end)
 
-    cells_same : (row : ℕ) (number : Option ℕ) → row_item r p row number ≡ row_item q p row number
-    cells_same row number =
-        ap (λ columns (measures : List Value). RowItem number (row_cells p.rows row columns ++ measures ++ row_cells p.rows row (trailing r))) leading_same
-        ∙ ap (λ columns (measures : List Value). RowItem number (row_cells p.rows row (leading q) ++ measures ++ row_cells p.rows row columns)) trailing_same
+    -- what an output column has at the row of a match
+    shown_same : (start : ℕ) (labels : List Label) (number row : ℕ) (from : Source) → shown_in r (setting_of r p start labels number row) from ≡ shown_in q (setting_of q p start labels number row) from
+    shown_same start labels number row (source.Column n) = refl
+    shown_same start labels number row (source.Measure i) =
+        measured_same judgements values (setting_of q p start labels number row) (totals_in r) (sym same.totals) (slice_get q.plan.measures.items i) (slice_get r.plan.measures.items i)
+        (measure_same q.plan.measures.items r.plan.measures.items same.measures i)
+
+    cells_same : (start : ℕ) (labels : List Label) (number row : ℕ) (columns : List OutputColumn)
+        → cells_in r (setting_of r p start labels number row) columns ≡ cells_in q (setting_of q p start labels number row) columns
+    cells_same start labels number row [] = refl
+    cells_same start labels number row (o ∷ os) =
+        ap (λ c. before_ready c (cells_in r (setting_of r p start labels number row) os)) (shown_same start labels number row o.from)
+        ∙ ap (before_ready (shown_in q (setting_of q p start labels number row) o.from)) (cells_same start labels number row os)
 
     item_same : (place : Place) (result : Found) (row : ℕ) → item_at r p place result row ≡ item_at q p place result row
     item_same place Waits row = refl
-    item_same place NoMatch row =
-        ap (λ (shown : List Value → Item). Some (shown (no_measures r))) (cells_same row None)
-        ∙ ap (λ measures. Some (row_item q p row None measures)) no_measures_same
+    item_same place NoMatch row = ap (λ columns. Some (RowItem None (cells_alone p.rows row columns))) (sym same.output)
     item_same place (Match labels) row =
-        ap (λ (shown : List Value → Item). option_map shown (values_of (setting_of r p place.start labels (suc place.matches) row) r.plan.measures.items))
-        (cells_same row (Some (suc place.matches)))
-        ∙ ap (option_map (row_item q p row (Some (suc place.matches))))
-        (values_same judgements values (setting_of q p place.start labels (suc place.matches) row) (totals_in r) (sym same.totals) q.plan.measures.items r.plan.measures.items same.measures)
+        ap (λ columns. option_map (RowItem (Some (suc place.matches))) (cells_in r (setting_of r p place.start labels (suc place.matches) row) columns)) (sym same.output)
+        ∙ ap (option_map (RowItem (Some (suc place.matches)))) (cells_same place.start labels (suc place.matches) row q.output.items)
 
     items_same : (place : Place) (result : Found) → items_of r p place result ≡ items_of q p place result
     items_same place result =
