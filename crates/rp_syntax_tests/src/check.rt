@@ -22,7 +22,7 @@ fn has_output(query: &Query, wanted: &[&str]) -> bool {
         && output
             .iter()
             .zip(wanted)
-            .all(|(name, want)| name.as_str() == *want)
+            .all(|(column, want)| column.name.as_str() == *want)
 }
 
 #[test]
