@@ -3,3 +3,4 @@ mod Items
 mod InOrder
 mod Told
 mod Wrote
+mod Named

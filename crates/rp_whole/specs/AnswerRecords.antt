@@ -1,5 +1,5 @@
 -- The CSV records that answer a query over an input.
-use Rattle.std.specs.Prelude.{◌≡◌, ℕ, List, [], ◌∷◌, ◌++◌, Option, IfSome}
+use Rattle.std.specs.Prelude.{◌≡◌, ℕ, List, [], ◌∷◌, ◌++◌, map, Option, IfSome}
 use Rattle.std.specs.List.{flat_map}
 use Rattle.std.specs.Io.KnownBytes.{Appends}
 use Rattle.rp_value.specs.declared.value.Value.{Value}
@@ -27,9 +27,13 @@ stops_of key (Row number cells) = []
 stops_of key (Fault fault) = record { key = key; fault = fault } ∷ []
 stops_of key End = []
 
--- the first record: the names of the output columns
+-- the names of the output columns
+abbrev pub output_names : QueryData → List (List ℕ)
+output_names q = map (λ o. o.name) q.output.items
+
+-- the first record
 abbrev pub header_text : QueryData → List ℕ
-header_text q = names_record q.output.items
+header_text q = names_record (output_names q)
 
 -- the records of a partition: those of all items of its answer
 abbrev pub part_records : QueryData → Part → List ℕ

@@ -13,6 +13,7 @@
 mod closed;
 mod fault;
 mod gathered;
+mod laws;
 mod lines;
 mod part;
 mod parts;
@@ -23,6 +24,7 @@ mod watch;
 mod whole;
 
 pub use fault::WholeFault;
+pub use laws::law_header;
 pub use shown::shown_number;
 pub use stopped::Stopped;
 pub use watch::{Unwatched, Watch};

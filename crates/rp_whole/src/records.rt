@@ -1,13 +1,13 @@
 //! Items as records of CSV.
 ghost use Rattle.std.specs.Prelude.{◌≡◌, [], IfOk};
 ghost use Rattle.rp_query.specs.QueryView.{data_of};
-ghost use Rattle.rp_whole.specs.AnswerRecords.{header_text};
+ghost use Rattle.rp_whole.specs.AnswerRecords.{header_text, output_names};
 
 use crate::gathered::{BLOCK, Gathered};
 use crate::stopped::Stopped;
 use rp_query::{Item, Query};
 use rp_table::Records;
-use rp_value::Cells;
+use rp_value::{Cells, Text};
 use std::alloc::{AllocError, Global};
 
 /// The records of rows, and the partitions whose answers skip faults ended.
@@ -18,6 +18,17 @@ pub(crate) struct RowRecords {
     stopped: Vec<Stopped>,
 }
 
+/// The names of the output columns.
+fn output_names(alloc: Global, query: &Query) -> Result<Vec<Text>, AllocError>
+    ensures { IfOk result (λ names. names.items ≡ output_names (data_of query.now)) }
+{
+    let mut names = Vec::new(alloc);
+    for column in query.output() {
+        names.push(column.name.share()?)?;
+    }
+    Ok(names)
+}
+
 impl RowRecords {
     /// The header alone: the names of the output columns.
     pub(crate) fn new(alloc: Global, query: &Query) -> Result<RowRecords, AllocError>
@@ -25,7 +36,8 @@ impl RowRecords {
         ensures stopped { IfOk result (λ rows. rows.stopped.items ≡ []) }
     {
         let mut records = Records::new(alloc);
-        records.push_names(query.output())?;
+        let names = output_names(alloc, query)?;
+        records.push_names(names.as_slice())?;
         Ok(RowRecords {
             alloc,
             records,

@@ -1,0 +1,130 @@
+-- The header of an answer's CSV names the cells below it.
+use Rattle.std.proofs.Common.{◌≡◌, ◌∙◌, ℕ, List, [], ◌∷◌, ◌++◌, map, length, append_assoc, refl, sym, ap, subst}
+use Rattle.std.specs.Prelude.{All, Contains, Option, Some, None}
+use Rattle.std.specs.List.{AllByRecursion, flat_map}
+use Rattle.std.proofs.lemmas.List.{length-map}
+use Rattle.std.proofs.lemmas.List.Elements.{All-contains_itself, All-from_recursion, All-weaker, recursion_from_All}
+use Rattle.std.proofs.lemmas.Slice.Zip.{AllZip-long}
+use Rattle.rp_value.specs.declared.value.Value.{Value}
+use Rattle.rp_query.specs.declared.query.QueryData.{QueryData}
+use Rattle.rp_query.specs.declared.item.Item.{Item}
+use Rattle.rp_query.specs.declared.item.Item.TheVariants.{Row, Fault, End}
+use Rattle.rp_query.specs.Keys.{AreRowsOver}
+use Rattle.rp_query.specs.Sound.{IsSound}
+use Rattle.rp_eval.specs.declared.cell.Cell.TheVariants.{Ready}
+use Rattle.rp_known.specs.Known.{Known}
+use Rattle.rp_known.specs.Named.{IsNamed, KnownIsNamed}
+use Rattle.rp_known.specs.Plans.{setting_of, shown_in, shown_alone}
+use Rattle.rp_known.specs.Typed.{AreTyped, IsTyped, KnownIsTyped}
+use Rattle.rp_known.specs.Walk.{known}
+use Rattle.rp_input.specs.Fitting.{PartsFit}
+use Rattle.rp_input.specs.Partitions.{Part}
+use Rattle.rp_table.specs.ReadBack.{Reads, ReadsBack, records_text}
+use Rattle.rp_table.specs.RecordTexts.{field_of, cells_record}
+use Rattle.rp_whole.specs.AnswerLines.{closed}
+use Rattle.rp_whole.specs.AnswerRecords.{output_names, header_text, record_text, part_records}
+use Rattle.rp_whole.specs.Named.{IsOutputRow, HeaderNames, header_and_rows}
+
+-- the cells of an item
+abbrev row_of : Item → List (List Value)
+row_of (Row number cells) = cells ∷ []
+row_of (Fault fault) = []
+row_of End = []
+
+abbrev rows_in : List Item → List (List Value)
+rows_in items = flat_map row_of items
+
+abbrev texts : List (List Value) → List ℕ
+texts rows = records_text (map (map field_of) rows)
+
+texts_append : (xs ys : List (List Value)) → texts (xs ++ ys) ≡ texts xs ++ texts ys
+texts_append [] ys = refl
+texts_append (x ∷ xs) ys = ap (λ t. cells_record x ++ t) (texts_append xs ys) ∙ sym (append_assoc (cells_record x) (texts xs) (texts ys))
+
+items_texts : (items : List Item) → flat_map record_text items ≡ texts (rows_in items)
+items_texts [] = refl
+items_texts (Row number cells ∷ items) = ap (λ t. cells_record cells ++ t) (items_texts items)
+items_texts (Fault fault ∷ items) = items_texts items
+items_texts (End ∷ items) = items_texts items
+
+-- what holds of the cells of each row of some items, and of each row of some lists of them
+module _ (P : List Value → Type 0) where
+  both_rows : (xs ys : List (List Value)) → AllByRecursion P xs → AllByRecursion P ys → AllByRecursion P (xs ++ ys)
+  both_rows [] ys h k = k
+  both_rows (x ∷ xs) ys h k = (h.0, both_rows xs ys h.1 k)
+
+  each_row : {X : Type 0} (rows : X → List (List Value)) (xs : List X) → AllByRecursion (λ x. AllByRecursion P (rows x)) xs → AllByRecursion P (flat_map rows xs)
+  each_row rows [] h = tt
+  each_row rows (x ∷ xs) h = both_rows (rows x) (flat_map rows xs) h.0 (each_row rows xs h.1)
+
+  rows_by_items : (Q : Item → Type 0) → ((number : Option ℕ) (cells : List Value) → Q (Row number cells) → P cells)
+      → (items : List Item) → AllByRecursion Q items → AllByRecursion P (rows_in items)
+  rows_by_items Q holds [] h = tt
+  rows_by_items Q holds (Row number cells ∷ items) h = (holds number cells h.0, rows_by_items Q holds items h.1)
+  rows_by_items Q holds (Fault fault ∷ items) h = rows_by_items Q holds items h.1
+  rows_by_items Q holds (End ∷ items) h = rows_by_items Q holds items h.1
+
+module _ (q : QueryData) where
+  abbrev part_rows : Part → List (List Value)
+  part_rows part = rows_in (known q (closed part.1))
+
+  parts_texts : (parts : List Part) → flat_map (part_records q) parts ≡ texts (flat_map part_rows parts)
+  parts_texts [] = refl
+  parts_texts (part ∷ parts) =
+      ap (λ t. t ++ flat_map (part_records q) parts) (items_texts (known q (closed part.1)))
+      ∙ ap (λ t. texts (part_rows part) ++ t) (parts_texts parts)
+      ∙ sym (texts_append (part_rows part) (flat_map part_rows parts))
+
+  -- ---- names
+
+  part_named : KnownIsNamed → (parts : List Part) (part : Part) → Contains parts part → AllByRecursion (IsOutputRow q parts) (part_rows part)
+  part_named law parts part among =
+      rows_by_items (IsOutputRow q parts) (IsNamed q (closed part.1)) (λ number cells h. (part, number, among, h)) (known q (closed part.1))
+      (recursion_from_All (IsNamed q (closed part.1)) (known q (closed part.1)) (law q (closed part.1)))
+
+  named_each : KnownIsNamed → (parts some : List Part) → AllByRecursion (Contains parts) some → AllByRecursion (λ part. AllByRecursion (IsOutputRow q parts) (part_rows part)) some
+  named_each law parts [] h = tt
+  named_each law parts (part ∷ some) h = (part_named law parts part h.0, named_each law parts some h.1)
+
+  parts_named : KnownIsNamed → (parts : List Part) → All (IsOutputRow q parts) (flat_map part_rows parts)
+  parts_named law parts =
+      All-from_recursion (IsOutputRow q parts) (flat_map part_rows parts)
+      (each_row (IsOutputRow q parts) part_rows parts (named_each law parts parts (recursion_from_All (Contains parts) parts (All-contains_itself parts))))
+
+  -- ---- kinds
+
+  part_typed : KnownIsTyped → IsSound q → (part : Part) → AreRowsOver q.table part.1 → AllByRecursion (AreTyped q.output.items) (part_rows part)
+  part_typed law sound part over =
+      rows_by_items (AreTyped q.output.items) (IsTyped q) (λ number cells h. h) (known q (closed part.1))
+      (recursion_from_All (IsTyped q) (known q (closed part.1)) (law q (closed part.1) sound over))
+
+  typed_each : KnownIsTyped → IsSound q → (parts : List Part) → AllByRecursion (λ part. AreRowsOver q.table part.1) parts → AllByRecursion (λ part. AllByRecursion (AreTyped q.output.items) (part_rows part)) parts
+  typed_each law sound [] h = tt
+  typed_each law sound (part ∷ parts) h = (part_typed law sound part h.0, typed_each law sound parts h.1)
+
+  parts_typed : KnownIsTyped → IsSound q → (parts : List Part) → All (λ part. AreRowsOver q.table part.1) parts → All (AreTyped q.output.items) (flat_map part_rows parts)
+  parts_typed law sound parts over =
+      All-from_recursion (AreTyped q.output.items) (flat_map part_rows parts)
+      (each_row (AreTyped q.output.items) part_rows parts (typed_each law sound parts (recursion_from_All (λ (part : Part). AreRowsOver q.table part.1) parts over)))
+
+  -- ---- there are as many cells as names
+
+  as_many : (p : Known) (number : Option ℕ) (cells : List Value) → IsNamed q p (Row number cells) → length cells ≡ length q.output.items
+  as_many p (Some number) cells h = AllZip-long (λ o v. shown_in q (setting_of q p h.start h.labels number h.row) o.from ≡ Ready v) q.output.items cells h.named
+  as_many p None cells h = AllZip-long (λ o v. Ready (shown_alone p.rows h.row o.from) ≡ Ready v) q.output.items cells h.named
+
+pub header_names : KnownIsNamed → KnownIsTyped → PartsFit → ReadsBack → HeaderNames
+header_names names kinds fits reads q text csv stopped records =
+    let parts = records.parts in
+    let rows = flat_map (part_rows q) parts in
+    let is : csv ≡ records_text (header_and_rows (output_names q) rows) = records.are ∙ ap (λ t. header_text q ++ t) (parts_texts q parts) in
+    let named : All (IsOutputRow q parts) rows = parts_named q names parts in
+    record {
+      rows = rows;
+      are = is;
+      many = All-weaker (IsOutputRow q parts) (λ cells. length cells ≡ length (output_names q))
+          (λ cells h. as_many q (closed h.0.1) h.1 cells h.3 ∙ sym (length-map q.output.items (λ o. o.name))) rows named;
+      named = named;
+      typed = λ sound. parts_typed q kinds sound parts (fits q.table q.partition.items q.order.items text records.rows parts records.read records.ordered);
+      read = subst (λ t. Reads t (header_and_rows (output_names q) rows)) (sym is) (reads (header_and_rows (output_names q) rows));
+    }
