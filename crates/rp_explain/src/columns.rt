@@ -103,7 +103,7 @@ fn is_variable(alloc: Global, reading: &Reading<'_>, written: &str) -> Result<bo
 }
 
 /// The variables of the pattern, by first appearance.
-pub(crate) fn variables(alloc: Global, reading: &Reading<'_>) -> Result<Vec<String>, AllocError> {
+fn variables(alloc: Global, reading: &Reading<'_>) -> Result<Vec<String>, AllocError> {
     let mut names = Vec::new(alloc);
     let mut inside = false;
     for token in reading.tokens {
