@@ -156,9 +156,21 @@ pub source_budget_numeric : (m : ArgMatches) → MeetsRules source_app m → Pas
 unfolding source_app
 source_budget_numeric m h = (h 2 (by_place (codes "budget")) (omega arith)).1 _ refl
 
+pub source_idle : (m : ArgMatches) → MeetsRules source_app m → Passes false number_parser (codes "idle") m
+unfolding source_app
+source_idle m h = (h 3 (by_place (codes "idle")) (omega arith)).1 _ refl
+
+pub source_acknowledge : (m : ArgMatches) → MeetsRules source_app m → Passes false parser.Bool (codes "acknowledge") m
+unfolding source_app
+source_acknowledge m h = (h 4 (by_place (codes "acknowledge")) (omega arith)).1 _ refl
+
+pub source_verbose : (m : ArgMatches) → MeetsRules source_app m → Passes false parser.Bool (codes "verbose") m
+unfolding source_app
+source_verbose m h = (h 5 (by_place (codes "verbose")) (omega arith)).1 _ refl
+
 pub source_addr : (m : ArgMatches) → MeetsRules source_app m → HasValue (codes "ADDR") m
 unfolding source_app
-source_addr m h = (h 3 (by_place (codes "ADDR")) (omega arith)).0 refl
+source_addr m h = (h 6 (by_place (codes "ADDR")) (omega arith)).0 refl
 
 -- ---- check
 

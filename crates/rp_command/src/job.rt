@@ -68,6 +68,12 @@ pub struct SourceJob {
     pub clause: String,
     /// The most turns that a poll may take, at least 1.
     pub budget: u32,
+    /// After how many seconds of a node's silence it ends, at least 1; None where that is never.
+    pub idle: Option<u32>,
+    /// Whether each node has to say that it saved what it was sent.
+    pub acknowledge: bool,
+    /// Whether standard error tells what a node refused.
+    pub verbose: bool,
     /// The addresses of the nodes, at least one.
     pub addresses: Vec<String>,
 }

@@ -3,7 +3,7 @@
 //!     trace PATTERN
 //!     whole --table TEXT --clause TEXT [--format FORMAT] [--progress]
 //!     node --table TEXT --clause TEXT --listen ADDR --state FILE --connections N [--idle SECONDS] [--verbose]
-//!     source --table TEXT --clause TEXT [--budget N] ADDR..
+//!     source --table TEXT --clause TEXT [--budget N] [--idle SECONDS] [--acknowledge] [--verbose] ADDR..
 //!     check [--table TEXT] [--clause TEXT]
 //!
 //! clap reads the words. What each job's command takes is said in `specs/Commands`, and which values a job has in

@@ -6,7 +6,9 @@ ghost use Rattle.rp_command.specs.Commands.{by_number, by_places, source_app};
 ghost use Rattle.rp_command.specs.Jobs.{AreUnderstood, HasSource, IsFaultBy, IsFaultless, IsRead, name_of};
 ghost use Rattle.rp_command.specs.Values.{MeetsRules};
 
-use crate::arguments::{count_of, matched, number_option, text_of, texts_of, with_clause};
+use crate::arguments::{
+    count_of, flag, flag_of, matched, number_of, number_option, text_of, texts_of, with_clause,
+};
 use crate::help;
 use crate::job::{Job, JobFault, SourceJob};
 use clap::{Arg, ArgAction, ArgMatches, Command};
@@ -37,6 +39,9 @@ fn source_job(alloc: Global, matches: &ArgMatches) -> Result<SourceJob, AllocErr
         table: text_of(alloc, matches, "table")?,
         clause: text_of(alloc, matches, "clause")?,
         budget: count_of(matches, "budget"),
+        idle: number_of(matches, "idle"),
+        acknowledge: flag_of(matches, "acknowledge"),
+        verbose: flag_of(matches, "verbose"),
         addresses: texts_of(alloc, matches, "ADDR")?,
     })
 }
@@ -50,8 +55,17 @@ pub(crate) fn source_command<'a>(alloc: Global) -> Result<Command<'a>, AllocErro
         .bin_name("rowmatch source")?
         .about("Hands the rows of a CSV file to nodes, and prints the items that they give")
         .after_help(help::SOURCE);
+    let about_idle = "Ends where a node is silent for so long";
+    let about_acknowledge = "Waits until each node says that it saved";
     with_clause(command, alloc)?
         .arg(budget(alloc))?
+        .arg(number_option(alloc, "idle", "SECONDS", about_idle))?
+        .arg(flag(alloc, "acknowledge", about_acknowledge))?
+        .arg(flag(
+            alloc,
+            "verbose",
+            "Tells on standard error what a node refused",
+        ))?
         .arg(addresses(alloc))
 }
 

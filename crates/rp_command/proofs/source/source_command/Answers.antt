@@ -12,4 +12,7 @@ returns c =
     ap app_of_fields c.after_help-command.ensures ∙ (ap app_of_fields c.about.ensures ∙ (ap app_of_fields c.in_ok-bin_name.ensures.0 ∙ c.new.ensures.app)) in
     let clause = c.in_ok-with_clause.ensures ∙ ap with_clause empty in
     let budget = c.in_ok-arg.ensures.shape c.budget.ensures.own ∙ ap₂ with_rule clause c.budget.ensures.rule in
-    IfOk-weaker c.arg-2.result _ _ (λ command added. added.shape c.addresses.ensures.own ∙ ap₂ with_rule budget c.addresses.ensures.rule) c.arg-2.ensures
+    let idle = c.in_ok-arg-2.ensures.shape c.number_option.ensures.own ∙ ap₂ with_rule budget c.number_option.ensures.rule in
+    let acknowledge = c.in_ok-arg-3.ensures.shape c.flag.ensures.own ∙ ap₂ with_rule idle c.flag.ensures.rule in
+    let verbose = c.in_ok-arg-4.ensures.shape c.flag-2.ensures.own ∙ ap₂ with_rule acknowledge c.flag-2.ensures.rule in
+    IfOk-weaker c.arg-5.result _ _ (λ command added. added.shape c.addresses.ensures.own ∙ ap₂ with_rule verbose c.addresses.ensures.rule) c.arg-5.ensures
