@@ -23,9 +23,8 @@ use Rattle.rp_json.specs.Digits.{short_digits_of}
 use Rattle.rp_json.specs.Forms.{cell_data, cell_of, list_in, list_items}
 use Rattle.rp_json.proofs.Parsed.{digits_of-decimal}
 use Rattle.rp_json.proofs.Reading.{object_read}
-use Rattle.rp_wire.specs.Lines.{longest_line}
 use Rattle.rp_wire.specs.RefusalTexts.{refusal_of}
-use Rattle.rp_wire.specs.Replies.{NamesColumn, answered, reply_data, reply_in}
+use Rattle.rp_wire.specs.Replies.{NamesColumn, answered_within, reply_data, reply_in}
 use Rattle.rp_wire.proofs.Law.{reply_read}
 use Rattle.rp_wire.proofs.LineTexts.{reply_written}
 
@@ -85,7 +84,7 @@ reply_is_object (reply.Idle key) = refl
 reply_is_object (reply.Paused key) = refl
 reply_is_object (reply.Refused refusal) = refl
 
-pub answered_text : (line : List ℕ) (given : Reply) → IsUtf8 line → line ≡ reply_text given → IsWithin given → length line ≤ longest_line → NamesColumn given → answered line ≡ Ok given
-answered_text line given utf8 is h short named =
+pub answered_text : (limit : ℕ) (line : List ℕ) (given : Reply) → IsUtf8 line → line ≡ reply_text given → IsWithin given → length line ≤ limit → NamesColumn given → answered_within limit line ≡ Ok given
+answered_text limit line given utf8 is h short named =
     let whole : read line ≡ Some (reply_data given) = ap (λ t. read t) (is ∙ reply_written given h) ∙ reply_read given h in
-    rw (le-ltb longest_line (length line) short, object_read line (reply_data given) utf8 whole (reply_is_object given), reply_back given h named) refl
+    rw (le-ltb limit (length line) short, object_read line (reply_data given) utf8 whole (reply_is_object given), reply_back given h named) refl

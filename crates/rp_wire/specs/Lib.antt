@@ -1,7 +1,8 @@
--- What contracts of public calls cite: the limit of a line, what lines ask and reply, and the law of replies.
+-- What contracts of public calls cite: the limit of a line, what lines ask, reply and acknowledge, and the law of replies.
 pub mod Lines
 pub mod Requests
 pub mod Replies
+pub mod Saved
 pub mod ReplyLaw
 -- The inside: texts of refusals, and compact lines.
 pub mod RefusalTexts

@@ -97,6 +97,10 @@ NamesColumn (reply.Paused key) = ⊤
 NamesColumn (reply.Refused (BadRowKind n)) = 0 < n
 NamesColumn (reply.Refused _) = ⊤
 
+-- the reply that a line of at most `limit` bytes is, or its first fault
+abbrev pub answered_within : ℕ → List ℕ → Result Reply LineFault
+answered_within limit line = if nat_lt limit (length line) then Err TooLong else answer_of (object_of line)
+
 -- the reply that a line is, or its first fault
 abbrev pub answered : List ℕ → Result Reply LineFault
-answered line = if nat_lt longest_line (length line) then Err TooLong else answer_of (object_of line)
+answered line = answered_within longest_line line

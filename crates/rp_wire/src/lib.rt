@@ -8,7 +8,7 @@
 //!     {"budget":50,"poll":["x"]}          {"end":true,"key":["x"],"place":"1"}
 //!
 //! What stands on a line is said in `specs/Requests` and `specs/Replies`, and in `specs/ReplyLaw` that the line of a reply
-//! reads back. A compact request is read without a tree of JSON.
+//! reads back. What a node acknowledges, `{"saved":2}`, is said in `specs/Saved`. A compact request is read without a tree of JSON.
 #![tactic(auto)]
 
 mod compact;
@@ -17,14 +17,16 @@ mod laws;
 mod read_refusal;
 mod read_reply;
 mod read_request;
+mod read_saved;
 mod request;
 mod write_request;
 
 pub use compact::compact_request;
 pub use fault::{LineFault, MAX_LINE_LEN};
-pub use laws::law_replies;
-pub use read_reply::reply_of;
+pub use laws::{law_replies, law_replies_within};
+pub use read_reply::{reply_of, reply_within};
 pub use read_request::request_of;
+pub use read_saved::saved_of;
 pub use request::Request;
 pub use rp_codec::{
     Field, Item, Packet, Refusal, Reply, SkipFault, Taken, packet_line, poll_line, reply_line,

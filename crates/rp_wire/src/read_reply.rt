@@ -3,7 +3,7 @@ ghost use Rattle.std.specs.Prelude.{◌≡◌, ◌⊎◌, Ok, Err, Some, IfOk, I
 ghost use Rattle.serde_json.specs.View.{view};
 ghost use Rattle.rp_json.specs.Forms.{place_of};
 ghost use Rattle.rp_json.specs.Objects.{field, only};
-ghost use Rattle.rp_wire.specs.Replies.{answered, fault_of, item_in, placed_in, refused_of, reply_in, row_item_in, taken_of, true_of};
+ghost use Rattle.rp_wire.specs.Replies.{answered, answered_within, fault_of, item_in, placed_in, refused_of, reply_in, row_item_in, taken_of, true_of};
 
 use crate::read_refusal::refusal_of;
 use crate::{LineFault, MAX_LINE_LEN};
@@ -17,7 +17,17 @@ pub fn reply_of(alloc: Global, line: &[u8]) -> Result<Reply, LineFault>
     ensures ok { IfOk result (λ r. answered line.now ≡ Ok r) }
     ensures err { IfErr result (λ e. (e ≡ LineFault.OutOfMemory) ⊎ (answered line.now ≡ Err e)) }
 {
-    if line.len() > MAX_LINE_LEN {
+    reply_within(alloc, MAX_LINE_LEN, line)
+}
+
+/// The reply that a line of at most `limit` bytes is, or the first fault of the line: `TooLong` where it has more.
+///
+/// A node's replies have no greatest length: that of an item goes by the texts in it.
+pub fn reply_within(alloc: Global, limit: usize, line: &[u8]) -> Result<Reply, LineFault>
+    ensures ok { IfOk result (λ r. answered_within limit line.now ≡ Ok r) }
+    ensures err { IfErr result (λ e. (e ≡ LineFault.OutOfMemory) ⊎ (answered_within limit line.now ≡ Err e)) }
+{
+    if line.len() > limit {
         return Err(LineFault::TooLong);
     }
     let object = object_of(alloc, line)?;
