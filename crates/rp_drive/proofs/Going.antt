@@ -3,12 +3,13 @@ use Rattle.std.proofs.Common.{◌≡◌, ◌∙◌, ℕ, List, [], ◌++◌, Opt
 use Rattle.std.proofs.lemmas.Grind.{flat_map-append}
 use Rattle.std.specs.Io.KnownBytes.{Appends}
 use Rattle.rp_query.specs.declared.query.QueryData.{QueryData}
+use Rattle.rp_codec.specs.declared.refusal.Refusal.{Refusal}
 use Rattle.rp_codec.specs.declared.reply.Reply.{Reply}
 use Rattle.rp_io.specs.Devices.{AppendsFront}
 use Rattle.rp_wire.specs.declared.request.Request.{Request}
-use Rattle.rp_drive.specs.Exchanged.{ComeFirst, Ends, EndsInPart, EndsUnheard, GoesOn, KnownReplies, Stops}
+use Rattle.rp_drive.specs.Exchanged.{ComeFirst, Ends, EndsInPart, EndsUnheard, GoesOn, KnownReplies, StopsBy}
 use Rattle.rp_drive.specs.Lines.{item_line, item_lines, line_of, request_lines}
-use Rattle.rp_drive.specs.Exchange.{Due, Ending, Exchange, onto, exchange}
+use Rattle.rp_drive.specs.Exchange.{Due, Ending, Exchange, WasRefused, onto, exchange}
 use Rattle.rp_drive.specs.declared.fault.DriveFault.{DriveFault}
 use Rattle.rp_drive.specs.declared.fault.DriveFault.TheVariants.{Read, Write, BadReply, Refused, Turns, OutOfMemory}
 use Rattle.rp_io.proofs.Writes.{appends_both, appends_none, front_after, front_none}
@@ -105,13 +106,13 @@ module _ (q : QueryData) (budget number : ℕ) where
       given = subst (Appends o o2) (sym (given_lines second.came)) (appends_both o o1 o2 (item_lines number first.given) (item_lines number (exchange q budget b second.came).given) first.told second.given);
     }
 
-    pub goes_stops : (fault : DriveFault) (w2 o2 : Option (List ℕ)) → Stops q budget number fault b mid w1 w2 o1 o2 → Stops q budget number fault a all w w2 o o2
-    goes_stops Read w2 o2 second = goes_unheard w2 o2 second
-    goes_stops Write w2 o2 second = goes_part w2 o2 second
-    goes_stops BadReply w2 o2 second = goes_ends _ w2 o2 second
-    goes_stops Refused w2 o2 second = goes_ends _ w2 o2 second
-    goes_stops Turns w2 o2 second = goes_unheard w2 o2 second
-    goes_stops OutOfMemory w2 o2 second = goes_part w2 o2 second
+    pub goes_stops : (refusal : Option Refusal) (fault : DriveFault) (w2 o2 : Option (List ℕ)) → StopsBy q budget number refusal fault b mid w1 w2 o1 o2 → StopsBy q budget number refusal fault a all w w2 o o2
+    goes_stops refusal Read w2 o2 second = goes_unheard w2 o2 second
+    goes_stops refusal Write w2 o2 second = goes_part w2 o2 second
+    goes_stops refusal BadReply w2 o2 second = goes_ends _ w2 o2 second
+    goes_stops refusal Refused w2 o2 (why, is, second) = (why, is, goes_ends (WasRefused why) w2 o2 second)
+    goes_stops refusal Turns w2 o2 second = goes_unheard w2 o2 second
+    goes_stops refusal OutOfMemory w2 o2 second = goes_part w2 o2 second
 
   -- nothing more was written
   pub part_none : (due : Due) (left : KnownReplies) (w o : Option (List ℕ)) → EndsInPart q budget number due left w w o o

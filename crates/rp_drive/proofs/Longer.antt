@@ -40,7 +40,7 @@ module _ (q : QueryData) (budget : ℕ) where
   exchange_longer (Packets (p ∷ ps)) (Some (Item key place given) ∷ came) later = longer_same (onto (request.Packet p ∷ []) [] (ended WasBad))
   exchange_longer (Packets (p ∷ ps)) (Some (Idle key) ∷ came) later = longer_same (onto (request.Packet p ∷ []) [] (ended WasBad))
   exchange_longer (Packets (p ∷ ps)) (Some (Paused key) ∷ came) later = longer_same (onto (request.Packet p ∷ []) [] (ended WasBad))
-  exchange_longer (Packets (p ∷ ps)) (Some (RefusedReply why) ∷ came) later = longer_same (onto (request.Packet p ∷ []) [] (ended WasRefused))
+  exchange_longer (Packets (p ∷ ps)) (Some (RefusedReply why) ∷ came) later = longer_same (onto (request.Packet p ∷ []) [] (ended (WasRefused why)))
   exchange_longer (Packets (p ∷ ps)) (None ∷ came) later = longer_same (onto (request.Packet p ∷ []) [] (ended WasBad))
   exchange_longer (Poll of ps) [] [] = longer_same (exchange q budget (Poll of ps) [])
   exchange_longer (Poll of ps) [] (x ∷ xs) = longer_ended (request.Poll of budget) WasBad (after_poll x (exchange q budget (Poll of ps) xs) (exchange q budget (Packets ps) xs))
@@ -51,5 +51,5 @@ module _ (q : QueryData) (budget : ℕ) where
       longer_onto (request.Poll of budget) [] (exchange q budget (Packets ps) came) (exchange q budget (Packets ps) (came ++ later)) (exchange_longer (Packets ps) came later)
   exchange_longer (Poll of ps) (Some (Paused key) ∷ came) later =
       longer_onto (request.Poll of budget) [] (exchange q budget (Poll of ps) came) (exchange q budget (Poll of ps) (came ++ later)) (exchange_longer (Poll of ps) came later)
-  exchange_longer (Poll of ps) (Some (RefusedReply why) ∷ came) later = longer_same (onto (request.Poll of budget ∷ []) [] (ended WasRefused))
+  exchange_longer (Poll of ps) (Some (RefusedReply why) ∷ came) later = longer_same (onto (request.Poll of budget ∷ []) [] (ended (WasRefused why)))
   exchange_longer (Poll of ps) (None ∷ came) later = longer_same (onto (request.Poll of budget ∷ []) [] (ended WasBad))

@@ -13,7 +13,7 @@ use Rattle.rp_io.specs.Devices.{AppendsFront}
 use Rattle.rp_wire.specs.declared.request.Request.{Request}
 use Rattle.rp_wire.specs.declared.request.Request.TheVariants as request
 use Rattle.rp_drive.specs.Faults.{IsOfReading, IsOfWriting, packet_fault}
-use Rattle.rp_drive.specs.Exchanged.{ComeFirst, Ends, EndsInPart, EndsUnheard, GoesOn, KnownReplies, SendsLine, Stops}
+use Rattle.rp_drive.specs.Exchanged.{ComeFirst, Ends, EndsInPart, EndsUnheard, GoesOn, KnownReplies, SendsLine, StopsBy}
 use Rattle.rp_drive.specs.Lines.{item_line, item_lines, line_of, request_lines}
 use Rattle.rp_drive.specs.Listening.{Comes}
 use Rattle.rp_drive.specs.Exchange.{Due, Ending, Exchange, Packets, Poll, WasBad, WasRefused, after_packet, after_poll, ended, onto, exchange}
@@ -62,15 +62,15 @@ module _ (q : QueryData) (budget number : ℕ) (all left : KnownReplies) (w w' :
         all_later (Some xs) = (xs, refl)
 
     -- a fault came in its place
-    pub ask_stops : (o : Option (List ℕ)) (why : DriveFault) → exchange q budget due [] ≡ onto (r ∷ []) [] (ended WasBad)
+    pub ask_stops : (o : Option (List ℕ)) (refusal : Option Refusal) (why : DriveFault) → exchange q budget due [] ≡ onto (r ∷ []) [] (ended WasBad)
         → ((replies : List (Option Reply)) → (more : List Request) × ((exchange q budget due replies).asked ≡ r ∷ more)) → SendsLine why w w' (line_of r)
-        → Stops q budget number why due all w w' o o
-    ask_stops o fault.Read is asks sends = unheard o is sends
-    ask_stops o fault.Turns is asks sends = unheard o is sends
-    ask_stops o fault.Write is asks sends = part_front o asks sends
-    ask_stops o fault.OutOfMemory is asks sends = part_front o asks sends
-    ask_stops o fault.BadReply is asks sends = absurd sends
-    ask_stops o fault.Refused is asks sends = absurd sends
+        → StopsBy q budget number refusal why due all w w' o o
+    ask_stops o refusal fault.Read is asks sends = unheard o is sends
+    ask_stops o refusal fault.Turns is asks sends = unheard o is sends
+    ask_stops o refusal fault.Write is asks sends = part_front o asks sends
+    ask_stops o refusal fault.OutOfMemory is asks sends = part_front o asks sends
+    ask_stops o refusal fault.BadReply is asks sends = absurd sends
+    ask_stops o refusal fault.Refused is asks sends = absurd sends
 
     ends_by : (o : Option (List ℕ)) (ending : Ending) (replies : List (Option Reply)) → IfSome all (λ xs. xs ≡ replies) → exchange q budget due replies ≡ onto (r ∷ []) [] (ended ending)
         → Appends w w' (line_of r) → Ends q budget number ending due all w w' o o
@@ -104,8 +104,8 @@ module _ (q : QueryData) (budget number : ℕ) (all left : KnownReplies) (w w' :
     packet_asks [] = ([], refl)
     packet_asks (x ∷ xs) = ((after_packet x (exchange q budget (Poll (packet_key q p) rest) xs)).asked, refl)
 
-    pub send_unheard : (o : Option (List ℕ)) (why : DriveFault) → SendsLine why w w' (line_of (request.Packet p)) → Stops q budget number why (Packets (p ∷ rest)) all w w' o o
-    send_unheard o why sends = ask_stops (Packets (p ∷ rest)) (request.Packet p) o why refl packet_asks sends
+    pub send_unheard : (o : Option (List ℕ)) (refusal : Option Refusal) (why : DriveFault) → SendsLine why w w' (line_of (request.Packet p)) → StopsBy q budget number refusal why (Packets (p ∷ rest)) all w w' o o
+    send_unheard o refusal why sends = ask_stops (Packets (p ∷ rest)) (request.Packet p) o refusal why refl packet_asks sends
 
     pub send_goes : (o : Option (List ℕ)) (reply : Option Reply) → packet_fault reply ≡ None → Comes all left reply → Appends w w' (line_of (request.Packet p))
         → GoesOn q budget number (Packets (p ∷ rest)) (Poll (packet_key q p) rest) all left w w' o o
@@ -129,21 +129,25 @@ module _ (q : QueryData) (budget number : ℕ) (all left : KnownReplies) (w w' :
     send_bad o reply bad comes sent =
         ends_with (Packets (p ∷ rest)) (request.Packet p) o WasBad reply (λ later. ap (onto (request.Packet p ∷ []) []) (bad (exchange q budget (Poll (packet_key q p) rest) later))) (λ none. refl) comes sent
 
-    pub send_stops : (o : Option (List ℕ)) (reply : Option Reply) (why : DriveFault) → packet_fault reply ≡ Some why → Comes all left reply → Appends w w' (line_of (request.Packet p))
-        → Stops q budget number why (Packets (p ∷ rest)) all w w' o o
-    send_stops o (Some (Taken taken)) why is comes sent = cc
-    send_stops o (Some (Item key place given)) why is comes sent =
-        let e : fault.BadReply ≡ why = cc in subst (λ f. Stops q budget number f (Packets (p ∷ rest)) all w w' o o) e (send_bad o (Some (Item key place given)) (λ next. refl) comes sent)
-    send_stops o (Some (Idle key)) why is comes sent =
-        let e : fault.BadReply ≡ why = cc in subst (λ f. Stops q budget number f (Packets (p ∷ rest)) all w w' o o) e (send_bad o (Some (Idle key)) (λ next. refl) comes sent)
-    send_stops o (Some (Paused key)) why is comes sent =
-        let e : fault.BadReply ≡ why = cc in subst (λ f. Stops q budget number f (Packets (p ∷ rest)) all w w' o o) e (send_bad o (Some (Paused key)) (λ next. refl) comes sent)
-    send_stops o (Some (Refused refusal)) why is comes sent =
+    pub send_stops : (o : Option (List ℕ)) (reply : Option Reply) (refusal : Option Refusal) (why : DriveFault) → packet_fault reply ≡ Some why
+        → ((because : Refusal) → reply ≡ Some (Refused because) → refusal ≡ Some because) → Comes all left reply → Appends w w' (line_of (request.Packet p))
+        → StopsBy q budget number refusal why (Packets (p ∷ rest)) all w w' o o
+    send_stops o (Some (Taken taken)) refusal why is told comes sent = cc
+    send_stops o (Some (Item key place given)) refusal why is told comes sent =
+        let e : fault.BadReply ≡ why = cc in subst (λ f. StopsBy q budget number refusal f (Packets (p ∷ rest)) all w w' o o) e (send_bad o (Some (Item key place given)) (λ next. refl) comes sent)
+    send_stops o (Some (Idle key)) refusal why is told comes sent =
+        let e : fault.BadReply ≡ why = cc in subst (λ f. StopsBy q budget number refusal f (Packets (p ∷ rest)) all w w' o o) e (send_bad o (Some (Idle key)) (λ next. refl) comes sent)
+    send_stops o (Some (Paused key)) refusal why is told comes sent =
+        let e : fault.BadReply ≡ why = cc in subst (λ f. StopsBy q budget number refusal f (Packets (p ∷ rest)) all w w' o o) e (send_bad o (Some (Paused key)) (λ next. refl) comes sent)
+    send_stops o (Some (Refused because)) refusal why is told comes sent =
         let e : fault.Refused ≡ why = cc in
-        subst (λ f. Stops q budget number f (Packets (p ∷ rest)) all w w' o o) e
-        (ends_with (Packets (p ∷ rest)) (request.Packet p) o WasRefused (Some (Refused refusal)) (λ later. refl) (λ none. cc) comes sent)
-    send_stops o None why is comes sent =
-        let e : fault.BadReply ≡ why = cc in subst (λ f. Stops q budget number f (Packets (p ∷ rest)) all w w' o o) e (send_bad o None (λ next. refl) comes sent)
+        subst (λ f. StopsBy q budget number refusal f (Packets (p ∷ rest)) all w w' o o) e (
+          because,
+          told because refl,
+          ends_with (Packets (p ∷ rest)) (request.Packet p) o (WasRefused because) (Some (Refused because)) (λ later. refl) (λ none. cc) comes sent,
+        )
+    send_stops o None refusal why is told comes sent =
+        let e : fault.BadReply ≡ why = cc in subst (λ f. StopsBy q budget number refusal f (Packets (p ∷ rest)) all w w' o o) e (send_bad o None (λ next. refl) comes sent)
 
   -- ---- a poll
   module _ (key : List Value) (rest : List Packet) where
@@ -151,8 +155,8 @@ module _ (q : QueryData) (budget number : ℕ) (all left : KnownReplies) (w w' :
     poll_asks [] = ([], refl)
     poll_asks (x ∷ xs) = ((after_poll x (exchange q budget (Poll key rest) xs) (exchange q budget (Packets rest) xs)).asked, refl)
 
-    pub poll_unheard : (o : Option (List ℕ)) (why : DriveFault) → SendsLine why w w' (line_of (request.Poll key budget)) → Stops q budget number why (Poll key rest) all w w' o o
-    poll_unheard o why sends = ask_stops (Poll key rest) (request.Poll key budget) o why refl poll_asks sends
+    pub poll_unheard : (o : Option (List ℕ)) (refusal : Option Refusal) (why : DriveFault) → SendsLine why w w' (line_of (request.Poll key budget)) → StopsBy q budget number refusal why (Poll key rest) all w w' o o
+    poll_unheard o refusal why sends = ask_stops (Poll key rest) (request.Poll key budget) o refusal why refl poll_asks sends
 
     poll_next : (o o' : Option (List ℕ)) (reply : Reply) (given : List Reply) (due : Due)
         → ((later : List (Option Reply)) → exchange q budget (Poll key rest) (Some reply ∷ later) ≡ onto (request.Poll key budget ∷ []) given (exchange q budget due later))
@@ -181,8 +185,8 @@ module _ (q : QueryData) (budget number : ℕ) (all left : KnownReplies) (w w' :
     poll_idle o of comes sent = poll_next o o (Idle of) [] (Packets rest) (λ later. refl) comes sent (appends_none o)
 
     pub poll_refused : (o : Option (List ℕ)) (why : Refusal) → Comes all left (Some (Refused why)) → Appends w w' (line_of (request.Poll key budget))
-        → Ends q budget number WasRefused (Poll key rest) all w w' o o
-    poll_refused o why comes sent = ends_with (Poll key rest) (request.Poll key budget) o WasRefused (Some (Refused why)) (λ later. refl) (λ none. cc) comes sent
+        → Ends q budget number (WasRefused why) (Poll key rest) all w w' o o
+    poll_refused o why comes sent = ends_with (Poll key rest) (request.Poll key budget) o (WasRefused why) (Some (Refused why)) (λ later. refl) (λ none. cc) comes sent
 
     pub poll_taken : (o : Option (List ℕ)) (taken : Became) → Comes all left (Some (Taken taken)) → Appends w w' (line_of (request.Poll key budget))
         → Ends q budget number WasBad (Poll key rest) all w w' o o
@@ -214,13 +218,14 @@ module _ (q : QueryData) (budget number : ℕ) (all left : KnownReplies) (w w' :
 -- ---- faults of writing
 
 module _ (q : QueryData) (budget number : ℕ) where
-  pub writing_stops : (due : Due) (left : KnownReplies) (w w' o o' : Option (List ℕ)) (why : DriveFault) → IsOfWriting why → EndsInPart q budget number due left w w' o o' → Stops q budget number why due left w w' o o'
-  writing_stops due left w w' o o' fault.Read writing part = absurd writing
-  writing_stops due left w w' o o' fault.Write writing part = part
-  writing_stops due left w w' o o' fault.BadReply writing part = absurd writing
-  writing_stops due left w w' o o' fault.Refused writing part = absurd writing
-  writing_stops due left w w' o o' fault.Turns writing part = absurd writing
-  writing_stops due left w w' o o' fault.OutOfMemory writing part = part
+  pub writing_stops : (due : Due) (left : KnownReplies) (w w' o o' : Option (List ℕ)) (refusal : Option Refusal) (why : DriveFault) → IsOfWriting why → EndsInPart q budget number due left w w' o o'
+      → StopsBy q budget number refusal why due left w w' o o'
+  writing_stops due left w w' o o' refusal fault.Read writing part = absurd writing
+  writing_stops due left w w' o o' refusal fault.Write writing part = part
+  writing_stops due left w w' o o' refusal fault.BadReply writing part = absurd writing
+  writing_stops due left w w' o o' refusal fault.Refused writing part = absurd writing
+  writing_stops due left w w' o o' refusal fault.Turns writing part = absurd writing
+  writing_stops due left w w' o o' refusal fault.OutOfMemory writing part = part
 
 -- what a fault of reading says of a line that was sent
 pub reading_sends : (w w' : Option (List ℕ)) (line : List ℕ) (why : DriveFault) → IsOfReading why → Appends w w' line → SendsLine why w w' line

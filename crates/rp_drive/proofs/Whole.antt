@@ -2,10 +2,11 @@
 use Rattle.std.proofs.Common.{◌≡◌, ℕ, Bool, false, List, [], ◌++◌, Option, Some, None, option_map, refl, sym, subst, if◌then◌else◌, Result, Err, IfErr, IfSome}
 use Rattle.std.specs.Io.KnownBytes.{prepend_known}
 use Rattle.rp_query.specs.declared.query.QueryData.{QueryData}
+use Rattle.rp_codec.specs.declared.refusal.Refusal.{Refusal}
 use Rattle.rp_codec.specs.declared.reply.Reply.{Reply}
 use Rattle.rp_io.specs.Devices.{AppendsFront}
-use Rattle.rp_drive.specs.Exchanged.{Ends, EndsInPart, EndsUnheard, KnownReplies, Stops}
-use Rattle.rp_drive.specs.Lines.{item_line, item_lines, line_of, replies_in, request_lines}
+use Rattle.rp_drive.specs.Exchanged.{Ends, EndsInPart, EndsUnheard, KnownReplies, StopsBy}
+use Rattle.rp_drive.specs.Lines.{item_line, item_lines, line_of, replies_within, request_lines}
 use Rattle.rp_drive.specs.Exchange.{Due, Ending, Finished, Packets, WasBad, WasRefused, exchange}
 use Rattle.rp_drive.specs.declared.fault.DriveFault.{DriveFault}
 use Rattle.rp_drive.specs.declared.fault.DriveFault.TheVariants.{Read, Write, BadReply, Refused, Turns, OutOfMemory}
@@ -15,10 +16,10 @@ use Rattle.rp_io.proofs.Writes.{appends_none, front_all, front_longer}
 use Rattle.std.proofs.lemmas.Grind.{flat_map-append}
 
 -- before anything was read all replies of the input are left
-pub left_start : (over : Bool) (pending : List ℕ) (input : Option (List ℕ)) → over ≡ false → pending ≡ []
-    → replies_in input ≡ (if over then option_map (λ bytes. []) input else replies_in (prepend_known pending input))
-left_start over pending None off none = rw off refl
-left_start over pending (Some xs) off none = rw (off, none) refl
+pub left_start : (limit now : ℕ) (over : Bool) (pending : List ℕ) (input : Option (List ℕ)) → now ≡ limit → over ≡ false → pending ≡ []
+    → replies_within limit input ≡ (if over then option_map (λ bytes. []) input else replies_within now (prepend_known pending input))
+left_start limit now over pending None is off none = rw off refl
+left_start limit now over pending (Some xs) is off none = rw (is, off, none) refl
 
 -- the fault that an error is
 pub if_err_is : {X : Type 0} (r : Result X DriveFault) (why : DriveFault) (P : DriveFault → Type 0) → r ≡ Err why → P why → IfErr r P
@@ -59,10 +60,10 @@ module _ (q : QueryData) (budget number : ℕ) where
         known None same are = part [] (subst (λ t. IfSome t (λ ys. ys ≡ unheard.came ++ [])) same tt)
         known (Some ys) same are = part are.0 (subst (λ t. IfSome t (λ zs. zs ≡ unheard.came ++ are.0)) same are.1)
 
-    pub stops_part : (why : DriveFault) → Stops q budget number why due all w w' o o' → EndsInPart q budget number due all w w' o o'
-    stops_part Read stops = unheard_part stops
-    stops_part Write stops = stops
-    stops_part BadReply stops = ends_part WasBad stops
-    stops_part Refused stops = ends_part WasRefused stops
-    stops_part Turns stops = unheard_part stops
-    stops_part OutOfMemory stops = stops
+    pub stops_part : (refusal : Option Refusal) (why : DriveFault) → StopsBy q budget number refusal why due all w w' o o' → EndsInPart q budget number due all w w' o o'
+    stops_part refusal Read stops = unheard_part stops
+    stops_part refusal Write stops = stops
+    stops_part refusal BadReply stops = ends_part WasBad stops
+    stops_part refusal Refused (why, is, stops) = ends_part (WasRefused why) stops
+    stops_part refusal Turns stops = unheard_part stops
+    stops_part refusal OutOfMemory stops = stops

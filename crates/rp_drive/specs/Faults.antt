@@ -1,5 +1,5 @@
 -- What a fault says of the devices.
-use Rattle.std.specs.Prelude.{◌≡◌, ◌⊎◌, ⊤, ℕ, Option, Some, None, Result, Err}
+use Rattle.std.specs.Prelude.{◌≡◌, ◌⊎◌, ⊤, ℕ, Option, Some, None, Result, Ok, Err}
 use Rattle.rp_codec.specs.declared.reply.Reply.{Reply}
 use Rattle.rp_codec.specs.declared.reply.Reply.TheVariants.{Taken, Refused as RefusedReply}
 use Rattle.rp_io.specs.Counts.{raised}
@@ -9,12 +9,18 @@ use Rattle.rp_io.specs.declared.lines.LineFault.{LineFault}
 use Rattle.rp_io.specs.declared.lines.LineFault.TheVariants.{Read as LineRead, TooManyReads, OutOfMemory as LineOutOfMemory}
 use Rattle.rp_drive.specs.declared.fault.DriveFault.{DriveFault}
 use Rattle.rp_drive.specs.declared.fault.DriveFault.TheVariants.{Read, Write, BadReply, Refused, Turns, OutOfMemory}
+use Rattle.rp_drive.specs.declared.fault.Stop.{Stop}
 
 -- the fault of a conversation for one of a line
 abbrev pub line_fault : LineFault → DriveFault
 line_fault LineRead = Read
 line_fault TooManyReads = Turns
 line_fault LineOutOfMemory = OutOfMemory
+
+-- how a run ended, by the fault alone
+abbrev pub by_fault : {X : Type 0} → Result X Stop → Result X DriveFault
+by_fault (Ok x) = Ok x
+by_fault (Err stop) = Err stop.fault
 
 -- What a run tells of its reads. It ends without a fault once the last partition is idle, whether or not the input has ended.
 abbrev pub reads_told : {X : Type 0} → Result X DriveFault → Told

@@ -4,7 +4,8 @@ use Rattle.std.specs.List.{flat_map}
 use Rattle.rp_io.specs.Lines.{lines_of}
 use Rattle.rp_codec.specs.ReplyLines.{reply_text}
 use Rattle.rp_codec.specs.declared.reply.Reply.{Reply}
-use Rattle.rp_wire.specs.Replies.{answered}
+use Rattle.rp_wire.specs.Lines.{longest_line}
+use Rattle.rp_wire.specs.Replies.{answered_within}
 use Rattle.rp_wire.specs.Requests.{request_text}
 use Rattle.rp_wire.specs.declared.fault.LineFault.{LineFault}
 use Rattle.rp_wire.specs.declared.request.Request.{Request}
@@ -27,10 +28,14 @@ abbrev pub if_ok : Result Reply LineFault → Option Reply
 if_ok (Ok reply) = Some reply
 if_ok (Err fault) = None
 
--- the reply that a line is
-abbrev pub reply_on : List ℕ → Option Reply
-reply_on line = if_ok (answered line)
+-- the reply that a line of at most `limit` bytes is
+abbrev pub reply_within : ℕ → List ℕ → Option Reply
+reply_within limit line = if_ok (answered_within limit line)
+
+-- the replies of an input, a line of at most `limit` bytes each, where its bytes are known
+abbrev pub replies_within : ℕ → Option (List ℕ) → Option (List (Option Reply))
+replies_within limit input = option_map (λ bytes. map (reply_within limit) (lines_of bytes)) input
 
 -- the replies of an input, a line each, where its bytes are known
 abbrev pub replies_in : Option (List ℕ) → Option (List (Option Reply))
-replies_in input = option_map (λ bytes. map reply_on (lines_of bytes)) input
+replies_in input = replies_within longest_line input

@@ -4,14 +4,14 @@ use Rattle.rp_codec.specs.declared.reply.Reply.{Reply}
 use Rattle.rp_io.specs.Pending.{coming, most_lines_to_come}
 use Rattle.rp_io.specs.Reading.{ReadsSoFar, ReadsStop, Told}
 use Rattle.rp_io.specs.Reading.Told.{NoReadsLeft, Other, ReadFailed}
-use Rattle.rp_drive.specs.Lines.{replies_in}
+use Rattle.rp_drive.specs.Lines.{replies_within}
 use Rattle.rp_drive.specs.declared.fault.DriveFault.{DriveFault}
 use Rattle.rp_drive.specs.declared.fault.DriveFault.TheVariants.{Read, Turns, OutOfMemory}
 use Rattle.rp_drive.specs.declared.replies.Replies.{Replies}
 
 -- the replies that are still to come, where the bytes that are still to be read are known
 abbrev pub replies_left : Replies → Option (List ℕ) → Option (List (Option Reply))
-replies_left replies remaining = if replies.over then option_map (λ bytes. []) remaining else replies_in (coming replies.lines remaining)
+replies_left replies remaining = if replies.over then option_map (λ bytes. []) remaining else replies_within replies.limit (coming replies.lines remaining)
 
 -- no more lines than this can still come
 abbrev pub lines_left : Replies → ℕ

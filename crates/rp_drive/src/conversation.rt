@@ -1,24 +1,26 @@
 //! A conversation with a node, from the first packet to the last reply.
-ghost use Rattle.std.specs.Prelude.{◌≡◌, ◌<◌, ◌∷◌, List, Some, None, IfErr, IfOk, OnErr, OnOk, Ok, false, true};
+ghost use Rattle.std.specs.Prelude.{◌≡◌, ◌+◌, ◌<◌, ◌^◌, ◌∷◌, List, Some, None, IfErr, IfOk, OnErr, OnOk, Ok, false, true};
 ghost use Rattle.std.specs.Io.KnownBytes.{Appends};
+ghost use Rattle.rp_codec.specs.declared.refusal.Refusal.{Refusal as Why};
+ghost use Rattle.rp_codec.specs.declared.reply.Reply.TheVariants as variant;
 ghost use Rattle.rp_feed.specs.declared.packet.Packet.{Packet as Sent};
 ghost use Rattle.rp_io.specs.Reading.{ReadsWithin};
 ghost use Rattle.rp_query.specs.QueryView.{data_of};
 ghost use Rattle.rp_drive.specs.Exchange.{Packets, Poll, Finished};
-ghost use Rattle.rp_drive.specs.Exchanged.{Ends, EndsInPart, GoesOn, SendsLine, Stops};
-ghost use Rattle.rp_drive.specs.Faults.{TellsWrite, TellsWrites, packet_fault, reads_told};
-ghost use Rattle.rp_drive.specs.Lines.{line_of, replies_in};
+ghost use Rattle.rp_drive.specs.Exchanged.{Ends, EndsInPart, GoesOn, SendsLine, Stops, StopsAt, StopsBy};
+ghost use Rattle.rp_drive.specs.Faults.{TellsWrite, TellsWrites, by_fault, packet_fault, reads_told};
+ghost use Rattle.rp_drive.specs.Lines.{line_of, replies_in, replies_within};
 ghost use Rattle.rp_drive.specs.Listening.{Comes, Hears, cut_by, lines_left, replies_left};
 ghost use Rattle.rp_wire.specs.declared.request.Request.TheVariants as request;
 
-use crate::fault::DriveFault;
+use crate::fault::{DriveFault, Stop};
 use crate::items::write_item;
 use crate::replies::Replies;
 use crate::requests::{packet_key, packet_request, poll_request};
 use rp_io::{Intake, Outlet, write_all};
 use rp_query::Query;
 use rp_value::Cells;
-use rp_wire::{Packet, Reply};
+use rp_wire::{MAX_LINE_LEN, Packet, Refusal, Reply};
 use std::alloc::Global;
 
 /// Hands packets over to a node, one after another, and writes the items that it gives.
@@ -53,17 +55,77 @@ pub fn drive<R: Intake, W: Outlet, O: Outlet>(
     ensures write { TellsWrites result (W.failures writer.old) (W.failures writer.new)
         (O.failures out.old) (O.failures out.new) }
 {
+    let driven = drive_within(
+        alloc,
+        query,
+        MAX_LINE_LEN,
+        reader,
+        writer,
+        packets,
+        budget,
+        reads,
+        node_number,
+        out,
+    );
+    match driven {
+        Ok(()) => Ok(()),
+        Err(stop) => Err(stop.fault),
+    }
+}
+
+/// The same with a greatest length of replies: one of more than `limit` bytes is a bad reply. Where it ends early it says at
+/// which packet, and what was refused.
+///
+/// A node that replies has given the item, whoever can read it. So a source that must lose none reads all that a node may write.
+pub fn drive_within<R: Intake, W: Outlet, O: Outlet>(
+    alloc: Global,
+    query: &Query,
+    limit: usize,
+    reader: &mut R,
+    writer: &mut W,
+    packets: &[Packet],
+    budget: u32,
+    reads: u64,
+    node_number: u64,
+    out: &mut O,
+) -> Result<(), Stop>
+    requires { limit + 1 < 2 ^ 64 }
+    ensures done { OnOk result (Ends (data_of query.now) budget node_number Finished
+        (Packets packets.now) (replies_within limit (R.remaining reader.old))
+        (W.contents writer.old) (W.contents writer.new) (O.contents out.old) (O.contents out.new)) }
+    ensures stops { IfErr result (λ stop. StopsBy (data_of query.now) budget node_number stop.refusal stop.fault
+        (Packets packets.now) (replies_within limit (R.remaining reader.old))
+        (W.contents writer.old) (W.contents writer.new) (O.contents out.old) (O.contents out.new)) }
+    ensures at { IfErr result (λ stop. StopsAt (data_of query.now) budget node_number
+        stop.packet stop.refusal stop.fault packets.now (replies_within limit (R.remaining reader.old))
+        (W.contents writer.old) (W.contents writer.new) (O.contents out.old) (O.contents out.new)) }
+    ensures front { OnErr result (EndsInPart (data_of query.now) budget node_number
+        (Packets packets.now) (replies_within limit (R.remaining reader.old))
+        (W.contents writer.old) (W.contents writer.new) (O.contents out.old) (O.contents out.new)) }
+    ensures reads { ReadsWithin reads (reads_told (by_fault result))
+        (R.calls reader.old) (R.calls reader.new) (R.failures reader.old) (R.failures reader.new)
+        (R.ended reader.old) (R.ended reader.new) (R.remaining reader.old) (R.remaining reader.new) }
+    ensures write { TellsWrites (by_fault result) (W.failures writer.old) (W.failures writer.new)
+        (O.failures out.old) (O.failures out.new) }
+{
     let conversation = Conversation {
         alloc,
         query,
+        limit,
         budget,
+        reads,
         node_number,
     };
-    let mut replies = Replies::new(alloc, reads);
-    for packet in packets {
-        conversation.hand_over(&mut replies, reader, writer, packet, out)?;
+    let mut place = 0usize;
+    let mut refusal = None;
+    match conversation.hand_all(reader, writer, packets, out, &mut place, &mut refusal) {
+        Ok(()) => Ok(()),
+        Err(fault) => Err(Stop {
+            fault,
+            packet: place,
+            refusal,
+        }),
     }
-    Ok(())
 }
 
 /// What stays the same from the first packet to the last.
@@ -72,13 +134,56 @@ struct Conversation<'a> {
     alloc: Global,
     /// Whose partitions are polled.
     query: &'a Query,
+    /// How many bytes a reply may have.
+    limit: usize,
     /// How many turns a poll may take.
     budget: u32,
+    /// How often the reader may be called.
+    reads: u64,
     /// What stands before each item.
     node_number: u64,
 }
 
 impl Conversation<'_> {
+    /// Hands over all packets, and says at which it stopped and what was refused, if it did.
+    fn hand_all<R: Intake, W: Outlet, O: Outlet>(
+        &self,
+        reader: &mut R,
+        writer: &mut W,
+        packets: &[Packet],
+        out: &mut O,
+        place: &mut usize,
+        refusal: &mut Option<Refusal>,
+    ) -> Result<(), DriveFault>
+        requires limit { self.now.limit + 1 < 2 ^ 64 }
+        requires place { place.old ≡ 0 }
+        ensures done { OnOk result (Ends (data_of self.now.query.now) self.now.budget self.now.node_number Finished
+            (Packets packets.now) (replies_within self.now.limit (R.remaining reader.old))
+            (W.contents writer.old) (W.contents writer.new) (O.contents out.old) (O.contents out.new)) }
+        ensures stops { IfErr result (λ fault.
+            StopsBy (data_of self.now.query.now) self.now.budget self.now.node_number refusal.new fault
+            (Packets packets.now) (replies_within self.now.limit (R.remaining reader.old))
+            (W.contents writer.old) (W.contents writer.new) (O.contents out.old) (O.contents out.new)) }
+        ensures at { IfErr result (λ fault. StopsAt (data_of self.now.query.now) self.now.budget self.now.node_number
+            place.new refusal.new fault packets.now (replies_within self.now.limit (R.remaining reader.old))
+            (W.contents writer.old) (W.contents writer.new) (O.contents out.old) (O.contents out.new)) }
+        ensures front { OnErr result (EndsInPart (data_of self.now.query.now) self.now.budget self.now.node_number
+            (Packets packets.now) (replies_within self.now.limit (R.remaining reader.old))
+            (W.contents writer.old) (W.contents writer.new) (O.contents out.old) (O.contents out.new)) }
+        ensures reads { ReadsWithin self.now.reads (reads_told result)
+            (R.calls reader.old) (R.calls reader.new) (R.failures reader.old) (R.failures reader.new)
+            (R.ended reader.old) (R.ended reader.new) (R.remaining reader.old) (R.remaining reader.new) }
+        ensures write { TellsWrites result (W.failures writer.old) (W.failures writer.new)
+            (O.failures out.old) (O.failures out.new) }
+    {
+        let mut replies = Replies::new(self.alloc, self.limit, self.reads);
+        for packet in packets {
+            self.hand_over(&mut replies, reader, writer, packet, out, refusal)?;
+            *place += 1;
+        }
+        Ok(())
+    }
+
     /// Sends a packet, and polls its partition until it is idle.
     fn hand_over<R: Intake, W: Outlet, O: Outlet>(
         &self,
@@ -87,6 +192,7 @@ impl Conversation<'_> {
         writer: &mut W,
         packet: &Packet,
         out: &mut O,
+        refusal: &mut Option<Refusal>,
     ) -> Result<(), DriveFault>
         ensures goes { OnOk result ((rest : List Sent) →
             GoesOn (data_of self.now.query.now) self.now.budget self.now.node_number
@@ -94,7 +200,7 @@ impl Conversation<'_> {
             (replies_left replies.old (R.remaining reader.old)) (replies_left replies.new (R.remaining reader.new))
             (W.contents writer.old) (W.contents writer.new) (O.contents out.old) (O.contents out.new)) }
         ensures stops { IfErr result (λ fault. (rest : List Sent) →
-            Stops (data_of self.now.query.now) self.now.budget self.now.node_number fault
+            StopsBy (data_of self.now.query.now) self.now.budget self.now.node_number refusal.new fault
             (Packets (packet.now ∷ rest)) (replies_left replies.old (R.remaining reader.old))
             (W.contents writer.old) (W.contents writer.new) (O.contents out.old) (O.contents out.new)) }
         ensures reads { Hears (cut_by result) replies.old replies.new
@@ -107,8 +213,8 @@ impl Conversation<'_> {
         let line = poll_request(self.alloc, &key, self.budget)?;
         let sent = packet_request(self.alloc, packet)?;
         let reply = ask(replies, reader, writer, sent.as_slice())?;
-        must_be_taken(&reply)?;
-        'polls: while self.poll(replies, reader, writer, &key, line.as_slice(), out)? {}
+        must_be_taken(&reply, refusal)?;
+        'polls: while self.poll(replies, reader, writer, &key, line.as_slice(), out, refusal)? {}
         Ok(())
     }
 
@@ -121,6 +227,7 @@ impl Conversation<'_> {
         key: &Cells,
         line: &[u8],
         out: &mut O,
+        refusal: &mut Option<Refusal>,
     ) -> Result<bool, DriveFault>
         requires { line.now ≡ line_of (request.Poll key.now self.now.budget) }
         ensures again { result ≡ Ok true → (rest : List Sent) →
@@ -134,7 +241,7 @@ impl Conversation<'_> {
             (replies_left replies.old (R.remaining reader.old)) (replies_left replies.new (R.remaining reader.new))
             (W.contents writer.old) (W.contents writer.new) (O.contents out.old) (O.contents out.new) }
         ensures stops { IfErr result (λ fault. (rest : List Sent) →
-            Stops (data_of self.now.query.now) self.now.budget self.now.node_number fault
+            StopsBy (data_of self.now.query.now) self.now.budget self.now.node_number refusal.new fault
             (Poll key.now rest) (replies_left replies.old (R.remaining reader.old))
             (W.contents writer.old) (W.contents writer.new) (O.contents out.old) (O.contents out.new)) }
         ensures falls { result ≡ Ok true → lines_left replies.new < lines_left replies.old }
@@ -151,21 +258,28 @@ impl Conversation<'_> {
             }
             Some(Reply::Paused(_)) => Ok(true),
             Some(Reply::Idle(_)) => Ok(false),
-            Some(Reply::Refused(_)) => Err(DriveFault::Refused),
+            Some(Reply::Refused(why)) => {
+                *refusal = Some(why);
+                Err(DriveFault::Refused)
+            }
             Some(Reply::Taken(_)) => Err(DriveFault::BadReply),
             None => Err(DriveFault::BadReply),
         }
     }
 }
 
-/// The fault that a reply to a packet's line is, if it isn't that the packet was taken.
-fn must_be_taken(reply: &Option<Reply>) -> Result<(), DriveFault>
+/// The fault that a reply to a packet's line is, if it isn't that the packet was taken. A refusal is handed out.
+fn must_be_taken(reply: &Option<Reply>, refusal: &mut Option<Refusal>) -> Result<(), DriveFault>
     ensures taken { OnOk result (packet_fault reply.now ≡ None) }
     ensures fault { IfErr result (λ fault. packet_fault reply.now ≡ Some fault) }
+    ensures refusal { (why : Why) → reply.now ≡ Some (variant.Refused why) → refusal.new ≡ Some why }
 {
     match reply {
         Some(Reply::Taken(_)) => Ok(()),
-        Some(Reply::Refused(_)) => Err(DriveFault::Refused),
+        Some(Reply::Refused(why)) => {
+            *refusal = Some(*why);
+            Err(DriveFault::Refused)
+        }
         _ => Err(DriveFault::BadReply),
     }
 }

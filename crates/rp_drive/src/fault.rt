@@ -1,4 +1,5 @@
 //! How a conversation ends early.
+use rp_codec::Refusal;
 use rp_io::{LineFault, WriteFailed};
 use std::alloc::{AllocError, AllocFailed};
 use thiserror::Error;
@@ -24,6 +25,17 @@ pub enum DriveFault {
     /// Memory was refused.
     #[error("out of memory")]
     OutOfMemory,
+}
+
+/// Where a conversation ended early, and why.
+#[derive(Clone, Copy, Debug, PartialEq, Eq)]
+pub struct Stop {
+    /// Why it ended.
+    pub fault: DriveFault,
+    /// The place of the packet that was in hand, from 0. All before it were taken, and their partitions polled until idle.
+    pub packet: usize,
+    /// What the node replied, where the fault is that it refused.
+    pub refusal: Option<Refusal>,
 }
 
 impl From<LineFault> for DriveFault {

@@ -11,10 +11,12 @@
 #![tactic(auto)]
 
 mod conversation;
+mod counted;
 mod fault;
 mod items;
 mod replies;
 mod requests;
 
-pub use conversation::drive;
-pub use fault::DriveFault;
+pub use conversation::{drive, drive_within};
+pub use counted::Counted;
+pub use fault::{DriveFault, Stop};

@@ -1,15 +1,11 @@
 //! The replies that come.
-ghost use Rattle.std.specs.Prelude.{◌≡◌, IfOk};
-ghost use Rattle.rp_drive.specs.Lines.{reply_on};
-ghost use Rattle.rp_drive.specs.declared.replies.TheConstants.{KEPT};
+ghost use Rattle.std.specs.Prelude.{◌≡◌, ◌+◌, IfOk};
+ghost use Rattle.rp_drive.specs.Lines.{reply_within};
 
 use crate::fault::DriveFault;
 use rp_io::{Intake, Lines};
-use rp_wire::{LineFault, MAX_LINE_LEN, Reply, reply_of};
+use rp_wire::{LineFault, Reply, reply_within};
 use std::alloc::{AllocError, Global};
-
-/// How many bytes of a line are kept: one more than a reply may have.
-const KEPT: usize = MAX_LINE_LEN + 1;
 
 /// The replies of a node, a line each.
 #[derive(Drop)]
@@ -17,27 +13,33 @@ pub(crate) struct Replies {
     alloc: Global,
     pub(crate) lines: Lines,
     line: Vec<u8>,
+    /// How many bytes a reply may have.
+    pub(crate) limit: usize,
     /// Whether the input has ended.
     pub(crate) over: bool,
-    ghost kept: { lines.kept ≡ KEPT },
+    ghost kept: { lines.kept ≡ limit + 1 },
 }
 
 impl Replies {
-    ghost use Rattle.std.specs.Prelude.{◌≡◌, ◌<◌, [], IfErr, IfOk, None, false};
+    ghost use Rattle.std.specs.Prelude.{◌≡◌, ◌+◌, ◌<◌, ◌^◌, [], IfErr, IfOk, None, false};
     ghost use Rattle.rp_io.specs.Pending.{pending_of};
     ghost use Rattle.rp_drive.specs.Faults.{IsOfReading};
     ghost use Rattle.rp_drive.specs.Listening.{Comes, Hears, cut_by, lines_left, replies_left};
 
-    /// No reply yet. At most `reads` calls of the reader will be made.
-    pub(crate) fn new(alloc: Global, reads: u64) -> Replies
+    /// No reply yet. At most `reads` calls of the reader will be made. Of each line one byte more is kept than a reply may
+    /// have.
+    pub(crate) fn new(alloc: Global, limit: usize, reads: u64) -> Replies
+        requires { limit + 1 < 2 ^ 64 }
+        ensures limit { result.limit ≡ limit }
         ensures pending { pending_of result.lines ≡ [] }
         ensures reads { result.lines.reads ≡ reads }
         ensures over { result.over ≡ false }
     {
         Replies {
             alloc,
-            lines: Lines::new(alloc, reads, KEPT),
+            lines: Lines::new(alloc, reads, limit + 1),
             line: Vec::new(alloc),
+            limit,
             over: false,
         }
     }
@@ -57,21 +59,21 @@ impl Replies {
             return Ok(None);
         }
         if self.lines.next(reader, &mut self.line)? {
-            return Ok(reply_on(self.alloc, self.line.as_slice())?);
+            return Ok(reply_on(self.alloc, self.limit, self.line.as_slice())?);
         }
         self.over = true;
         if self.line.is_empty() {
             return Ok(None);
         }
-        Ok(reply_on(self.alloc, self.line.as_slice())?)
+        Ok(reply_on(self.alloc, self.limit, self.line.as_slice())?)
     }
 }
 
-/// The reply that a line is.
-fn reply_on(alloc: Global, line: &[u8]) -> Result<Option<Reply>, AllocError>
-    ensures { IfOk result (λ reply. reply ≡ reply_on line.now) }
+/// The reply that a line of at most `limit` bytes is.
+fn reply_on(alloc: Global, limit: usize, line: &[u8]) -> Result<Option<Reply>, AllocError>
+    ensures { IfOk result (λ reply. reply ≡ reply_within limit line.now) }
 {
-    match reply_of(alloc, line) {
+    match reply_within(alloc, limit, line) {
         Ok(reply) => Ok(Some(reply)),
         Err(LineFault::OutOfMemory) => Err(AllocError),
         Err(_) => Ok(None),

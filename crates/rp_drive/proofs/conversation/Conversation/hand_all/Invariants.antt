@@ -1,18 +1,19 @@
 use Rattle.std.proofs.Common.{◌≡◌, drop, false, None}
 use Rattle.rp_query.specs.QueryView.{data_of}
 use Rattle.rp_drive.specs.Exchanged.{GoesOn}
-use Rattle.rp_drive.specs.Lines.{replies_in}
+use Rattle.rp_drive.specs.Lines.{replies_within}
 use Rattle.rp_drive.specs.Listening.{HearsBy, replies_left}
 use Rattle.rp_drive.specs.Exchange.{Packets}
-use Rattle.rp_drive.proofs.conversation.drive.Given as goal
+use Rattle.rp_drive.proofs.conversation.Conversation.hand_all.Given as goal
 
 abbrev pub invariant-loop-packet : goal.invariant-loop-packet
 invariant-loop-packet g l = record {
-  goes : GoesOn (data_of l.query) l.budget l.node_number (Packets l.packets) (Packets (drop l.packet-index l.packets))
-      (replies_in (g.R.Intake.remaining l.fn.reader)) (replies_left l.replies (g.R.Intake.remaining l.reader))
+  goes : GoesOn (data_of l.self.query.now) l.self.budget l.self.node_number (Packets l.packets) (Packets (drop l.packet-index l.packets))
+      (replies_within l.self.limit (g.R.Intake.remaining l.fn.reader)) (replies_left l.replies (g.R.Intake.remaining l.reader))
       (g.W.Outlet.contents l.fn.writer) (g.W.Outlet.contents l.writer) (g.O.Outlet.contents l.fn.out) (g.O.Outlet.contents l.out);
+  at : l.place ≡ l.packet-index;
   write : g.W.Outlet.failures l.writer ≡ g.W.Outlet.failures l.fn.writer;
   told : g.O.Outlet.failures l.out ≡ g.O.Outlet.failures l.fn.out;
-  reads : HearsBy None false l.replies.over l.reads l.replies.lines.reads (g.R.Intake.calls l.fn.reader) (g.R.Intake.calls l.reader) (g.R.Intake.failures l.fn.reader) (g.R.Intake.failures l.reader)
+  reads : HearsBy None false l.replies.over l.self.reads l.replies.lines.reads (g.R.Intake.calls l.fn.reader) (g.R.Intake.calls l.reader) (g.R.Intake.failures l.fn.reader) (g.R.Intake.failures l.reader)
       (g.R.Intake.ended l.fn.reader) (g.R.Intake.ended l.reader) (g.R.Intake.remaining l.fn.reader) (g.R.Intake.remaining l.reader);
 }

@@ -3,7 +3,7 @@ use Rattle.std.specs.Io.KnownBytes.{Appends}
 use Rattle.rp_query.specs.QueryView.{data_of}
 use Rattle.rp_wire.specs.declared.request.Request.TheVariants as request
 use Rattle.rp_drive.specs.Exchange.{Packets, Poll}
-use Rattle.rp_drive.specs.Exchanged.{GoesOn, SendsLine, Stops}
+use Rattle.rp_drive.specs.Exchanged.{GoesOn, SendsLine, StopsBy}
 use Rattle.rp_drive.specs.Keys.{packet_key}
 use Rattle.rp_drive.specs.Lines.{line_of}
 use Rattle.rp_drive.specs.Listening.{replies_left}
@@ -51,7 +51,7 @@ returns-in_err-reply-clause-stops g c =
     let line : c.as_slice.result.now ≡ line_of (request.Packet c.args.packet.now) = c.as_slice.ensures.value ∙ c.in_ok-sent.ensures in
     let sends = subst (SendsLine why w w') line c.in_err-reply.ensures.stops in
     if_err_is c.from_residual-in_err-reply.result why _ is
-    (λ rest. send_unheard q c.args.self.now.budget c.args.self.now.node_number all left w w' c.args.packet.now rest o why sends)
+    (λ rest. send_unheard q c.args.self.now.budget c.args.self.now.node_number all left w w' c.args.packet.now rest o c.args.refusal.now why sends)
 
 pub returns-in_err-must_be_taken-clause-stops : goal.returns-in_err-must_be_taken-clause-stops
 returns-in_err-must_be_taken-clause-stops g c =
@@ -66,7 +66,7 @@ returns-in_err-must_be_taken-clause-stops g c =
     let line : c.as_slice.result.now ≡ line_of (request.Packet c.args.packet.now) = c.as_slice.ensures.value ∙ c.in_ok-sent.ensures in
     let sent = subst (Appends w w') line c.in_ok-reply.ensures.asked in
     if_err_is c.from_residual-in_err-must_be_taken.result why _ is
-    (λ rest. send_stops q c.args.self.now.budget c.args.self.now.node_number all left w w' c.args.packet.now rest o c.in_ok-reply.reply why c.in_err-must_be_taken.ensures.fault c.in_ok-reply.ensures.came sent)
+    (λ rest. send_stops q c.args.self.now.budget c.args.self.now.node_number all left w w' c.args.packet.now rest o c.in_ok-reply.reply c.must_be_taken.new.refusal why c.in_err-must_be_taken.ensures.fault c.in_err-must_be_taken.ensures.refusal c.in_ok-reply.ensures.came sent)
 
 pub polls-init : goal.polls-init
 polls-init g c =
@@ -100,8 +100,8 @@ returns-in_err-poll-clause-stops g c =
     let same : c.in_ok-key.key ≡ key = search rules in
     let is : c.from_residual-in_err-poll.result ≡ Err why = search rules in
     if_err_is c.from_residual-in_err-poll.result why _ is
-    (λ rest. goes_stops q c.args.self.now.budget c.args.self.now.node_number (Packets (c.args.packet.now ∷ rest)) (Poll key rest) all mid w w1 o o1 (c.polls.invariant.goes rest) why w2 o2
-    (subst (λ k. Stops q c.args.self.now.budget c.args.self.now.node_number why (Poll k rest) mid w1 w2 o1 o2) same (c.in_err-poll.ensures.stops rest)))
+    (λ rest. goes_stops q c.args.self.now.budget c.args.self.now.node_number (Packets (c.args.packet.now ∷ rest)) (Poll key rest) all mid w w1 o o1 (c.polls.invariant.goes rest) c.poll.new.refusal why w2 o2
+    (subst (λ k. StopsBy q c.args.self.now.budget c.args.self.now.node_number c.poll.new.refusal why (Poll k rest) mid w1 w2 o1 o2) same (c.in_err-poll.ensures.stops rest)))
 
 pub polls-preserved : goal.polls-preserved
 polls-preserved g c =

@@ -1,4 +1,4 @@
-use Rattle.std.proofs.Common.{rules, ◌≡◌, subst, Some, None, IfErr, Err}
+use Rattle.std.proofs.Common.{rules, ◌≡◌, subst, refl, Some, None, IfErr, Err}
 use Rattle.std.proofs.lemmas.Result.{IfErr-weaker}
 use Rattle.std.specs.Io.KnownBytes.{Appends}
 use Rattle.rp_query.specs.QueryView.{data_of}
@@ -23,7 +23,7 @@ returns-in_err-key-clause-stops g c =
     let is : c.from_residual.result ≡ Err why = search rules in
     let sends = subst (SendsLine why w w') c.requires c.in_err-key.ensures.stops in
     if_err_is c.from_residual.result why _ is
-    (λ rest. poll_unheard q c.args.self.now.budget c.args.self.now.node_number all left w w' c.args.key.now rest o why sends)
+    (λ rest. poll_unheard q c.args.self.now.budget c.args.self.now.node_number all left w w' c.args.key.now rest o c.args.refusal.now why sends)
 
 pub returns-in_err-write_item-in-Some-Item-clause-stops : goal.returns-in_err-write_item-in-Some-Item-clause-stops
 returns-in_err-write_item-in-Some-Item-clause-stops g c =
@@ -39,7 +39,7 @@ returns-in_err-write_item-in-Some-Item-clause-stops g c =
     let is : c.in_ok-key.field-0 ≡ Some (reply.Item c.in-Some-Item.key c.in-Some-Item.place c.in-Some-Item.item) = search rules in
     let comes = subst (Comes all left) is c.in_ok-key.ensures.came in
     IfErr-weaker c.from_residual-in_err-write_item-in-Some-Item.result IsOfWriting _
-    (λ fault telling rest. writing_stops q c.args.self.now.budget c.args.self.now.node_number (Poll c.args.key.now rest) all w w' o o' fault telling
+    (λ fault telling rest. writing_stops q c.args.self.now.budget c.args.self.now.node_number (Poll c.args.key.now rest) all w w' o o' c.args.refusal.now fault telling
     (item_part q c.args.self.now.budget c.args.self.now.node_number all left w w' c.args.key.now rest o o' c.in-Some-Item.key c.in-Some-Item.place c.in-Some-Item.item comes sent c.in_err-write_item-in-Some-Item.ensures.front)) fine
 
 pub returns-in-Some-Item-clause-again : goal.returns-in-Some-Item-clause-again
@@ -85,9 +85,9 @@ returns-in-Some-Refused-clause-stops g c = λ rest.
     let w = g.W.Outlet.contents c.args.writer.now in
     let w' = g.W.Outlet.contents c.ask.new.writer in
     let sent = subst (Appends w w') c.requires c.in_ok-key.ensures.asked in
-    let is : c.in_ok-key.field-0 ≡ Some (reply.Refused c.in-Some-Refused.field-0-0) = search rules in
+    let is : c.in_ok-key.field-0 ≡ Some (reply.Refused c.in-Some-Refused.why) = search rules in
     let comes = subst (Comes all left) is c.in_ok-key.ensures.came in
-    poll_refused (data_of c.args.self.now.query.now) c.args.self.now.budget c.args.self.now.node_number all left w w' c.args.key.now rest (g.O.Outlet.contents c.args.out.now) c.in-Some-Refused.field-0-0 comes sent
+    (c.in-Some-Refused.why, refl, poll_refused (data_of c.args.self.now.query.now) c.args.self.now.budget c.args.self.now.node_number all left w w' c.args.key.now rest (g.O.Outlet.contents c.args.out.now) c.in-Some-Refused.why comes sent)
 
 pub returns-in-Some-Taken-clause-stops : goal.returns-in-Some-Taken-clause-stops
 returns-in-Some-Taken-clause-stops g c = λ rest.
