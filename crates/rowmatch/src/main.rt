@@ -37,6 +37,9 @@ fn main(rt: HostRuntime) -> io::Result<ExitCode> {
 fn told(rt: &HostRuntime, fault: ProgramFault) -> ProgramFault {
     let ProgramFault::Line(error) = &fault else {
         let _ = eprintln!(rt; "rowmatch: {fault}");
+        if let ProgramFault::Refused(_, Some(text)) = &fault {
+            let _ = eprintln!(rt; "rowmatch: {text}");
+        }
         return fault;
     };
     if error.print(rt).is_ok() || error.use_stderr() {

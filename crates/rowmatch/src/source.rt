@@ -1,15 +1,24 @@
 //! `source`: hands the rows of a CSV to nodes, one node after the other, and prints the items that they give.
 use crate::fault::ProgramFault;
+use crate::shown::shown_key;
 use rp_check::compile;
 use rp_command::SourceJob;
-use rp_drive::{DriveFault, drive};
+use rp_drive::{Counted, DriveFault, Stop, drive_within};
 use rp_input::{number_rows, read_rows};
-use rp_io::{Outlet, Port, READS};
+use rp_io::{Lines, Outlet, Port, READS};
 use rp_query::Query;
 use rp_syntax::read_table;
-use rp_wire::Packet;
-use std::io::Read;
+use rp_wire::{MAX_LINE_LEN, Packet, Refusal, Reply, reply_line, saved_of};
+use std::alloc::{AllocError, Global};
+use std::io::{IsTerminal, Read};
 use std::net::{Shutdown, TcpStream};
+use std::time::Duration;
+
+/// The greatest length of a reply that is read, in bytes: 16 MiB. A node writes an item whatever its length.
+const MAX_REPLY_LEN: usize = 16_777_216;
+
+/// A stream to a node, with the count of the lines that went through it.
+type Counter<'a> = Counted<Port<&'a TcpStream>>;
 
 /// Hands all rows of standard input to each node in turn. The first fault ends it.
 pub fn run_source(rt: &HostRuntime, job: &SourceJob) -> Result<(), ProgramFault> {
@@ -25,14 +34,14 @@ pub fn run_source(rt: &HostRuntime, job: &SourceJob) -> Result<(), ProgramFault>
         let Ok(stream) = TcpStream::connect(rt, address.as_str()) else {
             return Err(ProgramFault::Connect);
         };
+        prepare(job, &stream);
         let node = SourceNode {
+            job,
             query: &query,
             packets: packets.as_slice(),
-            budget: job.budget,
             number,
         };
-        hand_over(rt, &node, &stream, &mut out)?;
-        wait_for_end(&stream, number)?;
+        converse(rt, &node, &stream, &mut out)?;
     }
     Ok(())
 }
@@ -40,43 +49,73 @@ pub fn run_source(rt: &HostRuntime, job: &SourceJob) -> Result<(), ProgramFault>
 /// What a node is handed, and its number, from 1.
 #[derive(Clone, Copy)]
 struct SourceNode<'a> {
+    job: &'a SourceJob,
     query: &'a Query,
     packets: &'a [Packet],
-    budget: u32,
     number: u64,
 }
 
-fn hand_over<O: Outlet>(
+/// Lines go out at once, and calls that wait longer than the job allows fail. Where the system doesn't take one of these, the
+/// node is handed the rows all the same.
+fn prepare(job: &SourceJob, stream: &TcpStream) {
+    let _ = stream.set_nodelay(true);
+    if let Some(seconds) = job.idle {
+        let idle = Duration::from_secs(u64::from(seconds));
+        let _ = stream.set_read_timeout(Some(idle));
+        let _ = stream.set_write_timeout(Some(idle));
+    }
+}
+
+/// The whole conversation with a node. It is over once the node has ended its side.
+fn converse<O: Outlet>(
     rt: &HostRuntime,
     node: &SourceNode<'_>,
     stream: &TcpStream,
     out: &mut O,
 ) -> Result<(), ProgramFault> {
-    let _ = stream.set_nodelay(true);
-    let mut reader = Port::new(stream);
-    let mut writer = Port::new(stream);
-    let driven = drive(
+    let mut heard = Counted::new(Port::new(stream));
+    let mut sent = Counted::new(Port::new(stream));
+    hand_over(rt, node, &mut heard, &mut sent, out)?;
+    if heard.lines > sent.lines {
+        return Err(ProgramFault::BadReply(node.number));
+    }
+    if stream.shutdown(Shutdown::Write).is_err() {
+        return Err(ProgramFault::Write);
+    }
+    if node.job.acknowledge {
+        wait_for_saved(rt, stream, sent.lines, node.number)
+    } else {
+        wait_for_end(stream, node.number)
+    }
+}
+
+fn hand_over<O: Outlet>(
+    rt: &HostRuntime,
+    node: &SourceNode<'_>,
+    heard: &mut Counter<'_>,
+    sent: &mut Counter<'_>,
+    out: &mut O,
+) -> Result<(), ProgramFault> {
+    let driven = drive_within(
         rt.alloc(),
         node.query,
-        &mut reader,
-        &mut writer,
+        MAX_REPLY_LEN,
+        heard,
+        sent,
         node.packets,
-        node.budget,
+        node.job.budget,
         READS,
         node.number,
         out,
     );
     match driven {
         Ok(()) => Ok(()),
-        Err(fault) => Err(node_fault(node.number, fault)),
+        Err(stop) => Err(node_fault(rt, node, &stop)?),
     }
 }
 
-/// Ends the sending side, and waits until the node ends its own: it has saved all that it took by then.
+/// Waits until the node ends its side: it has saved all that it took by then, or has failed to.
 fn wait_for_end(stream: &TcpStream, number: u64) -> Result<(), ProgramFault> {
-    if stream.shutdown(Shutdown::Write).is_err() {
-        return Err(ProgramFault::Write);
-    }
     let mut rest = [0u8; 1];
     let mut stream = stream;
     match stream.read(&mut rest) {
@@ -86,14 +125,78 @@ fn wait_for_end(stream: &TcpStream, number: u64) -> Result<(), ProgramFault> {
     }
 }
 
-/// The fault of a conversation with the node of this number.
-fn node_fault(number: u64, fault: DriveFault) -> ProgramFault {
-    match fault {
+/// Waits for the line by which the node says that it saved all lines that were sent, and for the end behind it.
+fn wait_for_saved(
+    rt: &HostRuntime,
+    stream: &TcpStream,
+    sent: u128,
+    number: u64,
+) -> Result<(), ProgramFault> {
+    let mut rest = Port::new(stream);
+    let mut lines = Lines::new(rt.alloc(), READS, MAX_LINE_LEN);
+    let mut line = Vec::new(rt.alloc());
+    if let Ok(true) = lines.next(&mut rest, &mut line)
+        && let Ok(saved) = saved_of(rt.alloc(), line.as_slice())
+        && u128::from(saved) == sent
+        && let Ok(false) = lines.next(&mut rest, &mut line)
+        && line.is_empty()
+    {
+        return Ok(());
+    }
+    Err(ProgramFault::NotSaved(number))
+}
+
+/// The fault of a conversation that stopped.
+fn node_fault(
+    rt: &HostRuntime,
+    node: &SourceNode<'_>,
+    stop: &Stop,
+) -> Result<ProgramFault, AllocError> {
+    Ok(match stop.fault {
         DriveFault::Read => ProgramFault::Read,
         DriveFault::Write => ProgramFault::Write,
-        DriveFault::BadReply => ProgramFault::BadReply(number),
-        DriveFault::Refused => ProgramFault::Refused(number),
+        DriveFault::BadReply => ProgramFault::BadReply(node.number),
+        DriveFault::Refused => ProgramFault::Refused(node.number, told_refusal(rt, node, stop)?),
         DriveFault::Turns => ProgramFault::Turns,
         DriveFault::OutOfMemory => ProgramFault::OutOfMemory,
+    })
+}
+
+/// What the node refused, and its words, where somebody is to read that.
+fn told_refusal(
+    rt: &HostRuntime,
+    node: &SourceNode<'_>,
+    stop: &Stop,
+) -> Result<Option<String>, AllocError> {
+    if !node.job.verbose && !rt.stderr().is_terminal() {
+        return Ok(None);
+    }
+    let Some(packet) = node.packets.get(stop.packet) else {
+        return Ok(None);
+    };
+    let Some(refusal) = stop.refusal else {
+        return Ok(None);
+    };
+    Ok(Some(refusal_text(rt.alloc(), node, packet, refusal)?))
+}
+
+/// As `node 1: {"refused":"Conflict"} at row 3 of ["x"]`.
+fn refusal_text(
+    alloc: Global,
+    node: &SourceNode<'_>,
+    packet: &Packet,
+    refusal: Refusal,
+) -> Result<String, AllocError> {
+    let number = node.number;
+    let reply = reply_line(alloc, &Reply::Refused(refusal))?;
+    match packet {
+        Packet::Row { number: row, cells } => {
+            let key = shown_key(alloc, &node.query.key(alloc, cells)?)?;
+            format!(in alloc; "node {number}: {reply} at row {row} of {key}")
+        }
+        Packet::Close { key, count } => {
+            let key = shown_key(alloc, key)?;
+            format!(in alloc; "node {number}: {reply} at the close of {key} after row {count}")
+        }
     }
 }
