@@ -104,21 +104,21 @@ pub node_state : (m : ArgMatches) → MeetsRules node_app m → HasValue (codes 
 unfolding node_app
 node_state m h = (h 3 (by_place (codes "state")) (omega arith)).0 refl
 
-pub node_connections : (m : ArgMatches) → MeetsRules node_app m → HasValue (codes "connections") m
+pub node_connections : (m : ArgMatches) → MeetsRules node_app m → Passes false number_parser (codes "connections") m
 unfolding node_app
-node_connections m h = (h 4 (by_place (codes "connections")) (omega arith)).0 refl
-
-pub node_connections_numeric : (m : ArgMatches) → MeetsRules node_app m → Passes false number_parser (codes "connections") m
-unfolding node_app
-node_connections_numeric m h = (h 4 (by_place (codes "connections")) (omega arith)).1 _ refl
+node_connections m h = (h 4 (by_place (codes "connections")) (omega arith)).1 _ refl
 
 pub node_idle : (m : ArgMatches) → MeetsRules node_app m → Passes false number_parser (codes "idle") m
 unfolding node_app
 node_idle m h = (h 5 (by_place (codes "idle")) (omega arith)).1 _ refl
 
+pub node_acknowledge : (m : ArgMatches) → MeetsRules node_app m → Passes false parser.Bool (codes "acknowledge") m
+unfolding node_app
+node_acknowledge m h = (h 6 (by_place (codes "acknowledge")) (omega arith)).1 _ refl
+
 pub node_verbose : (m : ArgMatches) → MeetsRules node_app m → Passes false parser.Bool (codes "verbose") m
 unfolding node_app
-node_verbose m h = (h 6 (by_place (codes "verbose")) (omega arith)).1 _ refl
+node_verbose m h = (h 7 (by_place (codes "verbose")) (omega arith)).1 _ refl
 
 -- ---- source
 

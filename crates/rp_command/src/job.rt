@@ -51,10 +51,12 @@ pub struct NodeJob {
     pub listen: String,
     /// The path of the file that is kept of the node.
     pub state: String,
-    /// How many connections are served, at least 1.
-    pub connections: u32,
-    /// After how many seconds of silence a connection is ended, at least 1; None where that is never.
+    /// How many connections are served, at least 1; None where the node serves until it is ended.
+    pub connections: Option<u32>,
+    /// How many seconds a connection may be silent, and one line may take, at least 1; None where there is no limit.
     pub idle: Option<u32>,
+    /// Whether a line says at the end of a connection how many lines were answered and are saved.
+    pub acknowledge: bool,
     /// Whether standard error tells what goes on.
     pub verbose: bool,
 }

@@ -1,17 +1,17 @@
 //! The command `node`.
-ghost use Rattle.std.specs.Prelude.{◌≡◌, false, true, IfOk, codes, map, string_bytes};
-ghost use Rattle.clap.specs.Words.{app_of, found_of, rows_of, rule_of};
+ghost use Rattle.std.specs.Prelude.{◌≡◌, IfOk, codes, map, string_bytes};
+ghost use Rattle.clap.specs.Words.{app_of, found_of, rows_of};
 ghost use Rattle.clap.specs.declared.error.Error.{Error};
-ghost use Rattle.rp_command.specs.Commands.{by_number, node_app};
+ghost use Rattle.rp_command.specs.Commands.{node_app};
 ghost use Rattle.rp_command.specs.Jobs.{AreUnderstood, HasNode, IsFaultBy, IsFaultless, IsRead, name_of};
 ghost use Rattle.rp_command.specs.Values.{MeetsRules};
 
 use crate::arguments::{
-    count_of, flag, flag_of, matched, number_of, number_option, text_of, text_option, with_clause,
+    flag, flag_of, matched, number_of, number_option, text_of, text_option, with_clause,
 };
 use crate::help;
 use crate::job::{Job, JobFault, NodeJob};
-use clap::{Arg, ArgMatches, Command};
+use clap::{ArgMatches, Command};
 use std::alloc::{AllocError, Global};
 
 /// The job of the words.
@@ -40,8 +40,9 @@ fn node_job(alloc: Global, matches: &ArgMatches) -> Result<NodeJob, AllocError>
         clause: text_of(alloc, matches, "clause")?,
         listen: text_of(alloc, matches, "listen")?,
         state: text_of(alloc, matches, "state")?,
-        connections: count_of(matches, "connections"),
+        connections: number_of(matches, "connections"),
         idle: number_of(matches, "idle"),
+        acknowledge: flag_of(matches, "acknowledge"),
         verbose: flag_of(matches, "verbose"),
     })
 }
@@ -56,20 +57,14 @@ pub(crate) fn node_command<'a>(alloc: Global) -> Result<Command<'a>, AllocError>
         .about("Takes rows over connections, and gives the items of their answers")
         .after_help(help::NODE);
     let about_listen = "Where to listen, as 127.0.0.1:7000";
-    let about_idle = "Ends a connection that is silent for so long";
+    let about_connections = "How many connections to serve; else the node never ends by itself";
+    let about_idle = "Ends a connection that is silent for so long, or takes so long over a line";
+    let about_acknowledge = "Writes {\"saved\":N} once FILE has what N lines did";
     with_clause(command, alloc)?
         .arg(text_option(alloc, "listen", "ADDR", about_listen))?
         .arg(text_option(alloc, "state", "FILE", "The file that is kept of the node"))?
-        .arg(connections(alloc))?
+        .arg(number_option(alloc, "connections", "N", about_connections))?
         .arg(number_option(alloc, "idle", "SECONDS", about_idle))?
+        .arg(flag(alloc, "acknowledge", about_acknowledge))?
         .arg(flag(alloc, "verbose", "Tells on standard error what goes on"))
-}
-
-/// The option that says how many connections to serve.
-fn connections<'a>(alloc: Global) -> Arg<'a>
-    ensures rule { rule_of result ≡ record (by_number (codes "connections")) { required = true } }
-    ensures own { result.global ≡ false }
-{
-    let option = number_option(alloc, "connections", "N", "How many connections to serve");
-    option.required(true)
 }

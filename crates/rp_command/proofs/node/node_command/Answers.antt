@@ -13,6 +13,7 @@ returns c =
     let clause = c.in_ok-with_clause.ensures ∙ ap with_clause empty in
     let listen = c.in_ok-arg.ensures.shape c.text_option.ensures.own ∙ ap₂ with_rule clause c.text_option.ensures.rule in
     let state = c.in_ok-arg-2.ensures.shape c.text_option-2.ensures.own ∙ ap₂ with_rule listen c.text_option-2.ensures.rule in
-    let counted = c.in_ok-arg-3.ensures.shape c.connections.ensures.own ∙ ap₂ with_rule state c.connections.ensures.rule in
-    let idle = c.in_ok-arg-4.ensures.shape c.number_option.ensures.own ∙ ap₂ with_rule counted c.number_option.ensures.rule in
-    IfOk-weaker c.arg-5.result _ _ (λ command added. added.shape c.flag.ensures.own ∙ ap₂ with_rule idle c.flag.ensures.rule) c.arg-5.ensures
+    let counted = c.in_ok-arg-3.ensures.shape c.number_option.ensures.own ∙ ap₂ with_rule state c.number_option.ensures.rule in
+    let idle = c.in_ok-arg-4.ensures.shape c.number_option-2.ensures.own ∙ ap₂ with_rule counted c.number_option-2.ensures.rule in
+    let acknowledged = c.in_ok-arg-5.ensures.shape c.flag.ensures.own ∙ ap₂ with_rule idle c.flag.ensures.rule in
+    IfOk-weaker c.arg-6.result _ _ (λ command added. added.shape c.flag-2.ensures.own ∙ ap₂ with_rule acknowledged c.flag-2.ensures.rule) c.arg-6.ensures
