@@ -3,3 +3,4 @@ mod Taken
 mod Serving
 mod ReadParts
 mod Ends
+mod Watching

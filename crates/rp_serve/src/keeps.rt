@@ -1,7 +1,8 @@
 //! What answers requests, and can be saved.
-ghost use Rattle.std.specs.Prelude.{ℕ, List, Option, Some, IfOk};
+ghost use Rattle.std.specs.Prelude.{◌≡◌, ℕ, List, Option, Some, IfOk, false};
 ghost use Rattle.std.specs.Option.{ForSome};
 ghost use Rattle.rp_codec.specs.declared.reply.Reply.{Reply as Told};
+ghost use Rattle.rp_serve.specs.Changes.{may_change};
 ghost use Rattle.rp_serve.specs.Rounds.{kept_bytes};
 ghost use Rattle.rp_wire.specs.declared.request.Request.{Request as Asked};
 
@@ -42,4 +43,8 @@ pub trait Keeps: Answers {
     /// So does one for which memory was refused.
     ghost keeps_cut: { (old : Self) (request : Asked) (new : Self) (bytes : List ℕ) →
         Self.cut_short old request new → can_go_back old bytes → can_go_back new bytes };
+
+    /// A request leaves it as it was, where the reply says so.
+    ghost unchanged: { (old : Self) (request : Asked) (reply : Told) (new : Self) →
+        Self.step old request reply new → may_change reply ≡ false → new ≡ old };
 }
