@@ -18,6 +18,7 @@ use Rattle.rp_schedules.specs.Records.{Held}
 use Rattle.rp_schedules.specs.SameKnown.{KeyIsSame, KindsAreSame, FirstReadIsSame}
 use Rattle.rp_node.specs.declared.fault.RestartFault.{RestartFault}
 use Rattle.rp_node.specs.declared.fault.RestartFault.TheVariants as fault
+use Rattle.rp_node.specs.ClauseTexts.{without_blank_end}
 use Rattle.rp_node.specs.NodeSeen.{Entries, same_key, entry_at, with_entry}
 use Rattle.rp_node.specs.Resuming.{held_in, feed_in, has_kinds, has_place, fits_table, fits_all, restorable_over}
 use Rattle.rp_node.specs.Restarting.{is_next, records_from, IsOfQuery, RestartsTo, IsRefused}
@@ -86,7 +87,7 @@ module _ (key_same : KeyIsSame) (kinds_same : KindsAreSame) (read_same : FirstRe
 
 module _ (keys : KeyIsSame) (kinds : KindsAreSame) (reads : FirstReadIsSame) (q r : QueryData) (bytes : List ℕ) (saved : Entries Held) (same : IsSameQuery q r) (s : RestartsTo q bytes saved) where
   of_too : IsOfQuery r s.kept
-  of_too = record { clause = s.of.clause ∙ same.text; table = s.of.table ∙ same.table }
+  of_too = record { clause = s.of.clause ∙ ap without_blank_end same.text; table = s.of.table ∙ same.table }
 
   records_too : records_from r [] s.kept.partitions ≡ Some saved
   records_too = records_same keys kinds reads q r same [] s.kept.partitions ∙ s.records

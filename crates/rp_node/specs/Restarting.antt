@@ -9,6 +9,7 @@ use Rattle.rp_checkpoint.specs.Checkpoints.{restored}
 use Rattle.rp_schedules.specs.Records.{Held}
 use Rattle.rp_node.specs.declared.fault.RestartFault.{RestartFault}
 use Rattle.rp_node.specs.declared.fault.RestartFault.TheVariants.{Digest, NotJson, Version, BadField, ClauseDiffers, BadState, OutOfMemory}
+use Rattle.rp_node.specs.ClauseTexts.{AreOneClause}
 use Rattle.rp_node.specs.Joined.{held_of}
 use Rattle.rp_node.specs.NodeSeen.{Entries, Map, AllJoined, entries_by, entry_at, with_entry}
 use Rattle.rp_node.specs.Resuming.{held_in, is_restorable}
@@ -23,9 +24,9 @@ records_from q before [] = Some before
 records_from q before (p ∷ ps) = if is_next q before p then records_from q (with_entry p.key (held_in p) before) ps
     else None
 
--- the clause's text and the table are the query's
+-- the clause and the table are the query's
 pub record IsOfQuery (q : QueryData) (kept : NodeData) : Type 0 where
-  pub clause : kept.clause ≡ q.text
+  pub clause : AreOneClause kept.clause q.text
   pub table : kept.table ≡ q.table
 
 -- The bytes are a checkpoint of the query, and these are the records in it.

@@ -20,6 +20,8 @@
 #![tactic(auto)]
 
 mod beginning;
+mod clause_text;
+mod difference;
 mod fault;
 mod laws;
 mod node;
@@ -31,6 +33,8 @@ mod resume;
 mod save;
 
 pub use beginning::{Begun, begin};
+pub use clause_text::without_blank_end;
+pub use difference::clause_difference;
 pub use fault::{NodeFault, RestartFault, RestartRefused};
 pub use laws::law_calls;
 pub use node::Node;

@@ -34,6 +34,7 @@ impl Answers for Node {
 impl Keeps for Node {
     ghost use Rattle.std.specs.Prelude.{Some, None};
     ghost use Rattle.rp_node.specs.GoingBack.{CanRestart, GoesBack, IsSaved, back_again, restarts_still, saved_stays};
+    ghost use Rattle.rp_node.specs.Unchanged.{unchanged};
 
     ghost is_saved = { λ node bytes. IsSaved node bytes };
 
@@ -48,6 +49,8 @@ impl Keeps for Node {
     ghost keeps = { λ old request reply new bytes does can. restarts_still old request (Some reply) new bytes does can };
 
     ghost keeps_cut = { λ old request new bytes does can. restarts_still old request None new bytes does can };
+
+    ghost unchanged = { λ old request reply new does same. unchanged old request reply new does same };
 
     fn save(&self) -> Result<Vec<u8>, AllocError> {
         Node::save(self)

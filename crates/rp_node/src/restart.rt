@@ -7,6 +7,7 @@ ghost use Rattle.rp_node.specs.Joined.{held_of};
 ghost use Rattle.rp_node.specs.NodeSeen.{AllJoined, entries_by, same_key};
 ghost use Rattle.rp_node.specs.Restarting.{IsOfQuery, IsRefused, RestartsTo, RestoredAll, RestoredOne};
 
+use crate::clause_text::are_one_clause;
 use crate::fault::{RestartFault, bytes_fault};
 use crate::partition::Partition;
 use crate::resume::resume;
@@ -54,12 +55,14 @@ fn restored_from(
     }
 }
 
-/// Whether the clause's text and the table are the query's.
+/// Whether the clause and the table are the query's.
 fn is_of(query: &Query, kept: &NodeData) -> bool
     ensures { IsTrue result ↔ IsOfQuery (data_of query.now) kept.now }
 {
-    kept.clause.as_str() == query.text().as_str()
-        && same_columns(kept.table.as_slice(), query.table().columns())
+    are_one_clause(
+        kept.clause.as_str().as_bytes(),
+        query.text().as_str().as_bytes(),
+    ) && same_columns(kept.table.as_slice(), query.table().columns())
 }
 
 fn same_columns(left: &[Column], right: &[Column]) -> bool
