@@ -64,7 +64,7 @@ returns-in-Err-Read-clause-round g c =
       left = c.serve_counted.new.node.node;
       session = subst (λ f. StopsAfter g.N.Answers.step g.N.Answers.cut_short f (g.R.Intake.remaining c.args.reader.now) c.args.node c.serve_counted.new.node.node (g.W.Outlet.contents c.args.writer.now) (g.W.Outlet.contents c.serve_counted.new.writer) c.serve_counted.new.count)
           c.in-Err-Read.field-0-is (stops_of_node c.serve_counted.new.node g.N.Answers.step g.N.Answers.cut_short (λ x. x.node) (λ x. x.has_changed)
-    (g.R.Intake.remaining c.args.reader.now) _ (g.W.Outlet.contents c.args.writer.now) (g.W.Outlet.contents c.serve_counted.new.writer) c.serve_counted.new.count c.in-Err-Read.field-0 c.in-Err-Read.ensures.stops);
+          (g.R.Intake.remaining c.args.reader.now) _ (g.W.Outlet.contents c.args.writer.now) (g.W.Outlet.contents c.serve_counted.new.writer) c.serve_counted.new.count c.in-Err-Read.field-0 c.in-Err-Read.ensures.stops);
       keeping = (node, saved);
     })) c.kept_after-in-Err-Read.ensures.node c.kept_after-in-Err-Read.ensures.saved c.kept_after-in-Err-Read.ensures.ended
 
@@ -75,7 +75,7 @@ returns-in-Err-Turns-clause-round g c =
       left = c.serve_counted.new.node.node;
       session = subst (λ f. StopsAfter g.N.Answers.step g.N.Answers.cut_short f (g.R.Intake.remaining c.args.reader.now) c.args.node c.serve_counted.new.node.node (g.W.Outlet.contents c.args.writer.now) (g.W.Outlet.contents c.serve_counted.new.writer) c.serve_counted.new.count)
           c.in-Err-Turns.field-0-is (stops_of_node c.serve_counted.new.node g.N.Answers.step g.N.Answers.cut_short (λ x. x.node) (λ x. x.has_changed)
-    (g.R.Intake.remaining c.args.reader.now) _ (g.W.Outlet.contents c.args.writer.now) (g.W.Outlet.contents c.serve_counted.new.writer) c.serve_counted.new.count c.in-Err-Turns.field-0 c.in-Err-Turns.ensures.stops);
+          (g.R.Intake.remaining c.args.reader.now) _ (g.W.Outlet.contents c.args.writer.now) (g.W.Outlet.contents c.serve_counted.new.writer) c.serve_counted.new.count c.in-Err-Turns.field-0 c.in-Err-Turns.ensures.stops);
       keeping = (node, saved);
     })) c.kept_after-in-Err-Turns.ensures.node c.kept_after-in-Err-Turns.ensures.saved c.kept_after-in-Err-Turns.ensures.ended
 
@@ -86,7 +86,7 @@ returns-in-Err-Write-clause-round g c =
       left = c.serve_counted.new.node.node;
       session = subst (λ f. StopsAfter g.N.Answers.step g.N.Answers.cut_short f (g.R.Intake.remaining c.args.reader.now) c.args.node c.serve_counted.new.node.node (g.W.Outlet.contents c.args.writer.now) (g.W.Outlet.contents c.serve_counted.new.writer) c.serve_counted.new.count)
           c.in-Err-Write.field-0-is (stops_of_node c.serve_counted.new.node g.N.Answers.step g.N.Answers.cut_short (λ x. x.node) (λ x. x.has_changed)
-    (g.R.Intake.remaining c.args.reader.now) _ (g.W.Outlet.contents c.args.writer.now) (g.W.Outlet.contents c.serve_counted.new.writer) c.serve_counted.new.count c.in-Err-Write.field-0 c.in-Err-Write.ensures.stops);
+          (g.R.Intake.remaining c.args.reader.now) _ (g.W.Outlet.contents c.args.writer.now) (g.W.Outlet.contents c.serve_counted.new.writer) c.serve_counted.new.count c.in-Err-Write.field-0 c.in-Err-Write.ensures.stops);
       keeping = (node, saved);
     })) c.gone_back.ensures.node c.gone_back.ensures.saved c.gone_back.ensures.ended
 
@@ -97,6 +97,6 @@ returns-in-Err-OutOfMemory-clause-round g c =
       left = c.serve_counted.new.node.node;
       session = subst (λ f. StopsAfter g.N.Answers.step g.N.Answers.cut_short f (g.R.Intake.remaining c.args.reader.now) c.args.node c.serve_counted.new.node.node (g.W.Outlet.contents c.args.writer.now) (g.W.Outlet.contents c.serve_counted.new.writer) c.serve_counted.new.count)
           c.in-Err-OutOfMemory.field-0-is (stops_of_node c.serve_counted.new.node g.N.Answers.step g.N.Answers.cut_short (λ x. x.node) (λ x. x.has_changed)
-    (g.R.Intake.remaining c.args.reader.now) _ (g.W.Outlet.contents c.args.writer.now) (g.W.Outlet.contents c.serve_counted.new.writer) c.serve_counted.new.count c.in-Err-OutOfMemory.field-0 c.in-Err-OutOfMemory.ensures.stops);
+          (g.R.Intake.remaining c.args.reader.now) _ (g.W.Outlet.contents c.args.writer.now) (g.W.Outlet.contents c.serve_counted.new.writer) c.serve_counted.new.count c.in-Err-OutOfMemory.field-0 c.in-Err-OutOfMemory.ensures.stops);
       keeping = (node, saved);
     })) c.gone_back-in-Err-OutOfMemory.ensures.node c.gone_back-in-Err-OutOfMemory.ensures.saved c.gone_back-in-Err-OutOfMemory.ensures.ended
