@@ -1,7 +1,9 @@
 //! Row pattern matching over lines and streams.
 #![tactic(auto)]
 
+mod accepting;
 mod check;
+mod client;
 mod fault;
 mod node;
 mod progress;

@@ -1,84 +1,94 @@
 //! `node`: a node behind connections, which are served one after the other, kept in a file after each.
-ghost use Rattle.std.specs.Prelude.{IfOk};
-ghost use Rattle.std.specs.Option.{ForSome};
-ghost use Rattle.rp_node.specs.GoingBack.{CanRestart};
-
+use crate::accepting::accepted;
+use crate::client::{ClientInput, ClientOutput};
 use crate::fault::ProgramFault;
-use crate::state::{read_state, write_state};
+use crate::state::StateFile;
 use rp_check::compile;
 use rp_command::NodeJob;
-use rp_io::{Port, READS};
-use rp_node::{Begun, Node, begin};
+use rp_io::{Outlet, Port, READS, write_all};
+use rp_node::{Node, RestartFault, begin, clause_difference};
 use rp_query::Query;
-use rp_serve::{RoundEnd, ServeFault, round};
+use rp_serve::{RoundEnd, ServeFault, round_on, saved_line};
 use rp_syntax::read_table;
-use std::io;
 use std::net::{TcpListener, TcpStream};
 use std::time::Duration;
 
-/// How many connections that were given up may stand one behind another before one is accepted.
-const GIVEN_UP: u32 = 1_000_000;
+/// A node between two connections.
+#[derive(Drop)]
+struct Standing {
+    node: Node,
+    /// What was saved of it last.
+    saved: Option<Vec<u8>>,
+    /// Whether that is known to be what would be saved now.
+    is_current: bool,
+    ghost again: { ForSome saved (λ bytes. CanRestart node.query bytes.items) },
+    ghost known: { is_current ≡ true → IsSavedAs IsSaved node (kept_bytes saved) },
+}
+
+impl Standing {
+    ghost use Rattle.std.specs.Prelude.{◌≡◌, true};
+    ghost use Rattle.std.specs.Option.{ForSome};
+    ghost use Rattle.rp_node.specs.GoingBack.{CanRestart, IsSaved};
+    ghost use Rattle.rp_serve.specs.Rounds.{IsSavedAs, kept_bytes};
+}
 
 /// Serves as many connections as the job asks for. Begins from its file where that is there and accepted, else with nothing.
 pub fn run_node(rt: &HostRuntime, job: &NodeJob) -> Result<(), ProgramFault> {
     let table = read_table(rt.alloc(), job.table.as_str())?;
     let query = compile(rt.alloc(), job.clause.as_str(), &table)?;
-    let begun = begun(rt, job, query)?;
+    let mut file = StateFile::take(rt, job.state.as_str())?;
+    let standing = begun(rt, job, &mut file, query)?;
     let Ok(listener) = TcpListener::bind(rt, job.listen.as_str()) else {
         return Err(ProgramFault::Listen);
     };
     tell_listening(rt, job, &listener);
-    serve_all(rt, job, &listener, begun)
+    serve_all(rt, job, &listener, &mut file, standing)
 }
 
-/// The node as it begins. A file that is refused is told.
-fn begun(rt: &HostRuntime, job: &NodeJob, query: Query) -> Result<Begun, ProgramFault>
-    ensures again { IfOk result (λ begun. ForSome begun.saved (λ bytes. CanRestart begun.node.query bytes.items)) }
-{
-    let saved = read_state(rt, job.state.as_str())?;
+/// The node as it begins. A file that is refused is told, and stays until there is something else to be kept.
+fn begun(
+    rt: &HostRuntime,
+    job: &NodeJob,
+    file: &mut StateFile<'_>,
+    query: Query,
+) -> Result<Standing, ProgramFault> {
+    let saved = file.read(rt)?;
     let begun = begin(rt.alloc(), query, saved)?;
-    if let Some(why) = begun.refused {
-        let fault = ProgramFault::Checkpoint(why);
-        let _ = eprintln!(rt; "rowmatch: {fault}");
-    }
-    Ok(begun)
+    let Some(why) = begun.refused else {
+        return Ok(Standing {
+            node: begun.node,
+            saved: begun.saved,
+            is_current: false,
+        });
+    };
+    file.is_refused = true;
+    tell_refused(rt, job, file, why)?;
+    let bytes = begun.node.save()?;
+    Ok(Standing {
+        node: begun.node,
+        saved: Some(bytes),
+        is_current: true,
+    })
 }
 
 fn serve_all(
     rt: &HostRuntime,
     job: &NodeJob,
     listener: &TcpListener,
-    begun: Begun,
-) -> Result<(), ProgramFault>
-    requires { ForSome begun.saved (λ bytes. CanRestart begun.node.query bytes.items) }
-{
-    let mut node = begun.node;
-    let mut saved = begun.saved;
-    for number in 0..job.connections {
-        let stream = accepted(listener)?;
+    file: &mut StateFile<'_>,
+    standing: Standing,
+) -> Result<(), ProgramFault> {
+    let mut standing = standing;
+    let count = match job.connections {
+        Some(count) => u64::from(count),
+        None => u64::MAX,
+    };
+    for number in 0..count {
+        let stream = accepted(rt, listener)?;
         prepare(job, &stream);
-        let end = connection(rt, job, &stream, node, saved)?;
-        tell_end(rt, job, u64::from(number) + 1, end.lines, end.fault);
-        node = end.node;
-        saved = end.saved;
+        standing = connection(rt, job, file, &stream, standing, number + 1)?;
     }
     Ok(())
-}
-
-/// The next connection. One that its client has given up before it was accepted is passed over.
-fn accepted(listener: &TcpListener) -> Result<TcpStream, ProgramFault> {
-    for _attempt in 0..GIVEN_UP {
-        match listener.accept() {
-            Ok((stream, _from)) => return Ok(stream),
-            Err(error) if is_passing(error.kind()) => {}
-            Err(_) => return Err(ProgramFault::Listen),
-        }
-    }
-    Err(ProgramFault::Listen)
-}
-
-fn is_passing(kind: io::ErrorKind) -> bool {
-    kind == io::ErrorKind::ConnectionAborted || kind == io::ErrorKind::Interrupted
 }
 
 /// Replies go out at once, and calls that wait longer than the job allows fail. Where the system doesn't take one of these,
@@ -96,27 +106,83 @@ fn prepare(job: &NodeJob, stream: &TcpStream) {
 fn connection(
     rt: &HostRuntime,
     job: &NodeJob,
+    file: &mut StateFile<'_>,
     stream: &TcpStream,
-    node: Node,
-    saved: Option<Vec<u8>>,
-) -> Result<RoundEnd<Node>, ProgramFault>
-    requires { ForSome saved (λ bytes. CanRestart node.query bytes.items) }
-    ensures again { IfOk result (λ end. ForSome end.saved (λ bytes. CanRestart end.node.query bytes.items)) }
-{
-    let mut reader = Port::new(stream);
-    let mut writer = Port::new(stream);
-    let end = round(rt.alloc(), node, saved, &mut reader, &mut writer, READS)?;
-    if !went_back(end.fault)
+    standing: Standing,
+    number: u64,
+) -> Result<Standing, ProgramFault> {
+    let mut reader = Port::new(ClientInput::new(rt, stream, job.idle));
+    let mut writer = Port::new(ClientOutput::new(stream));
+    let end = round_on(
+        rt.alloc(),
+        standing.node,
+        standing.saved,
+        standing.is_current,
+        &mut reader,
+        &mut writer,
+        READS,
+    )?;
+    write_if_new(rt, file, &end)?;
+    if job.acknowledge && !went_back(end.fault) {
+        acknowledge(rt, &mut writer, end.lines);
+    }
+    tell_end(rt, job, number, &end, reader.device.is_http);
+    Ok(Standing {
+        node: end.node,
+        saved: end.saved,
+        is_current: end.is_current,
+    })
+}
+
+/// Writes what was saved, unless the file has it.
+fn write_if_new(
+    rt: &HostRuntime,
+    file: &mut StateFile<'_>,
+    end: &RoundEnd<Node>,
+) -> Result<(), ProgramFault> {
+    if end.is_new
         && let Some(bytes) = &end.saved
     {
-        write_state(rt, job.state.as_str(), bytes.as_slice())?;
+        file.write(rt, bytes.as_slice())?;
     }
-    Ok(end)
+    Ok(())
+}
+
+/// Tells the client that what its lines did is saved. It needn't take that: then it doesn't know.
+fn acknowledge<W: Outlet>(rt: &HostRuntime, writer: &mut W, lines: u128) {
+    if let Ok(line) = saved_line(rt.alloc(), lines) {
+        let _ = write_all(writer, line.as_slice());
+    }
 }
 
 /// Whether the node is as it was saved before: the file stays as it is then.
 fn went_back(fault: Option<ServeFault>) -> bool {
     matches!(fault, Some(ServeFault::Write | ServeFault::OutOfMemory))
+}
+
+/// Tells why the file is refused; where it is of another clause, from where on that differs.
+fn tell_refused(
+    rt: &HostRuntime,
+    job: &NodeJob,
+    file: &StateFile<'_>,
+    why: RestartFault,
+) -> Result<(), ProgramFault> {
+    let fault = ProgramFault::Checkpoint(why);
+    let _ = eprintln!(rt; "rowmatch: {fault}");
+    if why == RestartFault::ClauseDiffers
+        && let Some(bytes) = file.read(rt)?
+    {
+        let clause = job.clause.as_bytes();
+        match clause_difference(rt.alloc(), clause, bytes.as_slice())? {
+            Some(place) => {
+                let _ = eprintln!(rt; "rowmatch: clause differs from byte {place} on");
+            }
+            None => {
+                let _ = eprintln!(rt; "rowmatch: table differs");
+            }
+        }
+    }
+    Ok(())
 }
 
 fn tell_listening(rt: &HostRuntime, job: &NodeJob, listener: &TcpListener) {
@@ -129,17 +195,20 @@ fn tell_listening(rt: &HostRuntime, job: &NodeJob, listener: &TcpListener) {
 }
 
 /// A fault is told always, and with `--verbose` how many lines were answered too.
-fn tell_end(rt: &HostRuntime, job: &NodeJob, number: u64, lines: u128, fault: Option<ServeFault>) {
-    if let Some(fault) = fault {
+fn tell_end(rt: &HostRuntime, job: &NodeJob, number: u64, end: &RoundEnd<Node>, is_http: bool) {
+    if is_http {
+        let _ = eprintln!(rt; "rowmatch: a client that speaks HTTP was turned away");
+    } else if let Some(fault) = end.fault {
         let _ = eprintln!(rt; "rowmatch: {fault}");
     }
     if !job.verbose {
         return;
     }
-    let how = if went_back(fault) {
+    let how = if went_back(end.fault) {
         "went back to what was saved"
     } else {
         "saved"
     };
+    let lines = end.lines;
     let _ = eprintln!(rt; "rowmatch: connection {number}: {lines} lines, {how}");
 }

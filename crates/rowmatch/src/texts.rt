@@ -1,6 +1,7 @@
 //! The texts of `--table` and `--clause` on the command line, before clap reads it: a text may begin with a dash, as a clause
 //! does that begins with a comment, and it may come from a file.
 use crate::fault::ProgramFault;
+use rp_node::without_blank_end;
 use std::alloc::{AllocError, Global};
 use std::{fs, io};
 
@@ -39,7 +40,8 @@ const OPTIONS: [TextOption; 4] = [
 ];
 
 /// The words with each such text joined to its option, as `--clause=TEXT`: so clap takes whatever it begins with. A byte order
-/// mark before a text is passed over. `trace` has no such option, and its words stay as they are.
+/// mark before a text is passed over, and so are blanks and line ends behind it: a file and what a shell makes of `$(cat FILE)` are
+/// one text. `trace` has no such option, and its words stay as they are.
 pub fn with_texts(rt: &HostRuntime, words: &[String]) -> Result<Vec<String>, ProgramFault> {
     let mut joined = Vec::new(rt.alloc());
     let mut due: Option<TextOption> = None;
@@ -108,6 +110,11 @@ fn text_word(rt: &HostRuntime, option: TextOption, value: &str) -> Result<String
 fn joined_word(alloc: Global, option: &str, text: &str) -> Result<String, AllocError> {
     let text = match text.strip_prefix("\u{feff}") {
         Some(rest) => rest,
+        None => text,
+    };
+    let length = without_blank_end(text.as_bytes()).len();
+    let text = match text.split_at_checked(length) {
+        Some((front, _blanks)) => front,
         None => text,
     };
     let mut word = String::from_str(alloc, option)?;
