@@ -1,5 +1,6 @@
 //! A small node of one partition, which takes rows in order and gives its end.
-ghost use Rattle.std.specs.Prelude.{⊤};
+ghost use Rattle.std.specs.Prelude.{◌≡◌, ⊤, false};
+ghost use Rattle.rp_serve.specs.Changes.{may_change};
 
 use rp_serve::{Answers, Keeps};
 use rp_wire::{Item, Packet, Refusal, Reply, Request, Taken};
@@ -15,6 +16,9 @@ pub struct SmallNode {
 }
 
 impl SmallNode {
+    ghost use Rattle.std.specs.Prelude.{◌≡◌, false};
+    ghost use Rattle.rp_serve.specs.Changes.{may_change};
+
     /// One that has taken nothing.
     pub fn new(alloc: Global) -> Self {
         SmallNode {
@@ -30,7 +34,9 @@ impl SmallNode {
         self.rows
     }
 
-    fn take(&mut self, packet: Packet) -> Reply {
+    fn take(&mut self, packet: Packet) -> Reply
+        ensures { may_change result ≡ false → self.new ≡ self.old }
+    {
         match packet {
             Packet::Row { number, .. } => self.take_row(number),
             Packet::Close { .. } => {
@@ -43,7 +49,9 @@ impl SmallNode {
         }
     }
 
-    fn take_row(&mut self, number: u64) -> Reply {
+    fn take_row(&mut self, number: u64) -> Reply
+        ensures { may_change result ≡ false → self.new ≡ self.old }
+    {
         let next = u64::from(self.rows) + 1;
         if number == 0 {
             return Reply::Refused(Refusal::NumberRange);
@@ -60,7 +68,7 @@ impl SmallNode {
 }
 
 impl Answers for SmallNode {
-    ghost step = { λ old request reply new. ⊤ };
+    ghost step = { λ old request reply new. may_change reply ≡ false → new ≡ old };
 
     ghost cut_short = { λ old request new. ⊤ };
 
@@ -99,6 +107,8 @@ impl Keeps for SmallNode {
     ghost keeps = { λ old request reply new bytes done has. has };
 
     ghost keeps_cut = { λ old request new bytes cut has. has };
+
+    ghost unchanged = { λ old request reply new done same. done same };
 
     fn save(&self) -> Result<Vec<u8>, AllocError> {
         let mut bytes = Vec::new(self.alloc);
