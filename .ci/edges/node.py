@@ -138,8 +138,9 @@ def broken_states(checks, folder):
     refused(checks, state, whole[:middle] + bytes([whole[middle] ^ 1]) + whole[middle + 1 :], "altered", "Digest")
     with open(state, "wb") as file:
         file.write(whole)
-    node = Node(state, clause=CLAUSE + " ")
-    checks.same("of another clause", "".join(node.told), "rowmatch: checkpoint refused: ClauseDiffers\n")
+    node = Node(state, clause=CLAUSE.replace("B+ C+", "B+ C"))
+    checks.same("of another clause", "".join(node.told),
+                f"rowmatch: checkpoint refused: ClauseDiffers\nrowmatch: clause differs from byte {CLAUSE.index(' C+') + 2} on\n")
     checks.same("of another clause: the node is new", talk(node, poll(["x"])), FIRST_REFUSED)
     node.ended()
     with open(state, "wb") as file:
@@ -198,9 +199,7 @@ def states_that_fail(checks, folder):
         return run(*words, "--connections", "1")
 
     checks.same("a folder as file", begin(folder), (3, "", "rowmatch: device: state\n"))
-    node = Node(f"{folder}/none/state")
-    talk(node, LINES)
-    checks.same("a folder that isn't there", node.ended(), (3, "rowmatch: device: state\n"))
+    checks.same("a folder that isn't there", begin(f"{folder}/none/state"), (3, "", "rowmatch: device: state\n"))
 
 
 def full_disk(checks, folder):
@@ -223,15 +222,16 @@ def full_disk(checks, folder):
     checks.same("a file that can't grow", node.ended(), (3, "rowmatch: device: state\n"))
     with open(state, "rb") as file:
         checks.same("the file is as it was", file.read(), before)
+    checks.same("nothing is left of the write that failed", sorted(os.listdir(folder)), ["state", "state.lock"])
 
 
 def read_only_folder(checks, folder):
     if os.geteuid() == 0:
         return  # who may write everywhere sees nothing of it
     os.mkdir(f"{folder}/closed", 0o500)
-    node = Node(f"{folder}/closed/state")
-    talk(node, LINES)
-    checks.same("a folder that takes no file", node.ended(), (3, "rowmatch: device: state\n"))
+    words = ["--listen", "127.0.0.1:0", "--state", f"{folder}/closed/state", "--connections", "1"]
+    checks.same("a folder that takes no file", run("node", "--table", TABLE, "--clause", CLAUSE, *words),
+                (3, "", "rowmatch: device: state\n"))
 
 
 def rude_clients(checks, folder):

@@ -23,12 +23,14 @@ PROGRAM = os.path.abspath(sys.argv[1] if len(sys.argv) > 1 else "crates/rowmatch
 
 class Node:
     """A node of the program, listening at a port of loopback that the system chose. A quiet one, without --verbose, doesn't say which:
-    it is given one that was free. With `variables` of the environment it runs under these too."""
+    it is given one that was free. With `variables` of the environment it runs under these too. With None for the connections it serves
+    until it is ended. A node that ends before it listens has no port."""
 
     def __init__(self, state, connections=1, clause=CLAUSE, options=(), limit=None, table=TABLE, quiet=False, variables=None):
         self.port = free_port() if quiet else None
         words = [PROGRAM, "node", "--table", table, "--clause", clause, "--listen", f"127.0.0.1:{self.port or 0}"]
-        words += ["--state", state, "--connections", str(connections), *([] if quiet else ["--verbose"]), *options]
+        words += ["--state", state, *([] if connections is None else ["--connections", str(connections)])]
+        words += [*([] if quiet else ["--verbose"]), *options]
         self.process = subprocess.Popen(words, stdin=subprocess.DEVNULL, stderr=subprocess.PIPE, text=True, preexec_fn=limit,
                                         env={**os.environ, **(variables or {})})
         self.told = []
