@@ -32,7 +32,7 @@ class Node:
         elif os.path.exists(self.state):
             os.remove(self.state)
         words = [program, "node", "--table", TABLE, "--clause", CLAUSE, "--listen", "127.0.0.1:0", "--state", self.state]
-        words += ["--connections", "4294967295", "--idle", "60", "--verbose"]
+        words += ["--acknowledge", "--idle", "60", "--verbose"]
         with open(f"{folder}/told", "w", encoding="utf-8") as told:
             self.process = subprocess.Popen(words, stderr=told, preexec_fn=end_with_parent)
         replace(f"{folder}/node.pid", str(self.process.pid).encode())
@@ -49,31 +49,25 @@ class Node:
         raise Lost("the node ended")
 
     def batch(self, lines, keys):
-        """Hands over the lines, polls the keys until all are idle, and gives the item lines. The node has saved then."""
-        before = inode(self.state)
-        items = []
+        """Hands over the lines, polls the keys until all are idle, and gives the item lines. The node has said then that it has saved."""
+        items, count = [], len(lines)
         with socket.create_connection(("127.0.0.1", self.port), timeout=60) as connection:
             replies = connection.makefile("r", encoding="utf-8")
             talk(connection, replies, lines, items)
             while keys:
                 polls = [text({"budget": BUDGET, "poll": [json.loads(key)]}) for key in keys]
                 kinds = talk(connection, replies, polls, items)
+                count += len(polls)
                 keys = [key for key, kind in zip(keys, kinds) if kind != "idle"]
             connection.shutdown(socket.SHUT_WR)
-            if replies.read():
-                raise Lost("more replies than lines")
-        # each save is a new file: if it is the old one, the connection ended with the node
-        if inode(self.state) == before:
-            raise Lost("the node didn't save")
+            # without this line the connection ended with the node, or the node couldn't save
+            if replies.read() != text({"saved": count}) + "\n":
+                raise Lost("the node didn't save")
         return items
 
 
 def end_with_parent():
     ctypes.CDLL(None).prctl(1, signal.SIGKILL)
-
-
-def inode(path):
-    return os.stat(path).st_ino if os.path.exists(path) else None
 
 
 def talk(connection, replies, lines, items):
