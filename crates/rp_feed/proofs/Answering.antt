@@ -1,20 +1,18 @@
--- What a feed of these places answers, and what it becomes.
-use Rattle.std.proofs.Common.{◌≡◌, ◌≢◌, ℕ, ◌+◌, ◌-◌, ◌<◌, ◌≤◌, max, List, [], ◌∷◌, length, get_or, drop, Bool, true, false, cond, ◌||◌, Option, Some, None, Ok, Err, refl, sym, ap, ◌∙◌, subst, arith, eqb, length-drop}
-use Rattle.std.specs.Prelude.{nat_le, nat_lt, count_by}
+-- What a feed of these fields answers, and what it becomes.
+use Rattle.std.proofs.Common.{◌≡◌, ◌≢◌, ℕ, ◌+◌, ◌-◌, ◌<◌, ◌≤◌, List, [], drop, Bool, true, false, cond, ◌||◌, Option, Some, None, Ok, Err, refl, sym, ap, ◌∙◌, subst, arith, eqb}
+use Rattle.std.specs.Prelude.{nat_lt}
+use Rattle.std.specs.List.{insert}
 use Rattle.std.proofs.lemmas.Bool.Decides.{nat_tests}
 use Rattle.rp_value.specs.declared.value.Value.{Value}
 use Rattle.rp_feed.specs.declared.answer.Taken.TheVariants.{New, Repeat, Old}
 use Rattle.rp_feed.specs.declared.answer.FeedFault.TheVariants.{NumberRange, PastClose, Conflict, TooFar, CloseDiffers, CloseBelow}
 use Rattle.rp_feed.specs.Limits.{greatest_number, most_beyond}
-use Rattle.rp_feed.specs.Fed.{Fed, AreUpTo, CountsAll, IsFeed, IsFront, IsOrdered, row_at, with_row, front_of, rows_from}
-use Rattle.rp_feed.specs.Slots.{Slots, held_from, leading, put_at}
-use Rattle.rp_feed.specs.Consistent.{IsConsistent, EndsBy}
+use Rattle.rp_feed.specs.Fed.{Fed, Numbered, AreUpTo, CountsAll, IsFeed, IsFree, IsFront, IsReached, row_at, with_row, first_missing, front_of, rows_from}
+use Rattle.rp_feed.specs.HeldRows.{above_all, below, entry_at, row_with}
+use Rattle.rp_feed.specs.Consistent.{IsConsistent, fed_of}
 use Rattle.rp_feed.specs.Answers.{Answer, IsDue, IsDueClose, is_past, held_answer, compared, memory_aside, row_answer, closed_answer, has_above, close_answer}
-use Rattle.rp_feed.proofs.Ordered.{front_runs}
-use Rattle.rp_feed.proofs.Held.{row_at-held, first_missing-held, ascend-held, few_beyond, leading-within, leading-put, leading-drop, length-put, with_row-held, EndsFilled-put, EndsFilled-drop, rows_from-held, any_above}
-
-abbrev pub fed_of : ℕ → Slots → Option ℕ → Fed
-fed_of first slots closed = record { first = first; rows = held_from first slots; closed = closed }
+use Rattle.rp_feed.proofs.Ordered.{front_grows, front_runs, front_stays, missing_least, order_is_kept, order_stays}
+use Rattle.rp_feed.proofs.Places.{above_is, above_least, few_above, insert_in_place, missing_most, row_by_place, run_dropped, up_to_kept, up_to_last, up_to_put, up_to_wide}
 
 pub due_held : (is : Bool) (later : Answer) → memory_aside (held_answer (Some is) later) ≡ held_answer (Some is) later
 due_held true later = refl
@@ -30,173 +28,207 @@ answer_within same fed n row nonzero small unpast kept =
     let d : nat_lt n fed.first ≡ false = grind (arith, nat_tests) in
     rw (a, b, unpast, d) refl
 
-up_to-held : (k n : ℕ) (xs : Slots) → n + length xs ≤ k + 1 → AreUpTo k (held_from n xs)
-up_to-held k n [] h = tt
-up_to-held k n (None ∷ xs) h = up_to-held k (n + 1) xs (omega (arith, h))
-up_to-held k n (Some row ∷ xs) h = let l : n ≤ k = omega (arith, h) in (l, up_to-held k (n + 1) xs (omega (arith, h)))
+-- a feed that has just begun
+pub begun : (first : ℕ) → 1 ≤ first → first ≤ greatest_number + 1 → IsFeed (fed_of first [] None)
+begun first least greatest = record {
+  ordered = record { least = least; ascend = tt };
+  reached = omega (arith, least);
+  limit = omega (arith, least, greatest);
+  few = omega arith;
+  near = tt;
+  range = tt;
+  ended = tt;
+}
 
-module _ (first ready : ℕ) (slots : Slots) (closed : Option ℕ) (room : IsConsistent first ready slots closed) where
-  pub front-is : first - 1 + ready ≡ front_of (fed_of first slots closed)
-  front-is = let e = first_missing-held first slots in let l = room.least in let r = room.run in omega arith
+counts_more : (n front front' : ℕ) (row : List Value) (closed : Option ℕ) (first : ℕ) (rows : List Numbered) → is_past closed n ≡ false → first ≤ front + 1 → CountsAll closed front rows
+    → front' ≡ first_missing first (with_row n row rows) - 1 → CountsAll closed front' (with_row n row rows)
+counts_more n front front' row None first rows unpast reached h e = tt
+counts_more n front front' row (Some count) first rows unpast reached h e =
+    let l : n ≤ count = grind (arith, nat_tests) in
+    let f = h.1 in
+    let up = up_to_put count n row rows l h.2 in
+    let m = missing_most count first (with_row n row rows) up (omega (arith, reached, f)) in
+    let k : front' ≤ count = omega (arith, e, m) in
+    (h.0, k, up)
 
-  pub run_fits : ready ≤ length slots
-  run_fits = let l = leading-within slots in let r = room.run in omega arith
+counts_kept : (b front : ℕ) (closed : Option ℕ) (rows : List Numbered) → CountsAll closed front rows → CountsAll closed front (rows_from b rows)
+counts_kept b front None rows h = tt
+counts_kept b front (Some count) rows h = (h.0, h.1, up_to_kept count b rows h.2)
 
-  pub row-is : (n : ℕ) → first ≤ n → row_at (held_from first slots) n ≡ get_or slots (n - first) None
-  row-is n h = let e : n ≡ first + (n - first) = omega arith in ap (row_at (held_from first slots)) e ∙ row_at-held first (n - first) slots
+module _ (first ready : ℕ) (rows : List Numbered) (closed : Option ℕ) (room : IsConsistent first ready rows closed) where
+  fed : Fed
+  fed = fed_of first rows closed
 
-  few : count_by (λ e. nat_lt (first - 1 + ready) e.0) (held_from first slots) ≤ most_beyond
-  few = let r = room.run in let m = room.least in let e = room.near in let b = few_beyond (first - 1 + ready) first slots (omega arith) in omega arith
+  pub front-is : first - 1 + ready ≡ front_of (fed_of first rows closed)
+  front-is = let r = room.run in let l = room.feed.ordered.least in omega (arith, r, l)
 
-  pub ordered : IsOrdered (fed_of first slots closed)
-  ordered = record { least = room.least; ascend = ascend-held first first slots (omega arith) }
+  pub missing_limit : first_missing first rows ≤ greatest_number + 1
+  missing_limit = let f = room.feed.limit in omega (arith, f)
 
-  pub is_feed : IsFeed (fed_of first slots closed)
-  is_feed = record {
-    ordered = ordered;
-    reached = (let f = front-is in let l = room.least in omega (arith, f, l));
-    limit = (let f = front-is in let w = run_fits in let g = room.greatest in let l = room.least in omega arith);
-    few = subst (λ z. count_by (λ e. nat_lt z e.0) (held_from first slots) ≤ most_beyond) front-is few;
-    near = up_to-held (front_of (fed_of first slots closed) + most_beyond) first slots (let f = front-is in let n = room.near in let l = room.least in omega (arith, f, n, l));
-    range = up_to-held greatest_number first slots (let g = room.greatest in omega (arith, g));
-    ended = counts closed room.within;
-  }
-    where
-      counts : (c : Option ℕ) → EndsBy (first + length slots) c → CountsAll c (front_of (fed_of first slots closed)) (held_from first slots)
-      counts None h = tt
-      counts (Some count) h =
-          let f = front-is in
-          let w = run_fits in
-          let l = room.least in
-          let e = h.0 in
-          let reached : front_of (fed_of first slots closed) ≤ count = omega (arith, f, w, l, e) in
-          (h.1, reached, up_to-held count first slots e)
+  pub run_limit : first + ready ≤ greatest_number + 1
+  run_limit = let f = missing_limit in let r = room.run in omega (arith, f, r)
 
-  pub is_front : (n : ℕ) → n ≡ first - 1 + ready → IsFront (fed_of first slots closed) n
-  is_front n h = subst (λ z. IsFront (fed_of first slots closed) z) (sym (h ∙ front-is)) (front_runs (fed_of first slots closed) ordered)
+  pub is_front : (n : ℕ) → n ≡ first - 1 + ready → IsFront (fed_of first rows closed) n
+  is_front n h = subst (λ z. IsFront (fed_of first rows closed) z) (sym (h ∙ front-is)) (front_runs (fed_of first rows closed) room.feed.ordered)
 
-  module _ (same : List Value → List Value → Bool) (n : ℕ) (row : List Value) (nonzero : n ≢ 0) (small : n ≤ greatest_number) (unpast : is_past closed n ≡ false) (kept : first ≤ n) where
-    answer : compared same (get_or slots (n - first) None) row ≡ compared same (row_at (held_from first slots) n) row
-    answer = ap (λ z. compared same z row) (sym (row-is n kept))
+  pub row-is : (n place : ℕ) → place ≡ below n rows → row_with n (entry_at rows place) ≡ row_at rows n
+  row-is n place h = ap (λ z. row_with n (entry_at rows z)) h ∙ row_by_place first n rows room.feed.ordered.ascend
 
-    pub held_row : (is : Bool) (later : Answer) → Some is ≡ compared same (get_or slots (n - first) None) row → held_answer (Some is) later ≡ row_answer same (fed_of first slots closed) n row
+  module _ (same : List Value → List Value → Bool) (n : ℕ) (row : List Value) (place : ℕ) (place-is : place ≡ below n rows) (nonzero : n ≢ 0) (small : n ≤ greatest_number) (unpast : is_past closed n ≡ false) (kept : first ≤ n) where
+    answer : compared same (row_with n (entry_at rows place)) row ≡ compared same (row_at rows n) row
+    answer = ap (λ z. compared same z row) (row-is n place place-is)
+
+    pub held_row : (is : Bool) (later : Answer) → Some is ≡ compared same (row_with n (entry_at rows place)) row → held_answer (Some is) later ≡ row_answer same (fed_of first rows closed) n row
     held_row is later h =
-        ap (λ z. held_answer z (cond (nat_lt (front_of (fed_of first slots closed) + most_beyond) n) (Err TooFar) (Ok New))) (h ∙ answer)
-        ∙ sym (answer_within same (fed_of first slots closed) n row nonzero small unpast kept)
+        ap (λ z. held_answer z (cond (nat_lt (front_of (fed_of first rows closed) + most_beyond) n) (Err TooFar) (Ok New))) (h ∙ answer)
+        ∙ sym (answer_within same (fed_of first rows closed) n row nonzero small unpast kept)
 
-    module _ (none : None ≡ compared same (get_or slots (n - first) None) row) where
-      reduced : cond (nat_lt (front_of (fed_of first slots closed) + most_beyond) n) (Err TooFar) (Ok New) ≡ row_answer same (fed_of first slots closed) n row
+    module _ (none : None ≡ compared same (row_with n (entry_at rows place)) row) where
+      reduced : cond (nat_lt (front_of (fed_of first rows closed) + most_beyond) n) (Err TooFar) (Ok New) ≡ row_answer same (fed_of first rows closed) n row
       reduced =
-          ap (λ z. held_answer z (cond (nat_lt (front_of (fed_of first slots closed) + most_beyond) n) (Err TooFar) (Ok New))) (none ∙ answer)
-          ∙ sym (answer_within same (fed_of first slots closed) n row nonzero small unpast kept)
+          ap (λ z. held_answer z (cond (nat_lt (front_of (fed_of first rows closed) + most_beyond) n) (Err TooFar) (Ok New))) (none ∙ answer)
+          ∙ sym (answer_within same (fed_of first rows closed) n row nonzero small unpast kept)
 
-      pub too_far : ready + most_beyond ≤ n - first → Err TooFar ≡ row_answer same (fed_of first slots closed) n row
+      pub too_far : ready + most_beyond ≤ n - first → Err TooFar ≡ row_answer same (fed_of first rows closed) n row
       too_far h =
-          let f = front-is in let l = room.least in
-          let t : nat_lt (front_of (fed_of first slots closed) + most_beyond) n ≡ true = grind (arith, nat_tests) in
+          let f = front-is in let l = room.feed.ordered.least in
+          let t : nat_lt (front_of (fed_of first rows closed) + most_beyond) n ≡ true = grind (arith, nat_tests) in
           sym (ap (λ z. cond z (Err TooFar) (Ok New)) t) ∙ reduced
 
-      pub new_row : n - first < ready + most_beyond → Ok New ≡ row_answer same (fed_of first slots closed) n row
+      pub new_row : n - first < ready + most_beyond → Ok New ≡ row_answer same (fed_of first rows closed) n row
       new_row h =
-          let f = front-is in let l = room.least in
-          let t : nat_lt (front_of (fed_of first slots closed) + most_beyond) n ≡ false = grind (arith, nat_tests) in
+          let f = front-is in let l = room.feed.ordered.least in
+          let t : nat_lt (front_of (fed_of first rows closed) + most_beyond) n ≡ false = grind (arith, nat_tests) in
           sym (ap (λ z. cond z (Err TooFar) (Ok New)) t) ∙ reduced
 
-      free : get_or slots (n - first) None ≡ None
-      free = go (get_or slots (n - first) None) none
+      free : IsFree (fed_of first rows closed) n
+      free = record { kept = kept; none = go (row_at rows n) (none ∙ answer) }
         where
           go : (o : Option (List Value)) → None ≡ compared same o row → o ≡ None
           go None h = refl
           go (Some q) h = absurd (cc)
 
-      pub row_put : fed_of first (put_at (n - first) row slots) closed ≡ record { first = first; rows = with_row n row (held_from first slots); closed = closed }
-      row_put =
-          let e : first + (n - first) ≡ n = omega arith in
-          ap (λ z. record { first = first; rows = z; closed = closed })
-          (sym (with_row-held first (n - first) row slots free) ∙ ap (λ z. with_row z row (held_from first slots)) e)
+      pub row_put : insert rows place (n, row) ≡ with_row n row rows
+      row_put = ap (λ z. insert rows z (n, row)) place-is ∙ insert_in_place n row rows free.none
 
-      pub run_at_least : ready ≤ leading (put_at (n - first) row slots)
-      run_at_least = let l = leading-put (n - first) row slots in let r = room.run in omega arith
+      pub run_at_least : first + ready ≤ first_missing first (with_row n row rows)
+      run_at_least =
+          let r = room.run in
+          let g = front_grows (fed_of first rows closed) n row room.feed.ordered free in
+          let l = room.feed.ordered.least in
+          let a = missing_least first rows in
+          let b = missing_least first (with_row n row rows) in
+          omega (arith, r, g, l, a, b)
 
-      ends_by : (o : Option ℕ) (next next' : ℕ) → is_past o n ≡ false → next' ≡ max (n + 1) next → EndsBy next o → EndsBy next' o
-      ends_by None next next' p m h = tt
-      ends_by (Some count) next next' p m h = let a = h.0 in let b = h.1 in (grind (arith, nat_tests), b)
+      range_put : AreUpTo greatest_number (with_row n row rows)
+      range_put = up_to_put greatest_number n row rows small room.feed.range
 
-      pub room_put : n - first < ready + most_beyond → IsConsistent first (leading (put_at (n - first) row slots)) (put_at (n - first) row slots) closed
-      room_put h =
-          let len = length-put (n - first) row slots in
-          let l = leading-put (n - first) row slots in
-          let r = room.run in let g = room.greatest in let e = room.near in
-          let m : first + length (put_at (n - first) row slots) ≡ max (n + 1) (first + length slots) = grind arith in
+      pub limit_put : first_missing first (with_row n row rows) ≤ greatest_number + 1
+      limit_put = missing_most greatest_number first (with_row n row rows) range_put (omega (arith, kept, small))
+
+      feed_put : n - first < ready + most_beyond → IsFeed (fed_of first (with_row n row rows) closed)
+      feed_put h =
+          let g = front_grows (fed_of first rows closed) n row room.feed.ordered free in
+          let ordered = order_stays (fed_of first rows closed) n row room.feed.ordered free in
+          let e = front-is in
+          let l = room.feed.ordered.least in
+          let r = room.feed.reached in
+          let m = limit_put in
+          let near : AreUpTo (front_of (fed_of first (with_row n row rows) closed) + most_beyond) (with_row n row rows) =
+          up_to_wide (front_of (fed_of first rows closed) + most_beyond) (front_of (fed_of first (with_row n row rows) closed) + most_beyond) (with_row n row rows) (omega (arith, g))
+          (up_to_put (front_of (fed_of first rows closed) + most_beyond) n row rows (omega (arith, h, e, l)) room.feed.near) in
+          let few = few_above (front_of (fed_of first (with_row n row rows) closed)) (front_of (fed_of first (with_row n row rows) closed) + most_beyond) first (with_row n row rows) ordered.ascend near in
           record {
-            least = room.least;
-            greatest = grind arith;
-            run = refl;
-            filled = EndsFilled-put (n - first) row slots room.filled;
-            near = grind arith;
-            within = ends_by closed (first + length slots) (first + length (put_at (n - first) row slots)) unpast m room.within;
+            ordered = ordered;
+            reached = omega (arith, r, g);
+            limit = omega (arith, m);
+            few = omega (arith, few);
+            near = near;
+            range = range_put;
+            ended = counts_more n (front_of (fed_of first rows closed)) (front_of (fed_of first (with_row n row rows) closed)) row closed first rows unpast r room.feed.ended refl;
           }
+
+      pub room_put : (run : ℕ) → first + run ≡ first_missing first (with_row n row rows) → n - first < ready + most_beyond → IsConsistent first run (with_row n row rows) closed
+      room_put run e h = record { feed = feed_put h; run = e }
 
   -- a close
   module _ (count : ℕ) (small : count ≤ greatest_number) (fresh : closed ≡ None) where
-    above-is : has_above (fed_of first slots closed) count ≡ nat_lt (count + 1) (first + length slots)
-    above-is = go (nat_le first (count + 1)) refl
-      where
-        go : (b : Bool) → nat_le first (count + 1) ≡ b → has_above (fed_of first slots closed) count ≡ nat_lt (count + 1) (first + length slots)
-        go true h =
-            let t : nat_lt (count + 1) first ≡ false = grind (arith, nat_tests) in
-            rw t (any_above count first slots (grind (arith, nat_tests)) room.filled)
-        go false h =
-            let t : nat_lt (count + 1) first ≡ true = grind (arith, nat_tests) in
-            let u : nat_lt (count + 1) (first + length slots) ≡ true = grind (arith, nat_tests) in
-            rw t (sym u)
-
-    close_reduced : (b : Bool) → nat_lt (count + 1) (first + length slots) ≡ b → close_answer (fed_of first slots closed) count ≡ cond b (Err CloseBelow) (Ok New)
+    close_reduced : (b : Bool) → nat_lt (count + 1) (above_all first rows) ≡ b → close_answer (fed_of first rows closed) count ≡ cond b (Err CloseBelow) (Ok New)
     close_reduced b h =
         let t : nat_lt greatest_number count ≡ false = grind (arith, nat_tests) in
-        rw t (ap (λ o. closed_answer o count (cond (has_above (fed_of first slots closed) count) (Err CloseBelow) (Ok New))) fresh
-        ∙ ap (λ z. cond z (Err CloseBelow) (Ok New)) (above-is ∙ h))
+        rw t (ap (λ o. closed_answer o count (cond (has_above (fed_of first rows closed) count) (Err CloseBelow) (Ok New))) fresh
+        ∙ ap (λ z. cond z (Err CloseBelow) (Ok New)) (above_is count first rows room.feed.ordered.ascend ∙ h))
 
-    pub close_below : count + 1 < first + length slots → Err CloseBelow ≡ close_answer (fed_of first slots closed) count
+    pub close_below : count + 1 < above_all first rows → Err CloseBelow ≡ close_answer (fed_of first rows closed) count
     close_below h = sym (close_reduced true (grind (arith, nat_tests)))
 
-    pub close_new : first + length slots ≤ count + 1 → Ok New ≡ close_answer (fed_of first slots closed) count
-    close_new h = sym (close_reduced false (grind (arith, nat_tests)))
+    module _ (last : above_all first rows ≤ count + 1) where
+      pub close_new : Ok New ≡ close_answer (fed_of first rows closed) count
+      close_new = sym (close_reduced false (grind (arith, nat_tests)))
+
+      pub room_closed : IsConsistent first ready rows (Some count)
+      room_closed =
+          let l = above_least first rows room.feed.ordered.ascend in
+          let up = up_to_last count first rows room.feed.ordered.ascend last in
+          let m = missing_most count first rows up (omega (arith, l, last)) in
+          record {
+            feed = record {
+              ordered = record { least = room.feed.ordered.least; ascend = room.feed.ordered.ascend };
+              reached = room.feed.reached;
+              limit = room.feed.limit;
+              few = room.feed.few;
+              near = room.feed.near;
+              range = room.feed.range;
+              ended = (let k : front_of (fed_of first rows (Some count)) ≤ count = omega (arith, m) in (small, k, up));
+            };
+            run = room.run;
+          }
 
   -- rows dropped
-  module _ (before : ℕ) (kept : first ≤ before) (small : before ≤ front_of (fed_of first slots closed) + 1) where
-    pub below_run : before - first ≤ ready
-    below_run = let f = front-is in let l = room.least in omega arith
+  module _ (before : ℕ) (kept : first ≤ before) (low : before ≤ front_of (fed_of first rows closed) + 1) where
+    pub below_ready : before - first ≤ ready
+    below_ready = let f = front-is in let l = room.feed.ordered.least in omega (arith, f, l, low)
 
-    pub rows_left : held_from before (drop (before - first) slots) ≡ rows_from before (held_from first slots)
+    pub rows_left : drop (before - first) rows ≡ rows_from before rows
     rows_left =
-        let e : first + (before - first) ≡ before = omega arith in
-        ap (λ z. held_from z (drop (before - first) slots)) (sym e) ∙ sym (rows_from-held first (before - first) slots) ∙ ap (λ z. rows_from z (held_from first slots)) e
+        let b = below_ready in
+        let r = room.run in
+        let e : first + (before - first) ≡ before = omega (arith, kept) in
+        run_dropped first (before - first) rows room.feed.ordered.ascend (omega (arith, b, r)) ∙ ap (λ z. rows_from z rows) e
 
-    pub room_left : IsConsistent before (ready - (before - first)) (drop (before - first) slots) closed
+    reached : IsReached (fed_of first rows closed) before
+    reached = record { kept = kept; reached = low }
+
+    pub room_left : IsConsistent before (ready - (before - first)) (rows_from before rows) closed
     room_left =
-        let b = below_run in
-        let w = run_fits in
-        let len = length-drop (before - first) slots in
-        let l = leading-drop (before - first) slots (omega (arith, room.run)) in
-        let r = room.run in let g = room.greatest in let e = room.near in let m = room.least in
-        let same : before + length (drop (before - first) slots) ≡ first + length slots = omega arith in
+        let same : front_of (fed_of before (rows_from before rows) closed) ≡ front_of (fed_of first rows closed) = front_stays (fed_of first rows closed) before room.feed.ordered reached in
+        let ordered = order_is_kept (fed_of first rows closed) before room.feed.ordered kept in
+        let near : AreUpTo (front_of (fed_of before (rows_from before rows) closed) + most_beyond) (rows_from before rows) =
+        subst (λ z. AreUpTo (z + most_beyond) (rows_from before rows)) (sym same) (up_to_kept (front_of (fed_of first rows closed) + most_beyond) before rows room.feed.near) in
+        let few = few_above (front_of (fed_of before (rows_from before rows) closed)) (front_of (fed_of before (rows_from before rows) closed) + most_beyond) before (rows_from before rows) ordered.ascend near in
+        let b = below_ready in
+        let f = front-is in
+        let l = room.feed.ordered.least in
+        let limit = room.feed.limit in
+        let m = missing_least before (rows_from before rows) in
         record {
-          least = omega arith;
-          greatest = omega arith;
-          run = omega arith;
-          filled = EndsFilled-drop (before - first) slots room.filled;
-          near = omega arith;
-          within = subst (λ z. EndsBy z closed) (sym same) room.within;
+          feed = record {
+            ordered = ordered;
+            reached = omega (arith, same, low);
+            limit = omega (arith, same, limit);
+            few = omega (arith, few);
+            near = near;
+            range = up_to_kept greatest_number before rows room.feed.range;
+            ended = subst (λ z. CountsAll closed z (rows_from before rows)) (sym same) (counts_kept before (front_of (fed_of first rows closed)) closed rows room.feed.ended);
+          };
+          run = omega (arith, same, f, b, l, m, kept, low);
         }
 
--- no row is below the first
-pub kept_all : (first : ℕ) (slots : Slots) (closed : Option ℕ) (before : ℕ) → before ≡ first → fed_of first slots closed ≡ record { first = before; rows = rows_from before (held_from first slots); closed = closed }
-kept_all first slots closed before h =
-    let e : first + 0 ≡ first = omega arith in
-    let all : rows_from first (held_from first slots) ≡ held_from first slots =
-    ap (λ z. rows_from z (held_from first slots)) (sym e) ∙ rows_from-held first 0 slots ∙ ap (λ z. held_from z slots) e in
-    rw (h, all) refl
+    pub kept_all : before ≡ first → fed_of first rows closed ≡ fed_of before (rows_from before rows) closed
+    kept_all h =
+        let e : before - first ≡ 0 = omega (arith, h) in
+        let all : rows_from before rows ≡ rows = sym rows_left ∙ ap (λ z. drop z rows) e in
+        ap (λ z. fed_of z rows closed) (sym h) ∙ ap (λ z. fed_of before z closed) (sym all)
 
 -- ---- what New says
 

@@ -1,4 +1,4 @@
 pub mod Answering
-pub mod Held
+pub mod Places
 pub mod Ordered
 pub mod Again

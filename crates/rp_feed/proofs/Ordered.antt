@@ -14,10 +14,10 @@ Cells = List Value
 equal : {A : Type 0} (m n : ℕ) (x y : A) → m ≡ n → cond (eqb m n) x y ≡ x
 equal m n x y h = let t : eqb m n ≡ true = grind (arith, nat_tests) in rw t
 
-unequal : {A : Type 0} (m n : ℕ) (x y : A) → m ≢ n → cond (eqb m n) x y ≡ y
+pub unequal : {A : Type 0} (m n : ℕ) (x y : A) → m ≢ n → cond (eqb m n) x y ≡ y
 unequal m n x y h = let t : eqb m n ≡ false = grind (arith, nat_tests) in rw t
 
-row_at-below : (n k : ℕ) (rows : List Numbered) → AscendFrom n rows → k < n → row_at rows k ≡ None
+pub row_at-below : (n k : ℕ) (rows : List Numbered) → AscendFrom n rows → k < n → row_at rows k ≡ None
 row_at-below n k [] h l = refl
 row_at-below n k ((m, row) ∷ rows) h l = let i = h.0 in unequal m k (Some row) (row_at rows k) (omega arith) ∙ row_at-below (m + 1) k rows h.1 (omega arith)
 
@@ -64,7 +64,7 @@ missing_none n ((j, row) ∷ rows) h = go (eqb j n) refl (missing_none (n + 1) r
 swap_eqb : (m n : ℕ) → eqb m n ≡ eqb n m
 swap_eqb m n = grind (arith, nat_tests)
 
-not_there : (m k : ℕ) (row : Cells) (o : Option Cells) → cond (eqb m k) (Some row) o ≡ None → (m ≢ k) × (o ≡ None)
+pub not_there : (m k : ℕ) (row : Cells) (o : Option Cells) → cond (eqb m k) (Some row) o ≡ None → (m ≢ k) × (o ≡ None)
 not_there m k row o h = go (eqb m k) refl h
   where
     go : (b : Bool) → eqb m k ≡ b → cond b (Some row) o ≡ None → (m ≢ k) × (o ≡ None)

@@ -4,6 +4,6 @@ pub mod Fed
 pub mod Answers
 pub mod FedLaws
 pub mod Again
--- The inside of a feed: its places and what is true of its fields.
-pub mod Slots
+-- The inside of a feed: its rows by their places, and what is true of its fields.
+pub mod HeldRows
 pub mod Consistent

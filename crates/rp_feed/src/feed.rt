@@ -4,7 +4,7 @@ ghost use Rattle.rp_feed.specs.Fed.{IsFeed, IsFront, fed_from, forgotten, front_
 ghost use Rattle.rp_feed.specs.Limits.{greatest_number};
 ghost use Rattle.rp_feed.specs.Answers.{after, close_answer, memory_aside, is_past, row_answer};
 
-use crate::slots::{compare_at, drop_first, numbered, put_at, row_in, run_on};
+use crate::held_rows::{above_all, compare_at, drop_first, place_of, row_in, run_on, shared};
 use crate::{FeedFault, MAX_BEYOND, MAX_NUMBER, Taken};
 use rp_value::Row;
 use std::alloc::{AllocError, Global};
@@ -17,30 +17,29 @@ use std::marker::Model;
 /// and the count of its close (`Fed`).
 ///
 /// A feed takes 72 bytes where it stands, and no other memory before its first row; with one row 96 bytes more, four
-/// places of 24. A number that is missing below the greatest one takes a place too. Places grow by doubling and are used
-/// again, and none is given back before the feed is dropped.
+/// places of 24. Only rows take places, whatever their numbers are. Places grow by doubling and are used again, and none
+/// is given back before the feed is dropped.
 #[derive(Drop)]
 pub struct Feed {
-    /// The number of the first place.
+    /// The least number whose row isn't dropped.
     first: u64,
-    /// How many places have a row before the first that has none.
+    /// How many rows follow one another from `first` on.
     ready: usize,
-    /// A place for each number from `first` to the greatest that was taken.
-    slots: VecDeque<Option<Row>>,
+    /// The rows that are held with their numbers, in order.
+    rows: VecDeque<(u64, Row)>,
     /// The count of the close.
     closed: Option<u64>,
 }
 
 impl Model for Feed {
-    ghost use Rattle.rp_feed.specs.Consistent.{IsConsistent};
+    ghost use Rattle.rp_feed.specs.Consistent.{IsConsistent, fed_of};
     ghost use Rattle.rp_feed.specs.Fed.{Fed};
-    ghost use Rattle.rp_feed.specs.Slots.{held_from};
 
     ghost Value = { Fed };
 
-    ghost view = { λ f. record { first = f.first; rows = held_from f.first f.slots.items; closed = f.closed } };
+    ghost view = { λ f. fed_of f.first f.rows.items f.closed };
 
-    ghost invariant = { λ f. IsConsistent f.first f.ready f.slots.items f.closed };
+    ghost invariant = { λ f. IsConsistent f.first f.ready f.rows.items f.closed };
 }
 
 impl Feed {
@@ -60,7 +59,7 @@ impl Feed {
         Feed {
             first,
             ready: 0,
-            slots: VecDeque::new(alloc),
+            rows: VecDeque::new(alloc),
             closed: None,
         }
     }
@@ -80,15 +79,15 @@ impl Feed {
         if number < self.first {
             return Ok(Taken::Old);
         }
-        let place = (number - self.first) as usize;
-        if let Some(same) = compare_at(&self.slots, place, &row) {
+        let place = place_of(&self.rows, self.first, self.ready, number);
+        if let Some(same) = compare_at(&self.rows, place, number, &row) {
             return repeat_if(same);
         }
-        if place as u64 >= self.ready as u64 + MAX_BEYOND {
+        if number - self.first >= self.ready as u64 + MAX_BEYOND {
             return Err(FeedFault::TooFar);
         }
-        put_at(&mut self.slots, place, row)?;
-        self.ready = run_on(&self.slots, self.ready);
+        self.rows.insert(place, (number, row))?;
+        self.ready = run_on(&self.rows, self.first, self.ready);
         Ok(Taken::New)
     }
 
@@ -106,7 +105,7 @@ impl Feed {
             }
             return Err(FeedFault::CloseDiffers);
         }
-        if count + 1 < self.first + self.slots.len() as u64 {
+        if count + 1 < above_all(&self.rows, self.first) {
             return Err(FeedFault::CloseBelow);
         }
         self.closed = Some(count);
@@ -123,7 +122,7 @@ impl Feed {
             return;
         }
         let count = (before - self.first) as usize;
-        drop_first(&mut self.slots, count);
+        drop_first(&mut self.rows, count);
         self.ready -= count;
         self.first = before;
     }
@@ -158,14 +157,15 @@ impl Feed {
         if number < self.first {
             return None;
         }
-        row_in(&self.slots, (number - self.first) as usize)
+        let place = place_of(&self.rows, self.first, self.ready, number);
+        row_in(&self.rows, place, number)
     }
 
     /// All rows that are held with their numbers, in order, as a save needs them. No cell is copied.
     pub fn rows(&self, alloc: Global) -> Result<Vec<(u64, Row)>, AllocError>
         ensures { IfOk result (λ rows. rows.items ≡ self.now.rows) }
     {
-        numbered(alloc, self.first, &self.slots)
+        shared(alloc, &self.rows)
     }
 }
 

@@ -14,9 +14,9 @@
 
 mod answer;
 mod feed;
+mod held_rows;
 mod laws;
 mod packet;
-mod slots;
 
 pub use answer::{FeedFault, MAX_BEYOND, MAX_NUMBER, Taken};
 pub use feed::Feed;
