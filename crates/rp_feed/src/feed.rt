@@ -4,7 +4,9 @@ ghost use Rattle.rp_feed.specs.Fed.{IsFeed, IsFront, fed_from, forgotten, front_
 ghost use Rattle.rp_feed.specs.Limits.{greatest_number};
 ghost use Rattle.rp_feed.specs.Answers.{after, close_answer, memory_aside, is_past, row_answer};
 
-use crate::held_rows::{above_all, compare_at, drop_first, place_of, row_in, run_on, shared};
+use crate::held_rows::{
+    above_all, compare_at, drop_first, give_back, place_of, row_in, run_on, shared,
+};
 use crate::{FeedFault, MAX_BEYOND, MAX_NUMBER, Taken};
 use rp_value::Row;
 use std::alloc::{AllocError, Global};
@@ -17,8 +19,8 @@ use std::marker::Model;
 /// and the count of its close (`Fed`).
 ///
 /// A feed takes 72 bytes where it stands, and no other memory before its first row; with one row 96 bytes more, four
-/// places of 24. Only rows take places, whatever their numbers are. Places grow by doubling and are used again, and none
-/// is given back before the feed is dropped.
+/// places of 24. Only rows take places, whatever their numbers are. Places grow by doubling and are used again; they are
+/// given back where the partition is closed and its last row is dropped.
 #[derive(Drop)]
 pub struct Feed {
     /// The least number whose row isn't dropped.
@@ -123,6 +125,7 @@ impl Feed {
         }
         let count = (before - self.first) as usize;
         drop_first(&mut self.rows, count);
+        give_back(&mut self.rows, self.closed);
         self.ready -= count;
         self.first = before;
     }

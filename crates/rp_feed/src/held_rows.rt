@@ -113,6 +113,15 @@ pub(crate) fn drop_first(rows: &mut VecDeque<(u64, Row)>, count: usize)
     }
 }
 
+/// Gives back the room of a partition that is closed and holds no row: mostly none comes any more.
+pub(crate) fn give_back(rows: &mut VecDeque<(u64, Row)>, closed: Option<u64>)
+    ensures { rows.new.items ≡ rows.old.items }
+{
+    if closed.is_some() && rows.is_empty() {
+        rows.shrink_to_fit();
+    }
+}
+
 /// All rows with their numbers. Each row has one owner more.
 pub(crate) fn shared(
     alloc: Global,
