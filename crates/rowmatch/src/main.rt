@@ -7,6 +7,7 @@ mod client;
 mod fault;
 mod node;
 mod progress;
+mod seed;
 mod shown;
 mod source;
 mod state;

@@ -2,6 +2,7 @@
 use crate::accepting::accepted;
 use crate::client::{ClientInput, ClientOutput};
 use crate::fault::ProgramFault;
+use crate::seed::seeded_hasher;
 use crate::state::StateFile;
 use rp_check::compile;
 use rp_command::NodeJob;
@@ -53,7 +54,7 @@ fn begun(
     query: Query,
 ) -> Result<Standing, ProgramFault> {
     let saved = file.read(rt)?;
-    let begun = begin(rt.alloc(), query, saved)?;
+    let begun = begin(rt.alloc(), query, seeded_hasher(rt)?, saved)?;
     let Some(why) = begun.refused else {
         return Ok(Standing {
             node: begun.node,

@@ -1,5 +1,6 @@
 //! `source`: hands the rows of a CSV to nodes, one node after the other, and prints the items that they give.
 use crate::fault::ProgramFault;
+use crate::seed::seeded_hasher;
 use crate::shown::shown_key;
 use rp_check::compile;
 use rp_command::SourceJob;
@@ -26,7 +27,7 @@ pub fn run_source(rt: &HostRuntime, job: &SourceJob) -> Result<(), ProgramFault>
     let query = compile(rt.alloc(), job.clause.as_str(), &table)?;
     let mut input = Port::new(rt.stdin());
     let rows = read_rows(rt.alloc(), &mut input, query.table(), READS)?;
-    let packets = number_rows(rt.alloc(), &query, rows)?;
+    let packets = number_rows(rt.alloc(), &query, rows, seeded_hasher(rt)?)?;
     let mut out = Port::new(rt.stdout());
     let mut number = 0u64;
     for address in &job.addresses {

@@ -2,6 +2,7 @@
 use crate::check::Verdict;
 use crate::fault::ProgramFault;
 use crate::progress::Progress;
+use crate::seed::seeded_hasher;
 use crate::shown::shown_key;
 use rp_check::compile;
 use rp_command::{Format, WholeJob};
@@ -27,15 +28,32 @@ fn print_answer<V: Watch>(
     query: Query,
     watch: &mut V,
 ) -> Result<Verdict, ProgramFault> {
+    let hasher = seeded_hasher(rt)?;
     let mut reader = Port::new(rt.stdin());
     let mut writer = Port::new(rt.stdout());
     match format {
         Format::Lines => {
-            run_whole(rt.alloc(), query, &mut reader, &mut writer, watch, READS)?;
+            run_whole(
+                rt.alloc(),
+                query,
+                &mut reader,
+                &mut writer,
+                watch,
+                READS,
+                hasher,
+            )?;
             Ok(Verdict::Well)
         }
         Format::Csv => {
-            let stopped = run_whole_csv(rt.alloc(), query, &mut reader, &mut writer, watch, READS)?;
+            let stopped = run_whole_csv(
+                rt.alloc(),
+                query,
+                &mut reader,
+                &mut writer,
+                watch,
+                READS,
+                hasher,
+            )?;
             tell_stopped(rt, stopped.as_slice())
         }
     }

@@ -9,17 +9,23 @@ use rp_feed::Packet;
 use rp_query::Query;
 use rp_value::{Cells, Row};
 use std::alloc::{AllocError, Global};
+use std::collections::hash_map::RandomState;
 
 /// The packets of rows: for each partition of the query, by first appearance, its rows in the query's order, numbered
 /// from 1, and then its close with their count. Rows that tie stay as they came.
 ///
-/// A column that a row doesn't have is null.
-pub fn number_rows(alloc: Global, query: &Query, rows: Vec<Row>) -> Result<Vec<Packet>, AllocError>
+/// A column that a row doesn't have is null. The hasher is that of `partitions`.
+pub fn number_rows(
+    alloc: Global,
+    query: &Query,
+    rows: Vec<Row>,
+    hasher: RandomState,
+) -> Result<Vec<Packet>, AllocError>
     ensures { IfOk result (λ packets. AreNumbered (data_of query.now).partition.items (data_of query.now).order.items
         rows.items packets.items) }
 {
     let mut packets = Vec::new(alloc);
-    for (key, rows) in partitions(alloc, query, rows)? {
+    for (key, rows) in partitions(alloc, query, rows, hasher)? {
         let mut rows = rows;
         order_rows(query, &mut rows)?;
         push_part(&mut packets, key, rows)?;

@@ -10,31 +10,41 @@ use indexmap::IndexMap;
 use rp_query::Query;
 use rp_value::{Cells, Row, RowList, Value};
 use std::alloc::{AllocError, Global};
+use std::collections::hash_map::RandomState;
 
 /// The rows of each key, by the first appearance of the key. They are copied, so that those of a key lie together: who goes
 /// over a partition then goes through memory in order. A text isn't copied but gets a further owner.
-type Parts = IndexMap<Cells, RowList>;
+type Parts = IndexMap<Cells, RowList, RandomState>;
 
 /// The partitions of rows by the query, by first appearance: the key of each, and its rows as they came. After want of
 /// memory the rows are dropped.
+///
+/// The hasher finds the partition of a key. Its seed is drawn at random, so that whoever chooses keys can't choose ones that
+/// are all looked for in one place; the result is the same with any seed.
 pub fn partitions(
     alloc: Global,
     query: &Query,
     rows: Vec<Row>,
+    hasher: RandomState,
 ) -> Result<Vec<(Cells, Vec<Row>)>, AllocError>
     ensures { IfOk result (λ parts. parts_of parts.items ≡
         partitions_are (data_of query.now).partition.items rows.items) }
 {
-    let parts = gather(alloc, query.partition(), rows)?;
+    let parts = gather(alloc, query.partition(), rows, hasher)?;
     let lists = parts.into_iter().collect(alloc)?;
     rows_of_lists(alloc, lists)
 }
 
 /// The partitions of rows by these columns, numbered from 1.
-fn gather(alloc: Global, columns: &[usize], rows: Vec<Row>) -> Result<Parts, AllocError>
+fn gather(
+    alloc: Global,
+    columns: &[usize],
+    rows: Vec<Row>,
+    hasher: RandomState,
+) -> Result<Parts, AllocError>
     ensures { IfOk result (λ parts. parts_added parts.entries ≡ partitions_are columns.now rows.items) }
 {
-    let mut parts = IndexMap::new(alloc);
+    let mut parts = IndexMap::with_hasher(alloc, hasher);
     let mut room = Vec::new(alloc);
     let mut cells = Vec::new(alloc);
     for row in rows {

@@ -11,6 +11,7 @@ use crate::fault::RestartFault;
 use crate::node::Node;
 use rp_query::Query;
 use std::alloc::{AllocError, Global};
+use std::collections::hash_map::RandomState;
 
 /// A node as it begins.
 #[derive(Drop)]
@@ -25,37 +26,52 @@ pub struct Begun {
 
 /// A node that goes on from what was saved, where a node can, and else begins with nothing. Only want of memory is no
 /// answer: it says nothing of what was saved.
-pub fn begin(alloc: Global, query: Query, saved: Option<Vec<u8>>) -> Result<Begun, AllocError>
+pub fn begin(
+    alloc: Global,
+    query: Query,
+    hasher: RandomState,
+    saved: Option<Vec<u8>>,
+) -> Result<Begun, AllocError>
     ensures begins { IfOk result (λ begun. Begins (data_of query) (kept_bytes saved) begun.refused
         begun.node (kept_bytes begun.saved)) }
     ensures again { IfOk result (λ begun. ForSome begun.saved (λ bytes. CanRestart begun.node.query bytes.items)) }
     ensures bounded { IfOk result (λ begun. AllBounded begun.node) }
 {
     match saved {
-        None => Ok(with_nothing(alloc, query, None)),
-        Some(bytes) => go_on(alloc, query, bytes),
+        None => Ok(with_nothing(alloc, query, hasher, None)),
+        Some(bytes) => go_on(alloc, query, hasher, bytes),
     }
 }
 
 /// Goes on from these bytes, or begins with nothing.
-fn go_on(alloc: Global, query: Query, bytes: Vec<u8>) -> Result<Begun, AllocError>
+fn go_on(
+    alloc: Global,
+    query: Query,
+    hasher: RandomState,
+    bytes: Vec<u8>,
+) -> Result<Begun, AllocError>
     ensures begins { IfOk result (λ begun. Begins (data_of query) (Some bytes.items) begun.refused
         begun.node (kept_bytes begun.saved)) }
     ensures again { IfOk result (λ begun. ForSome begun.saved (λ bytes. CanRestart begun.node.query bytes.items)) }
     ensures bounded { IfOk result (λ begun. AllBounded begun.node) }
 {
-    match Node::restart(alloc, query, bytes.as_slice()) {
+    match Node::restart(alloc, query, hasher, bytes.as_slice()) {
         Ok(node) => Ok(Begun {
             node,
             saved: Some(bytes),
             refused: None,
         }),
         Err(refused) if refused.fault == RestartFault::OutOfMemory => Err(AllocError),
-        Err(refused) => Ok(with_nothing(alloc, refused.query, Some(refused.fault))),
+        Err(refused) => Ok(with_nothing(alloc, refused.query, hasher, Some(refused.fault))),
     }
 }
 
-fn with_nothing(alloc: Global, query: Query, refused: Option<RestartFault>) -> Begun
+fn with_nothing(
+    alloc: Global,
+    query: Query,
+    hasher: RandomState,
+    refused: Option<RestartFault>,
+) -> Begun
     ensures query { result.node.query ≡ data_of query }
     ensures none { result.node.records ≡ [] }
     ensures bounded { AllBounded result.node }
@@ -63,7 +79,7 @@ fn with_nothing(alloc: Global, query: Query, refused: Option<RestartFault>) -> B
     ensures refused { result.refused ≡ refused }
 {
     Begun {
-        node: Node::new(alloc, query),
+        node: Node::new(alloc, query, hasher),
         saved: None,
         refused,
     }

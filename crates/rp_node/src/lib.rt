@@ -2,14 +2,14 @@
 //! they are certain.
 //!
 //! ```text
-//! let mut node = Node::new(alloc, query);
+//! let mut node = Node::new(alloc, query, hasher);
 //! node.accept(packet)?;                         // Taken::New, Repeat or Old, or why it is refused
 //! match node.poll(key, 1_000, &mut steps)? {
 //!     Poll::Item(place, item) => .., // the next item of this partition's answer
 //!     Poll::Paused => ..,            // the budget is used up: poll again
 //!     Poll::Idle => ..,              // nothing more is certain until a packet comes
 //! }
-//! let bytes = node.save()?;                     // Node::restart(alloc, query, &bytes) goes on from here
+//! let bytes = node.save()?;                     // Node::restart(alloc, query, hasher, &bytes) goes on from here
 //! ```
 //!
 //! Behind a connection a node answers lines: it is what `rp_serve::serve` and `rp_serve::round` run over. `begin` goes on from

@@ -15,7 +15,7 @@ ghost use Rattle.rp_node.specs.Restarting.{IsRefused, RestartsTo};
 ghost use Rattle.rp_node.specs.Taking.{AddedAs, IsJoinedAt, MapTakes, PolledPlace, TakenAt};
 
 use crate::fault::{NodeFault, RestartRefused, told, told_poll};
-use crate::partition::Partition;
+use crate::partition::{Partition, Partitions};
 use crate::restart::restored;
 use crate::save::kept;
 use indexmap::IndexMap;
@@ -26,6 +26,7 @@ use rp_search::Steps;
 use rp_value::{Cells, Row, Value};
 use rp_walker::Poll;
 use std::alloc::{AllocError, Global};
+use std::collections::hash_map::RandomState;
 use std::marker::Model;
 use std::sync::ledger::Ledger;
 
@@ -36,7 +37,8 @@ use std::sync::ledger::Ledger;
 pub struct Node {
     alloc: Global,
     query: Query,
-    partitions: IndexMap<Vec<Value>, Partition>,
+    hasher: RandomState,
+    partitions: Partitions,
 }
 
 impl Model for Node {
@@ -53,8 +55,8 @@ impl Model for Node {
 }
 
 impl Node {
-    /// A node of which nothing was taken.
-    pub fn new(alloc: Global, query: Query) -> Node
+    /// A node of which nothing was taken. The hasher finds the partition of a key: what the node answers is the same with any.
+    pub fn new(alloc: Global, query: Query, hasher: RandomState) -> Node
         ensures query { result.query ≡ data_of query }
         ensures none { result.records ≡ [] }
         ensures no_work { result.work ≡ [] }
@@ -63,7 +65,8 @@ impl Node {
         Node {
             alloc,
             query,
-            partitions: IndexMap::new(alloc),
+            hasher,
+            partitions: IndexMap::with_hasher(alloc, hasher),
         }
     }
 
@@ -82,7 +85,12 @@ impl Node {
 
     /// A node that goes on from what an earlier one saved. Where it is refused, the query comes back: for the
     /// bytes' fault, then `ClauseDiffers`, then `BadState`; want of memory may come before.
-    pub fn restart(alloc: Global, query: Query, bytes: &[u8]) -> Result<Node, RestartRefused>
+    pub fn restart(
+        alloc: Global,
+        query: Query,
+        hasher: RandomState,
+        bytes: &[u8],
+    ) -> Result<Node, RestartRefused>
         ensures query { IfOk result (λ node. node.query ≡ data_of query) }
         ensures restarts { IfOk result (λ node. RestartsTo (data_of query) bytes.now node.records) }
         ensures bounded { IfOk result AllBounded }
@@ -90,10 +98,11 @@ impl Node {
         ensures returned { IfErr result (λ refused. refused.query ≡ query) }
     {
         rp_walker::law_left();
-        match restored(alloc, &query, bytes) {
+        match restored(alloc, &query, hasher, bytes) {
             Ok(partitions) => Ok(Node {
                 alloc,
                 query,
+                hasher,
                 partitions,
             }),
             Err(fault) => Err(RestartRefused { query, fault }),
@@ -103,6 +112,11 @@ impl Node {
     /// Where its memory comes from.
     pub(crate) fn alloc(&self) -> Global {
         self.alloc
+    }
+
+    /// What finds the partition of a key.
+    pub(crate) fn hasher(&self) -> RandomState {
+        self.hasher
     }
 
     /// The query, as it was given.
@@ -208,7 +222,7 @@ impl Node {
 fn take_row(
     alloc: Global,
     query: &Query,
-    partitions: &mut IndexMap<Vec<Value>, Partition>,
+    partitions: &mut Partitions,
     key: Vec<Value>,
     number: u64,
     row: Row,
@@ -228,7 +242,7 @@ fn take_row(
 /// Takes a row of the partition at a place.
 fn take_row_at(
     query: &Query,
-    partitions: &mut IndexMap<Vec<Value>, Partition>,
+    partitions: &mut Partitions,
     place: usize,
     number: u64,
     row: Row,
@@ -248,7 +262,7 @@ fn take_row_at(
 fn add_row(
     alloc: Global,
     query: &Query,
-    partitions: &mut IndexMap<Vec<Value>, Partition>,
+    partitions: &mut Partitions,
     key: Vec<Value>,
     number: u64,
     row: Row,
@@ -268,7 +282,7 @@ fn add_row(
 fn take_close(
     alloc: Global,
     query: &Query,
-    partitions: &mut IndexMap<Vec<Value>, Partition>,
+    partitions: &mut Partitions,
     key: Vec<Value>,
     count: u64,
 ) -> Result<Taken, FeedFault>
@@ -287,7 +301,7 @@ fn take_close(
 /// Takes the close of the partition at a place.
 fn take_close_at(
     query: &Query,
-    partitions: &mut IndexMap<Vec<Value>, Partition>,
+    partitions: &mut Partitions,
     place: usize,
     key: Vec<Value>,
     count: u64,
@@ -307,7 +321,7 @@ fn take_close_at(
 fn add_close(
     alloc: Global,
     query: &Query,
-    partitions: &mut IndexMap<Vec<Value>, Partition>,
+    partitions: &mut Partitions,
     key: Vec<Value>,
     count: u64,
 ) -> Result<Taken, FeedFault>
@@ -325,7 +339,7 @@ fn add_close(
 /// Polls the partition at a place.
 fn poll_at<L: Ledger>(
     query: &Query,
-    partitions: &mut IndexMap<Vec<Value>, Partition>,
+    partitions: &mut Partitions,
     place: usize,
     budget: u32,
     steps: &mut Steps<L>,

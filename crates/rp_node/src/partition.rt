@@ -15,13 +15,19 @@ ghost use Rattle.rp_node.specs.Polling.{HoldsNoMore, OnlyDrops, PolledTo};
 ghost use Rattle.rp_node.specs.Taking.{KeepsKey, TakenBy};
 
 use crate::part_rows::PartRows;
+use indexmap::IndexMap;
 use rp_feed::{Feed, FeedFault, Taken};
 use rp_query::Query;
 use rp_search::Steps;
 use rp_value::{Row, Value};
 use rp_walker::{Poll, Walker, law_walkers, law_work};
 use std::alloc::{AllocError, Global};
+use std::collections::hash_map::RandomState;
 use std::sync::ledger::Ledger;
+
+/// The partitions of a node by their keys, in the order in which they came. The hasher's seed is drawn at random, so that
+/// whoever chooses keys can't choose ones that are all looked for in one place.
+pub(crate) type Partitions = IndexMap<Vec<Value>, Partition, RandomState>;
 
 /// What was taken of a partition, and the walk over the rows up to the front, which the feed lends it at each poll.
 #[derive(Drop)]

@@ -58,11 +58,12 @@ impl Keeps for Node {
 
     fn go_back(self, saved: &Option<Vec<u8>>) -> Result<Self, AllocError> {
         let alloc = self.alloc();
+        let hasher = self.hasher();
         let query = self.into_query();
         let Some(bytes) = saved else {
-            return Ok(Node::new(alloc, query));
+            return Ok(Node::new(alloc, query, hasher));
         };
-        match Node::restart(alloc, query, bytes.as_slice()) {
+        match Node::restart(alloc, query, hasher, bytes.as_slice()) {
             Ok(node) => Ok(node),
             Err(refused) => Err(memory_alone(refused.fault)),
         }

@@ -9,26 +9,28 @@ ghost use Rattle.rp_node.specs.Restarting.{IsOfQuery, IsRefused, RestartsTo, Res
 
 use crate::clause_text::are_one_clause;
 use crate::fault::{RestartFault, bytes_fault};
-use crate::partition::Partition;
+use crate::partition::{Partition, Partitions};
 use crate::resume::resume;
 use indexmap::IndexMap;
 use rp_checkpoint::{NodeData, PartitionData, read_checkpoint};
 use rp_query::Query;
 use rp_value::{Column, Value};
 use std::alloc::{AllocError, Global};
+use std::collections::hash_map::RandomState;
 
 /// The partitions that a checkpoint of this query keeps, or why a node doesn't go on from the bytes.
 pub(crate) fn restored(
     alloc: Global,
     query: &Query,
+    hasher: RandomState,
     bytes: &[u8],
-) -> Result<IndexMap<Vec<Value>, Partition>, RestartFault>
+) -> Result<Partitions, RestartFault>
     ensures ok { IfOk result (λ m. RestartsTo (data_of query.now) bytes.now (entries_by held_of m.entries)
         × AllJoined (data_of query.now) m.entries) }
     ensures err { IfErr result (IsRefused (data_of query.now) bytes.now) }
 {
     match read_checkpoint(alloc, bytes) {
-        Ok(kept) => restored_from(alloc, query, bytes, &kept),
+        Ok(kept) => restored_from(alloc, query, hasher, bytes, &kept),
         Err(fault) => Err(bytes_fault(fault)),
     }
 }
@@ -37,9 +39,10 @@ pub(crate) fn restored(
 fn restored_from(
     alloc: Global,
     query: &Query,
+    hasher: RandomState,
     bytes: &[u8],
     kept: &NodeData,
-) -> Result<IndexMap<Vec<Value>, Partition>, RestartFault>
+) -> Result<Partitions, RestartFault>
     requires { restored bytes.now ≡ Ok kept.now }
     ensures ok { IfOk result (λ m. RestartsTo (data_of query.now) bytes.now (entries_by held_of m.entries)
         × AllJoined (data_of query.now) m.entries) }
@@ -49,7 +52,7 @@ fn restored_from(
     if !is_of(query, kept) {
         return Err(RestartFault::ClauseDiffers);
     }
-    match restore_all(alloc, query, kept.partitions.as_slice())? {
+    match restore_all(alloc, query, hasher, kept.partitions.as_slice())? {
         None => Err(RestartFault::BadState),
         Some(partitions) => Ok(partitions),
     }
@@ -75,11 +78,12 @@ fn same_columns(left: &[Column], right: &[Column]) -> bool
 fn restore_all(
     alloc: Global,
     query: &Query,
+    hasher: RandomState,
     kept: &[PartitionData],
-) -> Result<Option<IndexMap<Vec<Value>, Partition>>, AllocError>
+) -> Result<Option<Partitions>, AllocError>
     ensures { IfOk result (λ all. RestoredAll (data_of query.now) kept.now (option_map (λ m. m.entries) all)) }
 {
-    let mut partitions = IndexMap::new(alloc);
+    let mut partitions = IndexMap::with_hasher(alloc, hasher);
     for one in kept {
         if !restore_one(alloc, query, &mut partitions, one)? {
             return Ok(None);
@@ -92,7 +96,7 @@ fn restore_all(
 fn restore_one(
     alloc: Global,
     query: &Query,
-    partitions: &mut IndexMap<Vec<Value>, Partition>,
+    partitions: &mut Partitions,
     kept: &PartitionData,
 ) -> Result<bool, AllocError>
     requires joined { AllJoined (data_of query.now) partitions.old.entries }
@@ -112,11 +116,7 @@ fn restore_one(
 }
 
 /// Adds a partition.
-fn add(
-    partitions: &mut IndexMap<Vec<Value>, Partition>,
-    key: Vec<Value>,
-    partition: Partition,
-) -> Result<(), AllocError>
+fn add(partitions: &mut Partitions, key: Vec<Value>, partition: Partition) -> Result<(), AllocError>
     ensures { OnOk result (partitions.new.entries ≡ insert_entry (λ j k. same_key j.items k.items)
         partitions.old.entries key partition) }
 {

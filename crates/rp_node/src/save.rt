@@ -6,8 +6,7 @@ ghost use Rattle.rp_node.specs.NodeSeen.{AllJoined, node_by};
 ghost use Rattle.rp_node.specs.Keeping.{held_row, kept_of, partition_kept};
 ghost use Rattle.rp_query.specs.declared.query.QueryData.{QueryData};
 
-use crate::partition::Partition;
-use indexmap::IndexMap;
+use crate::partition::{Partition, Partitions as Parts};
 use rp_checkpoint::{Columns, HeldRow, HeldRows, NodeData, PartitionData, Partitions};
 use rp_feed::Feed;
 use rp_query::Query;
@@ -15,11 +14,7 @@ use rp_value::{Cells, Row, Value};
 use std::alloc::{AllocError, Global};
 
 /// What is kept of a node of these partitions.
-pub(crate) fn kept(
-    alloc: Global,
-    query: &Query,
-    partitions: &IndexMap<Vec<Value>, Partition>,
-) -> Result<NodeData, AllocError>
+pub(crate) fn kept(alloc: Global, query: &Query, partitions: &Parts) -> Result<NodeData, AllocError>
     requires joined { AllJoined (data_of query.now) partitions.now.entries }
     ensures { IfOk result (λ kept. kept ≡ kept_of (node_by (data_of query.now) partitions.now.entries)) }
 {
@@ -34,11 +29,7 @@ pub(crate) fn kept(
     })
 }
 
-fn all_kept(
-    alloc: Global,
-    query: &Query,
-    partitions: &IndexMap<Vec<Value>, Partition>,
-) -> Result<Partitions, AllocError>
+fn all_kept(alloc: Global, query: &Query, partitions: &Parts) -> Result<Partitions, AllocError>
     requires joined { AllJoined (data_of query.now) partitions.now.entries }
     ensures { IfOk result (λ kept. kept ≡ map (λ e. partition_kept e.0.items (held_of e.1)) partitions.now.entries) }
 {

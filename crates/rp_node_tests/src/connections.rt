@@ -3,7 +3,7 @@ ghost use Rattle.std.specs.Prelude.{IfOk};
 ghost use Rattle.std.specs.Option.{ForSome};
 ghost use Rattle.rp_node.specs.GoingBack.{CanRestart};
 
-use super::support::{V, query_of, refused_twice};
+use super::support::{V, fixed_hasher, query_of, refused_twice};
 use rp_io::{MemoryInput, MemoryOutput};
 use rp_node::{Node, RestartFault, begin};
 use rp_query::Query;
@@ -95,7 +95,7 @@ fn connection(
 fn first(alloc: Global, lines: &str, failing: Failing) -> Result<Ended, Fail>
     ensures again { IfOk result (λ ended. ForSome ended.end.saved (λ bytes. CanRestart ended.end.node.query bytes.items)) }
 {
-    let node = Node::new(alloc, query_of(alloc, V)?);
+    let node = Node::new(alloc, query_of(alloc, V)?, fixed_hasher()?);
     connection(alloc, node, None, lines, failing)
 }
 
@@ -229,7 +229,12 @@ fn saved_row(alloc: Global) -> Result<Option<Vec<u8>>, Fail> {
 #[test]
 fn begins_at_what_was_saved(rt: HostRuntime) -> Result<(), Fail> {
     let alloc = rt.alloc();
-    let begun = begin(alloc, query_of(alloc, V)?, saved_row(alloc)?)?;
+    let begun = begin(
+        alloc,
+        query_of(alloc, V)?,
+        fixed_hasher()?,
+        saved_row(alloc)?,
+    )?;
     assert!(rt; begun.refused.is_none());
     let ended = connection(alloc, begun.node, begun.saved, ROW, NONE)?;
     assert!(rt; ended.writer.bytes() == "{\"taken\":\"repeat\"}\n".as_bytes());
@@ -240,23 +245,23 @@ fn begins_at_what_was_saved(rt: HostRuntime) -> Result<(), Fail> {
 #[test]
 fn begins_with_nothing(rt: HostRuntime) -> Result<(), Fail> {
     let alloc = rt.alloc();
-    let begun = begin(alloc, query_of(alloc, V)?, None)?;
+    let begun = begin(alloc, query_of(alloc, V)?, fixed_hasher()?, None)?;
     assert!(rt; begun.refused.is_none() && begun.saved.is_none());
     let mut cut = saved_row(alloc)?;
     if let Some(bytes) = &mut cut {
         let _last = bytes.pop();
     }
-    let begun = begin(alloc, query_of(alloc, V)?, cut)?;
+    let begun = begin(alloc, query_of(alloc, V)?, fixed_hasher()?, cut)?;
     assert!(rt; begun.refused == Some(RestartFault::Digest) && begun.saved.is_none());
     let other = query_of(alloc, "PATTERN (A) DEFINE A AS p = 1")?;
-    let begun = begin(alloc, other, saved_row(alloc)?)?;
+    let begun = begin(alloc, other, fixed_hasher()?, saved_row(alloc)?)?;
     assert!(rt; begun.refused == Some(RestartFault::ClauseDiffers) && begun.saved.is_none());
     Ok(())
 }
 
 /// The replies of a new node, or None where memory was refused and the node went back to its beginning.
 fn replied(alloc: Global, query: Query) -> Result<Option<MemoryOutput>, AllocError> {
-    let node = Node::new(alloc, query);
+    let node = Node::new(alloc, query, fixed_hasher()?);
     let mut reader = MemoryInput::new(LINES.as_bytes(), 29, 0);
     let mut writer = MemoryOutput::new(alloc, 4_096, 100, 0)?;
     let end = round(alloc, node, None, &mut reader, &mut writer, 1_000)?;

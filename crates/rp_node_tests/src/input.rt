@@ -1,6 +1,6 @@
 //! Rows of an input whose reads fail or are too few, and calls with refused memory. Rows of texts, their order and the faults of
 //! texts are in cases/inputs.cases.
-use super::support::{prices, query_of, refused_twice};
+use super::support::{fixed_hasher, prices, query_of, refused_twice};
 use rp_feed::Packet;
 use rp_input::{CsvFault, number_rows, order_rows, partitions, read_rows, rows_of};
 use rp_io::MemoryInput;
@@ -67,13 +67,13 @@ fn show_packets(alloc: Global, packets: &[Packet]) -> Result<String, AllocError>
 /// The packets of a text's rows.
 fn packets_of(alloc: Global, query: &Query, text: &str) -> Result<Vec<Packet>, CsvFault> {
     let rows = rows_of(alloc, text.as_bytes(), query.table())?;
-    Ok(number_rows(alloc, query, rows)?)
+    Ok(number_rows(alloc, query, rows, fixed_hasher()?)?)
 }
 
 /// The partitions of a text's rows.
 fn parts_of(alloc: Global, query: &Query, text: &str) -> Result<Vec<(Cells, Vec<Row>)>, CsvFault> {
     let rows = rows_of(alloc, text.as_bytes(), query.table())?;
-    Ok(partitions(alloc, query, rows)?)
+    Ok(partitions(alloc, query, rows, fixed_hasher()?)?)
 }
 
 /// A text of thirty rows, of which the later half comes first, and the rows as they are in order.

@@ -4,6 +4,9 @@ use rp_query::Query;
 use rp_syntax::read_table;
 use rp_value::{Row, Table, Text, Value};
 use std::alloc::{AllocError, Global};
+use std::collections::hash_map::RandomState;
+use std::io;
+use std::random::RandomSource;
 use std::test::Fail;
 
 /// A fall and then a rise.
@@ -46,4 +49,21 @@ pub fn row_of(alloc: Global, number: u64, price: Value) -> Result<Row, Fail> {
     cells.push(Value::Int(i64::try_from(number)?))?;
     cells.push(price)?;
     Ok(Row::new(alloc, cells)?)
+}
+
+/// A seed that is the same in each run: all zeros.
+struct FixedSeed;
+
+impl RandomSource for FixedSeed {
+    fn fill_bytes(&self, _zeros: &mut [u8]) -> io::Result<()> {
+        Ok(())
+    }
+}
+
+/// What finds partitions by their keys, the same in each run.
+pub fn fixed_hasher() -> Result<RandomState, AllocError> {
+    match RandomState::new(&FixedSeed) {
+        Ok(hasher) => Ok(hasher),
+        Err(_) => Err(AllocError),
+    }
 }

@@ -45,6 +45,7 @@ mod case;
 mod digest;
 mod driven;
 mod fault;
+mod hasher;
 mod line;
 mod lines_player;
 mod matcher_player;

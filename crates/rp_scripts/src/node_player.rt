@@ -13,6 +13,7 @@ ghost use Rattle.std.specs.Prelude.{◌≡◌, ◌<◌};
 
 use crate::digest::sealed;
 use crate::fault::EventFault;
+use crate::hasher::fixed_hasher;
 use crate::line::{Line, budget, cells, no_words, number};
 use crate::refusals::Refusals;
 use crate::told::tell;
@@ -22,6 +23,7 @@ use rp_reference::item_text;
 use rp_search::Steps;
 use rp_value::{Cells, Row, Value};
 use std::alloc::{AllocError, Global};
+use std::collections::hash_map::RandomState;
 use std::marker::Brand;
 use std::sync::ledger::{Blank, Ledger};
 
@@ -30,6 +32,7 @@ use std::sync::ledger::{Blank, Ledger};
 pub struct NodePlayer {
     alloc: Global,
     query: Query,
+    hasher: RandomState,
     node: Node,
     saved: Vec<u8>,
     refusals: Refusals,
@@ -38,10 +41,12 @@ pub struct NodePlayer {
 impl NodePlayer {
     /// A node of which nothing was taken.
     pub fn new(alloc: Global, query: Query) -> Result<NodePlayer, AllocError> {
-        let node = Node::new(alloc, query.share()?);
+        let hasher = fixed_hasher()?;
+        let node = Node::new(alloc, query.share()?, hasher);
         Ok(NodePlayer {
             alloc,
             query,
+            hasher,
             node,
             saved: Vec::new(alloc),
             refusals: Refusals::none(),
@@ -190,13 +195,13 @@ impl NodePlayer {
         let len = self.saved.len().saturating_sub(less as usize);
         let (bytes, _rest) = self.saved.as_slice().split_at(len);
         let query = self.query.share()?;
-        match restarted(self.alloc, query, bytes, &mut self.refusals) {
+        match restarted(self.alloc, query, self.hasher, bytes, &mut self.refusals) {
             Ok(node) => {
                 self.node = node;
                 Ok(())
             }
             Err(refused) => {
-                self.node = Node::new(self.alloc, refused.query);
+                self.node = Node::new(self.alloc, refused.query, self.hasher);
                 tell_refused(self.alloc, refused.fault, told)
             }
         }
@@ -219,7 +224,7 @@ impl NodePlayer {
     /// Why no node goes on from these bytes, or none where one does. The query that comes back is the next one's.
     fn restart_fault(&mut self, bytes: &[u8]) -> Result<Option<RestartFault>, EventFault> {
         let query = self.query.share()?;
-        match restarted(self.alloc, query, bytes, &mut self.refusals) {
+        match restarted(self.alloc, query, self.hasher, bytes, &mut self.refusals) {
             Ok(node) => {
                 self.query = node.into_query();
                 Ok(None)
@@ -282,16 +287,17 @@ fn polled<L: Ledger>(
 fn restarted(
     alloc: Global,
     query: Query,
+    hasher: RandomState,
     bytes: &[u8],
     refusals: &mut Refusals,
 ) -> Result<Node, RestartRefused> {
-    match Node::restart(alloc, query, bytes) {
+    match Node::restart(alloc, query, hasher, bytes) {
         Ok(node) => Ok(node),
         Err(refused) => {
             if refused.fault != RestartFault::OutOfMemory || !refusals.is_first() {
                 return Err(refused);
             }
-            Node::restart(alloc, refused.query, bytes)
+            Node::restart(alloc, refused.query, hasher, bytes)
         }
     }
 }

@@ -16,6 +16,7 @@ use rp_input::{partitions, read_rows};
 use rp_io::{Intake, Outlet};
 use rp_query::Query;
 use std::alloc::Global;
+use std::collections::hash_map::RandomState;
 use std::marker::Brand;
 use std::sync::ledger::Blank;
 
@@ -24,6 +25,8 @@ use std::sync::ledger::Blank;
 ///
 /// All is read before the first line is written, by at most `reads` calls of the reader. Bytes are written in blocks,
 /// so after a fault of the writer or of memory some lines may be missing.
+///
+/// The hasher finds the partition of a key, as in `rp_input::partitions`.
 pub fn run_whole<R: Intake, W: Outlet, V: Watch>(
     alloc: Global,
     query: Query,
@@ -31,6 +34,7 @@ pub fn run_whole<R: Intake, W: Outlet, V: Watch>(
     writer: &mut W,
     watch: &mut V,
     reads: u64,
+    hasher: RandomState,
 ) -> Result<(), WholeFault>
     ensures written { OnOk result
         (WritesLines (data_of query) (R.remaining reader.old) (W.contents writer.old) (W.contents writer.new)) }
@@ -42,7 +46,7 @@ pub fn run_whole<R: Intake, W: Outlet, V: Watch>(
     ensures write { TellsWrite result (W.failures writer.old) (W.failures writer.new) }
 {
     let rows = read_rows(alloc, reader, query.table(), reads)?;
-    let parts = partitions(alloc, &query, rows)?;
+    let parts = partitions(alloc, &query, rows, hasher)?;
     let mut lines = Lines::new(alloc);
     write_parts::<W, Lines, V, Brand>(
         alloc,
@@ -69,7 +73,7 @@ pub fn run_whole<R: Intake, W: Outlet, V: Watch>(
 /// in a record of one column either is written as `""`, since an empty line is no record. An answer of no columns has
 /// `""` for its header and for each row.
 ///
-/// All is read before the header is written, as by `run_whole`.
+/// All is read before the header is written, and the hasher is used, as by `run_whole`.
 pub fn run_whole_csv<R: Intake, W: Outlet, V: Watch>(
     alloc: Global,
     query: Query,
@@ -77,6 +81,7 @@ pub fn run_whole_csv<R: Intake, W: Outlet, V: Watch>(
     writer: &mut W,
     watch: &mut V,
     reads: u64,
+    hasher: RandomState,
 ) -> Result<Vec<Stopped>, WholeFault>
     ensures written { IfOk result (λ stopped. WritesRecords (data_of query) (R.remaining reader.old)
         (W.contents writer.old) (W.contents writer.new) stopped.items) }
@@ -88,7 +93,7 @@ pub fn run_whole_csv<R: Intake, W: Outlet, V: Watch>(
     ensures write { TellsWrite result (W.failures writer.old) (W.failures writer.new) }
 {
     let read = read_rows(alloc, reader, query.table(), reads)?;
-    let parts = partitions(alloc, &query, read)?;
+    let parts = partitions(alloc, &query, read, hasher)?;
     let mut records = RowRecords::new(alloc, &query)?;
     write_parts::<W, RowRecords, V, Brand>(
         alloc,

@@ -1,6 +1,6 @@
 //! A node of a schedule, and beside it what it took and gave.
 use super::partition::{MANY_ROWS, Partition};
-use crate::support::{key_of, row_of};
+use crate::support::{fixed_hasher, key_of, row_of};
 use rp_node::{Node, NodeFault, Packet, Poll, Taken};
 use rp_query::{Item, Query};
 use rp_reference::{Dice, item_text};
@@ -80,7 +80,7 @@ impl<'a> Simulated<'a> {
         Ok(Simulated {
             alloc,
             whole,
-            node: Node::new(alloc, whole.query.share()?),
+            node: Node::new(alloc, whole.query.share()?, fixed_hasher()?),
             held: Held::NOTHING,
             saves: Vec::new(alloc),
         })
@@ -257,10 +257,15 @@ impl<'a> Simulated<'a> {
         let saves = (self.saves.len() as u64).saturating_add(1);
         match self.saves.get(dice.below(saves)) {
             None => {
-                self.node = Node::new(self.alloc, query);
+                self.node = Node::new(self.alloc, query, fixed_hasher()?);
                 self.held = Held::NOTHING;
             }
-            Some(saved) => match Node::restart(self.alloc, query, saved.bytes.as_slice()) {
+            Some(saved) => match Node::restart(
+                self.alloc,
+                query,
+                fixed_hasher()?,
+                saved.bytes.as_slice(),
+            ) {
                 Ok(node) => {
                     self.node = node;
                     self.held = saved.held;

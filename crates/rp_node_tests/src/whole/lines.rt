@@ -1,6 +1,6 @@
 //! Answers as lines, over devices in memory.
 use super::{EACH, TICKS};
-use crate::support::{V, query_of, refused_twice};
+use crate::support::{V, fixed_hasher, query_of, refused_twice};
 use rp_input::CsvFault;
 use rp_io::{MemoryInput, MemoryOutput};
 use rp_value::Cells;
@@ -23,7 +23,15 @@ fn run(
     reads: u64,
 ) -> Result<Option<WholeFault>, Fail> {
     let query = query_of(alloc, clause)?;
-    match run_whole(alloc, query, source, sink, &mut Unwatched, reads) {
+    match run_whole(
+        alloc,
+        query,
+        source,
+        sink,
+        &mut Unwatched,
+        reads,
+        fixed_hasher()?,
+    ) {
         Ok(()) => Ok(None),
         Err(WholeFault::OutOfMemory) => Err(Fail::from(WholeFault::OutOfMemory)),
         Err(fault) => Ok(Some(fault)),
@@ -176,7 +184,15 @@ fn progress_is_told(rt: HostRuntime) -> Result<(), Fail> {
         row: 0,
         odd: 0,
     };
-    run_whole(alloc, query, &mut source, &mut sink, &mut counts, 9)?;
+    run_whole(
+        alloc,
+        query,
+        &mut source,
+        &mut sink,
+        &mut counts,
+        9,
+        fixed_hasher()?,
+    )?;
     assert_eq!(rt; counts.partitions, 2);
     assert!(rt; counts.pauses > 0);
     assert!(rt; counts.row > 0);
@@ -193,12 +209,30 @@ fn refused_whole(rt: HostRuntime) -> Result<(), Fail> {
     let want = TICKS_ANSWERED.as_bytes();
     let mut sink = MemoryOutput::new(alloc, 4096, 100, 0)?;
     let mut source = MemoryInput::new(TICKS.as_bytes(), 1_000, 0);
-    match run_whole(alloc, query, &mut source, &mut sink, &mut Unwatched, 9) {
+    match run_whole(
+        alloc,
+        query,
+        &mut source,
+        &mut sink,
+        &mut Unwatched,
+        9,
+        fixed_hasher()?,
+    ) {
         Err(WholeFault::OutOfMemory) => {
             assert!(rt; want.starts_with(sink.bytes()));
             let mut sink = MemoryOutput::new(alloc, 4096, 100, 0)?;
             let mut source = MemoryInput::new(TICKS.as_bytes(), 1_000, 0);
-            if run_whole(alloc, again, &mut source, &mut sink, &mut Unwatched, 9).is_err() {
+            if run_whole(
+                alloc,
+                again,
+                &mut source,
+                &mut sink,
+                &mut Unwatched,
+                9,
+                fixed_hasher()?,
+            )
+            .is_err()
+            {
                 return Err(refused_twice());
             }
             assert!(rt; sink.bytes() == want);

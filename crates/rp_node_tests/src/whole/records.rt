@@ -1,6 +1,6 @@
 //! Answers as CSV, over devices in memory.
 use super::{EACH, TICKS};
-use crate::support::{V, query_of, refused_twice};
+use crate::support::{V, fixed_hasher, query_of, refused_twice};
 use rp_io::{MemoryInput, MemoryOutput};
 use rp_whole::{Unwatched, WholeFault, run_whole_csv};
 use std::alloc::Global;
@@ -16,7 +16,15 @@ fn run(
     sink: &mut MemoryOutput,
 ) -> Result<Option<WholeFault>, Fail> {
     let query = query_of(alloc, clause)?;
-    match run_whole_csv(alloc, query, source, sink, &mut Unwatched, 1_000) {
+    match run_whole_csv(
+        alloc,
+        query,
+        source,
+        sink,
+        &mut Unwatched,
+        1_000,
+        fixed_hasher()?,
+    ) {
         Ok(stopped) if stopped.is_empty() => Ok(None),
         Ok(_) => Err(Fail::from("a skip fault ended an answer")),
         Err(WholeFault::OutOfMemory) => Err(Fail::from(WholeFault::OutOfMemory)),
@@ -73,12 +81,28 @@ fn refused_csv(rt: HostRuntime) -> Result<(), Fail> {
     let want = TICKS_ANSWERED.as_bytes();
     let mut sink = MemoryOutput::new(alloc, 4096, 100, 0)?;
     let mut source = MemoryInput::new(TICKS.as_bytes(), 1_000, 0);
-    match run_whole_csv(alloc, query, &mut source, &mut sink, &mut Unwatched, 9) {
+    match run_whole_csv(
+        alloc,
+        query,
+        &mut source,
+        &mut sink,
+        &mut Unwatched,
+        9,
+        fixed_hasher()?,
+    ) {
         Err(WholeFault::OutOfMemory) => {
             assert!(rt; want.starts_with(sink.bytes()));
             let mut sink = MemoryOutput::new(alloc, 4096, 100, 0)?;
             let mut source = MemoryInput::new(TICKS.as_bytes(), 1_000, 0);
-            match run_whole_csv(alloc, again, &mut source, &mut sink, &mut Unwatched, 9) {
+            match run_whole_csv(
+                alloc,
+                again,
+                &mut source,
+                &mut sink,
+                &mut Unwatched,
+                9,
+                fixed_hasher()?,
+            ) {
                 Ok(stopped) => assert!(rt; stopped.is_empty()),
                 Err(_) => return Err(refused_twice()),
             }
