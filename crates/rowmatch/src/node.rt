@@ -1,4 +1,9 @@
 //! `node`: a node behind connections, which are served one after the other, kept in a file after each.
+ghost use Rattle.std.specs.Prelude.{◌≡◌, true};
+ghost use Rattle.std.specs.Option.{ForSome};
+ghost use Rattle.rp_node.specs.GoingBack.{CanRestart, IsSaved};
+ghost use Rattle.rp_serve.specs.Rounds.{IsSavedAs, kept_bytes};
+
 use crate::accepting::accepted;
 use crate::client::{ClientInput, ClientOutput};
 use crate::fault::ProgramFault;
@@ -24,13 +29,6 @@ struct Standing {
     is_current: bool,
     ghost again: { ForSome saved (λ bytes. CanRestart node.query bytes.items) },
     ghost known: { is_current ≡ true → IsSavedAs IsSaved node (kept_bytes saved) },
-}
-
-impl Standing {
-    ghost use Rattle.std.specs.Prelude.{◌≡◌, true};
-    ghost use Rattle.std.specs.Option.{ForSome};
-    ghost use Rattle.rp_node.specs.GoingBack.{CanRestart, IsSaved};
-    ghost use Rattle.rp_serve.specs.Rounds.{IsSavedAs, kept_bytes};
 }
 
 /// Serves as many connections as the job asks for. Begins from its file where that is there and accepted, else with nothing.
