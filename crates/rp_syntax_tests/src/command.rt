@@ -52,16 +52,17 @@ fn node_command(rt: HostRuntime) -> Result<(), Fail> {
             assert_eq!(rt; node.clause.as_str(), "a clause");
             assert_eq!(rt; node.listen.as_str(), "127.0.0.1:7000");
             assert_eq!(rt; node.state.as_str(), "node.state");
-            assert_eq!(rt; node.connections, 4_294_967_295);
+            assert_eq!(rt; node.connections, Some(4_294_967_295));
             assert_eq!(rt; node.idle, Some(1));
             assert!(rt; node.verbose);
+            assert!(rt; !node.acknowledge);
         }
         _ => assert!(rt; false),
     }
     Ok(())
 }
 
-/// A node waits as long as it takes, and reports nothing, where it isn't asked to.
+/// A node serves for ever, waits as long as it takes, and reports nothing, where it isn't asked to.
 #[test]
 fn node_command_of_few_words(rt: HostRuntime) -> Result<(), Fail> {
     let words = [
@@ -70,13 +71,14 @@ fn node_command_of_few_words(rt: HostRuntime) -> Result<(), Fail> {
         "--clause=c",
         "--listen=l",
         "--state=s",
-        "--connections=1",
+        "--acknowledge",
     ];
     match &job_of(rt.alloc(), words.as_slice())? {
         Job::Node(node) => {
-            assert_eq!(rt; node.connections, 1);
+            assert_eq!(rt; node.connections, None);
             assert_eq!(rt; node.idle, None);
             assert!(rt; !node.verbose);
+            assert!(rt; node.acknowledge);
         }
         _ => assert!(rt; false),
     }
@@ -99,6 +101,9 @@ fn source_command(rt: HostRuntime) -> Result<(), Fail> {
             assert_eq!(rt; source.table.as_str(), "p int");
             assert_eq!(rt; source.clause.as_str(), "a clause");
             assert_eq!(rt; source.budget, 100_000);
+            assert_eq!(rt; source.idle, None);
+            assert!(rt; !source.acknowledge);
+            assert!(rt; !source.verbose);
             assert_eq!(rt; source.addresses.len(), 1);
             assert_eq!(rt; source.addresses[0].as_str(), "127.0.0.1:7000");
         }
@@ -118,10 +123,16 @@ fn source_command_of_many(rt: HostRuntime) -> Result<(), Fail> {
         "--budget=7",
         "--table=p int",
         "--clause=c",
+        "--idle=30",
+        "--acknowledge",
+        "--verbose",
     ];
     match &job_of(rt.alloc(), words.as_slice())? {
         Job::Source(source) => {
             assert_eq!(rt; source.budget, 7);
+            assert_eq!(rt; source.idle, Some(30));
+            assert!(rt; source.acknowledge);
+            assert!(rt; source.verbose);
             assert_eq!(rt; source.addresses.len(), 3);
             assert_eq!(rt; source.addresses[0].as_str(), "b:2");
             assert_eq!(rt; source.addresses[1].as_str(), "a:1");
