@@ -1,5 +1,5 @@
 //! `node`: a node behind connections, which are served one after the other, kept in a file after each.
-ghost use Rattle.std.specs.Prelude.{◌≡◌, true};
+ghost use Rattle.std.specs.Prelude.{◌≡◌, IfOk, true};
 ghost use Rattle.std.specs.Option.{ForSome};
 ghost use Rattle.rp_node.specs.GoingBack.{CanRestart, IsSaved};
 ghost use Rattle.rp_serve.specs.Rounds.{IsSavedAs, kept_bytes};
@@ -19,7 +19,7 @@ use rp_syntax::read_table;
 use std::net::{TcpListener, TcpStream};
 use std::time::Duration;
 
-/// A node between two connections.
+/// A node between two connections: it can go back to what was saved of it.
 #[derive(Drop)]
 struct Standing {
     node: Node,
@@ -27,8 +27,6 @@ struct Standing {
     saved: Option<Vec<u8>>,
     /// Whether that is known to be what would be saved now.
     is_current: bool,
-    ghost again: { ForSome saved (λ bytes. CanRestart node.query bytes.items) },
-    ghost known: { is_current ≡ true → IsSavedAs IsSaved node (kept_bytes saved) },
 }
 
 /// Serves as many connections as the job asks for. Begins from its file where that is there and accepted, else with nothing.
@@ -50,7 +48,10 @@ fn begun(
     job: &NodeJob,
     file: &mut StateFile<'_>,
     query: Query,
-) -> Result<Standing, ProgramFault> {
+) -> Result<Standing, ProgramFault>
+    ensures again { IfOk result (λ s. ForSome s.saved (λ bytes. CanRestart s.node.query bytes.items)) }
+    ensures known { IfOk result (λ s. s.is_current ≡ true → IsSavedAs IsSaved s.node (kept_bytes s.saved)) }
+{
     let saved = file.read(rt)?;
     let begun = begin(rt.alloc(), query, seeded_hasher(rt)?, saved)?;
     let Some(why) = begun.refused else {
@@ -62,9 +63,18 @@ fn begun(
     };
     file.is_refused = true;
     tell_refused(rt, job, file, why)?;
-    let bytes = begun.node.save()?;
+    standing_anew(begun.node)
+}
+
+/// A node that begins with nothing although something is in its file. What would be saved of it is known, so that the file stays as it is
+/// until there is something else to be kept.
+fn standing_anew(node: Node) -> Result<Standing, ProgramFault>
+    ensures again { IfOk result (λ s. ForSome s.saved (λ bytes. CanRestart s.node.query bytes.items)) }
+    ensures known { IfOk result (λ s. s.is_current ≡ true → IsSavedAs IsSaved s.node (kept_bytes s.saved)) }
+{
+    let bytes = node.save()?;
     Ok(Standing {
-        node: begun.node,
+        node,
         saved: Some(bytes),
         is_current: true,
     })
@@ -76,7 +86,10 @@ fn serve_all(
     listener: &TcpListener,
     file: &mut StateFile<'_>,
     standing: Standing,
-) -> Result<(), ProgramFault> {
+) -> Result<(), ProgramFault>
+    requires again { ForSome standing.saved (λ bytes. CanRestart standing.node.query bytes.items) }
+    requires known { standing.is_current ≡ true → IsSavedAs IsSaved standing.node (kept_bytes standing.saved) }
+{
     let mut standing = standing;
     let count = match job.connections {
         Some(count) => u64::from(count),
@@ -109,7 +122,12 @@ fn connection(
     stream: &TcpStream,
     standing: Standing,
     number: u64,
-) -> Result<Standing, ProgramFault> {
+) -> Result<Standing, ProgramFault>
+    requires again { ForSome standing.saved (λ bytes. CanRestart standing.node.query bytes.items) }
+    requires known { standing.is_current ≡ true → IsSavedAs IsSaved standing.node (kept_bytes standing.saved) }
+    ensures again { IfOk result (λ s. ForSome s.saved (λ bytes. CanRestart s.node.query bytes.items)) }
+    ensures known { IfOk result (λ s. s.is_current ≡ true → IsSavedAs IsSaved s.node (kept_bytes s.saved)) }
+{
     let mut reader = Port::new(ClientInput::new(rt, stream, job.idle));
     let mut writer = Port::new(ClientOutput::new(stream));
     let end = round_on(
