@@ -1,0 +1,8 @@
+mod Numbers
+mod Fractions
+mod Utf8
+mod NameMeanings
+mod ColumnsLaws
+mod Resolving
+mod OneText
+mod TableColumns

@@ -1,0 +1,100 @@
+//! How the fields of a column are read.
+ghost use Rattle.std.specs.Prelude.{◌≡◌, IfOk};
+ghost use Rattle.rp_columns.specs.Headings.{reading_of};
+ghost use Rattle.rp_columns.specs.Readings.{kind_of, reads_field};
+
+use crate::formats::Format;
+use rp_value::Kind;
+use std::alloc::AllocError;
+
+/// The signs inside a decimal number, each an ASCII character.
+#[derive(Clone, Copy, Debug, PartialEq, Eq)]
+pub struct Marks {
+    /// What may stand between thousands, as in `1,234,567`; none: nothing may.
+    pub thousands: Option<u8>,
+    /// What stands before the fraction; none: there is no fraction.
+    pub point: Option<u8>,
+}
+
+/// The unit of an instant.
+#[derive(Clone, Copy, Debug, PartialEq, Eq)]
+pub enum Unit {
+    Second,
+    Millisecond,
+    Microsecond,
+}
+
+/// How a field becomes a value: what it means is `value_of` of `specs/Readings`.
+#[derive(Debug, Drop)]
+pub enum Reading {
+    /// The field as it is.
+    Text,
+    /// The field with small letters for the capital ones of ASCII.
+    Lower,
+    /// A whole number.
+    Int,
+    /// A decimal number, in units of its last place: so many places, and the signs inside it. Of two places, `12.5` is 1250.
+    Decimal(u8, Marks),
+    /// A date and a time, as units since 1970-01-01 00:00 UTC, cut downward. Where the field has no offset, it is so many
+    /// seconds ahead of UTC; none: that is a fault.
+    Instant(Unit, Option<i32>),
+    /// A date, as days since 1970-01-01.
+    Day,
+    /// An instant as `Instant` has it, of a field of this format.
+    Formatted(Unit, Format, Option<i32>),
+    /// A date as `Day` has it, of a field of this format.
+    FormattedDay(Format),
+    /// The number of the record, from 1 on, and no field.
+    Record,
+}
+
+impl Reading {
+    /// What the column may hold beside null.
+    pub fn kind(&self) -> Kind
+        ensures { result ≡ kind_of self.now }
+    {
+        match self {
+            Reading::Text | Reading::Lower => Kind::Text,
+            _ => Kind::Int,
+        }
+    }
+
+    /// Whether the values come from fields: all but the numbers of records do.
+    pub fn reads_field(&self) -> bool
+        ensures { result ≡ reads_field self.now }
+    {
+        match self {
+            Reading::Record => false,
+            _ => true,
+        }
+    }
+
+    /// An equal reading, which shares its format.
+    pub fn share(&self) -> Result<Reading, AllocError>
+        ensures { IfOk result (λ reading. reading ≡ self.now) }
+    {
+        match self {
+            Reading::Text => Ok(Reading::Text),
+            Reading::Lower => Ok(Reading::Lower),
+            Reading::Int => Ok(Reading::Int),
+            Reading::Decimal(places, marks) => Ok(Reading::Decimal(*places, *marks)),
+            Reading::Instant(unit, named) => Ok(Reading::Instant(*unit, *named)),
+            Reading::Day => Ok(Reading::Day),
+            Reading::Formatted(unit, format, named) => {
+                Ok(Reading::Formatted(*unit, format.share()?, *named))
+            }
+            Reading::FormattedDay(format) => Ok(Reading::FormattedDay(format.share()?)),
+            Reading::Record => Ok(Reading::Record),
+        }
+    }
+
+    /// How fields of a kind are read, where nothing more is said.
+    pub(crate) fn of_kind(kind: Kind) -> Reading
+        ensures { result ≡ reading_of kind }
+    {
+        match kind {
+            Kind::Text => Reading::Text,
+            Kind::Int => Reading::Int,
+        }
+    }
+}

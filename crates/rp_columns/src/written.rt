@@ -1,0 +1,45 @@
+//! Columns as they are written.
+
+use rp_value::Text;
+
+/// A name, and where it stands.
+#[derive(Debug, Drop)]
+pub struct Name {
+    /// What it means: the upper-case form of a plain name, what stands inside of a quoted one.
+    pub text: Text,
+    /// The offset of its first byte.
+    pub at: usize,
+}
+
+/// What a reading takes behind the name of the header.
+#[derive(Debug, Drop)]
+pub enum Argument {
+    Number(u64),
+    Text(Text),
+}
+
+/// Which field of the header a reading is called with.
+#[derive(Debug, Drop)]
+pub enum Source {
+    /// Nothing is written, so it is the field of the column's own name.
+    Own,
+    /// The brackets are empty: none.
+    Nothing,
+    /// The field of this name.
+    Field(Name),
+}
+
+/// `reading(source, arguments)`, `reading()`, or `reading` alone.
+#[derive(Debug, Drop)]
+pub struct Called {
+    pub reading: Name,
+    pub source: Source,
+    pub arguments: Vec<Argument>,
+}
+
+/// `name = reading(source, arguments)`, `name = reading()`, or `name reading`, whose source is the name.
+#[derive(Debug, Drop)]
+pub struct Written {
+    pub name: Name,
+    pub called: Called,
+}
