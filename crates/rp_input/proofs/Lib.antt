@@ -11,3 +11,8 @@ mod NotText
 mod Numbering
 mod Gathering
 mod Telling
+mod Placing
+mod TakenByColumns
+mod ColumnsFit
+mod SameFields
+mod SameRows

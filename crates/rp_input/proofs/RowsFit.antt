@@ -37,7 +37,7 @@ field_fits : (k : Kind) (bytes : List ℕ) (v : Value) → IsField k bytes v →
 field_fits k bytes v h = elim h [ inl e ↦ ap (admits k) e.1 ∙ null_fits k | inr e ↦ full_fits k bytes v e.2 ]
 
 -- no value of a row is refused by its column
-abbrev AreAdmitted : List Kind → List Value → Type 0
+abbrev pub AreAdmitted : List Kind → List Value → Type 0
 AreAdmitted kinds row = (length row ≡ length kinds) × (position (λ p. not (admits p.0 p.1)) (zip kinds row) ≡ None)
 
 row_admitted : (kinds : List Kind) (fields : List (List ℕ)) (row : List Value) → IsRow kinds fields row → AreAdmitted kinds row
@@ -50,14 +50,16 @@ row_admitted (k ∷ ks) (f ∷ fs) (v ∷ vs) h =
     let later = row_admitted ks fs vs h.1 in
     (omega (arith, later.0), none_fails_more (λ (p : Kind × Value). admits p.0 p.1) (k, v) (zip ks vs) (field_fits k f v h.0) later.1)
 
-row_fits : (kinds : List Kind) (fields : List (List ℕ)) (row : List Value) → IsRow kinds fields row → row_fault kinds row ≡ None
-row_fits kinds fields row h =
-    let are = row_admitted kinds fields row h in
+pub admitted_fits : (kinds : List Kind) (row : List Value) → AreAdmitted kinds row → row_fault kinds row ≡ None
+admitted_fits kinds row are =
     let same : (length row == length kinds) ≡ true = eq-eqb _ _ are.0 in
     ap (λ b. cond b (option_map (λ k. KindAt (k + 1)) (position (λ p. not (admits p.0 p.1)) (zip kinds row))) (Some Width)) same
     ∙ ap (option_map (λ k. KindAt (k + 1))) are.1
 
-abbrev Fit : List Kind → List (List Value) → Type 0
+row_fits : (kinds : List Kind) (fields : List (List ℕ)) (row : List Value) → IsRow kinds fields row → row_fault kinds row ≡ None
+row_fits kinds fields row h = admitted_fits kinds row (row_admitted kinds fields row h)
+
+abbrev pub Fit : List Kind → List (List Value) → Type 0
 Fit kinds rows = AllByRecursion (λ row. row_fault kinds row ≡ None) rows
 
 rows_fit : (kinds : List Kind) (records : List (List (List ℕ))) (rows : List (List Value)) → AreRows kinds records rows → Fit kinds rows
@@ -68,7 +70,7 @@ rows_fit kinds (r ∷ rs) (row ∷ rows) h = (row_fits kinds r row h.0, rows_fit
 
 -- ---- partitions
 
-abbrev AllFit : List Kind → List Part → Type 0
+abbrev pub AllFit : List Kind → List Part → Type 0
 AllFit kinds parts = AllByRecursion (λ part. Fit kinds part.1) parts
 
 kept : {X : Type 0} (P : X → Type 0) (test : X → Bool) (xs : List X) → AllByRecursion P xs → AllByRecursion P (filter test xs)
@@ -79,7 +81,7 @@ kept P test (x ∷ xs) h = go (test x) (kept P test xs h.1)
     go true later = (h.0, later)
     go false later = later
 
-parts_fit : (kinds : List Kind) (columns : List ℕ) (rows : List (List Value)) → Fit kinds rows → AllFit kinds (partitions columns rows)
+pub parts_fit : (kinds : List Kind) (columns : List ℕ) (rows : List (List Value)) → Fit kinds rows → AllFit kinds (partitions columns rows)
 parts_fit kinds columns [] h = tt
 parts_fit kinds columns (row ∷ rows) h =
     let key = values_in columns row in (
@@ -119,7 +121,7 @@ ordered_keep {X} P before weak xs ys stable h =
     each [] k = tt
     each (z ∷ zs) k = (k.0 (same_place before weak z), each zs k.1)
 
-ordered_fit : (kinds : List Kind) (order : List OrderColumn) → IsStrictWeakOrder (is_before order) → (parts ordered : List Part) → AreOrdered order parts ordered → AllFit kinds parts → AllFit kinds ordered
+pub ordered_fit : (kinds : List Kind) (order : List OrderColumn) → IsStrictWeakOrder (is_before order) → (parts ordered : List Part) → AreOrdered order parts ordered → AllFit kinds parts → AllFit kinds ordered
 ordered_fit kinds order weak [] [] h fit = tt
 ordered_fit kinds order weak [] (o ∷ os) h fit = absurd h
 ordered_fit kinds order weak (part ∷ parts) [] h fit = absurd h

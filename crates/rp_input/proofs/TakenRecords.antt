@@ -18,27 +18,27 @@ use Rattle.rp_input.proofs.Lists.{rows_more}
 pub record Taken (columns : List Column) (text : List ℕ) (rows : List (List Value)) (number : ℕ) (r : Reader (Bor (List ℕ))) : Type 0 where
   pub header : List (List ℕ)
   pub records : List (List (List ℕ))
-  pub stands : Stands text (header ∷ records) r
+  pub stands : Stands 44 text (header ∷ records) r
   pub named : NamesColumns columns header
   pub are : AreRows (kinds_of columns) records rows
   pub place : number ≡ length records + 1
 
 -- the text has these records first
-pub first_of : (text : List ℕ) (records : List (List (List ℕ))) (r : Reader (Bor (List ℕ))) → Stands text records r → (after : List (List (List ℕ))) × (csv_records text ≡ records ++ after)
-first_of text records r at = begins text records (reader_state r, at.rest, at.reached)
+pub first_of : (text : List ℕ) (records : List (List (List ℕ))) (r : Reader (Bor (List ℕ))) → Stands 44 text records r → (after : List (List (List ℕ))) × (csv_records text ≡ records ++ after)
+first_of text records r at = begins 44 text records (reader_state r, at.rest, at.reached)
 
-pub first_taken : (columns : List Column) (text : List ℕ) (r : Reader (Bor (List ℕ))) (header : List (List ℕ)) → Stands text (header ∷ []) r → NamesColumns columns header → Taken columns text [] 1 r
+pub first_taken : (columns : List Column) (text : List ℕ) (r : Reader (Bor (List ℕ))) (header : List (List ℕ)) → Stands 44 text (header ∷ []) r → NamesColumns columns header → Taken columns text [] 1 r
 first_taken columns text r header at named = record { header = header; records = []; stands = at; named = named; are = tt; place = omega arith }
 
-pub no_header : (columns : List Column) (text : List ℕ) → AreAll text [] → HasNoHeader columns text
-no_header columns text all = inl (all_of text [] all)
+pub no_header : (columns : List Column) (text : List ℕ) → AreAll 44 text [] → HasNoHeader columns text
+no_header columns text all = inl (all_of 44 text [] all)
 
-pub other_header : (columns : List Column) (text : List ℕ) (r : Reader (Bor (List ℕ))) (header : List (List ℕ)) → Stands text (header ∷ []) r → (NamesColumns columns header → ⊥) → HasNoHeader columns text
+pub other_header : (columns : List Column) (text : List ℕ) (r : Reader (Bor (List ℕ))) (header : List (List ℕ)) → Stands 44 text (header ∷ []) r → (NamesColumns columns header → ⊥) → HasNoHeader columns text
 other_header columns text r header at other = let first = first_of text (header ∷ []) r at in inr (header, first.0, first.1, other)
 
 module _ (columns : List Column) (text : List ℕ) (rows : List (List Value)) (number : ℕ) (a : Reader (Bor (List ℕ))) (t : Taken columns text rows number a) where
   -- one more record, as a row
-  pub taken_more : (b : Reader (Bor (List ℕ))) (f : List (List ℕ)) (row : List Value) → Stands text (t.header ∷ t.records ++ f ∷ []) b → IsRow (kinds_of columns) f row
+  pub taken_more : (b : Reader (Bor (List ℕ))) (f : List (List ℕ)) (row : List Value) → Stands 44 text (t.header ∷ t.records ++ f ∷ []) b → IsRow (kinds_of columns) f row
       → Taken columns text (rows ++ row ∷ []) (number + 1) b
   taken_more b f row at is = record {
     header = t.header;
@@ -49,11 +49,11 @@ module _ (columns : List Column) (text : List ℕ) (rows : List (List Value)) (n
     place = let p = t.place in omega (arith, length-append t.records (f ∷ []));
   }
 
-  pub all_taken : number ≤ most_records + 1 → AreAll text (t.header ∷ t.records) → AreRowsOf columns text rows
-  all_taken small all = record { header = t.header; records = t.records; all = all_of text (t.header ∷ t.records) all; named = t.named; are = t.are; few = let p = t.place in omega arith }
+  pub all_taken : number ≤ most_records + 1 → AreAll 44 text (t.header ∷ t.records) → AreRowsOf columns text rows
+  all_taken small all = record { header = t.header; records = t.records; all = all_of 44 text (t.header ∷ t.records) all; named = t.named; are = t.are; few = let p = t.place in omega arith }
 
   -- a record at fault
-  first_fault : (b : Reader (Bor (List ℕ))) (f : List (List ℕ)) (Why : List Kind → List (List ℕ) → Type 0) → number ≤ most_records + 1 → Stands text (t.header ∷ t.records ++ f ∷ []) b → Why (kinds_of columns) f
+  first_fault : (b : Reader (Bor (List ℕ))) (f : List (List ℕ)) (Why : List Kind → List (List ℕ) → Type 0) → number ≤ most_records + 1 → Stands 44 text (t.header ∷ t.records ++ f ∷ []) b → Why (kinds_of columns) f
       → IsFirstFault columns text number Why
   first_fault b f Why small at why =
       let first = first_of text (t.header ∷ t.records ++ f ∷ []) b at in
@@ -71,7 +71,7 @@ module _ (columns : List Column) (text : List ℕ) (rows : List (List Value)) (n
         why = why;
       }
 
-  pub fault_taken : (b : Reader (Bor (List ℕ))) (f : List (List ℕ)) (fault : CsvFault) → number ≤ most_records → Stands text (t.header ∷ t.records ++ f ∷ []) b → IsRowFault (kinds_of columns) f number fault
+  pub fault_taken : (b : Reader (Bor (List ℕ))) (f : List (List ℕ)) (fault : CsvFault) → number ≤ most_records → Stands 44 text (t.header ∷ t.records ++ f ∷ []) b → IsRowFault (kinds_of columns) f number fault
       → IsTextFault columns text fault
   fault_taken b f Header small at h = absurd h
   fault_taken b f (Record n) small at h = rw h.0 (first_fault b f _ (omega arith) at (inl h.1))
@@ -80,5 +80,5 @@ module _ (columns : List Column) (text : List ℕ) (rows : List (List Value)) (n
   fault_taken b f Turns small at h = absurd h
   fault_taken b f OutOfMemory small at h = tt
 
-  pub limit_taken : (b : Reader (Bor (List ℕ))) (f : List (List ℕ)) → Stands text (t.header ∷ t.records ++ f ∷ []) b → number ≡ most_records + 1 → IsTextFault columns text (Record (most_records + 1))
+  pub limit_taken : (b : Reader (Bor (List ℕ))) (f : List (List ℕ)) → Stands 44 text (t.header ∷ t.records ++ f ∷ []) b → number ≡ most_records + 1 → IsTextFault columns text (Record (most_records + 1))
   limit_taken b f at is = rw (← is) (first_fault b f _ (omega arith) at (inr (omega arith)))

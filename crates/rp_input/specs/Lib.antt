@@ -2,11 +2,16 @@
 pub mod Fields
 pub mod Headers
 pub mod CsvRows
+pub mod Layouts
+pub mod Placed
+pub mod ByColumns
 pub mod Devices
 pub mod Orders
 pub mod Partitions
 pub mod Gathering
 pub mod Numbered
 pub mod Fitting
+pub mod SameFields
 -- The inside of reading a text.
 pub mod Standing
+pub mod Beginning

@@ -1,21 +1,22 @@
 -- Inside: where a reader of csv stands among the records of a text.
 use Rattle.std.specs.Prelude.{◌≡◌, ℕ, List, Some}
 use Rattle.std.specs.Borrow.{Bor}
-use Rattle.csv.specs.Reading.{AreRecords, Reached, Ready, default_config, source_of, strip_bom}
+use Rattle.csv.specs.Reading.{AreRecords, Reached, Ready, source_of, strip_bom}
 use Rattle.csv.specs.Reading.{reader_config, reader_state, reader_trim}
 use Rattle.csv.specs.declared.parser.State.TheVariants as st
 use Rattle.csv.specs.declared.reader.Reader.{Reader}
 use Rattle.csv.specs.declared.reader.Trim.TheVariants as trim
+use Rattle.rp_input.specs.Layouts.{config_with}
 
--- the records are all of the text, read one after another
-abbrev pub AreAll : List ℕ → List (List (List ℕ)) → Type 0
-AreAll text records = AreRecords default_config st.StartRecord (strip_bom text) records
+-- the records are all of the text by this delimiter, read one after another
+abbrev pub AreAll : ℕ → List ℕ → List (List (List ℕ)) → Type 0
+AreAll delimiter text records = AreRecords (config_with delimiter) st.StartRecord (strip_bom text) records
 
 -- the reader has read these first records of the text, and goes on after them
-pub record Stands (text : List ℕ) (records : List (List (List ℕ))) (r : Reader (Bor (List ℕ))) : Type 0 where
+pub record Stands (delimiter : ℕ) (text : List ℕ) (records : List (List (List ℕ))) (r : Reader (Bor (List ℕ))) : Type 0 where
   pub trims : reader_trim r ≡ trim.None
   pub ready : Ready r
-  pub config : reader_config r ≡ default_config
+  pub config : reader_config r ≡ config_with delimiter
   pub rest : List ℕ
   pub source : source_of (λ s. Some s.now) r ≡ Some rest
-  pub reached : Reached default_config st.StartRecord (strip_bom text) records (reader_state r) rest
+  pub reached : Reached (config_with delimiter) st.StartRecord (strip_bom text) records (reader_state r) rest

@@ -4,8 +4,8 @@ ghost use Rattle.csv.specs.Records.{fields_of};
 ghost use Rattle.rp_value.specs.Tables.{kinds_of};
 ghost use Rattle.rp_input.specs.Fields.{HasNoField, IsField, IsNoField, IsRow};
 
-use crate::texts::Texts;
 use csv::{ByteRecord, StringRecord};
+use rp_columns::Texts;
 use rp_value::{Column, Kind, Value};
 use std::alloc::{AllocError, Global};
 

@@ -6,11 +6,12 @@ ghost use Rattle.rp_input.specs.Standing.{AreAll, Stands};
 use csv::{ByteRecord, Reader, ReaderBuilder};
 use std::alloc::{AllocError, Global};
 
-/// A reader that stands before the first record of a text.
-pub(crate) fn reader_of<'a>(alloc: Global, text: &'a [u8]) -> Reader<&'a [u8]>
-    ensures { Stands text.now [] result }
+/// A reader that stands before the first record of a text with this delimiter.
+pub(crate) fn reader_of<'a>(alloc: Global, text: &'a [u8], delimiter: u8) -> Reader<&'a [u8]>
+    ensures { Stands delimiter text.now [] result }
 {
     ReaderBuilder::new()
+        .delimiter(delimiter)
         .has_headers(false)
         .flexible(true)
         .from_reader(alloc, text)
@@ -21,8 +22,10 @@ pub(crate) fn take_record(
     reader: &mut Reader<&[u8]>,
     fields: &mut ByteRecord,
 ) -> Result<bool, AllocError>
-    ensures { IfOk result (λ found. (text : List ℕ) (before : List (List (List ℕ))) → Stands text before reader.old
-        → MatchBool found (Stands text (before ++ fields_of fields.new ∷ []) reader.new) (AreAll text before)) }
+    ensures { IfOk result (λ found. (delimiter : ℕ) (text : List ℕ) (before : List (List (List ℕ)))
+        → Stands delimiter text before reader.old
+        → MatchBool found (Stands delimiter text (before ++ fields_of fields.new ∷ []) reader.new)
+        (AreAll delimiter text before)) }
 {
     let Ok(found) = reader.read_byte_record(fields) else {
         return Err(AllocError);

@@ -1,8 +1,10 @@
 //! The rows of a CSV text.
 ghost use Rattle.std.specs.Prelude.{◌≡◌, IfOk, IfErr};
 ghost use Rattle.rp_input.specs.CsvRows.{AreRowsOf, IsTextFault};
+ghost use Rattle.rp_input.specs.Devices.{of_device_csv};
 ghost use Rattle.rp_input.specs.declared.rows.CsvFault.TheVariants.{OutOfMemory};
 
+use crate::device::DeviceFault;
 use crate::header::names_columns;
 use crate::records::{reader_of, take_record};
 use crate::taking::Taking;
@@ -38,6 +40,18 @@ pub enum CsvFault {
     OutOfMemory,
 }
 
+impl From<DeviceFault> for CsvFault {
+    ghost from_gives = { λ why fault. fault ≡ of_device_csv why };
+
+    fn from(why: DeviceFault) -> CsvFault {
+        match why {
+            DeviceFault::Read => CsvFault::Read,
+            DeviceFault::Turns => CsvFault::Turns,
+            DeviceFault::OutOfMemory => CsvFault::OutOfMemory,
+        }
+    }
+}
+
 impl From<AllocError> for CsvFault {
     ghost from_gives = { λ _ fault. fault ≡ OutOfMemory };
 
@@ -67,7 +81,7 @@ pub fn rows_of(alloc: Global, text: &[u8], table: &Table) -> Result<Vec<Row>, Cs
     ensures ok { IfOk result (λ rows. AreRowsOf table.now text.now rows.items) }
     ensures err { IfErr result (λ fault. IsTextFault table.now text.now fault) }
 {
-    let mut reader = reader_of(alloc, text);
+    let mut reader = reader_of(alloc, text, b',');
     let mut fields = ByteRecord::new(alloc);
     if !take_record(&mut reader, &mut fields)? {
         return Err(CsvFault::Header);

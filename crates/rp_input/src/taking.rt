@@ -6,8 +6,8 @@ ghost use Rattle.rp_value.specs.Tables.{kinds_of};
 
 use crate::fields::take_values;
 use crate::rows::CsvFault;
-use crate::texts::Texts;
 use csv::{ByteRecord, StringRecord};
+use rp_columns::Texts;
 use rp_value::{Row, RowList, Table, Value};
 use std::alloc::{AllocError, Global};
 

@@ -9,12 +9,12 @@ use Rattle.rp_input.proofs.rows.rows_of.Goals as goal
 pub returns-then-not-branch-clause-err : goal.returns-then-not-branch-clause-err
 returns-then-not-branch-clause-err c =
     let found : c.in_ok-take_record.field-0 ≡ false = search rules in
-    no_header c.args.table.now c.args.text.now (rw found at (c.in_ok-take_record.ensures c.args.text.now [] c.reader_of-reader.ensures))
+    no_header c.args.table.now c.args.text.now (rw found at (c.in_ok-take_record.ensures 44 c.args.text.now [] c.reader_of-reader.ensures))
 
 pub returns-then-not-branch-2-clause-err : goal.returns-then-not-branch-2-clause-err
 returns-then-not-branch-2-clause-err c =
     let found : c.in_ok-take_record.field-0 ≡ true = search rules in
-    let at = rw found at (c.in_ok-take_record.ensures c.args.text.now [] c.reader_of-reader.ensures) in
+    let at = rw found at (c.in_ok-take_record.ensures 44 c.args.text.now [] c.reader_of-reader.ensures) in
     let told : c.in_ok-names_columns.field-0 ≡ false = search rules in
     let other = rw (told, c.columns.ensures.columns) at c.in_ok-names_columns.ensures in
     other_header c.args.table.now c.args.text.now c.take_record.new.reader (fields_of c.take_record.new.fields) at other
@@ -22,7 +22,7 @@ returns-then-not-branch-2-clause-err c =
 pub loop-number-init : goal.loop-number-init
 loop-number-init c =
     let found : c.in_ok-take_record.field-0 ≡ true = search rules in
-    let at = rw found at (c.in_ok-take_record.ensures c.args.text.now [] c.reader_of-reader.ensures) in
+    let at = rw found at (c.in_ok-take_record.ensures 44 c.args.text.now [] c.reader_of-reader.ensures) in
     let told : c.in_ok-names_columns.field-0 ≡ true = search rules in
     let named : NamesColumns c.args.table.now (fields_of c.take_record.new.fields) = rw (told, c.columns.ensures.columns) at c.in_ok-names_columns.ensures in
     rw c.in_ok-taking.ensures (first_taken c.args.table.now c.args.text.now c.take_record.new.reader (fields_of c.take_record.new.fields) at named)
@@ -31,7 +31,7 @@ pub returns-then-not-branch-3-clause-ok : goal.returns-then-not-branch-3-clause-
 returns-then-not-branch-3-clause-ok c =
     let t = c.loop-number.invariant in
     let found : c.in_ok-take_record-2.field-0 ≡ false = search rules in
-    let all = rw found at (c.in_ok-take_record-2.ensures c.args.text.now (t.header ∷ t.records) t.stands) in
+    let all = rw found at (c.in_ok-take_record-2.ensures 44 c.args.text.now (t.header ∷ t.records) t.stands) in
     let small : c.loop-number.number ≤ most_records + 1 = omega arith in
     rw c.in_ok-into_rows.ensures (all_taken c.args.table.now c.args.text.now (rows_added c.loop-number.taking.rows) c.loop-number.number c.loop-number.reader t small all)
 
@@ -39,7 +39,7 @@ pub returns-in_err-fields-clause-err : goal.returns-in_err-fields-clause-err
 returns-in_err-fields-clause-err c =
     let t = c.loop-number.invariant in
     let found : c.in_ok-take_record-2.field-0 ≡ true = search rules in
-    let at = rw found at (c.in_ok-take_record-2.ensures c.args.text.now (t.header ∷ t.records) t.stands) in
+    let at = rw found at (c.in_ok-take_record-2.ensures 44 c.args.text.now (t.header ∷ t.records) t.stands) in
     let small : c.loop-number.number ≤ most_records = omega arith in
     let is : IsTextFault c.args.table.now c.args.text.now c.in_err-fields.field-0.0 = fault_taken c.args.table.now c.args.text.now (rows_added c.loop-number.taking.rows) c.loop-number.number c.loop-number.reader t c.take_record-in-loop-number.new.reader (fields_of c.take_record-in-loop-number.new.fields) c.in_err-fields.field-0.0 small at c.in_err-fields.ensures.err in
     search (rules, is)
@@ -48,7 +48,7 @@ pub loop-number-preserved : goal.loop-number-preserved
 loop-number-preserved c =
     let t = c.loop-number.invariant in
     let found : c.in_ok-take_record-2.field-0 ≡ true = search rules in
-    let at = rw found at (c.in_ok-take_record-2.ensures c.args.text.now (t.header ∷ t.records) t.stands) in
+    let at = rw found at (c.in_ok-take_record-2.ensures 44 c.args.text.now (t.header ∷ t.records) t.stands) in
     let one = c.in_ok-fields.ensures.ok in
     rw one.2 (taken_more c.args.table.now c.args.text.now (rows_added c.loop-number.taking.rows) c.loop-number.number c.loop-number.reader t c.take_record-in-loop-number.new.reader (fields_of c.take_record-in-loop-number.new.fields) one.0 at one.1)
 
@@ -56,7 +56,7 @@ pub returns-then-branch-clause-err : goal.returns-then-branch-clause-err
 returns-then-branch-clause-err c =
     let t = c.loop-number.invariant in
     let found : c.in_ok-take_record-3.field-0 ≡ true = search rules in
-    let at = rw found at (c.in_ok-take_record-3.ensures c.args.text.now (t.header ∷ t.records) t.stands) in
+    let at = rw found at (c.in_ok-take_record-3.ensures 44 c.args.text.now (t.header ∷ t.records) t.stands) in
     let last : c.loop-number.number ≡ most_records + 1 = omega arith in
     limit_taken c.args.table.now c.args.text.now (rows_added c.loop-number.taking.rows) c.loop-number.number c.loop-number.reader t c.take_record-2.new.reader (fields_of c.take_record-2.new.fields) at last
 
@@ -64,6 +64,6 @@ pub returns-clause-ok : goal.returns-clause-ok
 returns-clause-ok c =
     let t = c.loop-number.invariant in
     let found : c.in_ok-take_record-3.field-0 ≡ false = search rules in
-    let all = rw found at (c.in_ok-take_record-3.ensures c.args.text.now (t.header ∷ t.records) t.stands) in
+    let all = rw found at (c.in_ok-take_record-3.ensures 44 c.args.text.now (t.header ∷ t.records) t.stands) in
     let small : c.loop-number.number ≤ most_records + 1 = omega arith in
     rw c.in_ok-into_rows-2.ensures (all_taken c.args.table.now c.args.text.now (rows_added c.loop-number.taking.rows) c.loop-number.number c.loop-number.reader t small all)

@@ -1,7 +1,7 @@
 use Rattle.std.proofs.Common.{◌≡◌, ◌-◌, length}
 use Rattle.std.specs.Io.KnownBytes.{Consumes}
 use Rattle.rp_io.specs.Reading.{ReadsSoFar}
-use Rattle.rp_input.proofs.input.read_all.Given as goal
+use Rattle.rp_input.proofs.device.read_all.Given as goal
 
 abbrev pub invariant-loop-read : goal.invariant-loop-read
 invariant-loop-read g l = record {

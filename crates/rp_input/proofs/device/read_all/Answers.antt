@@ -5,10 +5,10 @@ use Rattle.rp_io.proofs.Calls.{UsesCalls-none, UsesCalls-one}
 use Rattle.rp_io.proofs.Giving.{AsManyBytesAsReads-read, AsManyBytesAsReads-start}
 use Rattle.rp_io.proofs.SoFar.{no_reads, reads_end, reads_fail, reads_more, reads_stop}
 use Rattle.rp_io.specs.Reading.Told.{Other}
-use Rattle.rp_input.specs.Devices.{rows_told}
-use Rattle.rp_input.specs.declared.rows.CsvFault.TheVariants.{OutOfMemory}
+use Rattle.rp_input.specs.Devices.{bytes_told}
+use Rattle.rp_input.specs.declared.device.DeviceFault.TheVariants.{OutOfMemory}
 use Rattle.rp_input.proofs.Filled.{whole_of}
-use Rattle.rp_input.proofs.input.read_all.Goals as goal
+use Rattle.rp_input.proofs.device.read_all.Goals as goal
 
 pub loop-read-preserved : goal.loop-read-preserved
 loop-read-preserved g c =
@@ -34,7 +34,7 @@ loop-read-init g c = record {
 
 pub returns-in_err-resize-clause-reads : goal.returns-in_err-resize-clause-reads
 returns-in_err-resize-clause-reads g c =
-    let told : rows_told c.from_residual.result ≡ Other = let is : c.from_residual.result ≡ Err OutOfMemory = search rules in ap rows_told is in
+    let told : bytes_told c.from_residual.result ≡ Other = let is : c.from_residual.result ≡ Err OutOfMemory = search rules in ap bytes_told is in
     rw told (reads_stop _ _ _ _ _ _ _ _ _ _ (no_reads c.args.reads c.args.reads _ _ _ _ refl))
 
 pub returns-in_default-clause-reads : goal.returns-in_default-clause-reads
@@ -56,7 +56,7 @@ returns-in_err-extend_from_slice-clause-reads g c =
     (UsesCalls-one (c.args.reads - c.loop-read._read) (c.args.reads - (c.loop-read._read + 1)) _ _ (omega arith) c.in-Ok.ensures.calls)
     c.in-Ok.ensures.no_failure (c.in-Ok.ensures.more (omega arith))
     (AsManyBytesAsReads-read (c.args.reads - c.loop-read._read) (c.args.reads - (c.loop-read._read + 1)) (g.R.Intake.remaining c.loop-read.reader) (g.R.Intake.remaining c.read.new.self) (take c.in-Ok.count c.read.new.buffer) (omega arith) c.in-Ok.ensures.bytes.0 (omega arith)) in
-    let told : rows_told c.from_residual-in_err-extend_from_slice.result ≡ Other = let is : c.from_residual-in_err-extend_from_slice.result ≡ Err OutOfMemory = search rules in ap rows_told is in
+    let told : bytes_told c.from_residual-in_err-extend_from_slice.result ≡ Other = let is : c.from_residual-in_err-extend_from_slice.result ≡ Err OutOfMemory = search rules in ap bytes_told is in
     rw told (reads_stop _ _ _ _ _ _ _ _ _ _ more)
 
 pub returns-clause-reads : goal.returns-clause-reads

@@ -1,0 +1,108 @@
+//! The rows of a CSV text by columns that are computed.
+ghost use Rattle.std.specs.Prelude.{◌≡◌, ◌<◌, ◌^◌, [], IfOk, IfErr, OnOk};
+ghost use Rattle.csv.specs.Records.{fields_of};
+ghost use Rattle.rp_input.specs.ByColumns.{AreRowsByColumns, IsByColumnsFault};
+ghost use Rattle.rp_value.specs.RowLists.{rows_added};
+
+use crate::columns_fault::ColumnsCsvFault;
+use crate::layout::CsvLayout;
+use crate::placed::{CellFault, take_cells};
+use crate::places::{Places, places_of};
+use crate::records::{reader_of, take_record};
+use crate::rows::MAX_RECORDS;
+use csv::ByteRecord;
+use rp_columns::{Columns, Texts};
+use rp_value::{Row, RowList, Text, Value};
+use std::alloc::{AllocError, Global};
+
+/// The rows of the records so far, and what is used again for the next one.
+#[derive(Drop)]
+struct Taking {
+    texts: Texts,
+    cells: Vec<Value>,
+    rows: RowList,
+}
+
+impl Taking {
+    ghost use Rattle.rp_input.specs.ByColumns.{IsRecordFault, TakesRow};
+
+    fn new(alloc: Global) -> Result<Taking, AllocError>
+        ensures { IfOk result (λ taking. rows_added taking.rows ≡ []) }
+    {
+        Ok(Taking {
+            texts: Texts::new(alloc)?,
+            cells: Vec::new(alloc),
+            rows: RowList::new(alloc),
+        })
+    }
+
+    /// Takes the record of this number, from 1, as the next row, where it has as many fields as it has to have.
+    fn take(
+        &mut self,
+        alloc: Global,
+        nulls: &[Text],
+        places: &Places,
+        fields: &ByteRecord,
+        number: u64,
+    ) -> Result<(), ColumnsCsvFault>
+        requires { number < 2 ^ 63 }
+        ensures ok { OnOk result (TakesRow nulls.now places.now.columns.items places.now.width number
+            (fields_of fields.now) (rows_added self.old.rows) (rows_added self.new.rows)) }
+        ensures err { IfErr result (λ fault. IsRecordFault nulls.now places.now.columns.items places.now.width
+            (fields_of fields.now) number fault) }
+    {
+        if fields.len() != places.width {
+            return Err(ColumnsCsvFault::Record(number));
+        }
+        match take_cells(
+            alloc,
+            &mut self.texts,
+            nulls,
+            number,
+            places.columns.as_slice(),
+            fields,
+            &mut self.cells,
+        ) {
+            Ok(()) => {}
+            Err(CellFault::Field(index, why)) => {
+                return Err(ColumnsCsvFault::Field(number, index, why));
+            }
+            Err(CellFault::OutOfMemory) => return Err(ColumnsCsvFault::OutOfMemory),
+        }
+        self.rows.push(&mut self.cells)?;
+        Ok(())
+    }
+}
+
+/// The rows of a CSV text by columns.
+///
+/// Where the layout has a header, it is the first record: each column's source is the name of one of its fields, or the
+/// upper-case form of one that has the form of a name, and other fields may have any name. Each record after it has as many
+/// fields as the header. Without a header each record has a field for each column that reads one, in their order. A field that
+/// is one of the null words, byte for byte, is null. The error is the first of the text: the header's, then the records' in
+/// order, where the number of fields is looked at before what they are.
+pub fn rows_by(
+    alloc: Global,
+    text: &[u8],
+    layout: CsvLayout,
+    columns: &Columns,
+    nulls: &[Text],
+) -> Result<Vec<Row>, ColumnsCsvFault>
+    ensures ok { IfOk result (λ rows. AreRowsByColumns nulls.now layout columns.now text.now rows.items) }
+    ensures err { IfErr result (λ fault. IsByColumnsFault nulls.now layout columns.now text.now fault) }
+{
+    let mut reader = reader_of(alloc, text, layout.delimiter);
+    let places = places_of(alloc, layout, columns.as_slice(), &mut reader)?;
+    let mut fields = ByteRecord::new(alloc);
+    let mut taking = Taking::new(alloc)?;
+    for number in 1..MAX_RECORDS + 1 {
+        if !take_record(&mut reader, &mut fields)? {
+            return Ok(taking.rows.into_rows()?);
+        }
+        taking.take(alloc, nulls, &places, &fields, number)?;
+    }
+    if take_record(&mut reader, &mut fields)? {
+        return Err(ColumnsCsvFault::Record(MAX_RECORDS + 1));
+    }
+    Ok(taking.rows.into_rows()?)
+}

@@ -1,0 +1,66 @@
+//! All bytes of a device.
+ghost use Rattle.std.specs.Prelude.{IfOk};
+ghost use Rattle.std.specs.Io.KnownBytes.{Consumes};
+ghost use Rattle.rp_io.specs.Reading.{ReadsWithin};
+ghost use Rattle.rp_input.specs.Devices.{bytes_told};
+ghost use Rattle.rp_input.specs.declared.device.DeviceFault.TheVariants.{OutOfMemory};
+
+use rp_io::Intake;
+use std::alloc::{AllocError, AllocFailed, Global};
+
+/// The most bytes that one call reads.
+const CHUNK: usize = 65_536;
+
+/// Why a device's bytes weren't read to their end.
+#[derive(Clone, Copy, Debug, PartialEq, Eq)]
+pub(crate) enum DeviceFault {
+    Read,
+    Turns,
+    OutOfMemory,
+}
+
+impl From<AllocError> for DeviceFault {
+    ghost use Rattle.std.specs.Prelude.{◌≡◌};
+
+    ghost from_gives = { λ _ fault. fault ≡ OutOfMemory };
+
+    fn from(_error: AllocError) -> DeviceFault {
+        DeviceFault::OutOfMemory
+    }
+}
+
+impl<T: Drop> From<AllocFailed<T>> for DeviceFault {
+    ghost use Rattle.std.specs.Prelude.{◌≡◌};
+
+    ghost from_gives = { λ _ fault. fault ≡ OutOfMemory };
+
+    fn from(_error: AllocFailed<T>) -> DeviceFault {
+        DeviceFault::OutOfMemory
+    }
+}
+
+/// All bytes of an input, by at most so many calls.
+pub(crate) fn read_all<R: Intake>(
+    alloc: Global,
+    reader: &mut R,
+    reads: u64,
+) -> Result<Vec<u8>, DeviceFault>
+    ensures ok { IfOk result (λ bytes. Consumes (R.remaining reader.old) (R.remaining reader.new) bytes.items) }
+    ensures reads { ReadsWithin reads (bytes_told result)
+        (R.calls reader.old) (R.calls reader.new) (R.failures reader.old) (R.failures reader.new)
+        (R.ended reader.old) (R.ended reader.new) (R.remaining reader.old) (R.remaining reader.new) }
+{
+    let mut bytes = Vec::new(alloc);
+    let mut chunk = Vec::new(alloc);
+    chunk.resize(CHUNK, 0)?;
+    for _read in 0..reads {
+        let Ok(count) = reader.read(chunk.as_mut_slice()) else {
+            return Err(DeviceFault::Read);
+        };
+        if count == 0 {
+            return Ok(bytes);
+        }
+        bytes.extend_from_slice(&chunk[..count])?;
+    }
+    Err(DeviceFault::Turns)
+}
