@@ -1,0 +1,5 @@
+mod UpperKeys
+mod PathParts
+mod CellsTaken
+mod LinesTaken
+mod MembersFound
