@@ -56,7 +56,7 @@ values_print (Null ∷ vs) rest = simp (values_print vs rest, append_assoc)
 values_print (Int z ∷ vs) rest = simp (values_print vs rest, append_assoc)
 values_print (Text s ∷ vs) rest = simp (values_print vs rest, append_assoc)
 
-value_first : (v : Value) (ts : List Token) → print_from false (value_token v ∷ ts) ≡ value_text v ++ print_from true ts
+pub value_first : (v : Value) (ts : List Token) → print_from false (value_token v ∷ ts) ≡ value_text v ++ print_from true ts
 unfolding print_from
 value_first Null ts = refl
 value_first (Int z) ts = refl

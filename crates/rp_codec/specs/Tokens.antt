@@ -1,14 +1,17 @@
--- Inside: the tokens of a reply's line.
-use Rattle.std.specs.Prelude.{ℕ, ◌++◌, List, [], ◌∷◌, map, true, Option, Some, None, codes, decimal}
+-- Inside: the tokens of a reply's line, and of an output row's object.
+use Rattle.std.specs.Prelude.{ℕ, ◌++◌, List, [], ◌∷◌, map, true, Option, Some, None, codes, decimal, zip}
+use Rattle.std.specs.List.{flat_map}
 use Rattle.std.specs.Fmt.{signed_decimal}
 use Rattle.json.specs.Token.{Token, begin_object, end_object, begin_array, end_array}
 use Rattle.json.specs.Token.{key, string, number, boolean, null}
 use Rattle.rp_value.specs.declared.value.Value.{Value}
 use Rattle.rp_value.specs.declared.value.Value.TheVariants.{Null, Int, Text}
+use Rattle.rp_codec.specs.ObjectTexts.{Field}
 use Rattle.rp_codec.specs.ReplyLines.{name_of_fault, name_of_taken}
 use Rattle.rp_codec.specs.Refusals.{refusal_text}
 use Rattle.rp_codec.specs.declared.reply.Reply.{Reply}
 use Rattle.rp_codec.specs.declared.reply.Reply.TheVariants.{Taken, Item, Idle, Paused, Refused}
+use Rattle.rp_query.specs.declared.query.OutputColumn.{OutputColumn}
 use Rattle.rp_query.specs.declared.item.Item.{Item as Given}
 use Rattle.rp_query.specs.declared.item.Item.TheVariants.{Row, Fault, End}
 
@@ -53,3 +56,11 @@ reply_tokens (Item at place given) = item_tokens at place given
 reply_tokens (Idle values) = list_tokens (codes "idle") values
 reply_tokens (Paused values) = list_tokens (codes "paused") values
 reply_tokens (Refused refusal) = word_tokens (codes "refused") (refusal_text refusal)
+
+-- the field of an output column
+abbrev pub field_tokens : Field → List Token
+field_tokens f = key f.0.name ∷ value_token f.1 ∷ []
+
+-- the object of an output row
+abbrev pub object_tokens : List OutputColumn → List Value → List Token
+object_tokens columns cells = begin_object ∷ (flat_map field_tokens (zip columns cells) ++ end_object ∷ [])

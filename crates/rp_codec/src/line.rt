@@ -247,7 +247,7 @@ pub(crate) fn write_values(writer: &mut Writer, values: &[Value]) -> Result<(), 
     writer.end_array()
 }
 
-fn write_value(writer: &mut Writer, value: &Value) -> Result<(), AllocError>
+pub(crate) fn write_value(writer: &mut Writer, value: &Value) -> Result<(), AllocError>
     ensures ok { OnOk result (writer.new.tokens ≡ writer.old.tokens ++ value_token value.now ∷ []) }
     ensures within { OnOk result (IsCell value.now) }
     ensures before { writer.new.before ≡ writer.old.before }
