@@ -1,0 +1,83 @@
+//! From the text of a condition to a filter.
+ghost use Rattle.std.specs.Prelude.{◌≡◌, IfOk, OnOk, string_bytes};
+ghost use Rattle.rp_query.specs.QueryView.{data_of};
+ghost use Rattle.rp_query.specs.Locality.{ConditionsAreLocal};
+ghost use Rattle.rp_query.specs.LooksBack.{ConditionsLookBack};
+ghost use Rattle.rp_query.specs.declared.locality.Locality.TheVariants.{Row};
+ghost use Rattle.rp_check.specs.Compiled.{IsCompiled};
+ghost use Rattle.rp_filter.specs.Meets.{clause_of};
+
+use crate::fault::FilterFault;
+use crate::filter::Filter;
+use rp_check::{CompileFault, Fault, compile};
+use rp_grammar::ParseFault;
+use rp_lexer::LexFault;
+use rp_value::Table;
+use std::alloc::{AllocError, Global};
+
+/// What stands before a condition in the clause that it is read as.
+const FRONT: &str = "PATTERN (R) DEFINE R AS (";
+
+/// The filter of a condition over a table. A fault's offset is that in the condition; where the condition ends too early, its length.
+pub fn read_filter(alloc: Global, text: &str, table: &Table) -> Result<Filter, FilterFault>
+    ensures query { IfOk result (λ filter. IsCompiled (clause_of text.now) table.now (data_of filter.query)) }
+    ensures local { IfOk result (λ filter. ConditionsAreLocal Row (data_of filter.query).plan) }
+    ensures ahead { IfOk result (λ filter. ConditionsLookBack (data_of filter.query).plan) }
+    ensures back { IfOk result (λ filter. (data_of filter.query).reach ≡ 0) }
+{
+    let clause = clause_text(alloc, text)?;
+    match compile(alloc, clause.as_str(), table) {
+        Ok(query) => {
+            if query.judges_rows() && query.looks_back() && query.reach() == 0 {
+                Ok(Filter { query })
+            } else {
+                Err(FilterFault::OtherRows)
+            }
+        }
+        Err(CompileFault::OutOfMemory) => Err(FilterFault::OutOfMemory),
+        Err(fault) => Err(FilterFault::Condition(in_condition(fault, text.len()))),
+    }
+}
+
+/// The clause that a condition is read as.
+fn clause_text(alloc: Global, text: &str) -> Result<String, AllocError>
+    ensures { IfOk result (λ clause. string_bytes clause ≡ clause_of text.now) }
+{
+    let mut clause = String::from_str(alloc, FRONT)?;
+    clause.push_str(text)?;
+    clause.push_str(")")?;
+    Ok(clause)
+}
+
+/// The offset in a condition of so many bytes, by that in its clause.
+fn offset_in(at: usize, length: usize) -> usize {
+    at.saturating_sub(FRONT.len()).min(length)
+}
+
+/// The fault with its offset in the condition.
+fn in_condition(fault: CompileFault, length: usize) -> CompileFault {
+    match fault {
+        CompileFault::Lex(why) => CompileFault::Lex(lex_in_condition(why, length)),
+        CompileFault::Parse(ParseFault::Expected(at)) => {
+            CompileFault::Parse(ParseFault::Expected(offset_in(at, length)))
+        }
+        CompileFault::Parse(ParseFault::Deep(at)) => {
+            CompileFault::Parse(ParseFault::Deep(offset_in(at, length)))
+        }
+        CompileFault::Check(why) => CompileFault::Check(Fault {
+            kind: why.kind,
+            offset: offset_in(why.offset, length),
+        }),
+        fault => fault,
+    }
+}
+
+fn lex_in_condition(fault: LexFault, length: usize) -> LexFault {
+    match fault {
+        LexFault::BadChar(at) => LexFault::BadChar(offset_in(at, length)),
+        LexFault::OpenText(at) => LexFault::OpenText(offset_in(at, length)),
+        LexFault::OpenName(at) => LexFault::OpenName(offset_in(at, length)),
+        LexFault::NumberRange(at) => LexFault::NumberRange(offset_in(at, length)),
+        LexFault::OutOfMemory => LexFault::OutOfMemory,
+    }
+}
