@@ -1,16 +1,22 @@
 -- The items of a partition that are written one by one.
-use Rattle.std.proofs.Common.{◌≡◌, ◌∙◌, ℕ, List, [], ◌++◌, Option, Some, None, refl, sym, ap, subst, append_assoc, append-nil}
+use Rattle.std.proofs.Common.{◌≡◌, ◌∙◌, ℕ, zero, suc, ◌+◌, Bool, true, List, [], ◌∷◌, ◌++◌, length, take, drop, Option, Some, None, refl, sym, ap, subst, append_assoc, append-nil, arith}
+use Rattle.std.proofs.lemmas.List.{append_cancel_right}
+use Rattle.std.specs.List.{flat_map}
+use Rattle.rp_value.specs.declared.value.Value.{Value}
 use Rattle.std.specs.Io.KnownBytes.{Appends}
 use Rattle.rp_query.specs.declared.query.QueryData.{QueryData}
 use Rattle.rp_query.specs.declared.item.Item.{Item}
+use Rattle.rp_known.specs.Walk.{known}
 use Rattle.rp_io.specs.Devices.{AppendsFront, Moves}
 use Rattle.rp_input.specs.Partitions.{Part}
 use Rattle.rp_walker.specs.declared.poll.Poll.TheVariants.{Item as ItemPoll}
 use Rattle.rp_walker.specs.declared.record.MatcherState.{MatcherState}
 use Rattle.rp_walker.specs.Polls.{AnswerIs}
-use Rattle.rp_whole.specs.AnswerLines.{closed}
-use Rattle.rp_whole.specs.Writing.{Form, WritesOn, bytes_to_come, stops_to_come}
+use Rattle.rp_walker.specs.Records.{first_state}
+use Rattle.rp_whole.specs.Answers.{Form, bytes_from, closed, part_bytes}
+use Rattle.rp_whole.specs.Writing.{WritesOn, WritesPart, bytes_to_come, stops_to_come}
 use Rattle.rp_whole.specs.declared.stopped.Stopped.{Stopped}
+use Rattle.rp_whole.proofs.AllShown.{all_is_shown, all_taken}
 use Rattle.rp_whole.proofs.ToCome.{next_bytes, next_stops, same_bytes, same_stops}
 use Rattle.rp_io.proofs.Writes.{front_longer, moves_front, moves_more, moves_none}
 
@@ -23,13 +29,13 @@ moves_all (Some xs) (Some ys) text wrote = (text, sym (append-nil text), wrote)
 module _ (form : Form) (q : QueryData) (part : Part) (old new : MatcherState) where
   module _ (place : ℕ) (x : Item) (is : AnswerIs q (closed part.1) old new (ItemPoll place x)) where
     -- the bytes of the item come next
-    next : bytes_to_come form q part old ≡ form.bytes part.0 place x ++ bytes_to_come form q part new
-    next = next_bytes form q part old new x is.1 is.2 ∙ ap (λ n. form.bytes part.0 n x ++ bytes_to_come form q part new) (sym is.0)
+    next : bytes_to_come form q part old ≡ form.bytes q part.0 place x ++ bytes_to_come form q part new
+    next = next_bytes form q part old new x is.1 is.2 ∙ ap (λ n. form.bytes q part.0 n x ++ bytes_to_come form q part new) (sym is.0)
 
-    pub item_written : (a b : Option (List ℕ)) (gathered more rest : List ℕ) (s t u : List Stopped) → more ≡ gathered ++ form.bytes part.0 place x → Moves a more b rest
+    pub item_written : (a b : Option (List ℕ)) (gathered more rest : List ℕ) (s t u : List Stopped) → more ≡ gathered ++ form.bytes q part.0 place x → Moves a more b rest
         → t ≡ s ++ form.stops part.0 x → u ≡ t → WritesOn form q part old new a gathered b rest s u
     item_written a b gathered more rest s t u with_item moves told same = record {
-      bytes = form.bytes part.0 place x;
+      bytes = form.bytes q part.0 place x;
       come = next;
       moves = subst (λ bytes. Moves a bytes b rest) with_item moves;
       stops = form.stops part.0 x;
@@ -37,11 +43,11 @@ module _ (form : Form) (q : QueryData) (part : Part) (old new : MatcherState) wh
       told = same ∙ told;
     }
 
-    pub item_front : (a b : Option (List ℕ)) (gathered more : List ℕ) → more ≡ gathered ++ form.bytes part.0 place x → AppendsFront a b more
+    pub item_front : (a b : Option (List ℕ)) (gathered more : List ℕ) → more ≡ gathered ++ form.bytes q part.0 place x → AppendsFront a b more
         → AppendsFront a b (gathered ++ bytes_to_come form q part old)
     item_front a b gathered more with_item front =
-        subst (AppendsFront a b) (append_assoc gathered (form.bytes part.0 place x) (bytes_to_come form q part new) ∙ ap (λ t. gathered ++ t) (sym next))
-        (front_longer a b (gathered ++ form.bytes part.0 place x) (bytes_to_come form q part new) (subst (AppendsFront a b) with_item front))
+        subst (AppendsFront a b) (append_assoc gathered (form.bytes q part.0 place x) (bytes_to_come form q part new) ∙ ap (λ t. gathered ++ t) (sym next))
+        (front_longer a b (gathered ++ form.bytes q part.0 place x) (bytes_to_come form q part new) (subst (AppendsFront a b) with_item front))
 
   -- no item came: of what was gathered a front was written, perhaps none or all
   pub none_moved : (a b : Option (List ℕ)) (gathered rest : List ℕ) (s t : List Stopped) → new.given ≡ old.given → Moves a gathered b rest → t ≡ s
@@ -75,11 +81,58 @@ written_front form q part r s a b c first second x y one front =
     subst (AppendsFront a c) (append_assoc first one.bytes (bytes_to_come form q part s) ∙ ap (λ t. first ++ t) (sym one.come))
     (moves_front a b c (first ++ one.bytes) second (bytes_to_come form q part s) one.moves front)
 
-module _ (form : Form) (q : QueryData) (part : Part) (r s : MatcherState) (a b : Option (List ℕ)) (first second : List ℕ) (x y : List Stopped) (one : WritesOn form q part r s a first b second x y) where
-  pub written_all : bytes_to_come form q part s ≡ [] → Moves a (first ++ bytes_to_come form q part r) b second
-  written_all none =
-      let all : one.bytes ≡ bytes_to_come form q part r = sym (one.come ∙ ap (λ t. one.bytes ++ t) none ∙ append-nil one.bytes) in
-      subst (λ t. Moves a (first ++ t) b second) all one.moves
+-- ---- first items
 
-  pub told_all : stops_to_come form q part s ≡ [] → y ≡ x ++ stops_to_come form q part r
-  told_all none = one.told ∙ ap (λ t. x ++ t) (sym (one.tell ∙ ap (λ t. one.stops ++ t) none ∙ append-nil one.stops))
+-- the bytes of items are those of the first ones, and then those of the rest
+first_bytes : (form : Form) (q : QueryData) (key : List Value) (n place : ℕ) (items : List Item)
+    → bytes_from form q key place items ≡ bytes_from form q key place (take n items) ++ bytes_from form q key (place + n) (drop n items)
+first_bytes form q key zero place items = let same : place ≡ place + 0 = omega arith in ap (λ p. bytes_from form q key p items) same
+first_bytes form q key (suc n) place [] = refl
+first_bytes form q key (suc n) place (item ∷ items) =
+    let same : suc place + n ≡ place + suc n = omega arith in
+    ap (λ t. form.bytes q key place item ++ t) (first_bytes form q key n (suc place) items)
+    ∙ sym (append_assoc (form.bytes q key place item) (bytes_from form q key (suc place) (take n items)) (bytes_from form q key (suc place + n) (drop n items)))
+    ∙ ap (λ p. (form.bytes q key place item ++ bytes_from form q key (suc place) (take n items)) ++ bytes_from form q key p (drop n items)) same
+
+first_stops : (stops : Item → List Stopped) (n : ℕ) (items : List Item) → flat_map stops items ≡ flat_map stops (take n items) ++ flat_map stops (drop n items)
+first_stops stops zero items = refl
+first_stops stops (suc n) [] = refl
+first_stops stops (suc n) (item ∷ items) =
+    ap (λ t. stops item ++ t) (first_stops stops n items)
+    ∙ sym (append_assoc (stops item) (flat_map stops (take n items)) (flat_map stops (drop n items)))
+
+-- ---- a partition's answer
+
+module _ (limited : Bool) (form : Form) (q : QueryData) (part : Part) (last : MatcherState) (a b : Option (List ℕ)) (gathered rest : List ℕ) (s t : List Stopped)
+    (wrote : WritesOn form q part first_state last a gathered b rest s t) where
+  -- the answer is given up where the walk stands
+  pub part_given_up : (row : ℕ) → limited ≡ true → WritesPart limited form q part (Some row) a gathered b rest s t
+  part_given_up row is_limited =
+      let shown = bytes_from form q part.0 1 (take last.given (known q (closed part.1))) in
+      let place : 1 + last.given ≡ last.given + 1 = omega arith in
+      let bytes : bytes_to_come form q part first_state ≡ shown ++ bytes_to_come form q part last =
+      first_bytes form q part.0 last.given 1 (known q (closed part.1))
+      ∙ ap (λ p. shown ++ bytes_from form q part.0 p (drop last.given (known q (closed part.1)))) place in
+      let stops = flat_map (form.stops part.0) (take last.given (known q (closed part.1))) in
+      let told : stops_to_come form q part first_state ≡ stops ++ stops_to_come form q part last = first_stops (form.stops part.0) last.given (known q (closed part.1)) in
+      let same : wrote.bytes ≡ shown = append_cancel_right wrote.bytes shown (bytes_to_come form q part last) (sym wrote.come ∙ bytes) in
+      let same_stops : wrote.stops ≡ stops = append_cancel_right wrote.stops stops (stops_to_come form q part last) (sym wrote.tell ∙ told) in
+      record {
+        count = last.given;
+        is = record { all = λ none. absurd cc; by_limit = λ no. absurd cc };
+        moves = subst (λ l. Moves a (gathered ++ l) b rest) same wrote.moves;
+        told = wrote.told ∙ ap (λ l. s ++ l) same_stops;
+      }
+
+  -- all of its items are given
+  pub part_written : bytes_to_come form q part last ≡ [] → stops_to_come form q part last ≡ [] → WritesPart limited form q part None a gathered b rest s t
+  part_written none none_told =
+      let items = all_taken q part in
+      let all : wrote.bytes ≡ part_bytes form q part = sym (wrote.come ∙ ap (λ l. wrote.bytes ++ l) none ∙ append-nil wrote.bytes) in
+      let all_told : wrote.stops ≡ flat_map (form.stops part.0) (known q (closed part.1)) = sym (wrote.tell ∙ ap (λ l. wrote.stops ++ l) none_told ∙ append-nil wrote.stops) in
+      record {
+        count = length (known q (closed part.1));
+        is = all_is_shown limited q part;
+        moves = subst (λ l. Moves a (gathered ++ l) b rest) (all ∙ sym (ap (bytes_from form q part.0 1) items)) wrote.moves;
+        told = wrote.told ∙ ap (λ l. s ++ l) (all_told ∙ sym (ap (flat_map (form.stops part.0)) items));
+      }

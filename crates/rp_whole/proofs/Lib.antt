@@ -1,3 +1,5 @@
+mod AllShown
+mod AfterPauses
 mod ToCome
 mod Items
 mod InOrder

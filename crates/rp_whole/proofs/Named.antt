@@ -1,7 +1,8 @@
--- The header of an answer's CSV names the cells below it.
-use Rattle.std.proofs.Common.{◌≡◌, ◌∙◌, ℕ, List, [], ◌∷◌, ◌++◌, map, length, append_assoc, refl, sym, ap, subst}
+-- Names head the cells of an answer's rows: those of a CSV's header, and those of an object's members.
+use Rattle.std.proofs.Common.{◌≡◌, ◌∙◌, ℕ, suc, List, [], ◌∷◌, ◌++◌, map, length, refl, sym, ap, subst}
+use Rattle.std.proofs.lemmas.Grind.{flat_map-append}
 use Rattle.std.specs.Prelude.{All, Contains, Option, Some, None}
-use Rattle.std.specs.List.{AllByRecursion, flat_map}
+use Rattle.std.specs.List.{AllByRecursion, flat_map, slice_index_or}
 use Rattle.std.proofs.lemmas.List.{length-map}
 use Rattle.std.proofs.lemmas.List.Elements.{All-contains_itself, All-from_recursion, All-weaker, recursion_from_All}
 use Rattle.std.proofs.lemmas.Slice.Zip.{AllZip-long}
@@ -17,13 +18,16 @@ use Rattle.rp_known.specs.Named.{IsNamed, KnownIsNamed}
 use Rattle.rp_known.specs.Plans.{setting_of, shown_in, shown_alone}
 use Rattle.rp_known.specs.Typed.{AreTyped, IsTyped, KnownIsTyped}
 use Rattle.rp_known.specs.Walk.{known}
+use Rattle.rp_codec.specs.ObjectsRead.{HasCells, ObjectsHaveCells, ObjectsReadBack}
 use Rattle.rp_input.specs.Fitting.{PartsFit}
 use Rattle.rp_input.specs.Partitions.{Part}
 use Rattle.rp_table.specs.ReadBack.{Reads, ReadsBack, records_text}
 use Rattle.rp_table.specs.RecordTexts.{field_of, cells_record}
-use Rattle.rp_whole.specs.AnswerLines.{closed}
-use Rattle.rp_whole.specs.AnswerRecords.{output_names, header_text, record_text, part_records}
-use Rattle.rp_whole.specs.Named.{IsOutputRow, HeaderNames, header_and_rows}
+use Rattle.rp_whole.specs.Answers.{bytes_from, closed, part_bytes}
+use Rattle.rp_whole.specs.AnswerObjects.{object_line}
+use Rattle.rp_whole.specs.AnswerRecords.{header_text}
+use Rattle.rp_whole.specs.AnswerRows.{output_names, row_form}
+use Rattle.rp_whole.specs.Named.{AreOfTable, AreOutputRows, HeaderNames, HeaderNamesOf, IsOutputRow, ObjectsName, header_and_rows}
 
 -- the cells of an item
 abbrev row_of : Item → List (List Value)
@@ -33,19 +37,6 @@ row_of End = []
 
 abbrev rows_in : List Item → List (List Value)
 rows_in items = flat_map row_of items
-
-abbrev texts : List (List Value) → List ℕ
-texts rows = records_text (map (map field_of) rows)
-
-texts_append : (xs ys : List (List Value)) → texts (xs ++ ys) ≡ texts xs ++ texts ys
-texts_append [] ys = refl
-texts_append (x ∷ xs) ys = ap (λ t. cells_record x ++ t) (texts_append xs ys) ∙ sym (append_assoc (cells_record x) (texts xs) (texts ys))
-
-items_texts : (items : List Item) → flat_map record_text items ≡ texts (rows_in items)
-items_texts [] = refl
-items_texts (Row number cells ∷ items) = ap (λ t. cells_record cells ++ t) (items_texts items)
-items_texts (Fault fault ∷ items) = items_texts items
-items_texts (End ∷ items) = items_texts items
 
 -- what holds of the cells of each row of some items, and of each row of some lists of them
 module _ (P : List Value → Type 0) where
@@ -67,13 +58,6 @@ module _ (P : List Value → Type 0) where
 module _ (q : QueryData) where
   abbrev part_rows : Part → List (List Value)
   part_rows part = rows_in (known q (closed part.1))
-
-  parts_texts : (parts : List Part) → flat_map (part_records q) parts ≡ texts (flat_map part_rows parts)
-  parts_texts [] = refl
-  parts_texts (part ∷ parts) =
-      ap (λ t. t ++ flat_map (part_records q) parts) (items_texts (known q (closed part.1)))
-      ∙ ap (λ t. texts (part_rows part) ++ t) (parts_texts parts)
-      ∙ sym (texts_append (part_rows part) (flat_map part_rows parts))
 
   -- ---- names
 
@@ -102,7 +86,7 @@ module _ (q : QueryData) where
   typed_each law sound [] h = tt
   typed_each law sound (part ∷ parts) h = (part_typed law sound part h.0, typed_each law sound parts h.1)
 
-  parts_typed : KnownIsTyped → IsSound q → (parts : List Part) → All (λ part. AreRowsOver q.table part.1) parts → All (AreTyped q.output.items) (flat_map part_rows parts)
+  parts_typed : KnownIsTyped → IsSound q → (parts : List Part) → AreOfTable q parts → All (AreTyped q.output.items) (flat_map part_rows parts)
   parts_typed law sound parts over =
       All-from_recursion (AreTyped q.output.items) (flat_map part_rows parts)
       (each_row (AreTyped q.output.items) part_rows parts (typed_each law sound parts (recursion_from_All (λ (part : Part). AreRowsOver q.table part.1) parts over)))
@@ -113,18 +97,67 @@ module _ (q : QueryData) where
   as_many p (Some number) cells h = AllZip-long (λ o v. shown_in q (setting_of q p h.start h.labels number h.row) o.from ≡ Ready v) q.output.items cells h.named
   as_many p None cells h = AllZip-long (λ o v. Ready (shown_alone p.rows h.row o.from) ≡ Ready v) q.output.items cells h.named
 
-pub header_names : KnownIsNamed → KnownIsTyped → PartsFit → ReadsBack → HeaderNames
-header_names names kinds fits reads q text csv stopped records =
-    let parts = records.parts in
-    let rows = flat_map (part_rows q) parts in
-    let is : csv ≡ records_text (header_and_rows (output_names q) rows) = records.are ∙ ap (λ t. header_text q ++ t) (parts_texts q parts) in
-    let named : All (IsOutputRow q parts) rows = parts_named q names parts in
+  output_rows : KnownIsNamed → KnownIsTyped → (parts : List Part) → AreOutputRows q parts (flat_map part_rows parts)
+  output_rows names kinds parts =
+      let rows = flat_map part_rows parts in
+      let named : All (IsOutputRow q parts) rows = parts_named names parts in
+      record {
+        many = All-weaker (IsOutputRow q parts) (λ cells. length cells ≡ length (output_names q))
+            (λ cells h. as_many (closed h.0.1) h.1 cells h.3 ∙ sym (length-map q.output.items (λ o. o.name))) rows named;
+        named = named;
+        typed = λ sound over. parts_typed kinds sound parts over;
+      }
+
+-- ---- the bytes of rows
+
+module _ (head : QueryData → List ℕ) (row : QueryData → List Value → List ℕ) (q : QueryData) where
+  items_rows : (key : List Value) (place : ℕ) (items : List Item) → bytes_from (row_form head row) q key place items ≡ flat_map (row q) (rows_in items)
+  items_rows key place [] = refl
+  items_rows key place (Row number cells ∷ items) = ap (λ t. row q cells ++ t) (items_rows key (suc place) items)
+  items_rows key place (Fault fault ∷ items) = items_rows key (suc place) items
+  items_rows key place (End ∷ items) = items_rows key (suc place) items
+
+  parts_bytes : (parts : List Part) → flat_map (part_bytes (row_form head row) q) parts ≡ flat_map (row q) (flat_map (part_rows q) parts)
+  parts_bytes [] = refl
+  parts_bytes (part ∷ parts) =
+      ap (λ t. t ++ flat_map (part_bytes (row_form head row) q) parts) (items_rows part.0 1 (known q (closed part.1)))
+      ∙ ap (λ t. flat_map (row q) (part_rows q part) ++ t) (parts_bytes parts)
+      ∙ sym (flat_map-append (row q) (part_rows q part) (flat_map (part_rows q) parts))
+
+records_rows : (rows : List (List Value)) → flat_map cells_record rows ≡ records_text (map (map field_of) rows)
+records_rows [] = refl
+records_rows (cells ∷ rows) = ap (λ t. cells_record cells ++ t) (records_rows rows)
+
+-- ---- the laws
+
+pub header_names : KnownIsNamed → KnownIsTyped → ReadsBack → HeaderNames
+header_names names kinds reads q rows csv stopped records =
+    let shown = flat_map (part_rows q) records.parts in
+    let below : flat_map (part_bytes (row_form header_text (λ q cells. cells_record cells)) q) records.parts ≡ records_text (map (map field_of) shown) =
+    parts_bytes header_text (λ q cells. cells_record cells) q records.parts ∙ records_rows shown in
+    let is : csv ≡ records_text (header_and_rows (output_names q) shown) = records.are ∙ ap (λ t. header_text q ++ t) below in
     record {
-      rows = rows;
+      rows = shown;
       are = is;
-      many = All-weaker (IsOutputRow q parts) (λ cells. length cells ≡ length (output_names q))
-          (λ cells h. as_many q (closed h.0.1) h.1 cells h.3 ∙ sym (length-map q.output.items (λ o. o.name))) rows named;
-      named = named;
-      typed = λ sound. parts_typed q kinds sound parts (fits q.table q.partition.items q.order.items text records.rows parts records.read records.ordered);
-      read = subst (λ t. Reads t (header_and_rows (output_names q) rows)) (sym is) (reads (header_and_rows (output_names q) rows));
+      shown = output_rows q names kinds records.parts;
+      read = subst (λ t. Reads t (header_and_rows (output_names q) shown)) (sym is) (reads (header_and_rows (output_names q) shown));
+    }
+
+pub header_names_of : KnownIsNamed → KnownIsTyped → PartsFit → ReadsBack → HeaderNamesOf
+header_names_of names kinds fits reads q text csv stopped records = (
+  header_names names kinds reads q records.rows csv stopped records.over,
+  fits q.table q.partition.items q.order.items text records.rows records.over.parts records.read records.over.ordered,
+)
+
+pub objects_name : KnownIsNamed → KnownIsTyped → ObjectsReadBack → ObjectsHaveCells → ObjectsName
+objects_name names kinds read have q rows text stopped objects =
+    let shown = flat_map (part_rows q) objects.parts in
+    let of_parts : AreOutputRows q objects.parts shown = output_rows q names kinds objects.parts in
+    record {
+      rows = shown;
+      are = objects.are ∙ parts_bytes (λ q. []) object_line q objects.parts;
+      shown = of_parts;
+      read = λ k d low. read q.output.items (slice_index_or shown k d);
+      found = λ apart. All-weaker (λ cells. length cells ≡ length (output_names q)) (HasCells q.output.items)
+          (λ cells many. have q.output.items cells (many ∙ length-map q.output.items (λ o. o.name)) apart) shown of_parts.many;
     }

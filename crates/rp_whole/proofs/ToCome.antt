@@ -10,8 +10,8 @@ use Rattle.rp_known.specs.Walk.{known}
 use Rattle.rp_input.specs.Partitions.{Part}
 use Rattle.rp_walker.specs.FitLaws.{AgreesFrom}
 use Rattle.rp_walker.specs.declared.record.MatcherState.{MatcherState}
-use Rattle.rp_whole.specs.AnswerLines.{closed}
-use Rattle.rp_whole.specs.Writing.{Form, bytes_from, bytes_to_come, stops_to_come}
+use Rattle.rp_whole.specs.Answers.{Form, bytes_from, closed}
+use Rattle.rp_whole.specs.Writing.{bytes_to_come, stops_to_come}
 
 goes_on : (first : ℕ) (p : Known) → GoesOnFrom first p p
 goes_on first p = record { later = (omega arith, λ e. (refl, e)); same = λ row low high. refl }
@@ -33,11 +33,11 @@ module _ (form : Form) (q : QueryData) (part : Part) where
         let after : suc old.given ≡ new.given = omega arith in
         drop_next (known q (closed part.1)) old.given x is ∙ ap (λ n. x ∷ drop n (known q (closed part.1))) after
 
-    pub next_bytes : bytes_to_come form q part old ≡ form.bytes part.0 (old.given + 1) x ++ bytes_to_come form q part new
+    pub next_bytes : bytes_to_come form q part old ≡ form.bytes q part.0 (old.given + 1) x ++ bytes_to_come form q part new
     next_bytes =
         let place : suc (old.given + 1) ≡ new.given + 1 = omega arith in
-        ap (bytes_from form part.0 (old.given + 1)) next_item
-        ∙ ap (λ n. form.bytes part.0 (old.given + 1) x ++ bytes_from form part.0 n (drop new.given (known q (closed part.1)))) place
+        ap (bytes_from form q part.0 (old.given + 1)) next_item
+        ∙ ap (λ n. form.bytes q part.0 (old.given + 1) x ++ bytes_from form q part.0 n (drop new.given (known q (closed part.1)))) place
 
     pub next_stops : stops_to_come form q part old ≡ form.stops part.0 x ++ stops_to_come form q part new
     next_stops = ap (flat_map (form.stops part.0)) next_item
@@ -47,14 +47,14 @@ module _ (form : Form) (q : QueryData) (part : Part) where
     no_items = drop_all r.given (known q (closed part.1)) (omega (arith, same, all))
 
     pub no_bytes : bytes_to_come form q part r ≡ []
-    no_bytes = ap (bytes_from form part.0 (r.given + 1)) no_items
+    no_bytes = ap (bytes_from form q part.0 (r.given + 1)) no_items
 
     pub no_stops : stops_to_come form q part r ≡ []
     no_stops = ap (flat_map (form.stops part.0)) no_items
 
   module _ (old new : MatcherState) (same : new.given ≡ old.given) where
     pub same_bytes : bytes_to_come form q part old ≡ bytes_to_come form q part new
-    same_bytes = ap (λ given. bytes_from form part.0 (given + 1) (drop given (known q (closed part.1)))) (sym same)
+    same_bytes = ap (λ given. bytes_from form q part.0 (given + 1) (drop given (known q (closed part.1)))) (sym same)
 
     pub same_stops : stops_to_come form q part old ≡ stops_to_come form q part new
     same_stops = ap (λ given. flat_map (form.stops part.0) (drop given (known q (closed part.1)))) (sym same)

@@ -1,35 +1,22 @@
--- What a fault of reading is told as, and what it says.
-use Rattle.std.proofs.Common.{ℕ, Bool, List, Option, IfErr, IfSome, OnErr, Result, Ok, Err, refl, inl, inr}
+-- What a fault of a run says of its reads and of what it leaves.
+use Rattle.std.proofs.Common.{ℕ, Bool, List, Option, inr}
 use Rattle.rp_query.specs.declared.query.QueryData.{QueryData}
 use Rattle.rp_io.specs.Reading.{ReadsWithin}
 use Rattle.rp_io.specs.Reading.Told.{Ended}
 use Rattle.rp_io.proofs.SoFar.{reads_ended}
-use Rattle.rp_input.specs.Devices.{IsInputFault, fault_told as csv_told}
+use Rattle.rp_input.specs.Devices.{fault_told as csv_told}
 use Rattle.rp_input.specs.declared.rows.CsvFault.{CsvFault}
 use Rattle.rp_input.specs.declared.rows.CsvFault.TheVariants.{Header, Record, Field, Read, Turns, OutOfMemory}
-use Rattle.rp_whole.specs.Faults.{IsOfOutput, Leaves, TellsWrite, fault_told, told_csv, whole_told}
+use Rattle.rp_whole.specs.Faults.{IsOfOutput, Leaves, fault_told, told_csv}
 use Rattle.rp_whole.specs.declared.fault.WholeFault.{WholeFault}
 use Rattle.rp_whole.specs.declared.fault.WholeFault.TheVariants.{Csv, Write, OutOfMemory as WholeOutOfMemory}
 
 module _ (q : QueryData) (input old : Option (List ℕ)) (front : Type 0) where
-  -- a fault of the input, of which nothing was written
-  pub told_front : (why : CsvFault) → IfSome input (λ text. IsInputFault q.table text why) → Leaves q input old old front (told_csv why)
-  told_front Header is = ((λ same. cc), refl, is)
-  told_front (Record n) is = ((λ same. cc), refl, is)
-  told_front (Field n) is = ((λ same. cc), refl, is)
-  told_front Read is = ((λ same. cc), refl, is)
-  told_front Turns is = ((λ same. cc), refl, is)
-  told_front OutOfMemory is = inl refl
-
   -- a fault of the output, after a front of what is to be written
   pub left_front : (why : WholeFault) (new : Option (List ℕ)) → IsOfOutput why → front → Leaves q input old new front why
   left_front (Csv why) new of_output left = absurd of_output
   left_front Write new of_output left = left
   left_front WholeOutOfMemory new of_output left = inr left
-
-  pub wrote_front : {Y : Type 0} (r : Result Y WholeFault) (new : Option (List ℕ)) → IfErr r IsOfOutput → OnErr r front → IfErr r (Leaves q input old new front)
-  wrote_front (Ok y) new of_output left = tt
-  wrote_front (Err why) new of_output left = left_front why new of_output left
 
 module _ (reads calls calls' failures failures' : ℕ) (ended ended' : Bool) (remaining remaining' : Option (List ℕ)) where
   -- a fault of the input tells of the reads what it told of them before
@@ -48,17 +35,3 @@ module _ (reads calls calls' failures failures' : ℕ) (ended ended' : Bool) (re
   fault_after (Csv why) of_output all = absurd of_output
   fault_after Write of_output all = reads_ended reads calls calls' failures failures' ended ended' remaining remaining' all
   fault_after WholeOutOfMemory of_output all = reads_ended reads calls calls' failures failures' ended ended' remaining remaining' all
-
-  -- a run that read all of its input, and then ended well or by a fault of the output
-  pub output_told : {Y : Type 0} (r : Result Y WholeFault) → IfErr r IsOfOutput → ReadsWithin reads Ended calls calls' failures failures' ended ended' remaining remaining'
-      → ReadsWithin reads (whole_told r) calls calls' failures failures' ended ended' remaining remaining'
-  output_told (Ok y) of_output all = all
-  output_told (Err why) of_output all = fault_after why of_output all
-
-pub told_write : (Y : Type 0) (why : CsvFault) (old : ℕ) → TellsWrite {X = Y} (Err (told_csv why)) old old
-told_write Y Header old = refl
-told_write Y (Record n) old = refl
-told_write Y (Field n) old = refl
-told_write Y Read old = refl
-told_write Y Turns old = refl
-told_write Y OutOfMemory old = refl

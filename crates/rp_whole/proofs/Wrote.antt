@@ -1,77 +1,164 @@
--- What is written for partitions, as lines and as records of the input that they come from.
-use Rattle.std.proofs.Common.{◌≡◌, ◌∙◌, ℕ, suc, List, [], ◌∷◌, ◌++◌, Option, Some, None, IfSome, refl, sym, ap, subst, append_assoc}
-use Rattle.std.specs.Io.KnownBytes.{Appends}
-use Rattle.std.specs.List.{flat_map}
+-- What is written for partitions, as the answers over the rows that they are of, and of the input that these were read of.
+use Rattle.std.proofs.Common.{◌≡◌, ◌∙◌, ℕ, Bool, false, List, [], ◌∷◌, ◌++◌, map, Option, Some, None, IfSome, refl, sym, ap, subst}
+use Rattle.std.proofs.lemmas.List.Elements.{recursion_from_All}
+use Rattle.std.specs.Prelude.{All}
+use Rattle.std.specs.List.{AllByRecursion, flat_map}
 use Rattle.rp_value.specs.declared.value.Value.{Value}
 use Rattle.rp_query.specs.declared.query.QueryData.{QueryData}
 use Rattle.rp_query.specs.declared.item.Item.{Item}
 use Rattle.rp_known.specs.Walk.{known}
-use Rattle.rp_codec.specs.ReplyLines.{item_text}
-use Rattle.rp_io.specs.Devices.{AppendsFront}
+use Rattle.rp_io.proofs.Writes.{front_none}
 use Rattle.rp_input.specs.CsvRows.{AreRowsOf}
 use Rattle.rp_input.specs.Numbered.{AreOrdered}
+use Rattle.rp_input.specs.Orders.{OrderExists}
 use Rattle.rp_input.specs.Partitions.{Part, partitions}
-use Rattle.rp_whole.specs.AnswerLines.{AreLinesOf, WritesFront, WritesLines, closed, lines_from, part_lines}
-use Rattle.rp_whole.specs.AnswerRecords.{AreRecordsOf, WritesRecords, WritesRecordsFront, header_text, part_records, part_stopped, record_text}
-use Rattle.rp_whole.specs.Writing.{WritesParts, WritesPartsFront, bytes_from, line_form, part_bytes, record_form}
+use Rattle.rp_whole.specs.Answers.{AreAnswersOf, AreAnswersOver, AreAnswersWithin, Form, IsShown, Shown, WritesFrontOf, WritesFrontOver, WritesFrontWithin, WritesOf, WritesOver, WritesWithin}
+use Rattle.rp_whole.specs.Answers.{bytes_from, closed, halted_at, items_shown, part_bytes, part_stops, shown_bytes, shown_halted, shown_stops}
+use Rattle.rp_whole.specs.AnswerLines.{line_form}
+use Rattle.rp_whole.specs.Limits.{HaltedByLimit, WholeUnlessHalted}
+use Rattle.rp_whole.specs.Writing.{WritesParts, WritesPartsFront}
+use Rattle.rp_whole.specs.declared.halted.Halted.{Halted}
 use Rattle.rp_whole.specs.declared.stopped.Stopped.{Stopped}
+use Rattle.rp_whole.proofs.InOrder.{all_ordered}
+use Rattle.rp_whole.proofs.AllShown.{part_shown}
 
--- what partitions come to is the same where it is the same of each
-same_parts : (one other : Part → List ℕ) → ((part : Part) → one part ≡ other part) → (parts : List Part) → flat_map one parts ≡ flat_map other parts
-same_parts one other same [] = refl
-same_parts one other same (part ∷ parts) =
-    ap (λ t. t ++ flat_map one parts) (same part) ∙ ap (λ t. other part ++ t) (same_parts one other same parts)
+-- ---- over rows
 
-as_lines : (key : List Value) (place : ℕ) (items : List Item) → bytes_from line_form key place items ≡ lines_from key place items
-as_lines key place [] = refl
-as_lines key place (item ∷ items) =
-    append_assoc (item_text key place item) (10 ∷ []) (bytes_from line_form key (suc place) items)
-    ∙ ap (λ t. item_text key place item ++ 10 ∷ t) (as_lines key (suc place) items)
+module _ (limited : Bool) (form : Form) (q : QueryData) (rows : List (List Value)) (parts : List Part) (are : parts ≡ partitions q.partition.items rows) (old : Option (List ℕ)) where
+  answers : (shown : List Shown) → AreOrdered q.order.items parts (map part_shown shown) → All (IsShown limited q) shown
+      → AreAnswersWithin limited form q rows (form.head q ++ flat_map (shown_bytes form q) shown) (flat_map (shown_stops form q) shown) (flat_map shown_halted shown)
+  answers shown is are_shown = record {
+    shown = shown;
+    ordered = subst (λ all. AreOrdered q.order.items all (map part_shown shown)) are is;
+    are_shown = are_shown;
+    are = refl;
+    stops = refl;
+    halts = refl;
+  }
 
-as_records : (key : List Value) (place : ℕ) (items : List Item) → bytes_from record_form key place items ≡ flat_map record_text items
-as_records key place [] = refl
-as_records key place (item ∷ items) = ap (λ t. record_text item ++ t) (as_records key (suc place) items)
+  pub wrote_within : (new : Option (List ℕ)) (stopped : List Stopped) (halted : List Halted) → WritesParts limited form q parts old (form.head q) new [] stopped halted
+      → WritesWithin limited form q rows old new stopped halted
+  wrote_within new stopped halted wrote =
+      let bytes = form.head q ++ flat_map (shown_bytes form q) wrote.0 in
+      let told : AreAnswersWithin limited form q rows bytes stopped (flat_map shown_halted wrote.0) =
+      subst (λ l. AreAnswersWithin limited form q rows bytes l (flat_map shown_halted wrote.0)) (sym wrote.4) (answers wrote.0 wrote.1 wrote.2) in
+      (bytes, subst (AreAnswersWithin limited form q rows bytes stopped) (sym wrote.5) told, wrote.3)
 
-module _ (q : QueryData) (ordered : List Part) where
-  all_lines : flat_map (part_bytes line_form q) ordered ≡ flat_map (part_lines q) ordered
-  all_lines = same_parts (part_bytes line_form q) (part_lines q) (λ part. as_lines part.0 1 (known q (closed part.1))) ordered
+  pub front_within : (new : Option (List ℕ)) → WritesPartsFront limited form q parts old (form.head q) new → WritesFrontWithin limited form q rows old new
+  front_within new wrote =
+      (form.head q ++ flat_map (shown_bytes form q) wrote.0, flat_map (shown_stops form q) wrote.0, flat_map shown_halted wrote.0, answers wrote.0 wrote.1 wrote.2, wrote.3)
 
-  all_records : header_text q ++ flat_map (part_bytes record_form q) ordered ≡ header_text q ++ flat_map (part_records q) ordered
-  all_records = ap (λ t. header_text q ++ t) (same_parts (part_bytes record_form q) (part_records q) (λ part. as_records part.0 1 (known q (closed part.1))) ordered)
+-- nothing was written, and there are answers
+pub none_within : OrderExists → (limited : Bool) (form : Form) (q : QueryData) (rows : List (List Value)) (old : Option (List ℕ)) → WritesFrontWithin limited form q rows old old
+none_within law limited form q rows old =
+    let all = all_ordered law limited q (partitions q.partition.items rows) in
+    let bytes = form.head q ++ flat_map (shown_bytes form q) all.0 in (
+      bytes,
+      flat_map (shown_stops form q) all.0,
+      flat_map shown_halted all.0,
+      answers limited form q rows (partitions q.partition.items rows) refl old all.0 all.1 all.2,
+      front_none old bytes,
+    )
 
-module _ (q : QueryData) (rows : List (List Value)) (parts : List Part) (are : parts ≡ partitions q.partition.items rows) (input old new : Option (List ℕ))
-    (read : IfSome input (λ text. AreRowsOf q.table text rows)) where
-  lines : (text : List ℕ) (ordered : List Part) → AreRowsOf q.table text rows → AreOrdered q.order.items parts ordered → AreLinesOf q text (flat_map (part_lines q) ordered)
-  lines text ordered read is = record { rows = rows; read = read; parts = ordered; ordered = subst (λ all. AreOrdered q.order.items all ordered) are is; are = refl }
+-- ---- none is given up
 
-  records : (text : List ℕ) (ordered : List Part) → AreRowsOf q.table text rows → AreOrdered q.order.items parts ordered
-      → AreRecordsOf q text (header_text q ++ flat_map (part_records q) ordered) (flat_map (part_stopped q) ordered)
-  records text ordered read is = record { rows = rows; read = read; parts = ordered; ordered = subst (λ all. AreOrdered q.order.items all ordered) are is; are = refl; stops = refl }
+none_halted : (shown : List Shown) → [] ≡ flat_map shown_halted shown → AllByRecursion (λ s. s.given_up ≡ None) shown
+none_halted [] none = tt
+none_halted (s ∷ shown) none = go s.given_up refl none (none_halted shown)
+  where
+    go : (given_up : Option ℕ) → s.given_up ≡ given_up → [] ≡ halted_at s.part.0 given_up ++ flat_map shown_halted shown
+        → ([] ≡ flat_map shown_halted shown → AllByRecursion (λ s. s.given_up ≡ None) shown) → AllByRecursion (λ s. s.given_up ≡ None) (s ∷ shown)
+    go None is none later = (is, later none)
+    go (Some row) is none later = absurd cc
 
-  pub wrote_lines : WritesParts line_form q parts old [] new [] [] → WritesLines q input old new
-  wrote_lines wrote = go input read where
-    go : (input : Option (List ℕ)) → IfSome input (λ text. AreRowsOf q.table text rows) → WritesLines q input old new
+module _ (limited : Bool) (form : Form) (q : QueryData) where
+  all_bytes : (shown : List Shown) → AllByRecursion (IsShown limited q) shown → AllByRecursion (λ s. s.given_up ≡ None) shown
+      → flat_map (shown_bytes form q) shown ≡ flat_map (part_bytes form q) (map part_shown shown)
+  all_bytes [] are none = refl
+  all_bytes (s ∷ shown) are none =
+      ap (λ items. bytes_from form q s.part.0 1 items ++ flat_map (shown_bytes form q) shown) (are.0.all none.0)
+      ∙ ap (λ t. part_bytes form q s.part ++ t) (all_bytes shown are.1 none.1)
+
+  all_stops : (shown : List Shown) → AllByRecursion (IsShown limited q) shown → AllByRecursion (λ s. s.given_up ≡ None) shown
+      → flat_map (shown_stops form q) shown ≡ flat_map (part_stops form q) (map part_shown shown)
+  all_stops [] are none = refl
+  all_stops (s ∷ shown) are none =
+      ap (λ items. flat_map (form.stops s.part.0) items ++ flat_map (shown_stops form q) shown) (are.0.all none.0)
+      ∙ ap (λ t. part_stops form q s.part ++ t) (all_stops shown are.1 none.1)
+
+pub whole_unless_halted : WholeUnlessHalted
+whole_unless_halted limited form q rows bytes stopped within =
+    let are = recursion_from_All (IsShown limited q) within.shown within.are_shown in
+    let none = none_halted within.shown within.halts in
+    record {
+      parts = map part_shown within.shown;
+      ordered = within.ordered;
+      are = within.are ∙ ap (λ t. form.head q ++ t) (all_bytes limited form q within.shown are none);
+      stops = within.stops ∙ all_stops limited form q within.shown are none;
+    }
+
+no_halted : (q : QueryData) (shown : List Shown) → AllByRecursion (IsShown false q) shown → flat_map shown_halted shown ≡ []
+no_halted q [] are = refl
+no_halted q (s ∷ shown) are = ap (λ given_up. halted_at s.part.0 given_up ++ flat_map shown_halted shown) (are.0.by_limit refl) ∙ no_halted q shown are.1
+
+pub halted_by_limit : HaltedByLimit
+halted_by_limit form q rows bytes stopped halted within =
+    within.halts ∙ no_halted q within.shown (recursion_from_All (IsShown false q) within.shown within.are_shown)
+
+-- without a limit
+module _ (form : Form) (q : QueryData) (rows : List (List Value)) where
+  whole : (bytes : List ℕ) (stopped : List Stopped) (halted : List Halted) → AreAnswersWithin false form q rows bytes stopped halted → AreAnswersOver form q rows bytes stopped
+  whole bytes stopped halted within =
+      whole_unless_halted false form q rows bytes stopped (subst (AreAnswersWithin false form q rows bytes stopped) (halted_by_limit form q rows bytes stopped halted within) within)
+
+  pub wrote_over : (old new : Option (List ℕ)) (stopped : List Stopped) (halted : List Halted) → WritesWithin false form q rows old new stopped halted → WritesOver form q rows old new stopped
+  wrote_over old new stopped halted wrote = (wrote.0, whole wrote.0 stopped halted wrote.1, wrote.2)
+
+  pub front_over : (old new : Option (List ℕ)) → WritesFrontWithin false form q rows old new → WritesFrontOver form q rows old new
+  front_over old new wrote = (wrote.0, wrote.1, whole wrote.0 wrote.1 wrote.2 wrote.3, wrote.4)
+
+-- ---- of an input
+
+module _ (form : Form) (q : QueryData) (rows : List (List Value)) (input old new : Option (List ℕ)) (read : IfSome input (λ text. AreRowsOf q.table text rows)) where
+  of_text : (text bytes : List ℕ) (stopped : List Stopped) → AreRowsOf q.table text rows → AreAnswersOver form q rows bytes stopped → AreAnswersOf form q text bytes stopped
+  of_text text bytes stopped is over = record { rows = rows; read = is; over = over }
+
+  pub wrote_of : (stopped : List Stopped) → WritesOver form q rows old new stopped → WritesOf form q input old new stopped
+  wrote_of stopped wrote = go input read where
+    go : (input : Option (List ℕ)) → IfSome input (λ text. AreRowsOf q.table text rows) → WritesOf form q input old new stopped
     go None read = tt
-    go (Some text) read = (flat_map (part_lines q) wrote.0, lines text wrote.0 read wrote.1, subst (Appends old new) (all_lines q wrote.0) wrote.2)
+    go (Some text) read = (wrote.0, of_text text wrote.0 stopped read wrote.1, wrote.2)
 
-  pub front_of_lines : WritesPartsFront line_form q parts old [] new → WritesFront q input old new
-  front_of_lines wrote = go input read where
-    go : (input : Option (List ℕ)) → IfSome input (λ text. AreRowsOf q.table text rows) → WritesFront q input old new
+  pub front_of : WritesFrontOver form q rows old new → WritesFrontOf form q input old new
+  front_of wrote = go input read where
+    go : (input : Option (List ℕ)) → IfSome input (λ text. AreRowsOf q.table text rows) → WritesFrontOf form q input old new
     go None read = tt
-    go (Some text) read = (flat_map (part_lines q) wrote.0, lines text wrote.0 read wrote.1, subst (AppendsFront old new) (all_lines q wrote.0) wrote.2)
+    go (Some text) read = (wrote.0, wrote.1, of_text text wrote.0 wrote.1 read wrote.2, wrote.3)
 
-  pub wrote_records : (stopped : List Stopped) → WritesParts record_form q parts old (header_text q) new [] stopped → WritesRecords q input old new stopped
-  wrote_records stopped wrote = go input read where
-    go : (input : Option (List ℕ)) → IfSome input (λ text. AreRowsOf q.table text rows) → WritesRecords q input old new stopped
-    go None read = tt
-    go (Some text) read =
-        let csv = header_text q ++ flat_map (part_records q) wrote.0 in
-        (csv, subst (AreRecordsOf q text csv) (sym wrote.3) (records text wrote.0 read wrote.1), subst (Appends old new) (all_records q wrote.0) wrote.2)
+-- ---- lines tell of no skip fault
 
-  pub front_of_records : WritesPartsFront record_form q parts old (header_text q) new → WritesRecordsFront q input old new
-  front_of_records wrote = go input read where
-    go : (input : Option (List ℕ)) → IfSome input (λ text. AreRowsOf q.table text rows) → WritesRecordsFront q input old new
-    go None read = tt
-    go (Some text) read =
-        let csv = header_text q ++ flat_map (part_records q) wrote.0 in
-        (csv, flat_map (part_stopped q) wrote.0, records text wrote.0 read wrote.1, subst (AppendsFront old new) (all_records q wrote.0) wrote.2)
+nothing : (key : List Value) (items : List Item) → flat_map (line_form.stops key) items ≡ []
+nothing key [] = refl
+nothing key (item ∷ items) = nothing key items
+
+no_stops_shown : (q : QueryData) (shown : List Shown) → flat_map (shown_stops line_form q) shown ≡ []
+no_stops_shown q [] = refl
+no_stops_shown q (s ∷ shown) = ap (λ t. t ++ flat_map (shown_stops line_form q) shown) (nothing s.part.0 (items_shown q s)) ∙ no_stops_shown q shown
+
+no_stops : (q : QueryData) (parts : List Part) → flat_map (part_stops line_form q) parts ≡ []
+no_stops q [] = refl
+no_stops q (part ∷ parts) = ap (λ t. t ++ flat_map (part_stops line_form q) parts) (nothing part.0 (known q (closed part.1))) ∙ no_stops q parts
+
+module _ (q : QueryData) (old new : Option (List ℕ)) (stopped : List Stopped) where
+  pub wrote_lines_within : (limited : Bool) (rows : List (List Value)) (halted : List Halted)
+      → WritesWithin limited line_form q rows old new stopped halted → WritesWithin limited line_form q rows old new [] halted
+  wrote_lines_within limited rows halted wrote =
+      (wrote.0, subst (λ l. AreAnswersWithin limited line_form q rows wrote.0 l halted) (wrote.1.stops ∙ no_stops_shown q wrote.1.shown) wrote.1, wrote.2)
+
+  lines_over : (rows : List (List Value)) (bytes : List ℕ) → AreAnswersOver line_form q rows bytes stopped → AreAnswersOver line_form q rows bytes []
+  lines_over rows bytes are = subst (AreAnswersOver line_form q rows bytes) (are.stops ∙ no_stops q are.parts) are
+
+  pub wrote_lines_of : (input : Option (List ℕ)) → WritesOf line_form q input old new stopped → WritesOf line_form q input old new []
+  wrote_lines_of None wrote = tt
+  wrote_lines_of (Some text) wrote =
+      (wrote.0, record { rows = wrote.1.rows; read = wrote.1.read; over = lines_over wrote.1.rows wrote.0 wrote.1.over }, wrote.2)

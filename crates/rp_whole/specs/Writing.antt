@@ -1,59 +1,44 @@
 -- Inside: how items are written: those of partitions one after another, those of a partition one at a time.
-use Rattle.std.specs.Prelude.{◌≡◌, ℕ, suc, ◌+◌, List, [], ◌∷◌, ◌++◌, drop, Option}
+use Rattle.std.specs.Prelude.{◌≡◌, ℕ, ◌+◌, Bool, List, ◌++◌, map, drop, All, Option}
 use Rattle.std.specs.Io.KnownBytes.{Appends}
 use Rattle.std.specs.List.{flat_map}
-use Rattle.rp_value.specs.declared.value.Value.{Value}
 use Rattle.rp_query.specs.declared.query.QueryData.{QueryData}
-use Rattle.rp_query.specs.declared.item.Item.{Item}
 use Rattle.rp_known.specs.Walk.{known}
-use Rattle.rp_codec.specs.ReplyLines.{item_text}
 use Rattle.rp_io.specs.Devices.{AppendsFront, Moves}
 use Rattle.rp_input.specs.Numbered.{AreOrdered}
 use Rattle.rp_input.specs.Partitions.{Part}
 use Rattle.rp_walker.specs.declared.record.MatcherState.{MatcherState}
 use Rattle.rp_whole.specs.declared.closed.Part.{Part as Closed}
 use Rattle.rp_whole.specs.declared.stopped.Stopped.{Stopped}
-use Rattle.rp_whole.specs.AnswerLines.{closed}
-use Rattle.rp_whole.specs.AnswerRecords.{record_text, stops_of}
+use Rattle.rp_whole.specs.declared.halted.Halted.{Halted}
+use Rattle.rp_whole.specs.Answers.{Form, IsShown, Shown, bytes_from, closed, shown_bytes, shown_halted, shown_stops}
 
--- What an item of a partition's answer comes to: bytes, and whether it ends the answer by a skip fault that is told.
-pub record Form : Type 0 where
-  pub bytes : List Value → ℕ → Item → List ℕ
-  pub stops : List Value → Item → List Stopped
-
--- a line for each item
-abbrev pub line_form : Form
-line_form = record { bytes = λ key place item. item_text key place item ++ 10 ∷ []; stops = λ key item. [] }
-
--- a record for each row, and the skip faults told
-abbrev pub record_form : Form
-record_form = record { bytes = λ key place item. record_text item; stops = stops_of }
-
--- the bytes of items, with places from this one on
-abbrev pub bytes_from : Form → List Value → ℕ → List Item → List ℕ
-bytes_from form key place [] = []
-bytes_from form key place (item ∷ items) = form.bytes key place item ++ bytes_from form key (suc place) items
-
--- the bytes of all items of a partition's answer
-abbrev pub part_bytes : Form → QueryData → Part → List ℕ
-part_bytes form q part = bytes_from form part.0 1 (known q (closed part.1))
-
--- what all items of a partition's answer tell
-abbrev pub part_stops : Form → QueryData → Part → List Stopped
-part_stops form q part = flat_map (form.stops part.0) (known q (closed part.1))
-
--- Where the bytes written are known, they grow by those gathered and those of these partitions, of which each is put in order.
-abbrev pub WritesParts : Form → QueryData → List Part → Option (List ℕ) → List ℕ → Option (List ℕ) → List Stopped → List Stopped → Type 0
-WritesParts form q parts old gathered new stopped stopped' =
-    (ordered : List Part) × AreOrdered q.order.items parts ordered
-    × Appends old new (gathered ++ flat_map (part_bytes form q) ordered)
-    × (stopped' ≡ stopped ++ flat_map (part_stops form q) ordered)
+-- Where the bytes written are known, they grow by those gathered and those that are shown of these partitions, of which each is put
+-- in order; what is told grows by what they tell, and these are given up.
+abbrev pub WritesParts : Bool → Form → QueryData → List Part → Option (List ℕ) → List ℕ → Option (List ℕ) → List Stopped → List Stopped → List Halted → Type 0
+WritesParts limited form q parts old gathered new stopped stopped' halted =
+    (shown : List Shown) × AreOrdered q.order.items parts (map (λ s. s.part) shown) × All (IsShown limited q) shown
+    × Appends old new (gathered ++ flat_map (shown_bytes form q) shown)
+    × (stopped' ≡ stopped ++ flat_map (shown_stops form q) shown) × (halted ≡ flat_map shown_halted shown)
 
 -- Where the bytes written are known, they grow by a front of these.
-abbrev pub WritesPartsFront : Form → QueryData → List Part → Option (List ℕ) → List ℕ → Option (List ℕ) → Type 0
-WritesPartsFront form q parts old gathered new =
-    (ordered : List Part) × AreOrdered q.order.items parts ordered
-    × AppendsFront old new (gathered ++ flat_map (part_bytes form q) ordered)
+abbrev pub WritesPartsFront : Bool → Form → QueryData → List Part → Option (List ℕ) → List ℕ → Option (List ℕ) → Type 0
+WritesPartsFront limited form q parts old gathered new =
+    (shown : List Shown) × AreOrdered q.order.items parts (map (λ s. s.part) shown) × All (IsShown limited q) shown
+    × AppendsFront old new (gathered ++ flat_map (shown_bytes form q) shown)
+
+-- so many first items are shown of a partition's answer, which is given up at a row or isn't
+abbrev pub shown_of : Part → ℕ → Option ℕ → Shown
+shown_of part count given_up = record { part = part; count = count; given_up = given_up }
+
+-- What is shown of the answer is behind what was gathered, of which a front was written and the rest is still gathered. What is told
+-- is added likewise.
+pub record WritesPart (limited : Bool) (form : Form) (q : QueryData) (part : Part) (given_up : Option ℕ) (before : Option (List ℕ))
+    (gathered : List ℕ) (after : Option (List ℕ)) (rest : List ℕ) (stopped stopped' : List Stopped) : Type 0 where
+  pub count : ℕ
+  pub is : IsShown limited q (shown_of part count given_up)
+  pub moves : Moves before (gathered ++ shown_bytes form q (shown_of part count given_up)) after rest
+  pub told : stopped' ≡ stopped ++ shown_stops form q (shown_of part count given_up)
 
 -- the key of a partition, and its rows
 abbrev pub part_of : Closed → Part
@@ -61,7 +46,7 @@ part_of part = (part.key, part.rows.items)
 
 -- the bytes of the items that are still to be given
 abbrev pub bytes_to_come : Form → QueryData → Part → MatcherState → List ℕ
-bytes_to_come form q part r = bytes_from form part.0 (r.given + 1) (drop r.given (known q (closed part.1)))
+bytes_to_come form q part r = bytes_from form q part.0 (r.given + 1) (drop r.given (known q (closed part.1)))
 
 -- what those items tell
 abbrev pub stops_to_come : Form → QueryData → Part → MatcherState → List Stopped

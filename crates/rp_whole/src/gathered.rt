@@ -3,21 +3,23 @@ ghost use Rattle.std.specs.Prelude.{◌≡◌, ℕ, List, [], ◌++◌, IfErr, I
 ghost use Rattle.std.specs.Io.KnownBytes.{Appends};
 ghost use Rattle.rp_io.specs.Devices.{AppendsFront, Moves};
 ghost use Rattle.rp_whole.specs.Faults.{IsOfOutput, TellsWrite};
-ghost use Rattle.rp_whole.specs.Writing.{Form};
+ghost use Rattle.rp_query.specs.QueryView.{data_of};
+ghost use Rattle.rp_whole.specs.Answers.{Form};
 ghost use Rattle.rp_whole.specs.declared.stopped.Stopped.{Stopped as StoppedPart};
 
 use crate::fault::WholeFault;
+use crate::stopped::Stopped;
 use rp_io::{Outlet, write_all};
-use rp_query::Item;
+use rp_query::{Item, Query};
 use rp_value::Cells;
-use std::alloc::AllocError;
+use std::alloc::{AllocError, Global};
 
 /// From how many bytes on what is gathered is written.
 pub(crate) const BLOCK: usize = 65_536;
 
-/// Bytes of items, one after another, and the partitions whose answers skip faults ended.
-pub(crate) trait Gathered {
-    /// What an item comes to.
+/// Answers in a form: bytes of items, one after another, and the partitions whose answers skip faults ended.
+pub(crate) trait Gathered: Sized + Drop {
+    /// What stands before the answers, and what an item comes to.
     ghost form: { Form };
 
     /// The bytes that are gathered.
@@ -26,9 +28,21 @@ pub(crate) trait Gathered {
     /// The partitions whose answers skip faults ended.
     ghost stopped: { Self → List StoppedPart };
 
-    /// Adds an item of the partition of this key.
-    fn push(&mut self, key: &Cells, place: u128, item: &Item) -> Result<(), AllocError>
-        ensures bytes { OnOk result (bytes self.new ≡ bytes self.old ++ form.bytes key.now place item.now) }
+    /// What stands before the answers of a query.
+    fn begin(alloc: Global, query: &Query) -> Result<Self, AllocError>
+        ensures bytes { IfOk result (λ gathered. bytes gathered ≡ form.head (data_of query.now)) }
+        ensures stopped { IfOk result (λ gathered. stopped gathered ≡ []) };
+
+    /// Adds an item of the query's answer in the partition of this key.
+    fn push(
+        &mut self,
+        query: &Query,
+        key: &Cells,
+        place: u128,
+        item: &Item,
+    ) -> Result<(), AllocError>
+        ensures bytes { OnOk result
+            (bytes self.new ≡ bytes self.old ++ form.bytes (data_of query.now) key.now place item.now) }
         ensures stopped { OnOk result (stopped self.new ≡ stopped self.old ++ form.stops key.now item.now) };
 
     /// Whether there is a block to be written. A few bytes may not be counted yet.
@@ -44,6 +58,10 @@ pub(crate) trait Gathered {
     fn give_back(&mut self, memory: Vec<u8>)
         ensures bytes { bytes self.new ≡ bytes self.old }
         ensures stopped { stopped self.new ≡ stopped self.old };
+
+    /// The partitions whose answers skip faults ended.
+    fn into_stopped(self) -> Vec<Stopped>
+        ensures { result.items ≡ stopped self };
 }
 
 /// Writes what is gathered, if it is a block.

@@ -1,12 +1,22 @@
-//! The law of headers. A call does nothing, and its caller may then use it.
-ghost use Rattle.rp_whole.specs.Named.{HeaderNames};
+//! Laws over the definitions alone. A call does nothing, and its caller may then use them.
+ghost use Rattle.rp_whole.specs.Limits.{HaltedByLimit, WholeUnlessHalted};
+ghost use Rattle.rp_whole.specs.Named.{HeaderNames, HeaderNamesOf, ObjectsName};
 
-/// The header of an answer's CSV names the cells below it: under each name are the cells of the output column that has it,
-/// each null or of that column's kind.
+/// In an answer of output rows names head the cells: under each name of a CSV's header, and under each key of an object, are
+/// the cells of the output column that has it, each null or of that column's kind.
 pub fn law_header()
-    ensures { HeaderNames }
+    ensures rows { HeaderNames }
+    ensures text { HeaderNamesOf }
+    ensures objects { ObjectsName }
 {
     rp_known::law_named();
     rp_input::law_fitting();
     rp_table::law_reads_back();
+    rp_codec::law_objects();
 }
+
+/// Where no answer is told as given up, all are whole, and without a limit none is given up.
+pub fn law_limits()
+    ensures whole { WholeUnlessHalted }
+    ensures by_limit { HaltedByLimit }
+{}

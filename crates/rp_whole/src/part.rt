@@ -1,29 +1,29 @@
 //! The items of one partition's answer.
-ghost use Rattle.std.specs.Prelude.{◌≡◌, ◌<◌, ◌++◌, [], false, true, IfErr, OnErr, OnOk};
+ghost use Rattle.std.specs.Prelude.{◌≡◌, ◌<◌, ◌++◌, [], is_some, IfErr, IfOk, OnErr, OnOk};
 ghost use Rattle.rp_query.specs.QueryView.{data_of};
 ghost use Rattle.rp_io.specs.Devices.{AppendsFront, Moves};
 ghost use Rattle.rp_walker.specs.Polls.{left_in};
 ghost use Rattle.rp_walker.specs.Records.{Fits};
 ghost use Rattle.rp_walker.specs.Walking.{Stands, record_of};
-ghost use Rattle.rp_whole.specs.AnswerLines.{closed};
+ghost use Rattle.rp_whole.specs.Answers.{closed, part_bytes};
 ghost use Rattle.rp_whole.specs.Faults.{IsOfOutput, TellsWrite};
-ghost use Rattle.rp_whole.specs.Writing.{WritesOn, bytes_to_come, stops_to_come, part_bytes, part_of, part_stops};
+ghost use Rattle.rp_whole.specs.Pauses.{IsByLimit};
+ghost use Rattle.rp_whole.specs.Writing.{WritesOn, WritesPart, bytes_to_come, stops_to_come, part_of};
 
 use crate::closed::Part;
 use crate::fault::WholeFault;
 use crate::gathered::{Gathered, write_block, write_gathered};
+use crate::next::Next;
+use crate::turns::Turns;
 use crate::watch::Watch;
 use rp_io::Outlet;
 use rp_query::Query;
-use rp_search::Steps;
 use rp_walker::{Poll, Walker, law_records};
 use std::alloc::Global;
 use std::sync::ledger::Ledger;
 
-/// How many turns a poll may take. What was gathered by then is written, and another poll follows.
-const BUDGET: u32 = 100_000;
-
-/// Writes the items of a partition's answer; what makes no block yet stays gathered.
+/// Writes the items of a partition's answer; what makes no block yet stays gathered. Where the search from one start row takes
+/// too many turns, the answer is given up, and the row is told.
 pub(crate) fn write_part<W: Outlet, G: Gathered, V: Watch, L: Ledger>(
     alloc: Global,
     query: &Query,
@@ -31,15 +31,14 @@ pub(crate) fn write_part<W: Outlet, G: Gathered, V: Watch, L: Ledger>(
     gathered: &mut G,
     writer: &mut W,
     watch: &mut V,
-    steps: &mut Steps<L>,
-) -> Result<(), WholeFault>
-    ensures written { OnOk result (Moves (W.contents writer.old)
-        (G.bytes gathered.old ++ part_bytes G.form (data_of query.now) (part_of part.now))
-        (W.contents writer.new) (G.bytes gathered.new)) }
-    ensures stopped { OnOk result (G.stopped gathered.new
-        ≡ G.stopped gathered.old ++ part_stops G.form (data_of query.now) (part_of part.now)) }
+    turns: &mut Turns<L>,
+) -> Result<Option<u64>, WholeFault>
+    ensures written { IfOk result (λ given_up. WritesPart (is_some turns.old.limit) G.form (data_of query.now)
+        (part_of part.now) given_up (W.contents writer.old) (G.bytes gathered.old)
+        (W.contents writer.new) (G.bytes gathered.new) (G.stopped gathered.old) (G.stopped gathered.new)) }
     ensures front { OnErr result (AppendsFront (W.contents writer.old) (W.contents writer.new)
         (G.bytes gathered.old ++ part_bytes G.form (data_of query.now) (part_of part.now))) }
+    ensures limit { turns.new.limit ≡ turns.old.limit }
     ensures fault { IfErr result IsOfOutput }
     ensures failures { TellsWrite result (W.failures writer.old) (W.failures writer.new) }
 {
@@ -47,11 +46,17 @@ pub(crate) fn write_part<W: Outlet, G: Gathered, V: Watch, L: Ledger>(
     law_records();
     let mut walker = Walker::new(alloc);
     watch.begins(&part.key);
-    while write_next(query, part, &mut walker, gathered, writer, watch, steps)? {}
-    Ok(())
+    turns.begin_part();
+    'items: loop {
+        match write_next(query, part, &mut walker, gathered, writer, watch, turns)? {
+            Next::More => {}
+            Next::All => return Ok(None),
+            Next::GivenUp(row) => return Ok(Some(row)),
+        }
+    }
 }
 
-/// Writes the next item, or what is gathered where none comes yet, and says whether there may be another one.
+/// Writes the next item, or what is gathered where none comes yet, and says what comes after it.
 fn write_next<W: Outlet, G: Gathered, V: Watch, L: Ledger>(
     query: &Query,
     part: &Part,
@@ -59,8 +64,8 @@ fn write_next<W: Outlet, G: Gathered, V: Watch, L: Ledger>(
     gathered: &mut G,
     writer: &mut W,
     watch: &mut V,
-    steps: &mut Steps<L>,
-) -> Result<bool, WholeFault>
+    turns: &mut Turns<L>,
+) -> Result<Next, WholeFault>
     requires stands { Stands (data_of query.now) (closed part.now.rows.items) walker.old }
     requires fits { Fits (data_of query.now) (record_of walker.old) (closed part.now.rows.items) }
     ensures stands { Stands (data_of query.now) (closed part.now.rows.items) walker.new }
@@ -71,26 +76,29 @@ fn write_next<W: Outlet, G: Gathered, V: Watch, L: Ledger>(
         (G.stopped gathered.old) (G.stopped gathered.new)) }
     ensures front { OnErr result (AppendsFront (W.contents writer.old) (W.contents writer.new)
         (G.bytes gathered.old ++ bytes_to_come G.form (data_of query.now) (part_of part.now) (record_of walker.old))) }
-    ensures falls { result ≡ Ok true → left_in (data_of query.now) (closed part.now.rows.items) walker.new
+    ensures falls { result ≡ Ok Next.More → left_in (data_of query.now) (closed part.now.rows.items) walker.new
         < left_in (data_of query.now) (closed part.now.rows.items) walker.old }
-    ensures all { result ≡ Ok false →
+    ensures all { result ≡ Ok Next.All →
         bytes_to_come G.form (data_of query.now) (part_of part.now) (record_of walker.new) ≡ [] }
-    ensures all_stops { result ≡ Ok false →
+    ensures all_stops { result ≡ Ok Next.All →
         stops_to_come G.form (data_of query.now) (part_of part.now) (record_of walker.new) ≡ [] }
+    ensures by_limit { IfOk result (IsByLimit (is_some turns.old.limit)) }
+    ensures limit { turns.new.limit ≡ turns.old.limit }
     ensures fault { IfErr result IsOfOutput }
     ensures failures { TellsWrite result (W.failures writer.old) (W.failures writer.new) }
 {
-    match walker.poll(query, part, BUDGET, steps)? {
+    match walker.poll(query, part, turns.budget, &mut turns.steps)? {
         Poll::Item(place, item) => {
-            gathered.push(&part.key, place, &item)?;
+            gathered.push(query, &part.key, place, &item)?;
             write_block(writer, gathered)?;
-            Ok(true)
+            Ok(Next::More)
         }
         Poll::Paused => {
             write_gathered(writer, gathered)?;
-            watch.pauses(&part.key, walker.state().at, BUDGET);
-            Ok(true)
+            let row = walker.state().at;
+            watch.pauses(&part.key, row, turns.budget);
+            Ok(turns.after_pause(row))
         }
-        Poll::Idle => Ok(false),
+        Poll::Idle => Ok(Next::All),
     }
 }

@@ -1,5 +1,5 @@
 //! The items of partitions.
-ghost use Rattle.std.specs.Prelude.{◌≡◌, ◌<◌, IfErr, OnErr, OnOk};
+ghost use Rattle.std.specs.Prelude.{◌≡◌, ◌<◌, is_some, IfErr, IfOk, OnErr};
 ghost use Rattle.rp_query.specs.QueryView.{data_of};
 ghost use Rattle.rp_input.specs.Gathering.{parts_of};
 ghost use Rattle.rp_whole.specs.Faults.{IsOfOutput, TellsWrite};
@@ -8,17 +8,19 @@ ghost use Rattle.rp_whole.specs.Writing.{WritesParts, WritesPartsFront};
 use crate::closed::Part;
 use crate::fault::WholeFault;
 use crate::gathered::{Gathered, write_gathered};
+use crate::halted::{Halted, push_halted};
 use crate::part::write_part;
+use crate::turns::{Counting, Turns};
 use crate::watch::Watch;
 use rp_input::{law_orders, order_rows};
 use rp_io::Outlet;
 use rp_query::Query;
-use rp_search::Steps;
 use rp_value::{Cells, Row};
 use std::alloc::Global;
-use std::sync::ledger::{Blank, Ledger};
+use std::sync::ledger::Ledger;
 
-/// Writes what is gathered, and then the items of partitions, one after another. Turns aren't counted.
+/// Writes what is gathered, and then the items of partitions, one after another. Those whose answers are given up are given
+/// back, in order.
 ///
 /// The rows of each are put in order just before they are walked, so that the walk finds them in the cache.
 pub(crate) fn write_parts<W: Outlet, G: Gathered, V: Watch, L: Ledger>(
@@ -28,27 +30,30 @@ pub(crate) fn write_parts<W: Outlet, G: Gathered, V: Watch, L: Ledger>(
     gathered: &mut G,
     writer: &mut W,
     watch: &mut V,
-    blank: Blank,
-) -> Result<(), WholeFault>
-    requires name { blank.name ≡ L.name }
-    requires parts { blank.parts ≡ L.parts }
-    requires counts { 0 < blank.parts }
-    ensures written { OnOk result (WritesParts G.form (data_of query.now) (parts_of parts.items)
-        (W.contents writer.old) (G.bytes gathered.old) (W.contents writer.new)
-        (G.stopped gathered.old) (G.stopped gathered.new)) }
-    ensures front { OnErr result (WritesPartsFront G.form (data_of query.now) (parts_of parts.items)
-        (W.contents writer.old) (G.bytes gathered.old) (W.contents writer.new)) }
+    counting: Counting,
+) -> Result<Vec<Halted>, WholeFault>
+    requires name { counting.blank.name ≡ L.name }
+    requires parts { counting.blank.parts ≡ L.parts }
+    requires counts { 0 < counting.blank.parts }
+    ensures written { IfOk result (λ halted. WritesParts (is_some counting.limit) G.form (data_of query.now)
+        (parts_of parts.items) (W.contents writer.old) (G.bytes gathered.old) (W.contents writer.new)
+        (G.stopped gathered.old) (G.stopped gathered.new) halted.items) }
+    ensures front { OnErr result (WritesPartsFront (is_some counting.limit) G.form (data_of query.now)
+        (parts_of parts.items) (W.contents writer.old) (G.bytes gathered.old) (W.contents writer.new)) }
     ensures fault { IfErr result IsOfOutput }
     ensures failures { TellsWrite result (W.failures writer.old) (W.failures writer.new) }
 {
     // Any rows can be put into any order: what is still to be written after a fault has lines too.
     law_orders();
-    let mut steps = Steps::<L>::new(blank);
+    let mut turns = Turns::<L>::new(counting);
+    let mut halted = Vec::new(alloc);
     for (key, rows) in parts {
         let mut rows = rows;
         order_rows(query, &mut rows)?;
         let part = Part { key, rows };
-        write_part(alloc, query, &part, gathered, writer, watch, &mut steps)?;
+        let given_up = write_part(alloc, query, &part, gathered, writer, watch, &mut turns)?;
+        push_halted(&mut halted, part.key, given_up)?;
     }
-    write_gathered(writer, gathered)
+    write_gathered(writer, gathered)?;
+    Ok(halted)
 }

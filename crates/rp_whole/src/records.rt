@@ -1,10 +1,11 @@
 //! Items as records of CSV.
-ghost use Rattle.std.specs.Prelude.{◌≡◌, [], IfOk};
+ghost use Rattle.std.specs.Prelude.{◌≡◌, IfOk};
 ghost use Rattle.rp_query.specs.QueryView.{data_of};
-ghost use Rattle.rp_whole.specs.AnswerRecords.{header_text, output_names};
+ghost use Rattle.rp_whole.specs.AnswerRecords.{header_text};
+ghost use Rattle.rp_whole.specs.AnswerRows.{output_names};
 
 use crate::gathered::{BLOCK, Gathered};
-use crate::stopped::Stopped;
+use crate::stopped::{Stopped, push_stopped};
 use rp_query::{Item, Query};
 use rp_table::Records;
 use rp_value::{Cells, Text};
@@ -29,32 +30,18 @@ fn output_names(alloc: Global, query: &Query) -> Result<Vec<Text>, AllocError>
     Ok(names)
 }
 
-impl RowRecords {
-    /// The header alone: the names of the output columns.
-    pub(crate) fn new(alloc: Global, query: &Query) -> Result<RowRecords, AllocError>
-        ensures header { IfOk result (λ rows. rows.records ≡ header_text (data_of query.now)) }
-        ensures stopped { IfOk result (λ rows. rows.stopped.items ≡ []) }
-    {
-        let mut records = Records::new(alloc);
-        let names = output_names(alloc, query)?;
-        records.push_names(names.as_slice())?;
-        Ok(RowRecords {
-            alloc,
-            records,
-            stopped: Vec::new(alloc),
-        })
-    }
-
-    /// The partitions whose answers skip faults ended.
-    pub(crate) fn into_stopped(self) -> Vec<Stopped>
-        ensures { result ≡ self.stopped }
-    {
-        self.stopped
-    }
+/// The header alone: the names of the output columns.
+fn header(alloc: Global, query: &Query) -> Result<Records, AllocError>
+    ensures { IfOk result (λ records. records ≡ header_text (data_of query.now)) }
+{
+    let mut records = Records::new(alloc);
+    let names = output_names(alloc, query)?;
+    records.push_names(names.as_slice())?;
+    Ok(records)
 }
 
 impl Gathered for RowRecords {
-    ghost use Rattle.rp_whole.specs.Writing.{record_form};
+    ghost use Rattle.rp_whole.specs.AnswerRecords.{record_form};
 
     ghost form = { record_form };
 
@@ -62,15 +49,25 @@ impl Gathered for RowRecords {
 
     ghost stopped = { λ rows. rows.stopped.items };
 
-    fn push(&mut self, key: &Cells, _place: u128, item: &Item) -> Result<(), AllocError> {
+    fn begin(alloc: Global, query: &Query) -> Result<RowRecords, AllocError> {
+        let records = header(alloc, query)?;
+        Ok(RowRecords {
+            alloc,
+            records,
+            stopped: Vec::new(alloc),
+        })
+    }
+
+    fn push(
+        &mut self,
+        _query: &Query,
+        key: &Cells,
+        _place: u128,
+        item: &Item,
+    ) -> Result<(), AllocError> {
         match item {
             Item::Row { number: _, cells } => self.records.push_cells(cells.as_slice()),
-            Item::Fault(fault) => {
-                let key = key.share(self.alloc)?;
-                let fault = *fault;
-                self.stopped.push(Stopped { key, fault })?;
-                Ok(())
-            }
+            Item::Fault(fault) => push_stopped(self.alloc, &mut self.stopped, key, *fault),
             Item::End => Ok(()),
         }
     }
@@ -85,5 +82,9 @@ impl Gathered for RowRecords {
 
     fn give_back(&mut self, memory: Vec<u8>) {
         self.records.give_back(memory);
+    }
+
+    fn into_stopped(self) -> Vec<Stopped> {
+        self.stopped
     }
 }

@@ -6,7 +6,7 @@ use Rattle.rp_io.specs.Devices.{Moves}
 use Rattle.rp_walker.specs.declared.poll.Poll.TheVariants.{Item as ItemPoll, Paused as PausedPoll}
 use Rattle.rp_walker.specs.Polls.{AnswerIs}
 use Rattle.rp_walker.specs.Walking.{record_of}
-use Rattle.rp_whole.specs.AnswerLines.{closed}
+use Rattle.rp_whole.specs.Answers.{closed}
 use Rattle.rp_whole.specs.Writing.{bytes_to_come, part_of}
 use Rattle.rp_whole.proofs.Items.{item_front, item_written, moves_all, none_moved}
 use Rattle.rp_whole.proofs.ToCome.{agrees}

@@ -1,15 +1,18 @@
-use Rattle.std.proofs.Common.{rules, ◌≡◌, ◌∙◌, refl, sym, ap, subst}
+use Rattle.std.proofs.Common.{rules, ◌≡◌, ◌∙◌, true, refl, sym, ap, subst}
+use Rattle.std.specs.Prelude.{is_some}
 use Rattle.rp_query.specs.QueryView.{data_of}
 use Rattle.rp_io.proofs.Cutting.{on_err_from}
 use Rattle.rp_walker.specs.Records.{Fits, first_state}
 use Rattle.rp_walker.specs.Walking.{record_of}
-use Rattle.rp_whole.specs.AnswerLines.{closed}
+use Rattle.rp_whole.specs.Answers.{closed}
+use Rattle.rp_whole.specs.Pauses.{IsByLimit}
 use Rattle.rp_whole.specs.Writing.{part_of}
-use Rattle.rp_whole.proofs.Items.{none_written, told_all, written_all, written_front, written_more}
+use Rattle.rp_whole.specs.declared.next.Next.TheVariants.{GivenUp}
+use Rattle.rp_whole.proofs.Items.{none_written, part_given_up, part_written, written_front, written_more}
 use Rattle.rp_whole.proofs.part.write_part.Goals as goal
 
-pub loop-walker-init : goal.loop-walker-init
-loop-walker-init g c =
+pub items-init : goal.items-init
+items-init g c =
     let q = data_of c.args.query.now in
     let p = closed c.args.part.now.rows.items in
     let first : record_of c.new-walker.result ≡ first_state = c.new-walker.ensures.record in
@@ -18,50 +21,54 @@ loop-walker-init g c =
       fits = subst (λ r. Fits q r p) (sym first) (c.law_records.ensures.first q p);
       writes = none_written g.G.Gathered.form q (part_of c.args.part.now) first_state (record_of c.new-walker.result) (g.W.Outlet.contents c.args.writer.now)
           (g.G.Gathered.bytes c.args.gathered.now) (g.G.Gathered.stopped c.args.gathered.now) (ap (λ r. r.given) first);
+      limit = c.begin_part.ensures;
       failures = refl;
     }
 
 pub returns-in_err-write_next-clause-front : goal.returns-in_err-write_next-clause-front
 returns-in_err-write_next-clause-front g c =
-    on_err_from _ (written_front g.G.Gathered.form (data_of c.args.query.now) (part_of c.args.part.now) first_state (record_of c.loop-walker.walker)
-    (g.W.Outlet.contents c.args.writer.now) (g.W.Outlet.contents c.loop-walker.writer) (g.W.Outlet.contents c.write_next.new.writer)
-    (g.G.Gathered.bytes c.args.gathered.now) (g.G.Gathered.bytes c.loop-walker.gathered) (g.G.Gathered.stopped c.args.gathered.now) (g.G.Gathered.stopped c.loop-walker.gathered)
-    c.loop-walker.invariant.writes c.in_err-write_next.ensures.front)
+    on_err_from _ (written_front g.G.Gathered.form (data_of c.args.query.now) (part_of c.args.part.now) first_state (record_of c.items.walker)
+    (g.W.Outlet.contents c.args.writer.now) (g.W.Outlet.contents c.items.writer) (g.W.Outlet.contents c.write_next.new.writer)
+    (g.G.Gathered.bytes c.args.gathered.now) (g.G.Gathered.bytes c.items.gathered) (g.G.Gathered.stopped c.args.gathered.now) (g.G.Gathered.stopped c.items.gathered)
+    c.items.invariant.writes c.in_err-write_next.ensures.front)
 
-pub loop-walker-preserved : goal.loop-walker-preserved
-loop-walker-preserved g c = record {
+pub items-preserved : goal.items-preserved
+items-preserved g c = record {
   stands = c.in_ok-write_next.ensures.stands;
   fits = c.in_ok-write_next.ensures.fits;
-  writes = written_more g.G.Gathered.form (data_of c.args.query.now) (part_of c.args.part.now) first_state (record_of c.loop-walker.walker) (record_of c.write_next.new.walker)
-      (g.W.Outlet.contents c.args.writer.now) (g.W.Outlet.contents c.loop-walker.writer) (g.W.Outlet.contents c.write_next.new.writer)
-      (g.G.Gathered.bytes c.args.gathered.now) (g.G.Gathered.bytes c.loop-walker.gathered) (g.G.Gathered.bytes c.write_next.new.gathered)
-      (g.G.Gathered.stopped c.args.gathered.now) (g.G.Gathered.stopped c.loop-walker.gathered) (g.G.Gathered.stopped c.write_next.new.gathered)
-      c.loop-walker.invariant.writes c.in_ok-write_next.ensures.written;
-  failures = c.in_ok-write_next.ensures.failures ∙ c.loop-walker.invariant.failures;
+  writes = written_more g.G.Gathered.form (data_of c.args.query.now) (part_of c.args.part.now) first_state (record_of c.items.walker) (record_of c.write_next.new.walker)
+      (g.W.Outlet.contents c.args.writer.now) (g.W.Outlet.contents c.items.writer) (g.W.Outlet.contents c.write_next.new.writer)
+      (g.G.Gathered.bytes c.args.gathered.now) (g.G.Gathered.bytes c.items.gathered) (g.G.Gathered.bytes c.write_next.new.gathered)
+      (g.G.Gathered.stopped c.args.gathered.now) (g.G.Gathered.stopped c.items.gathered) (g.G.Gathered.stopped c.write_next.new.gathered)
+      c.items.invariant.writes c.in_ok-write_next.ensures.written;
+  limit = c.in_ok-write_next.ensures.limit ∙ c.items.invariant.limit;
+  failures = c.in_ok-write_next.ensures.failures ∙ c.items.invariant.failures;
 }
 
-pub returns-clause-written : goal.returns-clause-written
-returns-clause-written g c =
+pub returns-in-All-clause-written : goal.returns-in-All-clause-written
+returns-in-All-clause-written g c =
     let q = data_of c.args.query.now in
     let last = record_of c.write_next.new.walker in
-    let all = written_more g.G.Gathered.form q (part_of c.args.part.now) first_state (record_of c.loop-walker.walker) last
-    (g.W.Outlet.contents c.args.writer.now) (g.W.Outlet.contents c.loop-walker.writer) (g.W.Outlet.contents c.write_next.new.writer)
-    (g.G.Gathered.bytes c.args.gathered.now) (g.G.Gathered.bytes c.loop-walker.gathered) (g.G.Gathered.bytes c.write_next.new.gathered)
-    (g.G.Gathered.stopped c.args.gathered.now) (g.G.Gathered.stopped c.loop-walker.gathered) (g.G.Gathered.stopped c.write_next.new.gathered)
-    c.loop-walker.invariant.writes c.in_ok-write_next.ensures.written in
-    written_all g.G.Gathered.form q (part_of c.args.part.now) first_state last (g.W.Outlet.contents c.args.writer.now) (g.W.Outlet.contents c.write_next.new.writer)
+    let all = written_more g.G.Gathered.form q (part_of c.args.part.now) first_state (record_of c.items.walker) last
+    (g.W.Outlet.contents c.args.writer.now) (g.W.Outlet.contents c.items.writer) (g.W.Outlet.contents c.write_next.new.writer)
+    (g.G.Gathered.bytes c.args.gathered.now) (g.G.Gathered.bytes c.items.gathered) (g.G.Gathered.bytes c.write_next.new.gathered)
+    (g.G.Gathered.stopped c.args.gathered.now) (g.G.Gathered.stopped c.items.gathered) (g.G.Gathered.stopped c.write_next.new.gathered)
+    c.items.invariant.writes c.in_ok-write_next.ensures.written in
+    part_written (is_some c.args.turns.now.limit) g.G.Gathered.form q (part_of c.args.part.now) last (g.W.Outlet.contents c.args.writer.now) (g.W.Outlet.contents c.write_next.new.writer)
     (g.G.Gathered.bytes c.args.gathered.now) (g.G.Gathered.bytes c.write_next.new.gathered)
-    (g.G.Gathered.stopped c.args.gathered.now) (g.G.Gathered.stopped c.write_next.new.gathered) all (c.in_ok-write_next.ensures.all (search rules))
+    (g.G.Gathered.stopped c.args.gathered.now) (g.G.Gathered.stopped c.write_next.new.gathered) all
+    (c.in_ok-write_next.ensures.all (search rules)) (c.in_ok-write_next.ensures.all_stops (search rules))
 
-pub returns-clause-stopped : goal.returns-clause-stopped
-returns-clause-stopped g c =
+pub returns-in-GivenUp-clause-written : goal.returns-in-GivenUp-clause-written
+returns-in-GivenUp-clause-written g c =
     let q = data_of c.args.query.now in
     let last = record_of c.write_next.new.walker in
-    let all = written_more g.G.Gathered.form q (part_of c.args.part.now) first_state (record_of c.loop-walker.walker) last
-    (g.W.Outlet.contents c.args.writer.now) (g.W.Outlet.contents c.loop-walker.writer) (g.W.Outlet.contents c.write_next.new.writer)
-    (g.G.Gathered.bytes c.args.gathered.now) (g.G.Gathered.bytes c.loop-walker.gathered) (g.G.Gathered.bytes c.write_next.new.gathered)
-    (g.G.Gathered.stopped c.args.gathered.now) (g.G.Gathered.stopped c.loop-walker.gathered) (g.G.Gathered.stopped c.write_next.new.gathered)
-    c.loop-walker.invariant.writes c.in_ok-write_next.ensures.written in
-    told_all g.G.Gathered.form q (part_of c.args.part.now) first_state last (g.W.Outlet.contents c.args.writer.now) (g.W.Outlet.contents c.write_next.new.writer)
+    let all = written_more g.G.Gathered.form q (part_of c.args.part.now) first_state (record_of c.items.walker) last
+    (g.W.Outlet.contents c.args.writer.now) (g.W.Outlet.contents c.items.writer) (g.W.Outlet.contents c.write_next.new.writer)
+    (g.G.Gathered.bytes c.args.gathered.now) (g.G.Gathered.bytes c.items.gathered) (g.G.Gathered.bytes c.write_next.new.gathered)
+    (g.G.Gathered.stopped c.args.gathered.now) (g.G.Gathered.stopped c.items.gathered) (g.G.Gathered.stopped c.write_next.new.gathered)
+    c.items.invariant.writes c.in_ok-write_next.ensures.written in
+    let by_limit : IsByLimit (is_some c.items.turns.limit) (GivenUp c.in-GivenUp.row) = subst (IsByLimit (is_some c.items.turns.limit)) c.in-GivenUp.is c.in_ok-write_next.ensures.by_limit in
+    part_given_up (is_some c.args.turns.now.limit) g.G.Gathered.form q (part_of c.args.part.now) last (g.W.Outlet.contents c.args.writer.now) (g.W.Outlet.contents c.write_next.new.writer)
     (g.G.Gathered.bytes c.args.gathered.now) (g.G.Gathered.bytes c.write_next.new.gathered)
-    (g.G.Gathered.stopped c.args.gathered.now) (g.G.Gathered.stopped c.write_next.new.gathered) all (c.in_ok-write_next.ensures.all_stops (search rules))
+    (g.G.Gathered.stopped c.args.gathered.now) (g.G.Gathered.stopped c.write_next.new.gathered) all c.in-GivenUp.row (subst (λ limit. is_some limit ≡ true) c.items.invariant.limit by_limit)

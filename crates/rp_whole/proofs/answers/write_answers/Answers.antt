@@ -1,0 +1,51 @@
+use Rattle.std.proofs.Common.{◌≡◌, [], subst}
+use Rattle.std.specs.Prelude.{is_some}
+use Rattle.rp_query.specs.QueryView.{data_of}
+use Rattle.rp_io.proofs.Cutting.{on_err_from}
+use Rattle.rp_input.specs.Gathering.{parts_of}
+use Rattle.rp_input.specs.Partitions.{partitions}
+use Rattle.rp_whole.specs.Writing.{WritesParts, WritesPartsFront}
+use Rattle.rp_whole.proofs.Wrote.{front_within, none_within, wrote_within}
+use Rattle.rp_whole.proofs.answers.write_answers.Goals as goal
+
+pub returns-clause-written : goal.returns-clause-written
+returns-clause-written g c =
+    let limited = is_some c.args.limit in
+    let form = g.G.Gathered.form in
+    let q = data_of c.args.query.now in
+    let rows = c.args.rows.items in
+    let parts = parts_of c.in_ok-parts.parts.items in
+    let are : parts ≡ partitions q.partition.items rows = c.in_ok-parts.ensures in
+    let old = g.W.Outlet.contents c.args.writer.now in
+    let new = g.W.Outlet.contents c.write_parts.new.writer in
+    let begun = c.in_ok-gathered.gathered in
+    let stopped = g.G.Gathered.stopped c.write_parts.new.gathered in
+    let halted = c.in_ok-halted.halted.items in
+    let below : WritesParts limited form q parts old (form.head q) new (g.G.Gathered.stopped begun) stopped halted =
+    subst (λ text. WritesParts limited form q parts old text new (g.G.Gathered.stopped begun) stopped halted) c.in_ok-gathered.ensures.bytes c.in_ok-halted.ensures.written in
+    let wrote : WritesParts limited form q parts old (form.head q) new [] stopped halted =
+    subst (λ before. WritesParts limited form q parts old (form.head q) new before stopped halted) c.in_ok-gathered.ensures.stopped below in
+    rw c.into_stopped-stopped.ensures (wrote_within limited form q rows parts are old new stopped halted wrote)
+
+pub returns-in_err-halted-clause-front : goal.returns-in_err-halted-clause-front
+returns-in_err-halted-clause-front g c =
+    let limited = is_some c.args.limit in
+    let form = g.G.Gathered.form in
+    let q = data_of c.args.query.now in
+    let parts = parts_of c.in_ok-parts.parts.items in
+    let are : parts ≡ partitions q.partition.items c.args.rows.items = c.in_ok-parts.ensures in
+    let old = g.W.Outlet.contents c.args.writer.now in
+    let new = g.W.Outlet.contents c.write_parts.new.writer in
+    let wrote : WritesPartsFront limited form q parts old (form.head q) new =
+    subst (λ text. WritesPartsFront limited form q parts old text new) c.in_ok-gathered.ensures.bytes c.in_err-halted.ensures.front in
+    on_err_from _ (front_within limited form q c.args.rows.items parts are old new wrote)
+
+-- nothing was written
+
+pub returns-in_err-parts-clause-front : goal.returns-in_err-parts-clause-front
+returns-in_err-parts-clause-front g c =
+    on_err_from _ (none_within c.law_orders.ensures (is_some c.args.limit) g.G.Gathered.form (data_of c.args.query.now) c.args.rows.items (g.W.Outlet.contents c.args.writer.now))
+
+pub returns-in_err-gathered-clause-front : goal.returns-in_err-gathered-clause-front
+returns-in_err-gathered-clause-front g c =
+    on_err_from _ (none_within c.law_orders.ensures (is_some c.args.limit) g.G.Gathered.form (data_of c.args.query.now) c.args.rows.items (g.W.Outlet.contents c.args.writer.now))

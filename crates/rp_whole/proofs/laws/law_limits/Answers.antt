@@ -1,0 +1,8 @@
+use Rattle.rp_whole.proofs.Wrote.{halted_by_limit, whole_unless_halted}
+use Rattle.rp_whole.proofs.laws.law_limits.Goals as goal
+
+pub returns-clause-whole : goal.returns-clause-whole
+returns-clause-whole c = whole_unless_halted
+
+pub returns-clause-by_limit : goal.returns-clause-by_limit
+returns-clause-by_limit c = halted_by_limit
