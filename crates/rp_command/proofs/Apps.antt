@@ -52,21 +52,29 @@ whole_separate = refl
 pub whole_meets : (cmd : Command) (m : ArgMatches) → app_of cmd ≡ whole_app → IsParsedFrom cmd m → MeetsRules whole_app m
 whole_meets cmd m is parsed = meets_rules cmd whole_app m is whole_separate parsed
 
-pub whole_table : (m : ArgMatches) → MeetsRules whole_app m → HasValue (codes "table") m
+pub whole_no_header : (m : ArgMatches) → MeetsRules whole_app m → Passes false parser.Bool (codes "no-header") m
 unfolding whole_app
-whole_table m h = (h 0 (by_place (codes "table")) (omega arith)).0 refl
+whole_no_header m h = (h 4 (by_place (codes "no-header")) (omega arith)).1 _ refl
+
+pub whole_from : (m : ArgMatches) → MeetsRules whole_app m → HasValue (codes "from") m
+unfolding whole_app
+whole_from m h = (h 5 (by_place (codes "from")) (omega arith)).0 refl
 
 pub whole_clause : (m : ArgMatches) → MeetsRules whole_app m → HasValue (codes "clause") m
 unfolding whole_app
-whole_clause m h = (h 1 (by_place (codes "clause")) (omega arith)).0 refl
+whole_clause m h = (h 6 (by_place (codes "clause")) (omega arith)).0 refl
 
 pub whole_format : (m : ArgMatches) → MeetsRules whole_app m → HasValue (codes "format") m
 unfolding whole_app
-whole_format m h = (h 2 (by_place (codes "format")) (omega arith)).0 refl
+whole_format m h = (h 7 (by_place (codes "format")) (omega arith)).0 refl
 
 pub whole_progress : (m : ArgMatches) → MeetsRules whole_app m → Passes false parser.Bool (codes "progress") m
 unfolding whole_app
-whole_progress m h = (h 3 (by_place (codes "progress")) (omega arith)).1 _ refl
+whole_progress m h = (h 8 (by_place (codes "progress")) (omega arith)).1 _ refl
+
+pub whole_most_turns : (m : ArgMatches) → MeetsRules whole_app m → Passes false number_parser (codes "most-turns") m
+unfolding whole_app
+whole_most_turns m h = (h 10 (by_place (codes "most-turns")) (omega arith)).1 _ refl
 
 -- ---- node
 
@@ -140,37 +148,41 @@ source_separate = refl
 pub source_meets : (cmd : Command) (m : ArgMatches) → app_of cmd ≡ source_app → IsParsedFrom cmd m → MeetsRules source_app m
 source_meets cmd m is parsed = meets_rules cmd source_app m is source_separate parsed
 
-pub source_table : (m : ArgMatches) → MeetsRules source_app m → HasValue (codes "table") m
+pub source_no_header : (m : ArgMatches) → MeetsRules source_app m → Passes false parser.Bool (codes "no-header") m
 unfolding source_app
-source_table m h = (h 0 (by_place (codes "table")) (omega arith)).0 refl
+source_no_header m h = (h 4 (by_place (codes "no-header")) (omega arith)).1 _ refl
+
+pub source_from : (m : ArgMatches) → MeetsRules source_app m → HasValue (codes "from") m
+unfolding source_app
+source_from m h = (h 5 (by_place (codes "from")) (omega arith)).0 refl
 
 pub source_clause : (m : ArgMatches) → MeetsRules source_app m → HasValue (codes "clause") m
 unfolding source_app
-source_clause m h = (h 1 (by_place (codes "clause")) (omega arith)).0 refl
+source_clause m h = (h 6 (by_place (codes "clause")) (omega arith)).0 refl
 
 pub source_budget : (m : ArgMatches) → MeetsRules source_app m → HasValue (codes "budget") m
 unfolding source_app
-source_budget m h = (h 2 (by_place (codes "budget")) (omega arith)).0 refl
+source_budget m h = (h 7 (by_place (codes "budget")) (omega arith)).0 refl
 
 pub source_budget_numeric : (m : ArgMatches) → MeetsRules source_app m → Passes false number_parser (codes "budget") m
 unfolding source_app
-source_budget_numeric m h = (h 2 (by_place (codes "budget")) (omega arith)).1 _ refl
+source_budget_numeric m h = (h 7 (by_place (codes "budget")) (omega arith)).1 _ refl
 
 pub source_idle : (m : ArgMatches) → MeetsRules source_app m → Passes false number_parser (codes "idle") m
 unfolding source_app
-source_idle m h = (h 3 (by_place (codes "idle")) (omega arith)).1 _ refl
+source_idle m h = (h 8 (by_place (codes "idle")) (omega arith)).1 _ refl
 
 pub source_acknowledge : (m : ArgMatches) → MeetsRules source_app m → Passes false parser.Bool (codes "acknowledge") m
 unfolding source_app
-source_acknowledge m h = (h 4 (by_place (codes "acknowledge")) (omega arith)).1 _ refl
+source_acknowledge m h = (h 9 (by_place (codes "acknowledge")) (omega arith)).1 _ refl
 
 pub source_verbose : (m : ArgMatches) → MeetsRules source_app m → Passes false parser.Bool (codes "verbose") m
 unfolding source_app
-source_verbose m h = (h 5 (by_place (codes "verbose")) (omega arith)).1 _ refl
+source_verbose m h = (h 10 (by_place (codes "verbose")) (omega arith)).1 _ refl
 
 pub source_addr : (m : ArgMatches) → MeetsRules source_app m → HasValue (codes "ADDR") m
 unfolding source_app
-source_addr m h = (h 6 (by_place (codes "ADDR")) (omega arith)).0 refl
+source_addr m h = (h 11 (by_place (codes "ADDR")) (omega arith)).0 refl
 
 -- ---- check
 
@@ -184,3 +196,22 @@ check_simple a e = rw e check_is_simple
 pub check_ruled : is_ruled check_app ≡ true
 unfolding check_app is_ruled
 check_ruled = refl
+
+check_separate : is_separate check_app ≡ true
+unfolding check_app
+check_separate = refl
+
+pub check_meets : (cmd : Command) (m : ArgMatches) → app_of cmd ≡ check_app → IsParsedFrom cmd m → MeetsRules check_app m
+check_meets cmd m is parsed = meets_rules cmd check_app m is check_separate parsed
+
+pub check_no_header : (m : ArgMatches) → MeetsRules check_app m → Passes false parser.Bool (codes "no-header") m
+unfolding check_app
+check_no_header m h = (h 4 (by_place (codes "no-header")) (omega arith)).1 _ refl
+
+pub check_from : (m : ArgMatches) → MeetsRules check_app m → HasValue (codes "from") m
+unfolding check_app
+check_from m h = (h 5 (by_place (codes "from")) (omega arith)).0 refl
+
+pub check_format : (m : ArgMatches) → MeetsRules check_app m → HasValue (codes "format") m
+unfolding check_app
+check_format m h = (h 7 (by_place (codes "format")) (omega arith)).0 refl

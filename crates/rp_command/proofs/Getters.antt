@@ -15,7 +15,7 @@ use Rattle.clap.specs.declared.builder.value_parser.ValueParser.TheVariants as p
 use Rattle.clap.specs.declared.builder.value_parser.Reading.{Reading}
 use Rattle.clap.specs.declared.parser.matches.Found.{Found}
 use Rattle.clap.specs.declared.parser.matches.MatchedArg.{MatchedArg}
-use Rattle.rp_command.specs.Values.{HasFlag, HasNumberIfAny, HasTexts, ReadsAs, number_parser}
+use Rattle.rp_command.specs.Values.{HasFlag, HasNumberIfAny, HasTexts, HasTextsIfAny, ReadsAs, number_parser}
 
 pub first_rows : (f : Found) (id : Text) → first_value f id ≡ first_of id (rows_of f)
 first_rows = first_value-rows
@@ -135,6 +135,19 @@ texts_read f id found words texts read is same some =
     let all : all_of id (rows_of f) ≡ Some texts =
     sym (raw_values-rows f id) ∙ (sym read ∙ (ap (option_map (λ (s : Bor (List (Bor Text))). map (λ v. v.now) s.now)) is ∙ ap Some (sym same))) in
     (all, some_texts (rows_of f) id texts all (sym (ap is_some (first_value-rows f id)) ∙ some))
+
+-- the values of an argument that has some, and none of one that has none
+pub texts_found : (f : Found) (id : Text) (found : Option (Bor (List (Bor Text)))) (words : Bor (List (Bor Text))) (texts : List Text)
+    → option_map (λ s. map (λ v. v.now) s.now) found ≡ option_map raw_values (matched_of f id) → found ≡ Some words
+    → texts ≡ map (λ v. v.now) words.now → HasTextsIfAny (rows_of f) id texts
+texts_found f id found words texts read is same =
+    ap (λ (o : Option (List Text)). unwrap_or o []) (sym (sym (raw_values-rows f id) ∙ (sym read ∙ (ap (option_map (λ (s : Bor (List (Bor Text))). map (λ v. v.now) s.now)) is ∙ ap Some (sym same)))))
+
+pub no_texts_found : (f : Found) (id : Text) (found : Option (Bor (List (Bor Text)))) (texts : List Text)
+    → option_map (λ s. map (λ v. v.now) s.now) found ≡ option_map raw_values (matched_of f id) → found ≡ None → texts ≡ []
+    → HasTextsIfAny (rows_of f) id texts
+no_texts_found f id found texts read is same =
+    same ∙ ap (λ (o : Option (List Text)). unwrap_or o []) (sym (sym (raw_values-rows f id) ∙ (sym read ∙ ap (option_map (λ (s : Bor (List (Bor Text))). map (λ v. v.now) s.now)) is)))
 
 -- an argument that has a value has a number, where that is asked of it
 pub no_number : (f : Found) (id : Text) (r : Option ℕ) → r ≡ None → HasNumberIfAny (rows_of f) id r → is_some (first_value f id) ≡ true → ⊥

@@ -1,5 +1,5 @@
 -- The values of a job's arguments, in what clap makes of the words.
-use Rattle.std.specs.Prelude.{◌≡◌, ◌&&◌, ◌<◌, ◌≤◌, ◌||◌, ℕ, Bool, true, false, not, List, Option, Some, None, codes, is_some, length, nat_le, pos}
+use Rattle.std.specs.Prelude.{◌≡◌, ◌&&◌, ◌<◌, ◌≤◌, ◌||◌, ℕ, Bool, true, false, not, List, [], Option, Some, None, codes, is_some, length, nat_le, pos, unwrap_or}
 use Rattle.std.specs.List.{All}
 use Rattle.std.specs.Str.Parse.{IsNumeral, digits_value, without_leading_plus}
 use Rattle.clap.specs.Facts.{unwrap_or_range}
@@ -19,9 +19,17 @@ HasText rows id text = first_of id rows ≡ Some text
 abbrev pub HasTextIfAny : List Row → Text → Option Text → Type 0
 HasTextIfAny rows id text = first_of id rows ≡ text
 
+-- the value of an argument is the word for none of these
+abbrev pub HasOther : {A : Type 0} → List Row → Text → (A → Text) → Type 0
+HasOther {A} rows id word = (text : Text) × HasText rows id text × ((one : A) → text ≡ word one → ⊥)
+
 -- the values of an argument, one at least
 abbrev pub HasTexts : List Row → Text → List Text → Type 0
 HasTexts rows id texts = (all_of id rows ≡ Some texts) × (0 < length texts)
+
+-- the values of an argument, none where it has none
+abbrev pub HasTextsIfAny : List Row → Text → List Text → Type 0
+HasTextsIfAny rows id texts = texts ≡ unwrap_or (all_of id rows) []
 
 -- the text is the number in decimal digits, perhaps after a plus sign
 abbrev pub ReadsAs : Text → ℕ → Type 0

@@ -1,11 +1,11 @@
 //! What the commands have in common: options, what clap makes of the words, and the values that it finds.
-ghost use Rattle.std.specs.Prelude.{◌≡◌, false, true, [], IfOk, OnOk, map, option_map, string_bytes};
+ghost use Rattle.std.specs.Prelude.{◌≡◌, false, true, [], IfOk, OnOk, codes, map, option_map, string_bytes};
 ghost use Rattle.clap.specs.Words.{IsAmong, IsParsedFrom, app_of, found_of, is_simple, kind_of, rows_of, rule_of};
-ghost use Rattle.clap.specs.declared.error.kind.ErrorKind.TheVariants.{OutOfMemory};
+ghost use Rattle.clap.specs.declared.error.kind.ErrorKind.TheVariants.{InvalidValue, OutOfMemory};
 ghost use Rattle.clap.specs.declared.builder.value_parser.ValueParser.TheVariants as parser;
 ghost use Rattle.clap.specs.declared.error.Error.{Error};
-ghost use Rattle.rp_command.specs.Commands.{are_taken, by_flag, by_name, by_name_if_any, by_number, faults_by, is_ruled, rows_by, with_clause};
-ghost use Rattle.rp_command.specs.Values.{HasFlag, HasNumber, HasNumberIfAny, HasText, HasTextIfAny, HasTexts, HasValue, Passes, number_parser};
+ghost use Rattle.rp_command.specs.Commands.{are_taken, by_each_name, by_flag, by_name, by_name_if_any, by_name_or, by_number, by_place_if_any, by_places_if_any, faults_by, is_ruled, rows_by, with_clause};
+ghost use Rattle.rp_command.specs.Values.{HasFlag, HasNumber, HasNumberIfAny, HasText, HasTextIfAny, HasTexts, HasTextsIfAny, HasValue, Passes, number_parser};
 
 use crate::job::JobFault;
 use clap::error::ErrorKind;
@@ -14,6 +14,10 @@ use std::alloc::{AllocError, Global};
 
 /// What help tells of an option that names a table.
 pub(crate) const TABLE: &str = "The columns with their kinds, as \"sym text, t int, p int\"";
+
+/// What help tells of an option that names columns.
+pub(crate) const COLUMNS: &str =
+    "The columns and how they are read, as \"sym text, t = seconds(Time)\"";
 
 /// What help tells of an option that names a clause.
 pub(crate) const CLAUSE: &str = "The clause, as \"PATTERN (A B+) DEFINE B AS p < PREV(p)\"";
@@ -57,6 +61,37 @@ pub(crate) fn text_option_if_any<'a>(
     option.value_name(value).help(about).action(ArgAction::Set)
 }
 
+/// An option with a text, which is `usual` where it isn't given.
+pub(crate) fn text_option_or<'a>(
+    alloc: Global,
+    name: &'a str,
+    value: &'a str,
+    about: &'a str,
+    usual: &'a str,
+) -> Arg<'a>
+    ensures rule { rule_of result ≡ by_name_or name.entry.now usual.entry.now }
+    ensures own { result.global ≡ false }
+{
+    text_option_if_any(alloc, name, value, about).default_value(usual)
+}
+
+/// An option with a text, which may be given again and again.
+pub(crate) fn texts_option<'a>(
+    alloc: Global,
+    name: &'a str,
+    value: &'a str,
+    about: &'a str,
+) -> Arg<'a>
+    ensures rule { rule_of result ≡ by_each_name name.entry.now }
+    ensures own { result.global ≡ false }
+{
+    let option = Arg::new(alloc, name).long(name);
+    option
+        .value_name(value)
+        .help(about)
+        .action(ArgAction::Append)
+}
+
 /// An option with a number from 1 to 4,294,967,295, which help shows as `value`.
 pub(crate) fn number_option<'a>(
     alloc: Global,
@@ -73,6 +108,25 @@ pub(crate) fn number_option<'a>(
         .help(about);
     let numbers = value_parser!(u32).range(1..);
     option.action(ArgAction::Set).value_parser(numbers)
+}
+
+/// The files of an input.
+pub(crate) fn files<'a>(alloc: Global) -> Arg<'a>
+    ensures rule { rule_of result ≡ by_places_if_any (codes "FILE") }
+    ensures own { result.global ≡ false }
+{
+    let about = "The files of the input, one after another; else standard input is read";
+    let files = Arg::new(alloc, "FILE").help(about);
+    files.num_args(1..).action(ArgAction::Set)
+}
+
+/// The file of an input.
+pub(crate) fn file<'a>(alloc: Global) -> Arg<'a>
+    ensures rule { rule_of result ≡ by_place_if_any (codes "FILE") }
+    ensures own { result.global ≡ false }
+{
+    let about = "The file of the input; else standard input is read";
+    Arg::new(alloc, "FILE").help(about).action(ArgAction::Set)
 }
 
 /// An option without a value.
@@ -154,6 +208,21 @@ pub(crate) fn texts_of(
     owned(alloc, words)
 }
 
+/// The values of an argument, none where it has none.
+pub(crate) fn texts_if_any(
+    alloc: Global,
+    matches: &ArgMatches,
+    id: &str,
+) -> Result<Vec<String>, AllocError>
+    ensures { IfOk result (λ texts.
+        HasTextsIfAny (rows_of (found_of matches.now)) id.now (map string_bytes texts.items)) }
+{
+    match matches.get_strs(id) {
+        Some(words) => owned(alloc, words),
+        None => Ok(Vec::new(alloc)),
+    }
+}
+
 /// The texts, each with memory of its own.
 fn owned(alloc: Global, words: &[&str]) -> Result<Vec<String>, AllocError>
     ensures { IfOk result (λ texts. map string_bytes texts.items ≡ map (λ word. word.now) words.now) }
@@ -203,4 +272,35 @@ pub(crate) fn line_fault(error: Error) -> JobFault
     } else {
         JobFault::Line(error)
     }
+}
+
+/// The fault of a word that an option of the command doesn't take, where these are the words that it takes.
+pub(crate) fn no_such_word(
+    alloc: Global,
+    command: Result<Command, AllocError>,
+    option: &str,
+    words: &str,
+    word: &str,
+) -> JobFault
+    ensures { (error : Error) → result ≡ JobFault.Line error → kind_of error ≡ InvalidValue }
+{
+    match line_of_no_such_word(alloc, command, option, words, word) {
+        Ok(error) => line_fault(error),
+        Err(_) => JobFault::OutOfMemory,
+    }
+}
+
+fn line_of_no_such_word(
+    alloc: Global,
+    command: Result<Command, AllocError>,
+    option: &str,
+    words: &str,
+    word: &str,
+) -> Result<Error, AllocError>
+    ensures { IfOk result (λ error. kind_of error ≡ InvalidValue) }
+{
+    let told = format!(in alloc;
+        "invalid value '{word}' for '{option}'\n  [possible values: {words}]"
+    )?;
+    command?.error(ErrorKind::InvalidValue, told.as_str())
 }

@@ -8,36 +8,70 @@ use thiserror::Error as Fault;
 pub enum Job {
     /// Matches lines of letters against the pattern.
     Trace { pattern: String },
-    /// Answers a clause over the rows of a CSV input.
+    /// Answers a clause over the rows of an input.
     Whole(WholeJob),
     /// Takes rows over connections, and gives the items of their answers.
     Node(NodeJob),
-    /// Hands the rows of a CSV input to nodes.
+    /// Hands the rows of an input to nodes.
     Source(SourceJob),
-    /// Tells what is wrong with a table, a clause or a CSV input.
+    /// Tells what is wrong with a table, a clause or an input.
     Check(CheckJob),
 }
 
-/// An answer over the rows of a CSV input.
+/// An input, and how it is read.
+#[derive(Drop)]
+pub struct InputOptions {
+    /// The text of the table; None where there is none.
+    pub table: Option<String>,
+    /// The text of the columns, in place of a table's; None where there is none.
+    pub columns: Option<String>,
+    /// What is between the fields of a record, as it is typed; None where it is a comma.
+    pub delimiter: Option<String>,
+    /// The words that are null. Where there is none, an empty field is.
+    pub nulls: Vec<String>,
+    /// Whether the first record is a row, and no header.
+    pub no_header: bool,
+    /// What the input is.
+    pub from: InputFormat,
+}
+
+/// What an input is.
+#[derive(Clone, Copy, Debug, PartialEq, Eq)]
+pub enum InputFormat {
+    /// `csv`: records of CSV.
+    Csv,
+    /// `jsonl`: an object of JSON in each line.
+    JsonLines,
+}
+
+/// An answer over the rows of an input.
 #[derive(Drop)]
 pub struct WholeJob {
-    /// The text of the table.
-    pub table: String,
+    /// How the input is read.
+    pub input: InputOptions,
     /// The text of the clause.
     pub clause: String,
     /// How the answer is printed.
-    pub format: Format,
+    pub format: AnswerFormat,
     /// Whether standard error tells, every few seconds, how far it is.
     pub progress: bool,
+    /// The text of a condition, of which only rows that meet it are looked at; None where all are.
+    pub filter: Option<String>,
+    /// The most turns of a start row's search, at least 1; None where there is no limit.
+    pub most_turns: Option<u32>,
+    /// The paths of the input's files; none where it is standard input.
+    pub files: Vec<String>,
 }
 
 /// How an answer is printed.
-#[derive(Clone, Copy, PartialEq, Eq)]
-pub enum Format {
+#[derive(Clone, Copy, Debug, PartialEq, Eq)]
+pub enum AnswerFormat {
     /// `lines`: a line of JSON for each item.
     Lines,
     /// `csv`: a header of the output columns, and a record of CSV for each row.
     Csv,
+    /// `objects`: for each row an object of JSON, with the names of the output columns.
+    Objects,
 }
 
 /// A node that is served at an address.
@@ -64,8 +98,8 @@ pub struct NodeJob {
 /// A source of rows for nodes.
 #[derive(Drop)]
 pub struct SourceJob {
-    /// The text of the table.
-    pub table: String,
+    /// How standard input is read.
+    pub input: InputOptions,
     /// The text of the clause.
     pub clause: String,
     /// The most turns that a poll may take, at least 1.
@@ -83,10 +117,23 @@ pub struct SourceJob {
 /// What is to be checked.
 #[derive(Drop)]
 pub struct CheckJob {
-    /// The text of the table; None where one is to be proposed.
-    pub table: Option<String>,
+    /// How the input is read. Without a table and columns some are proposed.
+    pub input: InputOptions,
     /// The text of the clause; None where none is checked.
     pub clause: Option<String>,
+    /// How what is found is printed.
+    pub format: ReportFormat,
+    /// The path of the input's file; None where it is standard input.
+    pub file: Option<String>,
+}
+
+/// How what is found is printed.
+#[derive(Clone, Copy, Debug, PartialEq, Eq)]
+pub enum ReportFormat {
+    /// `text`: for people.
+    Text,
+    /// `json`: one object of JSON, for programs.
+    Json,
 }
 
 /// Why the command line names no job.

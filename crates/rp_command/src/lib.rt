@@ -1,10 +1,14 @@
 //! The command line of rowmatch: which job the words name, with its values.
 //!
 //!     trace PATTERN
-//!     whole --table TEXT --clause TEXT [--format FORMAT] [--progress]
+//!     whole [INPUT] --clause TEXT [--format FORMAT] [--progress] [--where CONDITION] [--most-turns N] [FILE]..
 //!     node --table TEXT --clause TEXT --listen ADDR --state FILE --connections N [--idle SECONDS] [--verbose]
-//!     source --table TEXT --clause TEXT [--budget N] [--idle SECONDS] [--acknowledge] [--verbose] ADDR..
-//!     check [--table TEXT] [--clause TEXT]
+//!     source [INPUT] --clause TEXT [--budget N] [--idle SECONDS] [--acknowledge] [--verbose] ADDR..
+//!     check [INPUT] [--clause TEXT] [--format FORMAT] [FILE]
+//!
+//! where INPUT says how the input is read:
+//!
+//!     [--table TEXT] [--columns TEXT] [--delimiter CHARACTER] [--null WORD].. [--no-header] [--from FORMAT]
 //!
 //! clap reads the words. What each job's command takes is said in `specs/Commands`, and which values a job has in
 //! `specs/Jobs`, by the words of `specs/Values`.
@@ -14,6 +18,7 @@ mod arguments;
 mod check;
 mod command;
 pub mod help;
+mod input;
 mod job;
 mod node;
 mod source;
@@ -21,4 +26,7 @@ mod trace;
 mod whole;
 
 pub use command::{not_utf8, read_command};
-pub use job::{CheckJob, Format, Job, JobFault, NodeJob, SourceJob, WholeJob};
+pub use job::{
+    AnswerFormat, CheckJob, InputFormat, InputOptions, Job, JobFault, NodeJob, ReportFormat,
+    SourceJob, WholeJob,
+};

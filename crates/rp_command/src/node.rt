@@ -4,6 +4,7 @@ ghost use Rattle.clap.specs.Words.{app_of, found_of, rows_of};
 ghost use Rattle.clap.specs.declared.error.Error.{Error};
 ghost use Rattle.rp_command.specs.Commands.{node_app};
 ghost use Rattle.rp_command.specs.Jobs.{AreUnderstood, HasNode, IsFaultBy, IsFaultless, IsRead, name_of};
+ghost use Rattle.rp_command.specs.Jobs.CommandName.{NodeCommand};
 ghost use Rattle.rp_command.specs.Values.{MeetsRules};
 
 use crate::arguments::{
@@ -20,9 +21,9 @@ pub(crate) fn read_node(alloc: Global, words: &[String]) -> Result<Job, JobFault
     ensures value { IfOk result (IsRead (map string_bytes words.now)) }
     ensures taken { IfOk result (IsFaultless (map string_bytes words.now)) }
     ensures cause { (error : Error) → result ≡ Err (JobFault.Line error) →
-        IsFaultBy node_app (map string_bytes words.now) error }
+        IsFaultBy NodeCommand (map string_bytes words.now) error }
     ensures line { (error : Error) → result ≡ Err (JobFault.Line error) →
-        AreUnderstood node_app (map string_bytes words.now) → ⊥ }
+        AreUnderstood NodeCommand (map string_bytes words.now) → ⊥ }
 {
     let command = node_command(alloc)?;
     let matches = matched(command, words)?;

@@ -3,14 +3,17 @@ ghost use Rattle.std.specs.Prelude.{◌≡◌, ◌∷◌, [], false, true, IfOk,
 ghost use Rattle.clap.specs.Words.{app_of, found_of, rows_of, rule_of};
 ghost use Rattle.clap.specs.declared.error.Error.{Error};
 ghost use Rattle.rp_command.specs.Commands.{by_number, by_places, source_app};
-ghost use Rattle.rp_command.specs.Jobs.{AreUnderstood, HasSource, IsFaultBy, IsFaultless, IsRead, name_of};
-ghost use Rattle.rp_command.specs.Values.{MeetsRules};
+ghost use Rattle.rp_command.specs.Jobs.{AreUnderstood, HasSource, IsFaultBy, IsFaultless, IsRead, input_word, name_of};
+ghost use Rattle.rp_command.specs.Jobs.CommandName.{SourceCommand};
+ghost use Rattle.rp_command.specs.Values.{HasText, MeetsRules};
 
 use crate::arguments::{
-    count_of, flag, flag_of, matched, number_of, number_option, text_of, texts_of, with_clause,
+    CLAUSE, count_of, flag, flag_of, matched, no_such_word, number_of, number_option, text_of,
+    text_option, texts_of,
 };
 use crate::help;
-use crate::job::{Job, JobFault, SourceJob};
+use crate::input::{INPUTS, input_named, input_options, with_input};
+use crate::job::{InputFormat, Job, JobFault, SourceJob};
 use clap::{Arg, ArgAction, ArgMatches, Command};
 use std::alloc::{AllocError, Global};
 
@@ -20,23 +23,38 @@ pub(crate) fn read_source(alloc: Global, words: &[String]) -> Result<Job, JobFau
     ensures value { IfOk result (IsRead (map string_bytes words.now)) }
     ensures taken { IfOk result (IsFaultless (map string_bytes words.now)) }
     ensures cause { (error : Error) → result ≡ Err (JobFault.Line error) →
-        IsFaultBy source_app (map string_bytes words.now) error }
+        IsFaultBy SourceCommand (map string_bytes words.now) error }
     ensures line { (error : Error) → result ≡ Err (JobFault.Line error) →
-        AreUnderstood source_app (map string_bytes words.now) → ⊥ }
+        AreUnderstood SourceCommand (map string_bytes words.now) → ⊥ }
 {
     let command = source_command(alloc)?;
     let matches = matched(command, words)?;
-    let job = source_job(alloc, &matches)?;
+    let from = text_of(alloc, &matches, "from")?;
+    let Some(from) = input_named(from.as_str()) else {
+        return Err(no_such_word(
+            alloc,
+            source_command(alloc),
+            "--from <FORMAT>",
+            INPUTS,
+            from.as_str(),
+        ));
+    };
+    let job = source_job(alloc, &matches, from)?;
     Ok(Job::Source(job))
 }
 
-/// The values that clap found.
-fn source_job(alloc: Global, matches: &ArgMatches) -> Result<SourceJob, AllocError>
-    requires { MeetsRules source_app matches.now }
+/// The values that clap found, beside what the input is.
+fn source_job(
+    alloc: Global,
+    matches: &ArgMatches,
+    from: InputFormat,
+) -> Result<SourceJob, AllocError>
+    requires rules { MeetsRules source_app matches.now }
+    requires from { HasText (rows_of (found_of matches.now)) (codes "from") (input_word from) }
     ensures { IfOk result (HasSource (rows_of (found_of matches.now))) }
 {
     Ok(SourceJob {
-        table: text_of(alloc, matches, "table")?,
+        input: input_options(alloc, matches, from)?,
         clause: text_of(alloc, matches, "clause")?,
         budget: count_of(matches, "budget"),
         idle: number_of(matches, "idle"),
@@ -53,11 +71,12 @@ pub(crate) fn source_command<'a>(alloc: Global) -> Result<Command<'a>, AllocErro
 {
     let command = Command::new(alloc, "source")
         .bin_name("rowmatch source")?
-        .about("Hands the rows of a CSV file to nodes, and prints the items that they give")
+        .about("Hands the rows of an input to nodes, and prints the items that they give")
         .after_help(help::SOURCE);
     let about_idle = "Ends where a node is silent for so long";
     let about_acknowledge = "Waits until each node says that it saved";
-    with_clause(command, alloc)?
+    with_input(command, alloc)?
+        .arg(text_option(alloc, "clause", "TEXT", CLAUSE))?
         .arg(budget(alloc))?
         .arg(number_option(alloc, "idle", "SECONDS", about_idle))?
         .arg(flag(alloc, "acknowledge", about_acknowledge))?

@@ -4,6 +4,7 @@ ghost use Rattle.clap.specs.Words.{app_of};
 ghost use Rattle.clap.specs.declared.error.Error.{Error};
 ghost use Rattle.rp_command.specs.Commands.{trace_app};
 ghost use Rattle.rp_command.specs.Jobs.{AreUnderstood, IsFaultBy, IsFaultless, IsRead, name_of};
+ghost use Rattle.rp_command.specs.Jobs.CommandName.{TraceCommand};
 
 use crate::arguments::{matched, text_of};
 use crate::help;
@@ -17,9 +18,9 @@ pub(crate) fn read_trace(alloc: Global, words: &[String]) -> Result<Job, JobFaul
     ensures value { IfOk result (IsRead (map string_bytes words.now)) }
     ensures taken { IfOk result (IsFaultless (map string_bytes words.now)) }
     ensures cause { (error : Error) → result ≡ Err (JobFault.Line error) →
-        IsFaultBy trace_app (map string_bytes words.now) error }
+        IsFaultBy TraceCommand (map string_bytes words.now) error }
     ensures line { (error : Error) → result ≡ Err (JobFault.Line error) →
-        AreUnderstood trace_app (map string_bytes words.now) → ⊥ }
+        AreUnderstood TraceCommand (map string_bytes words.now) → ⊥ }
 {
     let command = trace_command(alloc)?;
     let matches = matched(command, words)?;
