@@ -1,6 +1,5 @@
 //! What is told of a place, and the tables of words that it is taken from.
 
-use rp_place::{Place, draw, push_help};
 use std::alloc::{AllocError, Global};
 
 /// What is told of a place.
@@ -36,17 +35,6 @@ impl Advice {
     /// The advice of what is said.
     pub(crate) fn of(alloc: Global, said: Hint) -> Result<Advice, AllocError> {
         Advice::new(alloc, said.what, said.help)
-    }
-
-    /// Writes the place, its line with marks, and the advice.
-    pub(crate) fn write(
-        &self,
-        out: &mut String,
-        name: &str,
-        place: &Place<'_>,
-    ) -> Result<(), AllocError> {
-        draw(out, name, place, self.what.as_str())?;
-        push_help(out, self.help.as_str())
     }
 }
 

@@ -17,9 +17,11 @@
 
 mod advice;
 mod behind;
+mod by_columns;
 mod characters;
 mod clause;
 mod columns;
+mod columns_text;
 mod csv_text;
 mod described;
 mod expected;
@@ -28,18 +30,24 @@ mod first_line;
 mod looks;
 mod meaning;
 mod names;
+mod objects;
 mod parts;
 mod pattern_hints;
 mod precedes;
 mod proposed;
 mod reading;
+mod report;
 mod rewriting;
 mod scan;
 mod table_text;
 mod words;
 
+pub use by_columns::{explain_csv_by, explain_no_header};
 pub use clause::explain_clause;
+pub use columns_text::explain_columns;
 pub use csv_text::explain_csv;
 pub use described::describe;
-pub use proposed::propose_table;
+pub use objects::explain_objects;
+pub use proposed::{Proposal, propose_columns};
+pub use report::{Mark, Report, shown_text};
 pub use table_text::explain_table;
