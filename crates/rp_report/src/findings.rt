@@ -1,0 +1,45 @@
+//! All that was found.
+
+use crate::clause::write_clause;
+use crate::columns::write_columns;
+use crate::fault::write_faults;
+use json::Writer;
+use rp_explain::Report;
+use rp_query::Query;
+use rp_value::Table;
+use std::alloc::{AllocError, Global};
+
+/// What was found of the texts and of an input.
+#[derive(Clone, Copy)]
+pub struct Findings<'a> {
+    /// The columns that a clause sees, where they have no fault.
+    pub table: Option<&'a Table>,
+    /// The query of the clause, where that has no fault.
+    pub query: Option<&'a Query>,
+    /// How many rows the input has, where it was read.
+    pub rows: Option<u64>,
+    /// What is wrong: what the text is called in which it is, and what is said of it.
+    pub faults: &'a [(&'static str, Report)],
+}
+
+/// The object of what was found, as a line without its line end. The only error is that memory is out.
+pub fn findings_line(alloc: Global, findings: &Findings<'_>) -> Result<Vec<u8>, AllocError> {
+    let mut writer = Writer::new(Vec::new(alloc));
+    writer.begin_object()?;
+    if let Some(query) = findings.query {
+        writer.key("clause")?;
+        write_clause(alloc, &mut writer, query)?;
+    }
+    if let Some(table) = findings.table {
+        writer.key("columns")?;
+        write_columns(&mut writer, table.columns())?;
+    }
+    writer.key("faults")?;
+    write_faults(&mut writer, findings.faults)?;
+    if let Some(rows) = findings.rows {
+        writer.key("rows")?;
+        writer.u64(rows)?;
+    }
+    writer.end_object()?;
+    Ok(writer.into_inner())
+}
