@@ -5,6 +5,7 @@ mod accepting;
 mod check;
 mod client;
 mod fault;
+mod input;
 mod node;
 mod progress;
 mod seed;
@@ -31,6 +32,7 @@ fn main(rt: HostRuntime) -> io::Result<ExitCode> {
     match run(&rt) {
         Ok(Verdict::Well) => Ok(ExitCode::SUCCESS),
         Ok(Verdict::Faulty) => Ok(ExitCode::from(1)),
+        Ok(Verdict::GivenUp) => Ok(ExitCode::from(3)),
         Err(fault) => Ok(ExitCode::from(told(&rt, fault).status().unwrap_or(0))),
     }
 }
@@ -67,7 +69,7 @@ fn run(rt: &HostRuntime) -> Result<Verdict, ProgramFault> {
     run_job(rt, &job)
 }
 
-/// Does the job. Only `check`, and `whole` as CSV, have a verdict.
+/// Does the job. Only `check` and `whole` have a verdict.
 fn run_job(rt: &HostRuntime, job: &Job) -> Result<Verdict, ProgramFault> {
     match job {
         Job::Trace { pattern } => trace(rt, pattern.as_str())?,

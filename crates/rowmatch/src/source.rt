@@ -1,14 +1,14 @@
 //! `source`: hands the rows of a CSV to nodes, one node after the other, and prints the items that they give.
 use crate::fault::ProgramFault;
+use crate::input::{InputForm, InputShape, rows_of_input};
 use crate::seed::seeded_hasher;
 use crate::shown::shown_key;
 use rp_check::compile;
 use rp_command::SourceJob;
 use rp_drive::{Counted, DriveFault, Stop, drive_within};
-use rp_input::{number_rows, read_rows};
+use rp_input::number_rows;
 use rp_io::{Lines, Outlet, Port, READS};
 use rp_query::Query;
-use rp_syntax::read_table;
 use rp_wire::{MAX_LINE_LEN, Packet, Refusal, Reply, reply_line, saved_of};
 use std::alloc::{AllocError, Global};
 use std::io::{IsTerminal, Read};
@@ -23,10 +23,12 @@ type Counter<'a> = Counted<Port<&'a TcpStream>>;
 
 /// Hands all rows of standard input to each node in turn. The first fault ends it.
 pub fn run_source(rt: &HostRuntime, job: &SourceJob) -> Result<(), ProgramFault> {
-    let table = read_table(rt.alloc(), job.table.as_str())?;
-    let query = compile(rt.alloc(), job.clause.as_str(), &table)?;
-    let mut input = Port::new(rt.stdin());
-    let rows = read_rows(rt.alloc(), &mut input, query.table(), READS)?;
+    let form = InputForm::of(rt.alloc(), &job.input)?;
+    let Some(shape) = InputShape::of(rt.alloc(), &job.input, &form)? else {
+        return Err(ProgramFault::Usage("nodes have a table: give --table or --columns"));
+    };
+    let query = compile(rt.alloc(), job.clause.as_str(), shape.table())?;
+    let rows = rows_of_input(rt, &shape, &form)?;
     let packets = number_rows(rt.alloc(), &query, rows, seeded_hasher(rt)?)?;
     let mut out = Port::new(rt.stdout());
     let mut number = 0u64;

@@ -1,41 +1,77 @@
-//! The texts of `--table` and `--clause` on the command line, before clap reads it: a text may begin with a dash, as a clause
-//! does that begins with a comment, and it may come from a file.
+//! The values of options on the command line that are texts, before clap reads it: a text may begin with a dash, as a clause does
+//! that begins with a comment, and it may come from a file.
 use crate::fault::ProgramFault;
 use rp_node::without_blank_end;
 use std::alloc::{AllocError, Global};
 use std::{fs, io};
 
-/// An option whose value is a text or the name of a file with the text.
+/// What the value of such an option is.
+#[derive(Clone, Copy)]
+enum Value {
+    /// The text, of which blanks at its end are no part.
+    Text,
+    /// The name of a file with such a text.
+    File,
+    /// A word, which is taken as it is.
+    Word,
+}
+
+/// An option whose value may begin with a dash, or comes from a file.
 #[derive(Clone, Copy)]
 struct TextOption {
     /// The option as it is written.
     word: &'static str,
     /// The option of the text, up to its value.
     joined: &'static str,
-    /// Whether the value names a file.
-    is_file: bool,
+    /// What its value is.
+    value: Value,
 }
 
-const OPTIONS: [TextOption; 4] = [
+const OPTIONS: [TextOption; 9] = [
     TextOption {
         word: "--table",
         joined: "--table=",
-        is_file: false,
+        value: Value::Text,
+    },
+    TextOption {
+        word: "--columns",
+        joined: "--columns=",
+        value: Value::Text,
     },
     TextOption {
         word: "--clause",
         joined: "--clause=",
-        is_file: false,
+        value: Value::Text,
+    },
+    TextOption {
+        word: "--where",
+        joined: "--where=",
+        value: Value::Text,
     },
     TextOption {
         word: "--table-file",
         joined: "--table=",
-        is_file: true,
+        value: Value::File,
+    },
+    TextOption {
+        word: "--columns-file",
+        joined: "--columns=",
+        value: Value::File,
     },
     TextOption {
         word: "--clause-file",
         joined: "--clause=",
-        is_file: true,
+        value: Value::File,
+    },
+    TextOption {
+        word: "--delimiter",
+        joined: "--delimiter=",
+        value: Value::Word,
+    },
+    TextOption {
+        word: "--null",
+        joined: "--null=",
+        value: Value::Word,
     },
 ];
 
@@ -97,26 +133,39 @@ fn push_word(
 
 /// The option of the text with the text, which is the value or what the file of that name holds.
 fn text_word(rt: &HostRuntime, option: TextOption, value: &str) -> Result<String, ProgramFault> {
-    if !option.is_file {
-        return Ok(joined_word(rt.alloc(), option.joined, value)?);
-    }
-    match fs::read_to_string(rt, value) {
-        Ok(text) => Ok(joined_word(rt.alloc(), option.joined, text.as_str())?),
-        Err(error) if error.kind() == io::ErrorKind::OutOfMemory => Err(ProgramFault::OutOfMemory),
-        Err(_) => Err(ProgramFault::TextFile(String::from_str(rt.alloc(), value)?)),
+    match option.value {
+        Value::Text => Ok(joined_word(rt.alloc(), option.joined, trimmed(value))?),
+        Value::Word => Ok(joined_word(rt.alloc(), option.joined, value)?),
+        Value::File => {
+            let text = text_in_file(rt, value)?;
+            Ok(joined_word(rt.alloc(), option.joined, trimmed(text.as_str()))?)
+        }
     }
 }
 
-fn joined_word(alloc: Global, option: &str, text: &str) -> Result<String, AllocError> {
+/// The text that a file holds.
+fn text_in_file(rt: &HostRuntime, name: &str) -> Result<String, ProgramFault> {
+    match fs::read_to_string(rt, name) {
+        Ok(text) => Ok(text),
+        Err(error) if error.kind() == io::ErrorKind::OutOfMemory => Err(ProgramFault::OutOfMemory),
+        Err(_) => Err(ProgramFault::TextFile(String::from_str(rt.alloc(), name)?)),
+    }
+}
+
+/// The text without a byte order mark before it and without blanks and line ends behind it.
+fn trimmed(text: &str) -> &str {
     let text = match text.strip_prefix("\u{feff}") {
         Some(rest) => rest,
         None => text,
     };
     let length = without_blank_end(text.as_bytes()).len();
-    let text = match text.split_at_checked(length) {
+    match text.split_at_checked(length) {
         Some((front, _blanks)) => front,
         None => text,
-    };
+    }
+}
+
+fn joined_word(alloc: Global, option: &str, text: &str) -> Result<String, AllocError> {
     let mut word = String::from_str(alloc, option)?;
     word.push_str(text)?;
     Ok(word)
