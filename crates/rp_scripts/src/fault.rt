@@ -20,8 +20,12 @@ pub enum EventFault {
     NothingBehindArrow,
     #[error("no arrow belongs here")]
     NoArrow,
-    #[error("an event before `node`, `matcher` or `lines`")]
+    #[error("an event before `node`, `matcher`, `lines` or `input`")]
     NoSubject,
+    #[error("no columns were given")]
+    NoColumns,
+    #[error("bytes in square brackets are wanted")]
+    NoBytes,
     #[error("a case without a name")]
     NoName,
     #[error("a case in which nothing is told")]

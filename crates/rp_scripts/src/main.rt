@@ -1,4 +1,5 @@
-//! Plays scripts: what a node or a matcher is told, line by line, and what it has to answer; and what lines are read as.
+//! Plays scripts: what a node or a matcher is told, line by line, and what it has to answer; and what lines, columns and fields are
+//! read as.
 //!
 //! A script is read from standard input. It is made of cases, and a case of events, a line each:
 //!
@@ -19,8 +20,8 @@
 //!
 //! - `case NAME: what it shows` begins a case, which goes on to the next one.
 //! - `table COLUMNS` and `clause CLAUSE` hold from there on, in the cases below too, until others are given.
-//! - `node` and `matcher` begin a new node or matcher of that clause over that table, and `lines` takes none. `node_player`,
-//!   `matcher_player` and `lines_player` say which events each has.
+//! - `node` and `matcher` begin a new node or matcher of that clause over that table, and `lines` and `input` take none.
+//!   `node_player`, `matcher_player`, `lines_player` and `input_player` say which events each has.
 //! - Behind the arrow stands what is told of an event. A line without an arrow leaves what it tells to the next line that has
 //!   one; a case has one at least, and all that it tells stands behind one.
 //! - An item is told as `(2, 1, x 7)`: its place, the number of its match, and its cells; of a row in no match the number is
@@ -46,6 +47,7 @@ mod digest;
 mod driven;
 mod fault;
 mod hasher;
+mod input_player;
 mod line;
 mod lines_player;
 mod matcher_player;

@@ -80,7 +80,7 @@ impl<'a> Script<'a> {
             "case" => self.begin_case(rt, line),
             "table" => self.set_table(line),
             "clause" => self.set_clause(line),
-            "node" | "matcher" | "lines" => self.begin(line),
+            "node" | "matcher" | "lines" | "input" => self.begin(line),
             _ => self.play(rt, line),
         }
     }
@@ -169,6 +169,7 @@ impl<'a> Script<'a> {
     fn subject(&self, event: &str) -> Result<Subject, EventFault> {
         match event {
             "lines" => Ok(Subject::Lines(LinesPlayer::new(self.alloc))),
+            "input" => Ok(Subject::input(self.alloc)?),
             "matcher" => Ok(Subject::matcher(self.alloc, self.query()?)?),
             _ => Ok(Subject::node(self.alloc, self.query()?)?),
         }

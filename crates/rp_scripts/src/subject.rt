@@ -1,5 +1,6 @@
 //! What a case plays.
 use crate::fault::EventFault;
+use crate::input_player::InputPlayer;
 use crate::line::Line;
 use crate::lines_player::LinesPlayer;
 use crate::matcher_player::MatcherPlayer;
@@ -15,6 +16,7 @@ pub enum Subject {
     Node(Box<NodePlayer>),
     Matcher(Box<MatcherPlayer>),
     Lines(LinesPlayer),
+    Input(Box<InputPlayer>),
 }
 
 impl Subject {
@@ -30,6 +32,12 @@ impl Subject {
         Ok(Subject::Matcher(Box::new(alloc, player)?))
     }
 
+    /// No columns yet.
+    pub fn input(alloc: Global) -> Result<Subject, EventFault> {
+        let player = InputPlayer::new(alloc)?;
+        Ok(Subject::Input(Box::new(alloc, player)?))
+    }
+
     /// Plays an event, and adds what is told of it.
     pub fn act(&mut self, line: Line, told: &mut String) -> Result<(), EventFault> {
         match self {
@@ -37,6 +45,7 @@ impl Subject {
             Subject::Node(player) => player.act(line, told),
             Subject::Matcher(player) => player.act(line, told),
             Subject::Lines(player) => player.act(line, told),
+            Subject::Input(player) => player.act(line, told),
         }
     }
 
