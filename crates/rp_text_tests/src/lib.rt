@@ -1,6 +1,6 @@
-//! The tests of texts and conversations: of feeds, of JSON, of the lines and checkpoints that are written with it, and of both
-//! sides of a conversation over lines. They stand in a crate of their own, so that those crates are proved once, and not again
-//! with their tests.
+//! The tests of texts and conversations: of feeds, of JSON, of rows of JSON lines, of the lines and checkpoints that are written
+//! with JSON, and of both sides of a conversation over lines. They stand in a crate of their own, so that those crates are proved
+//! once, and not again with their tests.
 #![tactic(auto)]
 
 #[cfg(test)]
@@ -11,6 +11,8 @@ mod codec;
 mod feed;
 #[cfg(test)]
 mod forms;
+#[cfg(test)]
+mod objects;
 #[cfg(test)]
 mod sessions;
 #[cfg(test)]
