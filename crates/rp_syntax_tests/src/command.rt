@@ -1,5 +1,5 @@
 //! Jobs with the values that are read, where no output shows them. The other jobs and all texts are in cases/command.cases.
-use rp_command::{Job, JobFault, read_command};
+use rp_command::{AnswerFormat, InputFormat, Job, JobFault, ReportFormat, read_command};
 use std::alloc::{AllocError, Global};
 use std::test::Fail;
 
@@ -14,6 +14,93 @@ fn job_of(alloc: Global, texts: &[&str]) -> Result<Job, Fail> {
         Err(JobFault::OutOfMemory) => Err(Fail::from(AllocError)),
         Err(JobFault::Line(_)) => Err(Fail::from("the words name no job")),
     }
+}
+
+/// A text that is given, and else an empty one.
+fn shown(text: &Option<String>) -> &str {
+    match text {
+        Some(text) => text.as_str(),
+        None => "",
+    }
+}
+
+/// `whole` with all that it can be given.
+#[test]
+fn whole_command_of_many(rt: HostRuntime) -> Result<(), Fail> {
+    let words = [
+        "whole",
+        "a.csv",
+        "b.csv",
+        "--columns=t = seconds(Time)",
+        "--delimiter=\\t",
+        "--null=",
+        "--null",
+        "n/a",
+        "--no-header",
+        "--from=jsonl",
+        "--clause=c",
+        "--format=objects",
+        "--where=p > 0",
+        "--most-turns=4294967295",
+    ];
+    match &job_of(rt.alloc(), words.as_slice())? {
+        Job::Whole(whole) => {
+            assert_eq!(rt; shown(&whole.input.table), "");
+            assert_eq!(rt; shown(&whole.input.columns), "t = seconds(Time)");
+            assert_eq!(rt; shown(&whole.input.delimiter), "\\t");
+            assert_eq!(rt; whole.input.nulls.len(), 2);
+            assert_eq!(rt; whole.input.nulls[0].as_str(), "");
+            assert_eq!(rt; whole.input.nulls[1].as_str(), "n/a");
+            assert!(rt; whole.input.no_header);
+            assert_eq!(rt; whole.input.from, InputFormat::JsonLines);
+            assert_eq!(rt; whole.format, AnswerFormat::Objects);
+            assert_eq!(rt; shown(&whole.filter), "p > 0");
+            assert_eq!(rt; whole.most_turns, Some(4_294_967_295));
+            assert_eq!(rt; whole.files.len(), 2);
+            assert_eq!(rt; whole.files[0].as_str(), "a.csv");
+            assert_eq!(rt; whole.files[1].as_str(), "b.csv");
+        }
+        _ => assert!(rt; false),
+    }
+    Ok(())
+}
+
+/// `whole` with a clause alone reads the standard input as CSV with a header, and prints lines.
+#[test]
+fn whole_command_of_few_words(rt: HostRuntime) -> Result<(), Fail> {
+    match &job_of(rt.alloc(), &["whole", "--clause=c"])? {
+        Job::Whole(whole) => {
+            assert!(rt; whole.input.table.is_none());
+            assert!(rt; whole.input.columns.is_none());
+            assert!(rt; whole.input.delimiter.is_none());
+            assert!(rt; whole.input.nulls.is_empty());
+            assert!(rt; !whole.input.no_header);
+            assert_eq!(rt; whole.input.from, InputFormat::Csv);
+            assert_eq!(rt; whole.format, AnswerFormat::Lines);
+            assert!(rt; whole.filter.is_none());
+            assert_eq!(rt; whole.most_turns, None);
+            assert!(rt; whole.files.is_empty());
+        }
+        _ => assert!(rt; false),
+    }
+    Ok(())
+}
+
+/// `check` of a file, for programs.
+#[test]
+fn check_command_of_a_file(rt: HostRuntime) -> Result<(), Fail> {
+    let words = ["check", "--format=json", "prices.csv"];
+    for (count, format) in [(1, ReportFormat::Text), (3, ReportFormat::Json)] {
+        match &job_of(rt.alloc(), &words.as_slice()[..count])? {
+            Job::Check(check) => {
+                assert_eq!(rt; check.format, format);
+                assert_eq!(rt; check.file.is_some(), count == 3);
+                assert!(rt; check.clause.is_none());
+            }
+            _ => assert!(rt; false),
+        }
+    }
+    Ok(())
 }
 
 /// `whole` reports how far it is only where it is asked to.
@@ -98,7 +185,8 @@ fn source_command(rt: HostRuntime) -> Result<(), Fail> {
     ];
     match &job_of(rt.alloc(), words.as_slice())? {
         Job::Source(source) => {
-            assert_eq!(rt; source.table.as_str(), "p int");
+            assert_eq!(rt; shown(&source.input.table), "p int");
+            assert_eq!(rt; shown(&source.input.columns), "");
             assert_eq!(rt; source.clause.as_str(), "a clause");
             assert_eq!(rt; source.budget, 100_000);
             assert_eq!(rt; source.idle, None);

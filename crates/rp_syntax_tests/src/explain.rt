@@ -1,7 +1,7 @@
 //! What is told of a clause, a table and an input, where memory is refused in between too.
 use crate::support::{compiled, prices, refused_twice};
 use rp_check::{CheckKind, CompileFault, Fault};
-use rp_explain::{describe, explain_clause, explain_csv, explain_table, propose_table};
+use rp_explain::{describe, explain_clause, explain_csv, explain_table, propose_columns};
 use rp_input::CsvFault;
 use rp_lexer::LexFault;
 use rp_syntax::{ParseFault, TableTextFault};
@@ -27,11 +27,11 @@ fn told_of_clause(alloc: Global) -> Result<String, Fail> {
         kind: CheckKind::UnknownColumn,
         offset: 24,
     });
-    if let Ok(told) = explain_clause(alloc, &table, CLAUSE, &fault) {
-        return Ok(told);
+    if let Ok(report) = explain_clause(alloc, &table, CLAUSE, &fault) {
+        return Ok(report.text);
     }
     match explain_clause(alloc, &table, CLAUSE, &fault) {
-        Ok(told) => Ok(told),
+        Ok(report) => Ok(report.text),
         Err(_) => Err(refused_twice()),
     }
 }
@@ -54,11 +54,11 @@ table: Expected at byte 2
 /// What is told of a table of fractions.
 fn told_of_table(alloc: Global) -> Result<String, Fail> {
     let fault = TableTextFault::Expected(2);
-    if let Ok(told) = explain_table(alloc, "p float", &fault) {
-        return Ok(told);
+    if let Ok(report) = explain_table(alloc, "p float", &fault) {
+        return Ok(report.text);
     }
     match explain_table(alloc, "p float", &fault) {
-        Ok(told) => Ok(told),
+        Ok(report) => Ok(report.text),
         Err(_) => Err(refused_twice()),
     }
 }
@@ -85,11 +85,11 @@ csv: Field at record 2
 /// What is told of the input.
 fn told_of_input(alloc: Global) -> Result<String, Fail> {
     let table = prices(alloc)?;
-    if let Ok(told) = explain_csv(alloc, &table, INPUT, &CsvFault::Field(2)) {
-        return Ok(told);
+    if let Ok(report) = explain_csv(alloc, &table, INPUT, &CsvFault::Field(2)) {
+        return Ok(report.text);
     }
     match explain_csv(alloc, &table, INPUT, &CsvFault::Field(2)) {
-        Ok(told) => Ok(told),
+        Ok(report) => Ok(report.text),
         Err(_) => Err(refused_twice()),
     }
 }
@@ -101,13 +101,13 @@ fn refused_input(rt: HostRuntime) -> Result<(), Fail> {
     Ok(())
 }
 
-/// The table that is proposed for an input.
+/// The columns that are proposed for an input.
 fn proposed(alloc: Global, bytes: &[u8]) -> Result<String, Fail> {
-    if let Ok(text) = propose_table(alloc, bytes) {
-        return Ok(text);
+    if let Ok(proposal) = propose_columns(alloc, bytes, b',', &[]) {
+        return Ok(proposal.columns);
     }
-    match propose_table(alloc, bytes) {
-        Ok(text) => Ok(text),
+    match propose_columns(alloc, bytes, b',', &[]) {
+        Ok(proposal) => Ok(proposal.columns),
         Err(_) => Err(refused_twice()),
     }
 }
@@ -159,10 +159,10 @@ csv: Header
 #[test]
 fn empty_inputs(rt: HostRuntime) -> Result<(), Fail> {
     let table = prices(rt.alloc())?;
-    let told = explain_csv(rt.alloc(), &table, b"", &CsvFault::Header)?;
-    assert_eq!(rt; told.as_str(), TOLD_OF_NOTHING);
-    let text = propose_table(rt.alloc(), b"")?;
-    assert_eq!(rt; text.as_str(), "");
+    let report = explain_csv(rt.alloc(), &table, b"", &CsvFault::Header)?;
+    assert_eq!(rt; report.text.as_str(), TOLD_OF_NOTHING);
+    let proposal = propose_columns(rt.alloc(), b"", b',', &[])?;
+    assert_eq!(rt; proposal.columns.as_str(), "");
     Ok(())
 }
 
@@ -170,8 +170,8 @@ fn empty_inputs(rt: HostRuntime) -> Result<(), Fail> {
 fn check_clauses(rt: &impl Abort, alloc: Global, faults: &[CompileFault]) -> Result<(), Fail> {
     let table = prices(alloc)?;
     for fault in faults {
-        let told = explain_clause(alloc, &table, CLAUSE, fault)?;
-        assert_eq!(rt; told.as_str(), "clause: out of memory\n");
+        let report = explain_clause(alloc, &table, CLAUSE, fault)?;
+        assert_eq!(rt; report.text.as_str(), "clause: out of memory\n");
     }
     Ok(())
 }
@@ -183,8 +183,8 @@ fn check_tables(
     faults: &[TableTextFault],
 ) -> Result<(), AllocError> {
     for fault in faults {
-        let told = explain_table(alloc, "p", fault)?;
-        assert_eq!(rt; told.as_str(), "table: out of memory\n");
+        let report = explain_table(alloc, "p", fault)?;
+        assert_eq!(rt; report.text.as_str(), "table: out of memory\n");
     }
     Ok(())
 }
