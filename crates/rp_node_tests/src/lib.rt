@@ -1,7 +1,9 @@
-//! The tests of rp_node, rp_input and rp_whole, in a crate of their own: they compile clauses, which those three don't, and what they
+//! The tests of rp_node, rp_columns, rp_input and rp_whole, in a crate of their own: they compile clauses, which those don't, and what they
 //! test is proved once, and not again with them.
 #![tactic(auto)]
 
+#[cfg(test)]
+mod columns;
 #[cfg(test)]
 mod connections;
 #[cfg(test)]

@@ -1,5 +1,6 @@
 //! Runs of `whole` over devices in memory that fail or take pieces, its calls with refused memory, who is told how a run goes on, and
-//! the texts of faults. Answers are in cases/whole.cases and cases/records.cases.
+//! the texts of faults. Answers are in cases/whole.cases, records.cases and objects.cases.
+mod forms;
 mod lines;
 mod records;
 mod told;
