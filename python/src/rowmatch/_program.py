@@ -1,0 +1,190 @@
+"""The program that comes with the package: where it is, and how it is run."""
+
+from __future__ import annotations
+
+import contextlib
+import os
+import signal
+import subprocess
+import threading
+from collections.abc import Iterable, Iterator, Sequence
+from dataclasses import dataclass
+from pathlib import Path
+from typing import IO
+
+from .errors import ProgramError
+
+# A pattern is read and dropped by recursion over its parts, so the program is given all the stack
+# that it may have. A shell does it: between fork and exec nothing else is safe under threads.
+_RAISE_STACK = 'ulimit -S -s "$(ulimit -H -s)" 2>/dev/null; exec "$0" "$@"'
+# Large pages of memory, since the rows of one partition lie apart in that of all.
+_LARGE_PAGES = "glibc.malloc.hugetlb=1"
+# A node lives long: what a save took and left is given back to the system.
+_GIVE_BACK = (
+    "glibc.malloc.tcache_count=0:glibc.malloc.mxfast=0"
+    ":glibc.malloc.mmap_threshold=1048576:glibc.malloc.trim_threshold=1048576"
+)
+
+
+def program() -> str:
+    """The path of the program: that of ``$ROWMATCH_PROGRAM``, or the one that was installed."""
+    chosen = os.environ.get("ROWMATCH_PROGRAM")
+    path = os.path.abspath(chosen or Path(__file__).parent / "_bin" / "rowmatch")
+    if os.path.isfile(path) and os.access(path, os.X_OK):
+        return path
+    if chosen:
+        raise ProgramError(f"ROWMATCH_PROGRAM names {path}, which is no program")
+    raise ProgramError(
+        f"{path} is missing: install the wheel, or name a program by ROWMATCH_PROGRAM"
+    )
+
+
+def command(arguments: Sequence[str]) -> list[str]:
+    """The command line that runs the program with its settings."""
+    return ["/bin/sh", "-c", _RAISE_STACK, program(), *arguments]
+
+
+def environment(arguments: Sequence[str]) -> dict[str, str]:
+    """The environment in which the program runs, with its settings of memory."""
+    tunables = [os.environ.get("GLIBC_TUNABLES"), _LARGE_PAGES]
+    if arguments[:1] == ["node"]:
+        tunables.append(_GIVE_BACK)
+    return {**os.environ, "GLIBC_TUNABLES": ":".join(word for word in tunables if word)}
+
+
+@dataclass(frozen=True)
+class Ran:
+    """How a run ended: with which status, what it printed, and what it wrote on standard error."""
+
+    status: int
+    printed: bytes
+    reported: str
+
+    def lines(self) -> list[str]:
+        """The lines on standard error but those of progress. Only a line feed ends one: keys may
+        have what else str.splitlines takes for an end."""
+        lines = self.reported.split("\n")
+        return [line for line in lines if line and not is_progress(line)]
+
+    def failed(self) -> ProgramError:
+        """The error of a run that ended in a way that it shouldn't."""
+        if self.status < 0:
+            message = f"the program was ended by {signal.Signals(-self.status).name}"
+        elif self.status == 2 and self.lines():
+            message = f"the program is another one than this package knows: {self.lines()[0]}"
+        else:
+            lines = self.lines() or [f"the program ended with status {self.status}"]
+            message = lines[-1].replace("rowmatch: ", "", 1)
+        return ProgramError(message, self.status, self.reported)
+
+
+def is_progress(line: str) -> bool:
+    """Whether a line of standard error is one of ``--progress``: ``rowmatch: 5 s: ..``."""
+    words = line.split(" ", 3)
+    return words[0] == "rowmatch:" and words[2:3] == ["s:"] and words[1].isdigit()
+
+
+@contextlib.contextmanager
+def _file(text: str) -> Iterator[int]:
+    """A text as a file without a name: it may have any length, no list of processes shows it (a
+    clause may have somebody's card number in it), and nothing of it is left behind."""
+    file = os.memfd_create("rowmatch")
+    try:
+        with os.fdopen(os.dup(file), "wb") as stream:
+            stream.write(text.encode())
+        yield file
+    finally:
+        os.close(file)
+
+
+def run(
+    arguments: Sequence[str],
+    table: str,
+    clause: str,
+    chunks: Iterable[bytes] | None = None,
+    timeout: float | None = None,
+) -> Ran:
+    """Runs the program over a table, a clause and chunks of its input, or over no input.
+
+    Chunks are made while the program reads. An exception of theirs ends the program and is raised.
+    """
+    with _file(table) as table_file, _file(clause) as clause_file:
+        words = [*arguments, "--table-file", f"/dev/fd/{table_file}"]
+        words += ["--clause-file", f"/dev/fd/{clause_file}"]
+        child = subprocess.Popen(
+            command(words),
+            env=environment(arguments),
+            bufsize=0,
+            stdin=subprocess.DEVNULL if chunks is None else subprocess.PIPE,
+            stdout=subprocess.PIPE,
+            stderr=subprocess.PIPE,
+            pass_fds=(table_file, clause_file),
+        )
+    return _Run(child, timeout).to_end(chunks or ())
+
+
+class _Run:
+    """A run that was started: what goes in and what comes out, each in a thread of its own."""
+
+    def __init__(self, child: subprocess.Popen[bytes], timeout: float | None) -> None:
+        self._child, self._timeout = child, timeout
+        self._reported: list[bytes] = []
+        self._failed: list[BaseException] = []
+        self._late = threading.Event()
+
+    def to_end(self, chunks: Iterable[bytes]) -> Ran:
+        """Feeds it and reads it until it ends, and never leaves it behind."""
+        child = self._child
+        assert child.stdout and child.stderr
+        threads = [threading.Thread(target=self._listen, args=(child.stderr,), daemon=True)]
+        if child.stdin:
+            feeding = threading.Thread(target=self._feed, args=(child.stdin, chunks), daemon=True)
+            threads.append(feeding)
+        alarm = threading.Timer(self._timeout or 0, self._end)
+        try:
+            for thread in threads:
+                thread.start()
+            if self._timeout is not None:
+                alarm.start()
+            with child.stdout as answer:
+                printed = answer.read()
+            status = child.wait()
+            for thread in threads:
+                thread.join()
+        finally:
+            alarm.cancel()
+            if child.poll() is None:
+                child.kill()
+                child.wait()
+            child.stderr.close()
+        if self._failed:
+            raise self._failed[0]
+        reported = b"".join(self._reported).decode(errors="replace")
+        if self._late.is_set():
+            raise self._timed_out(reported)
+        return Ran(status, printed, reported)
+
+    def _listen(self, stream: IO[bytes]) -> None:
+        self._reported.append(stream.read())
+
+    def _feed(self, stream: IO[bytes], chunks: Iterable[bytes]) -> None:
+        try:
+            with stream:
+                for chunk in chunks:
+                    view = memoryview(chunk)
+                    while view:
+                        view = view[stream.write(view) :]
+        except BrokenPipeError:
+            pass  # it ended before its input did: its status says why
+        except BaseException as error:
+            self._failed.append(error)
+            self._child.kill()
+
+    def _end(self) -> None:
+        self._late.set()
+        self._child.kill()
+
+    def _timed_out(self, reported: str) -> TimeoutError:
+        lines = [line for line in reported.split("\n") if is_progress(line)]
+        where = f"; it was at {lines[-1].split(': ', 2)[-1]}" if lines else ""
+        return TimeoutError(f"no answer within {self._timeout} seconds{where}")

@@ -1,0 +1,275 @@
+"""A client of ``rowmatch node``, and the numbering of rows that nodes want. Without pandas."""
+
+from __future__ import annotations
+
+import heapq
+import json
+import socket
+from collections.abc import Iterable, Iterator, Mapping, Sequence
+from dataclasses import dataclass
+from numbers import Integral
+from types import TracebackType
+from typing import Any, Union
+
+from .errors import NodeError
+
+__all__ = ["Item", "Node", "Numbering"]
+Value = Union[int, str, None]
+Row = Sequence[Value]
+# So many bytes under way fit into the buffers between: neither side waits for the other to read.
+_BYTES = 32_768
+_LINES = 1_000
+_AGAIN = "send again what was sent since the last commit"
+
+
+@dataclass(frozen=True)
+class Item:
+    """An item of a partition's answer. Of two with the same key and place the second is a repeat.
+
+    ``number`` is the match's number, None for a row in no match. ``fault`` is ``SkipNoRow`` or
+    ``SkipSame`` where a skip fault ended the answer; ``end`` is true where it is over.
+    """
+
+    key: tuple[Value, ...]
+    place: int
+    cells: tuple[Value, ...] = ()
+    number: int | None = None
+    fault: str | None = None
+    end: bool = False
+
+
+class Numbering:
+    """Numbers rows as a node wants them: from 1 in each partition, in the order of ORDER BY.
+
+    Rows may come late: each is held back until one came that is later by ``hold``. A row that comes
+    later still, when one behind it has its number already, can't be put in any more: it goes to
+    ``late``.
+
+    Args:
+        key: the columns of PARTITION BY, by position; none for a single partition.
+        time: the column of ORDER BY, by position: whole numbers, ascending.
+        hold: how far a row may come behind a later one, in the unit of the time.
+        kept: what `keep` gave, to go on from there.
+
+    Attributes:
+        numbers: how many rows of each key were numbered.
+        late: the rows that came too late.
+
+    Examples:
+        >>> numbering = Numbering(key=[0], time=1, hold=10)
+        >>> [numbering.add(row) for row in [("x", 5), ("x", 3), ("y", 20), ("x", 4)]]
+        [[], [], [(1, ('x', 3)), (2, ('x', 5))], []]
+        >>> numbering.rest(), numbering.late
+        ([(1, ('y', 20))], [('x', 4)])
+    """
+
+    def __init__(
+        self, key: Sequence[int], time: int, hold: int, kept: Mapping[str, Any] | None = None
+    ) -> None:
+        kept = kept or {"newest": None, "numbered": [], "held": []}
+        self._key, self._time, self._hold = tuple(key), time, hold
+        self._newest: int | None = kept["newest"]
+        self._last = {tuple(of): last for of, _, last in kept["numbered"]}
+        self.numbers: dict[tuple[Value, ...], int] = {
+            tuple(of): number for of, number, _ in kept["numbered"]
+        }
+        held = [tuple(row) for row in kept["held"]]
+        self._held: list[tuple[int, int, Row]] = [
+            (self._time_of(row), at, row) for at, row in enumerate(held)
+        ]
+        self._arrivals = len(held)
+        self.late: list[Row] = []
+
+    def keep(self) -> dict[str, Any]:
+        """All that it knows but the late rows, for `json.dumps`: store it together with the
+        position in the log behind the last row that was added, and go on from both."""
+        numbered = [[list(of), number, self._last[of]] for of, number in self.numbers.items()]
+        held = [list(row) for _, _, row in sorted(self._held, key=lambda entry: entry[:2])]
+        return {"newest": self._newest, "numbered": numbered, "held": held}
+
+    def add(self, row: Row) -> list[tuple[int, Row]]:
+        """Takes a row; gives the rows that have their numbers by now, for `Node.rows`."""
+        time = self._time_of(row)
+        if time < self._last.get(self._of(row), time):
+            self.late.append(row)
+            return []
+        heapq.heappush(self._held, (time, self._arrivals, row))
+        self._arrivals += 1
+        self._newest = time if self._newest is None else max(self._newest, time)
+        return self._numbered(self._newest - self._hold)
+
+    def rest(self) -> list[tuple[int, Row]]:
+        """The rows that are held back still, where none will come any more."""
+        return self._numbered(None)
+
+    def _numbered(self, until: int | None) -> list[tuple[int, Row]]:
+        """Numbers the rows that are held up to a time."""
+        ready: list[tuple[int, Row]] = []
+        while self._held and (until is None or self._held[0][0] <= until):
+            time, _, row = heapq.heappop(self._held)
+            key = self._of(row)
+            self._last[key] = time
+            self.numbers[key] = self.numbers.get(key, 0) + 1
+            ready.append((self.numbers[key], row))
+        return ready
+
+    def _of(self, row: Row) -> tuple[Value, ...]:
+        return tuple(row[position] for position in self._key)
+
+    def _time_of(self, row: Row) -> int:
+        time = row[self._time]
+        if not isinstance(time, int):
+            raise TypeError(f"the time of {row} is no whole number")
+        return time
+
+
+class Node:
+    """A connection to a node that runs with ``--acknowledge``. What was sent is kept by the node
+    once `commit` returned, and may be lost before.
+
+    Examples:
+        >>> with rowmatch.Node("127.0.0.1:7431") as node:               # doctest: +SKIP
+        ...     node.rows([(1, ("eve", 1000, "fail")), (2, ("eve", 1050, "ok"))])
+        ...     for item in node.poll(["eve"], ["bob"]):
+        ...         print(item.cells)
+        ...     node.commit()
+    """
+
+    def __init__(self, address: str, *, timeout: float | None = 60) -> None:
+        """Connects to ``HOST:PORT``. Where the node doesn't answer for ``timeout`` seconds, that is
+        an error; it serves one connection after the other, so a second one waits for the first to
+        end.
+        """
+        host, _, port = address.rpartition(":")
+        self._socket = socket.create_connection((host.strip("[]"), int(port)), timeout=timeout)
+        self._socket.setsockopt(socket.SOL_SOCKET, socket.SO_SNDBUF, 2 * _BYTES)
+        self._replies = self._socket.makefile("rb")
+        self._answered = 0
+
+    def rows(self, rows: Iterable[tuple[int, Row]]) -> int:
+        """Sends rows, each with its number in its partition, from 1. Gives how many were new to the
+        node: it has taken the others before."""
+        requests = ({"cells": _values(cells), "row": number} for number, cells in rows)
+        new = 0
+        for request, reply in self._ask(requests):
+            _look_at_refusal(request, reply, [])
+            new += reply.get("taken") == "new"
+        return new
+
+    def close(self, key: Row, count: int) -> None:
+        """Says that a partition has so many rows and no more."""
+        for request, reply in self._ask([{"close": count, "key": _values(key)}]):
+            _look_at_refusal(request, reply, [])
+
+    def poll(self, *keys: Row, budget: int = 1_000_000) -> list[Item]:
+        """The items of partitions that are certain and were not given before.
+
+        An item counts as given once the node sent it: store it before you `commit`. Where a poll is
+        refused, the error has the items of the others."""
+        items: list[Item] = []
+        due = [_values(key) for key in keys]
+        while due:
+            answered = list(self._ask({"budget": budget, "poll": key} for key in due))
+            items += [_item(reply) for _, reply in answered if "place" in reply]
+            for request, reply in answered:
+                _look_at_refusal(request, reply, items)
+            due = [
+                asked["poll"] for asked, reply in answered if "paused" in reply or "cells" in reply
+            ]
+        return items
+
+    def commit(self) -> None:
+        """Ends the connection, and returns once the node has written that all that was sent on it
+        is saved. Where it doesn't write that, it was killed, its disk is full, or it runs without
+        ``--acknowledge``: a `NodeError`, and nothing can be relied on that was sent."""
+        try:
+            self._socket.shutdown(socket.SHUT_WR)
+            line = self._replies.read()
+        except OSError as error:
+            raise NodeError(f"the connection to the node failed ({error}): {_AGAIN}") from error
+        finally:
+            self._end()
+        if not line:
+            message = "the node hasn't written that it saved, or runs without --acknowledge"
+            raise NodeError(f"{message}: {_AGAIN}")
+        if json.loads(line) != {"saved": self._answered}:
+            message = f"the node wrote {line[:100]!r}, and {self._answered} lines were answered"
+            raise NodeError(f"{message}: {_AGAIN}")
+
+    def __enter__(self) -> Node:
+        return self
+
+    def __exit__(
+        self,
+        kind: type[BaseException] | None,
+        error: BaseException | None,
+        trace: TracebackType | None,
+    ) -> None:
+        self._end()
+
+    def _end(self) -> None:
+        self._replies.close()
+        self._socket.close()
+
+    def _ask(self, requests: Iterable[dict[str, Any]]) -> Iterator[tuple[Any, Any]]:
+        """Sends lines, as many at once as may be under way, and gives each with its reply. All
+        replies to the lines of one time are read before the first is given, so none is left for the
+        next call.
+        """
+        asked: list[dict[str, Any]] = []
+        lines: list[bytes] = []
+        size = 0
+        for request in requests:
+            line = _line_of(request)
+            if lines and (len(lines) == _LINES or size + len(line) > _BYTES):
+                yield from zip(asked, self._exchange(lines))
+                asked, lines, size = [], [], 0
+            asked.append(request)
+            lines.append(line)
+            size += len(line)
+        yield from zip(asked, self._exchange(lines))
+
+    def _exchange(self, lines: list[bytes]) -> list[Any]:
+        try:
+            self._socket.sendall(b"".join(lines))
+            replies = [self._replies.readline() for _ in lines]
+        except OSError as error:
+            raise NodeError(f"the connection to the node failed ({error}): {_AGAIN}") from error
+        if not all(reply.endswith(b"\n") for reply in replies):
+            raise NodeError(f"the node ended the connection: {_AGAIN}")
+        self._answered += len(lines)
+        return [json.loads(reply) for reply in replies]
+
+
+def _line_of(request: dict[str, Any]) -> bytes:
+    text = json.dumps(request, ensure_ascii=False, separators=(",", ":"), sort_keys=True)
+    return text.encode() + b"\n"
+
+
+def _values(values: Iterable[Any]) -> list[Value]:
+    """Values as lines have them: whole numbers, texts, None."""
+    made: list[Value] = []
+    for value in values:
+        if isinstance(value, Integral):
+            value = int(value)
+        elif value is not None and not isinstance(value, str):
+            raise TypeError(f"{value!r} is neither a whole number, nor a text, nor None")
+        made.append(value)
+    return made
+
+
+def _item(reply: Mapping[str, Any]) -> Item:
+    return Item(
+        key=tuple(reply["key"]),
+        place=int(reply["place"]),
+        cells=tuple(reply.get("cells", ())),
+        number=reply.get("number"),
+        fault=reply.get("fault"),
+        end=reply.get("end", False),
+    )
+
+
+def _look_at_refusal(request: Any, reply: Mapping[str, Any], items: list[Item]) -> None:
+    if "refused" in reply:
+        why = reply["refused"]
+        raise NodeError(f"the node refused {request}: {why}", why, request, items)

@@ -1,0 +1,179 @@
+"""A client and a node that runs."""
+
+from __future__ import annotations
+
+import json
+import random
+import subprocess
+
+import pytest
+
+from rowmatch import Item, Node, NodeError, Numbering
+from rowmatch._program import command, environment
+
+TABLE = "who text, t int, outcome text"
+CLAUSE = """PARTITION BY who ORDER BY t MEASURES FIRST(F.t) AS a, COUNT(F.*) AS n PATTERN (F{2,} G)
+    DEFINE F AS outcome = 'fail', G AS outcome = 'ok'"""
+EVE = [(1, ("eve", 10, "fail")), (2, ("eve", 20, "fail")), (3, ("eve", 30, "ok"))]
+ROWS = [*EVE, (1, ("bob", 5, "ok"))]
+
+
+@pytest.fixture
+def start(tmp_path):
+    """Starts nodes over one file. Each listens when its address is given."""
+    started = []
+
+    def start(*options):
+        words = ["node", "--table", TABLE, "--clause", CLAUSE, "--listen", "127.0.0.1:0"]
+        words += ["--state", str(tmp_path / "state"), "--connections", "9", "--verbose", *options]
+        process = subprocess.Popen(
+            command(words), env=environment(words), stderr=subprocess.PIPE, text=True
+        )
+        started.append(process)
+        for line in process.stderr:
+            if line.startswith("rowmatch: listening at "):
+                return process, line.split()[-1]
+        raise AssertionError("the node doesn't listen")
+
+    yield start
+    for process in started:
+        process.kill()
+        process.wait()
+        process.stderr.close()
+
+
+def test_rows_poll_commit(start):
+    _, address = start("--acknowledge")
+    with Node(address) as client:
+        assert client.rows(ROWS) == 4
+        assert client.rows(ROWS) == 0
+        assert client.poll(["eve"]) == [Item(("eve",), 1, ("eve", 10, 2), 1)]
+        assert client.poll(["bob"], ["eve"]) == [] == client.poll()
+        client.close(["eve"], 3)
+        assert client.poll(["eve"]) == [Item(("eve",), 2, end=True)]
+        client.commit()
+    with Node(address) as client:
+        assert client.rows(ROWS) == 0
+        client.commit()
+
+
+def test_a_node_goes_on_where_it_was(start):
+    first, address = start("--acknowledge")
+    with Node(address) as client:
+        client.rows(EVE[:2])
+        client.commit()
+    first.kill()
+    first.wait()
+    _, address = start("--acknowledge")
+    with Node(address) as client:
+        assert client.rows(EVE) == 1
+        assert [item.cells for item in client.poll(["eve"])] == [("eve", 10, 2)]
+        client.commit()
+
+
+def test_many_rows_at_once(start):
+    _, address = start("--acknowledge")
+    with Node(address) as client:
+        rows = ((n, ("x", n, "ok" if n % 3 == 0 else "fail")) for n in range(1, 3001))
+        assert client.rows(rows) == 3000
+        assert [item.place for item in client.poll(["x"])] == list(range(1, 1001))
+        client.commit()
+
+
+def test_long_rows(start):
+    _, address = start("--acknowledge")
+    with Node(address) as client:
+        assert client.rows((n, ("x", n, "é" * 20_000)) for n in range(1, 30)) == 29
+        with pytest.raises(NodeError, match="TooLong"):
+            client.rows([(30, ("x", 30, "é" * 40_000))])
+        client.commit()
+
+
+def test_a_small_budget(start):
+    _, address = start("--acknowledge")
+    with Node(address) as client:
+        client.rows(ROWS)
+        assert [item.cells for item in client.poll(["eve"], ["bob"], budget=1)] == [("eve", 10, 2)]
+
+
+def test_refusals_say_why(start):
+    _, address = start("--acknowledge")
+    with Node(address) as client:
+        client.rows(ROWS)
+        with pytest.raises(NodeError, match="Conflict") as caught:
+            client.rows([(1, ("eve", 11, "fail")), (9, ("bob", 1, "ok"))])
+        assert caught.value.refused == "Conflict" and caught.value.request["row"] == 1
+        # what is asked after a refusal has its own reply, and items that came with one aren't lost
+        with pytest.raises(NodeError, match="UnknownPartition") as caught:
+            client.poll(["nobody"], ["eve"])
+        assert [item.cells for item in caught.value.items] == [("eve", 10, 2)]
+        assert client.poll(["eve"]) == []
+        for bad in (1.5, b"x", object()):
+            with pytest.raises(TypeError, match="neither a whole number"):
+                client.rows([(4, ("eve", 40, bad))])
+        client.commit()
+
+
+def test_a_node_that_was_killed_has_not_saved(start):
+    process, address = start("--acknowledge")
+    with Node(address) as client:
+        client.rows(EVE[:2])
+        process.kill()
+        process.wait()
+        with pytest.raises(NodeError, match="send again"):
+            client.commit()
+    _, address = start("--acknowledge")
+    with Node(address) as client:
+        assert client.rows(EVE) == 3
+
+
+def test_a_node_that_does_not_acknowledge(start):
+    _, address = start()
+    with Node(address) as client:
+        client.rows(ROWS)
+        with pytest.raises(NodeError, match="without --acknowledge"):
+            client.commit()
+
+
+def test_numbers_go_on_where_they_were():
+    rows = [(chance, time) for time in range(200) for chance in ("a", "b")]
+    random.Random(3).shuffle(late := rows[:])
+    late.sort(key=lambda row: row[1] // 20)
+    one = Numbering(key=[0], time=1, hold=30)
+    wanted = [numbered for row in late for numbered in one.add(row)] + one.rest()
+    found, kept = [], None
+    for begin in range(0, len(late), 7):
+        other = Numbering(key=[0], time=1, hold=30, kept=kept)
+        found += [numbered for row in late[begin : begin + 7] for numbered in other.add(row)]
+        kept = json.loads(json.dumps(other.keep()))
+    other = Numbering(key=[0], time=1, hold=30, kept=kept)
+    assert found + other.rest() == wanted and other.numbers == {("a",): 200, ("b",): 200}
+    assert one.late == []
+
+
+def test_late_rows_have_the_answer_of_the_whole(start):
+    pd = pytest.importorskip("pandas")
+    import rowmatch
+
+    chance = random.Random(3)
+    rows = [(chance.choice("abc"), t, chance.choice(["fail", "fail", "ok"])) for t in range(2000)]
+    late = sorted(rows, key=lambda row: row[1] + chance.choice([0, 0, 0, 15]))
+    whole = rowmatch.match(pd.DataFrame(rows, columns=["who", "t", "outcome"]), CLAUSE)
+    _, address = start("--acknowledge")
+    numbering, items = Numbering(key=[0], time=1, hold=15), []
+    with Node(address) as client:
+        for begin in range(0, 2000, 100):
+            client.rows(
+                numbered for row in late[begin : begin + 100] for numbered in numbering.add(row)
+            )
+            items += client.poll(*numbering.numbers)
+        client.rows(numbering.rest())
+        for key, count in numbering.numbers.items():
+            client.close(key, count)
+        items += client.poll(*numbering.numbers)
+        client.commit()
+    assert numbering.late == []
+    found = {(item.key, item.place): item.cells for item in items if not item.end}
+    for who in "abc":
+        mine = [cells for (key, _), cells in sorted(found.items()) if key == (who,)]
+        assert mine == [tuple(row) for row in whole[whole.who == who].itertuples(index=False)]
