@@ -1,20 +1,17 @@
 #!/usr/bin/env python3
-"""What an operator relies on of `rowmatch node`: what is kept and when, what is told of it, and who may hold a node.
-Usage: .ci/edges/keeping.py [PROGRAM]"""
+"""What an operator relies on of `rowmatch node`: what is kept and when, and what is told of it. Usage: .ci/edges/keeping.py [PROGRAM]"""
 import errno
 import json
 import os
-import pty
 import resource
-import shutil
 import signal
 import socket
 import stat
-import subprocess
-import threading
 import time
 
-from sockets import CLAUSE, PROGRAM, TABLE, Conversation, Node, close, free_port, main, poll, read_all, row, run, talk
+from sockets import (
+    CLAUSE, MANY, TABLE, Node, acknowledging, beginning, close, end, main, poll, preloaded, read_all, row, run, saved, talk,
+)
 
 NEW, REPEAT = '{"taken":"new"}\n', '{"taken":"repeat"}\n'
 IDLE = '{"idle":["x"]}\n'
@@ -22,10 +19,12 @@ PRICES = [10, 8, 6, 7, 9, 9]
 ROWS = "".join(row(number, ["x", number, price]) for number, price in enumerate(PRICES, 1))
 OTHER = CLAUSE.replace("C AS p > PREV(p)", "C AS p >= PREV(p)")
 AT = OTHER.index(">=") + 1
+ACKNOWLEDGE = acknowledging("node")
 
 
-def saved(count):
-    return f'{{"saved":{count}}}\n'
+def was_saved(last, count):
+    """Whether these last words of a connection, behind its replies, say that what its lines did is saved."""
+    return last == (saved(count) if ACKNOWLEDGE else "")
 
 
 def read(path):
@@ -40,13 +39,6 @@ def touch(node):
         return read_all(connection).decode()
 
 
-def end(node, by=signal.SIGTERM):
-    node.process.send_signal(by)
-    status = node.process.wait(timeout=60)
-    node.reader.join(timeout=60)
-    return status
-
-
 def refused_is_kept(checks, folder):
     """A node of another clause leaves the file as it is until it has something else to keep, and then under another name."""
     state = f"{folder}/state"
@@ -55,7 +47,7 @@ def refused_is_kept(checks, folder):
     node.ended()
     first = read(state)
     told = f"rowmatch: checkpoint refused: ClauseDiffers\nrowmatch: clause differs from byte {AT} on\n"
-    node = Node(state, connections=None, clause=OTHER)
+    node = Node(state, connections=MANY, clause=OTHER)
     checks.same("another clause: told", "".join(node.told), told)
     touch(node)
     talk(node, "nope\n" + poll(["x"]))
@@ -80,10 +72,30 @@ def refused_is_kept(checks, folder):
     node.ended()
 
 
+def blanks(checks, folder):
+    """Blanks at the end of a clause or table, which a file has and `$(cat FILE)` hasn't, make no other clause."""
+    state = f"{folder}/state"
+    node = Node(state)
+    talk(node, ROWS)
+    node.ended()
+    with open(f"{folder}/clause", "w", encoding="utf-8") as file:
+        file.write(CLAUSE + "\n")
+    texts = [
+        ("a blank", {"clause": CLAUSE + " "}), ("line ends", {"clause": CLAUSE + "\r\n\n\t", "table": TABLE + "\n"}),
+        ("a file", {"clause": None, "options": ["--clause-file", f"{folder}/clause"]}),
+    ]
+    for name, more in texts:
+        node = Node(state, connections=MANY, **more)
+        told = "".join(node.told)
+        touch(node)
+        checks.same(f"{name} more: the rows are known", (told, talk(node, ROWS)), ("", REPEAT * 6))
+        end(node)
+
+
 def acknowledged(checks, folder):
     """With --acknowledge the last line says how many lines are saved, and it comes only then."""
     state = f"{folder}/state"
-    node = Node(state, connections=None, options=["--acknowledge"])
+    node = Node(state, connections=MANY, options=["--acknowledge"])
     checks.same("rows", talk(node, ROWS), NEW * 6 + saved(6))
     whole = read(state)
     checks.same("nothing new, the last without a line feed", talk(node, ROWS[:-1]), REPEAT * 6 + saved(6))
@@ -119,33 +131,53 @@ def small_files():
     resource.setrlimit(resource.RLIMIT_FSIZE, (1000, 1000))
 
 
-def killed_before_it_saved(checks, folder):
-    """A client that goes by the last line sends again what wasn't saved."""
+def ended_before_it_saved(checks, folder):
+    """A client that goes by the last line sends again what wasn't saved, be it that a kill ended the node or SIGTERM: neither saves."""
     state = f"{folder}/state"
-    items, position, kills = [], 0, 0
+    items, position, signals = [], 0, {1: signal.SIGKILL, 3: signal.SIGTERM, 5: signal.SIGKILL}
     lines = ROWS.splitlines(keepends=True) + [close(6, ["x"])]
     while position < len(lines):
-        node = Node(state, connections=None, options=["--acknowledge"])
-        with node.connect() as connection:
+        node = Node(state, connections=MANY, options=ACKNOWLEDGE)
+        with node.connect() as connection, connection.makefile("rb") as replies:
             connection.sendall((lines[position] + poll(["x"]) * 3).encode())
-            replies = connection.makefile("rb")
             told = [json.loads(replies.readline()) for _ in range(4)]
-            if kills < 5 and position in (1, 3, 5):
-                kills += 1
-                node.kill()
+            by = signals.pop(position, None)
+            if by:
+                end(node, by)
             else:
                 connection.shutdown(socket.SHUT_WR)
             last = replies.read().decode()
-            replies.close()
-        if last == saved(4):
+        if was_saved(last, 4):
             items += [reply for reply in told if "place" in reply]
             position += 1
-        if node.process.poll() is None:
+        if not by:
             end(node)
-        if kills % 2:
-            kills += 1
     checks.same("each place once", [item["place"] for item in items], ["1", "2"])
-    checks.same("the item and the end", [items[0].get("cells"), items[-1].get("end")], [["x", 1, 10, 6, 9], True])
+    checks.same("the item and the end", [item.get("cells", item.get("end")) for item in items], [["x", 1, 10, 6, 9], True])
+
+
+def full_disk(checks, folder):
+    """A source learns of a node that couldn't save."""
+    node = Node(f"{folder}/state", options=ACKNOWLEDGE, limit=small_files)
+    data = "sym,t,p\n" + "".join(f"k{number},1,1\n" for number in range(200))
+    words = ["source", "--table", TABLE, "--clause", CLAUSE, *acknowledging("source"), f"127.0.0.1:{node.port}"]
+    status, out, told = run(*words, stdin=data)
+    checks.same("the node's end", node.ended(), (3, "rowmatch: device: state\n"))
+    checks.true("no file", not os.path.exists(f"{folder}/state"))
+    checks.same("the source's end", (status, out.count("\n"), told), (3, 200, "rowmatch: node 1: not saved\n"))
+
+
+def no_memory_to_save(checks, folder):
+    """Nor does a client take for saved what a node had no memory to save."""
+    state, count = f"{folder}/state", 45_000
+    node = Node(state, options=ACKNOWLEDGE, limit=lambda: resource.setrlimit(resource.RLIMIT_AS, (60 << 20, 60 << 20)))
+    told = talk(node, "".join(row(1, [f"key{number:040}", 1, 1]) for number in range(count)))
+    checks.same("all lines were answered", told[: len(NEW) * count].count("\n"), count)
+    checks.same("the node's end", node.ended(), (3, "rowmatch: out of memory\n"))
+    node = Node(state)
+    known = talk(node, row(1, [f"key{0:040}", 1, 1])) == REPEAT
+    node.ended()
+    checks.same("said and kept", (was_saved(told[len(NEW) * count :], count), known), (False, False))
 
 
 def stamp(path):
@@ -154,14 +186,14 @@ def stamp(path):
 
 
 def unchanged(checks, folder):
-    """What changes nothing writes nothing, and costs next to nothing, however much is kept."""
+    """What changes nothing writes nothing, and costs next to nothing, however much is kept: be it a health check."""
     state = f"{folder}/state"
-    node = Node(state, connections=None)
+    node = Node(state, connections=MANY)
     talk(node, "".join(row(1, [f"k{number}", 1, 1]) for number in range(20_000)))
     before = stamp(state)
     touch(node)
     began = seconds_of(node)
-    for _ in range(300):
+    for _ in range(100):
         touch(node)
     talk(node, row(1, ["k1", 1, 1]) + row(1, ["k1", 1, 2]) + "nope\n" + poll(["none"]))
     took = seconds_of(node) - began
@@ -174,12 +206,19 @@ def unchanged(checks, folder):
     checks.same("the file has that already", stamp(state), before)
     talk(node, row(2, ["k1", 2, 1]))
     checks.true("a row is written", stamp(state) != before)
-    checks.same("a node serves until it is ended", (node.process.poll(), end(node)), (None, -signal.SIGTERM))
+    end(node)
     before = stamp(state)
     node = Node(state)
     touch(node)
     node.ended()
     checks.same("a node that begins, and takes nothing", stamp(state), before)
+
+
+def without_a_count(checks, folder):
+    """A node that has no number of connections serves until it is ended."""
+    node = Node(f"{folder}/state", connections=None)
+    checks.same("three connections", [talk(node, row(1, ["x", 1, 10])) for _ in range(3)], [NEW, REPEAT, REPEAT])
+    checks.same("it serves on, until a signal ends it", (node.process.poll(), end(node)), (None, -signal.SIGTERM))
 
 
 def seconds_of(node):
@@ -205,13 +244,12 @@ def whose_file(checks, folder):
 
 def flush_of_the_folder(checks, folder):
     """A folder that can't be flushed is a save that failed, unless the file system or the user can't flush any."""
-    library = f"{folder}/flush.so"
-    done = subprocess.run(["gcc", "-shared", "-fPIC", "-O1", "-o", library, ".ci/flush.c"], check=False)
-    checks.same("the library is built", done.returncode, 0)
-    for error, lines, wanted in [(errno.EIO, NEW, 3), (errno.EINVAL, NEW + saved(1), 0), (errno.EACCES, NEW + saved(1), 0)]:
+    library = preloaded(folder, "flush")
+    for error, wanted in [(errno.EIO, 3), (errno.EINVAL, 0), (errno.EACCES, 0)]:
         variables = {"LD_PRELOAD": library, "FLUSH": str(error)}
-        node = Node(f"{folder}/{error}", options=["--acknowledge"], variables=variables)
-        checks.same(f"{errno.errorcode[error]}: lines", talk(node, row(1, ["x", 1, 10])), lines)
+        node = Node(f"{folder}/{error}", options=ACKNOWLEDGE, variables=variables)
+        told = talk(node, row(1, ["x", 1, 10]))
+        checks.same(f"{errno.errorcode[error]}: said", (told[: len(NEW)], was_saved(told[len(NEW) :], 1)), (NEW, wanted == 0))
         status, told = node.ended()
         checks.same(f"{errno.errorcode[error]}: status", (status, "device: state" in told), (wanted, wanted == 3))
 
@@ -219,120 +257,18 @@ def flush_of_the_folder(checks, folder):
 def one_file(checks, folder):
     """A second node on a file is refused, until the first has ended, be it by a kill."""
     state = f"{folder}/state"
-    first = Node(state, connections=None)
+    first = Node(state, connections=MANY)
     talk(first, ROWS)
-    words = ["node", "--table", TABLE, "--clause", CLAUSE, "--listen", "127.0.0.1:0", "--state", state, "--connections", "1"]
     told = f"rowmatch: {state} is in use: another node has locked {state}.lock\nrowmatch: device: state\n"
-    checks.same("a second node", run(*words), (3, "", told))
+    checks.same("a second node", beginning(state), (3, told))
     first.kill()
     node = Node(state)
     checks.same("after a kill", ("".join(node.told), talk(node, ROWS)), ("", REPEAT * 6))
     node.ended()
 
 
-def slow_lines(checks, folder):
-    """With --idle a line has so long in all, and a client that sends a whole line now and then has not."""
-    node = Node(f"{folder}/state", connections=None, options=["--idle", "2"])
-    with node.connect() as connection:
-        took = drip(connection)
-    checks.true("a byte now and then", 1 < took < 6, took)
-    with Conversation(node) as conversation:
-        for number, price in enumerate(PRICES, 1):
-            checks.same("a line now and then", conversation.ask(row(number, ["x", number, price])), NEW)
-            time.sleep(0.7)
-    end(node)
-
-
-def drip(connection):
-    """How long it takes until the node ends a connection that sends a byte each 0.3 seconds, at most 15 seconds."""
-    began = time.monotonic()
-    connection.settimeout(0.3)
-    while time.monotonic() - began < 15:
-        try:
-            connection.sendall(b"{")
-            if not connection.recv(100):
-                break
-        except TimeoutError:
-            pass
-        except OSError:
-            break
-    return time.monotonic() - began
-
-
-def stopped(checks, folder):
-    """A node that is stopped and continued keeps its connection."""
-    node = Node(f"{folder}/state", connections=None, options=["--idle", "30"])
-    with Conversation(node) as conversation:
-        checks.same("before", conversation.ask(row(1, ["x", 1, 10])), NEW)
-        for _ in range(3):
-            time.sleep(0.1)
-            node.process.send_signal(signal.SIGSTOP)
-            time.sleep(0.1)
-            node.process.send_signal(signal.SIGCONT)
-        checks.same("after", conversation.ask(row(1, ["x", 1, 10])), REPEAT)
-    end(node)
-
-
-def no_descriptors(checks, folder):
-    """A node that has no descriptor for a connection tells it, and accepts once there is one."""
-    node = Node(f"{folder}/state", connections=None)
-    talk(node, row(1, ["x", 1, 10]))
-    used = max(int(name) for name in os.listdir(f"/proc/{node.process.pid}/fd")) + 1
-    limits = resource.prlimit(node.process.pid, resource.RLIMIT_NOFILE)
-    resource.prlimit(node.process.pid, resource.RLIMIT_NOFILE, (used, limits[1]))
-    touch(node)  # the system has the descriptor for this one already
-    replies = []
-    client = threading.Thread(target=lambda: replies.append(talk(node, row(1, ["x", 1, 10]))))
-    client.start()
-    time.sleep(2.5)
-    checks.same("the node lives, and nobody is served", (node.process.poll(), replies), (None, []))
-    resource.prlimit(node.process.pid, resource.RLIMIT_NOFILE, limits)
-    client.join(timeout=60)
-    checks.same("then it accepts", replies, [REPEAT])
-    end(node)
-    told = [line for line in node.told if "no connection can be accepted" in line]
-    checks.same("it is told once", len(told), 1)
-
-
-def web_pages(checks, folder):
-    """What a browser sends for a page isn't read as lines."""
-    node = Node(f"{folder}/state", connections=None)
-    body = row(1, ["x", 1, 10]) + close(1, ["x"])
-    for method in ["POST", "GET", "HEAD", "PUT", "DELETE", "CONNECT", "OPTIONS", "TRACE", "PATCH"]:
-        head = f"{method} / HTTP/1.1\r\nHost: 127.0.0.1\r\nContent-Type: text/plain\r\nContent-Length: {len(body)}\r\n\r\n"
-        checks.true(f"{method} has no reply", talk(node, head + body) in ("", "(reset)"))
-    checks.same("nothing was taken", talk(node, poll(["x"])), '{"refused":"UnknownPartition"}\n')
-    checks.same("a word that is no method", talk(node, "POSTS\n"), '{"refused":"NotJson"}\n')
-    end(node)
-    checks.same("told", node.told[:2], ["rowmatch: a client that speaks HTTP was turned away\n", "rowmatch: connection 1: 0 lines, saved\n"])
-
-
-def by_the_launcher(checks, folder):
-    """`./rowmatch node` at a terminal is the node itself: what ends it ends the node."""
-    for name in ["rowmatch", "launcher"]:
-        (shutil.copytree if os.path.isdir(name) else shutil.copy)(name, f"{folder}/{name}")
-    os.makedirs(f"{folder}/crates/rowmatch/out")
-    open(f"{folder}/crates.txt", "w", encoding="utf-8").close()
-    shutil.copy(PROGRAM, f"{folder}/crates/rowmatch/out/rowmatch")
-    os.utime(f"{folder}/crates/rowmatch/out/rowmatch")
-    port = free_port()
-    words = [f"{folder}/rowmatch", "node", "--table", TABLE, "--clause", CLAUSE, "--listen", f"127.0.0.1:{port}"]
-    ours, theirs = pty.openpty()
-    process = subprocess.Popen([*words, "--state", f"{folder}/state", "--verbose"], stdin=subprocess.DEVNULL, stderr=theirs)
-    os.close(theirs)
-    told = b""
-    while b"listening" not in told:
-        told += os.read(ours, 1000)
-    process.send_signal(signal.SIGTERM)
-    checks.same("the launcher ends", process.wait(timeout=60), -signal.SIGTERM)
-    time.sleep(0.2)
-    with socket.socket() as connection:
-        checks.true("and the node with it", connection.connect_ex(("127.0.0.1", port)) != 0)
-    os.close(ours)
-
-
 if __name__ == "__main__":
     main([
-        refused_is_kept, acknowledged, killed_before_it_saved, unchanged, whose_file, flush_of_the_folder, one_file, slow_lines, stopped,
-        no_descriptors, web_pages, by_the_launcher,
+        refused_is_kept, blanks, acknowledged, ended_before_it_saved, full_disk, no_memory_to_save, unchanged, without_a_count, whose_file,
+        flush_of_the_folder, one_file,
     ])

@@ -6,7 +6,7 @@ import resource
 import subprocess
 import threading
 
-from sockets import Node, close, main, poll, read_all, row, run
+from sockets import Node, beginning, close, main, poll, row, run, talk
 
 TABLE = "k text, t int, v int"
 CLAUSE = "PARTITION BY k ORDER BY t MEASURES LAST(A.v) AS l PATTERN (A B) DEFINE A AS v > 0, B AS v < A.v"
@@ -49,9 +49,14 @@ def far_rows(checks, folder):
     """A row far beyond the front takes the room of a row."""
     count = 2_000
     node = Node(f"{folder}/state", connections=2, clause=CLAUSE, table=TABLE)
+    empty = resident(node)
     told, answered, _ = measured(node, [row(4096, [f"key{at}", at, 1]) for at in range(count)])
     checks.same("far rows", set(told), {b'{"taken":"new"}\n'})
     checks.true("bytes of a far row", answered < count * 2_000, answered // count)
+    node = Node(f"{folder}/state", clause=CLAUSE, table=TABLE)
+    again = resident(node) - empty
+    node.kill()
+    checks.true("bytes of a far row, after a restart", again < count * 4_000, again // count)
 
 
 def single_rows(checks, folder):
@@ -107,23 +112,25 @@ def processor_seconds():
 
 
 def chosen_keys(checks, folder):
-    """Keys that were chosen to collide take no longer than others: they took 16 seconds of a processor, and more at a node."""
+    """Keys that were chosen to collide take no longer than others: they took more than 10 seconds of a processor in each of these."""
     count = 40_000
     pairs = colliding(count)
     began = processor_seconds()
     text = "a,b\n" + "".join(f"{first},{second}\n" for first, second in pairs)
     status, out, _ = run("whole", "--table", PAIRS, "--clause", PAIRS_CLAUSE, stdin=text)
     checks.same("whole", (status, out.count("\n")), (0, count))
-    checks.true("the seconds of whole", processor_seconds() - began < 3, processor_seconds() - began)
+    checks.true("the seconds of whole", processor_seconds() - began < 4, processor_seconds() - began)
     node = Node(f"{folder}/state", clause=PAIRS_CLAUSE, table=PAIRS)
     began = processor_seconds()
-    with node.connect() as connection:
-        lines = "".join(row(1, list(pair)) for pair in pairs).encode()
-        threading.Thread(target=lambda: (connection.sendall(lines), connection.shutdown(1))).start()
-        told = read_all(connection)
-    checks.same("rows", told.count(b'{"taken":"new"}\n'), count)
+    told = talk(node, "".join(row(1, list(pair)) for pair in pairs))
+    checks.same("rows", told.count('{"taken":"new"}\n'), count)
     checks.same("the node's end", node.ended()[0], 0)
-    checks.true("the seconds of a node", processor_seconds() - began < 6, processor_seconds() - began)
+    checks.true("the seconds of a node", processor_seconds() - began < 4, processor_seconds() - began)
+    began = processor_seconds()
+    node = Node(f"{folder}/state", clause=PAIRS_CLAUSE, table=PAIRS)
+    talk(node, "nope\n")
+    checks.same("the end of one that began again", node.ended()[0], 0)
+    checks.true("the seconds of one that began again", processor_seconds() - began < 4, processor_seconds() - began)
 
 
 NO_SEED = """#include <errno.h>
@@ -137,10 +144,11 @@ def no_seed(checks, folder):
     library = f"{folder}/none.so"
     subprocess.run(["gcc", "-shared", "-fPIC", "-x", "c", "-o", library, "-"], input=NO_SEED, text=True, check=True)
     words = ["--table", PAIRS, "--clause", PAIRS_CLAUSE]
-    listening = ["--listen", "127.0.0.1:0", "--state", f"{folder}/state", "--connections", "1"]
-    for command, more in [("whole", []), ("node", listening), ("source", ["127.0.0.1:1"])]:
-        found = run(command, *words, *more, stdin="a,b\n1,2\n", variables={"LD_PRELOAD": library})
-        checks.same(f"{command} without a seed", found, (3, "", "rowmatch: device: read\n"))
+    variables, told = {"LD_PRELOAD": library}, "rowmatch: device: read\n"
+    for command, more in [("whole", []), ("source", ["127.0.0.1:1"])]:
+        found = run(command, *words, *more, stdin="a,b\n1,2\n", variables=variables)
+        checks.same(f"{command} without a seed", found, (3, "", told))
+    checks.same("node without a seed", beginning(f"{folder}/state", clause=PAIRS_CLAUSE, table=PAIRS, variables=variables), (3, told))
 
 
 if __name__ == "__main__":

@@ -5,7 +5,7 @@ import resource
 import socket
 from itertools import groupby
 
-from sockets import CLAUSE, TABLE, Conversation, Node, close, main, poll, read_all, row, run, sealed, talk
+from sockets import CLAUSE, TABLE, Conversation, Node, beginning, close, main, poll, read_all, row, run, sealed, talk
 
 LINES = (
     '{"row":1,"cells":["x",1,10]}\n{"poll":["x"],"budget":0}\n{"poll":["x"],"budget":1000}\n'
@@ -194,12 +194,9 @@ def addresses(checks, folder):
 
 
 def states_that_fail(checks, folder):
-    def begin(state):
-        words = ["node", "--table", TABLE, "--clause", CLAUSE, "--listen", "127.0.0.1:0", "--state", state]
-        return run(*words, "--connections", "1")
-
-    checks.same("a folder as file", begin(folder), (3, "", "rowmatch: device: state\n"))
-    checks.same("a folder that isn't there", begin(f"{folder}/none/state"), (3, "", "rowmatch: device: state\n"))
+    os.mkdir(f"{folder}/folder")
+    for name, state in [("a folder as file", f"{folder}/folder"), ("a folder that isn't there", f"{folder}/none/state")]:
+        checks.same(name, beginning(state), (3, "rowmatch: device: state\n"))
 
 
 def full_disk(checks, folder):
@@ -229,9 +226,7 @@ def read_only_folder(checks, folder):
     if os.geteuid() == 0:
         return  # who may write everywhere sees nothing of it
     os.mkdir(f"{folder}/closed", 0o500)
-    words = ["--listen", "127.0.0.1:0", "--state", f"{folder}/closed/state", "--connections", "1"]
-    checks.same("a folder that takes no file", run("node", "--table", TABLE, "--clause", CLAUSE, *words),
-                (3, "", "rowmatch: device: state\n"))
+    checks.same("a folder that takes no file", beginning(f"{folder}/closed/state"), (3, "rowmatch: device: state\n"))
 
 
 def rude_clients(checks, folder):

@@ -135,7 +135,7 @@ def acknowledged(checks, folder):
     node = Node(f"{folder}/state")
     found = source("--acknowledge", f"127.0.0.1:{node.port}")
     checks.same("a node that wasn't asked to", found, lacks)
-    node.ended()
+    node.kill()
 
 
 def silent(checks, folder):

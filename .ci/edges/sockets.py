@@ -11,6 +11,7 @@ import sys
 import tempfile
 import threading
 import time
+import weakref
 
 TABLE = "sym text, t int, p int"
 # a fall and then a rise
@@ -21,18 +22,26 @@ CLAUSE = (
 PROGRAM = os.path.abspath(sys.argv[1] if len(sys.argv) > 1 else "crates/rowmatch/out/rowmatch")
 
 
+# connections for a node that is ended by a signal: programs of before ask for a number
+MANY = 1_000_000
+
+
 class Node:
     """A node of the program, listening at a port of loopback that the system chose. A quiet one, without --verbose, doesn't say which:
     it is given one that was free. With `variables` of the environment it runs under these too. With None for the connections it serves
-    until it is ended. A node that ends before it listens has no port."""
+    until it is ended; with None for the clause the options have it. A node that ends before it listens has no port."""
+
+    all = weakref.WeakSet()
 
     def __init__(self, state, connections=1, clause=CLAUSE, options=(), limit=None, table=TABLE, quiet=False, variables=None):
         self.port = free_port() if quiet else None
-        words = [PROGRAM, "node", "--table", table, "--clause", clause, "--listen", f"127.0.0.1:{self.port or 0}"]
-        words += ["--state", state, *([] if connections is None else ["--connections", str(connections)])]
+        words = [PROGRAM, "node", "--table", table, *([] if clause is None else ["--clause", clause])]
+        words += ["--listen", f"127.0.0.1:{self.port or 0}", "--state", state]
+        words += [] if connections is None else ["--connections", str(connections)]
         words += [*([] if quiet else ["--verbose"]), *options]
         self.process = subprocess.Popen(words, stdin=subprocess.DEVNULL, stderr=subprocess.PIPE, text=True, preexec_fn=limit,
                                         env={**os.environ, **(variables or {})})
+        Node.all.add(self)
         self.told = []
         for line in [] if quiet else self.process.stderr:
             if line.startswith("rowmatch: listening at "):
@@ -68,6 +77,23 @@ class Node:
         status = self.process.wait(timeout=120)
         self.reader.join(timeout=60)
         return status, "".join(self.told)
+
+
+def beginning(*words, **more):
+    """Status and standard error of a node that ends before it listens. One that comes to listen has no status, and is killed."""
+    node = Node(*words, **more)
+    if node.port is None:
+        return node.ended()
+    node.kill()
+    return None, "".join(node.told)
+
+
+def end(node, by=signal.SIGTERM):
+    """The status of a node that a signal ends."""
+    node.process.send_signal(by)
+    status = node.process.wait(timeout=60)
+    node.reader.join(timeout=60)
+    return status
 
 
 def free_port():
@@ -148,6 +174,24 @@ def run(*words, stdin=b"", variables=None):
     return done.returncode, done.stdout.decode(), done.stderr.decode()
 
 
+def preloaded(folder, name):
+    """The library of .ci/NAME.c, built there, to be loaded before a program."""
+    library = f"{folder}/{name}.so"
+    source = os.path.join(os.path.dirname(__file__), "..", f"{name}.c")
+    subprocess.run(["gcc", "-shared", "-fPIC", "-O1", "-o", library, source], check=True)
+    return library
+
+
+def acknowledging(command):
+    """The option with which a command goes by `{"saved":N}`. A program of before has none: it is held to what it had in its place, the
+    end of a connection."""
+    return ["--acknowledge"] if "--acknowledge" in run(command, "--help")[1] else []
+
+
+def saved(count):
+    return f'{{"saved":{count}}}\n'
+
+
 def row(number, cells):
     return json.dumps({"cells": cells, "row": number}, separators=(",", ":")) + "\n"
 
@@ -200,6 +244,8 @@ def main(cases):
             checks.failed += 1
             print(f"{case.__name__}: {type(fault).__name__}: {fault}")
         finally:
+            for node in Node.all:  # of a case that broke off
+                node.kill()
             for path in [folder, *checks.folders]:
                 shutil.rmtree(path, ignore_errors=True)
     print(f"{checks.passed} passed, {checks.failed} failed")
