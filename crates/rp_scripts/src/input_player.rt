@@ -10,8 +10,8 @@ ghost use Rattle.std.specs.Prelude.{◌<◌, IfOk};
 use crate::fault::EventFault;
 use crate::line::{Line, no_words};
 use crate::told::tell;
-use rp_columns::{Columns, ColumnsFault, InputColumn, Texts, read, read_columns};
-use rp_input::{CsvLayout, rows_by};
+use rp_columns::{Columns, ColumnsFault, InputColumn, ReadingFault, Texts, read, read_columns};
+use rp_input::{ColumnsCsvFault, CsvLayout, rows_by};
 use rp_reference::write_cell;
 use rp_value::{Row, Text, Value};
 use std::alloc::{AllocError, Global};
@@ -126,6 +126,7 @@ impl InputPlayer {
             self.nulls.as_slice(),
         ) {
             Ok(rows) => tell_each_row(self.alloc, rows.as_slice(), told),
+            Err(ColumnsCsvFault::OutOfMemory) => Err(EventFault::OutOfMemory),
             Err(fault) => Ok(tell(told, format!(in self.alloc; "{fault}")?.as_str())?),
         }
     }
@@ -151,6 +152,7 @@ fn field_text(
             Ok(format!(in alloc; "[{text}]")?)
         }
         Ok(value) => cell_text(alloc, &value),
+        Err(ReadingFault::OutOfMemory) => Err(EventFault::OutOfMemory),
         Err(fault) => Ok(format!(in alloc; "{fault}")?),
     }
 }
