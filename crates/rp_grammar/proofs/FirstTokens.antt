@@ -1,7 +1,6 @@
 -- Tokens that begin with one of some kinds.
-use Rattle.std.proofs.Common.{◌≡◌, ℕ, List, [], ◌∷◌, ◌++◌, Bool, true, false, ◌&&◌, ◌||◌, not, refl, ap, sym, ◌∙◌, rules, if◌then◌else◌}
+use Rattle.std.proofs.Common.{◌≡◌, List, [], ◌∷◌, ◌++◌, Bool, true, false, ◌&&◌, ◌||◌, not, refl, ap, sym, ◌∙◌, rules, if◌then◌else◌}
 use Rattle.rp_lexer.specs.declared.kind.TokenKind.{TokenKind}
-use Rattle.rp_lexer.specs.declared.kind.TokenKind.TheVariants as kind
 use Rattle.rp_lexer.specs.declared.token.Token.{Token}
 use Rattle.rp_grammar.specs.Reading.{same_kind, among, starts}
 use Rattle.rp_grammar.specs.Grammar.{apart}

@@ -1,6 +1,6 @@
 -- Each way to put grammars together keeps their law: what is read is derived, what is derived is read, and a fault
 -- stands at one of the tokens or at the end of the text.
-use Rattle.std.proofs.Common.{◌≡◌, ℕ, zero, suc, ◌<◌, ◌≤◌, List, [], ◌∷◌, ◌++◌, length, Option, Some, None, Result, Ok, Err, Bool, true, false, ◌&&◌, not, ◌⊎◌, inl, inr, refl, ap, sym, ◌∙◌, subst, arith, if◌then◌else◌}
+use Rattle.std.proofs.Common.{◌≡◌, ℕ, zero, suc, ◌<◌, ◌≤◌, List, [], ◌∷◌, ◌++◌, length, Some, None, Result, Ok, Err, Bool, true, false, ◌&&◌, ◌⊎◌, inl, inr, refl, ap, sym, ◌∙◌, subst, arith, if◌then◌else◌}
 use Rattle.rp_lexer.specs.declared.kind.TokenKind.{TokenKind}
 use Rattle.rp_lexer.specs.declared.kind.TokenKind.TheVariants as kind
 use Rattle.rp_lexer.specs.declared.kind.Mark.TheVariants as mark
@@ -8,7 +8,7 @@ use Rattle.rp_lexer.specs.declared.token.Token.{Token}
 use Rattle.rp_lexer.specs.Meanings.{number_of}
 use Rattle.rp_grammar.specs.declared.fault.ParseFault.{ParseFault}
 use Rattle.rp_grammar.specs.declared.fault.ParseFault.TheVariants as faults_as
-use Rattle.rp_grammar.specs.Reading.{◌>>=◌, among, take_at, starts, place, IsPlace, IsFaultIn}
+use Rattle.rp_grammar.specs.Reading.{◌>>=◌, among, starts, place, IsPlace, IsFaultIn}
 use Rattle.rp_grammar.specs.Grammar.{Grammar, Stands, one_of, word, number, nothing, here, Both, ◌then◌, ◌or◌, Image, gives, optional, Many, done, next, many_at, many, never, Opens, opened, opening, apart, second, listing, listed, under}
 use Rattle.rp_grammar.proofs.FirstTokens.{apart_nothing, starts_apart, starts_left, starts_right, starts_neither, if_left, if_right, if_neither, within, starts_within, stops_within}
 

@@ -1,6 +1,6 @@
 -- Reading one thing after the other, as a loop does.
-use Rattle.std.proofs.Common.{◌≡◌, ℕ, zero, suc, ◌+◌, ◌<◌, ◌≤◌, List, [], ◌∷◌, ◌++◌, length, Result, Ok, Err, Bool, true, false, refl, ap, sym, ◌∙◌, append_assoc, arith, if◌then◌else◌}
-use Rattle.std.proofs.lemmas.List.{append-nil}
+use Rattle.std.proofs.Common.{◌≡◌, ℕ, zero, suc, ◌<◌, ◌≤◌, List, [], ◌∷◌, ◌++◌, length, Result, Ok, Err, true, false, map, refl, ap, sym, ◌∙◌, append_assoc, arith, if◌then◌else◌}
+use Rattle.std.proofs.lemmas.List.{append-nil, map_push}
 use Rattle.rp_lexer.specs.declared.token.Token.{Token}
 use Rattle.rp_lexer.specs.declared.kind.TokenKind.{TokenKind}
 use Rattle.rp_lexer.specs.declared.kind.TokenKind.TheVariants as kind
@@ -9,6 +9,7 @@ use Rattle.rp_grammar.specs.declared.fault.ParseFault.{ParseFault}
 use Rattle.rp_grammar.specs.declared.fault.ParseFault.TheVariants as fault
 use Rattle.rp_grammar.specs.Reading.{◌>>=◌, Refuses, starts}
 use Rattle.rp_grammar.specs.Grammar.{Grammar, many_at, many, gives, ◌then◌, word, second, listed}
+use Rattle.rp_grammar.proofs.Laws.{word_lawful}
 
 -- What was read before, and what is still to be read, is the whole.
 pub record GoesOn {A B : Type 0} (kinds : List TokenKind) (read : List Token → Result (A × List Token) ParseFault) (k : List A → List Token → Result B ParseFault) (front : List A) (rest : List Token) (whole : Result B ParseFault) : Type 0 where
@@ -95,12 +96,44 @@ list_join : {A : Type 0} (x : A) (read : Result (List A × List Token) ParseFaul
 list_join x (Err n) = refl
 list_join x (Ok xs) = refl
 
+-- A list with commas, of which this front is read.
+abbrev pub ListGoesOn : {A : Type 0} → List ℕ → Grammar A → List A → List Token → Result (List A × List Token) ParseFault → Type 0
+ListGoesOn text g front rest whole = GoesOn (kind.Mark mark.Comma ∷ []) ((gives second (word (kind.Mark mark.Comma) then g)).read text) (λ xs t. Ok (xs, t)) front rest whole
+
 -- The first of a list with commas is read, and the others may follow.
 pub list_begins : {A : Type 0} (text : List ℕ) (g : Grammar A) (s r : List Token) (x : A) → g.read text s ≡ Ok (x, r)
-    → GoesOn (kind.Mark mark.Comma ∷ []) ((gives second (word (kind.Mark mark.Comma) then g)).read text) (λ xs t. Ok (xs, t)) (x ∷ []) r ((listed g).read text s)
+    → ListGoesOn text g (x ∷ []) r ((listed g).read text s)
 list_begins text g s r x first =
     let rest = gives second (word (kind.Mark mark.Comma) then g) in
     begins text (λ y ys t. Ok (y ∷ ys, t)) (λ ys t. Ok (ys, t)) g rest s r x ((listed g).read text s) (λ ys t. refl) first (rw first (list_join x ((many rest).read text r)))
+
+word_starts : (text : List ℕ) (k : TokenKind) (s r : List Token) (at : ℕ) → (word k).read text s ≡ Ok (at, r) → starts (k ∷ []) s ≡ true
+word_starts text k s r at is = let d = (word_lawful {text = text} k).sound s at r is in rw d.tokens_are d.kind
+
+-- One more item is read behind a comma.
+pub list_goes_on : {A : Type 0} {front more : List A} {rest m left : List Token} {at : ℕ} {x : A} {whole : Result (List A × List Token) ParseFault} (text : List ℕ) (g : Grammar A)
+    → more ≡ front ++ x ∷ [] → (word (kind.Mark mark.Comma)).read text rest ≡ Ok (at, m) → g.read text m ≡ Ok (x, left) → length left < length rest → ListGoesOn text g front rest whole → ListGoesOn text g more left whole
+list_goes_on {front = front} {rest = rest} {m = m} {left = left} {at = at} {x = x} {whole = whole} text g is comma one shorter so_far =
+    rw is (goes_on (kind.Mark mark.Comma ∷ []) ((gives second (word (kind.Mark mark.Comma) then g)).read text) (λ xs t. Ok (xs, t)) front rest whole x left (word_starts text (kind.Mark mark.Comma) rest m at comma)
+    (behind text (kind.Mark mark.Comma) g rest m left at x comma one) shorter so_far)
+
+-- The same, where the items are seen by a view.
+pub seen_list_goes_on : {A X : Type 0} {more : List X} {rest m left : List Token} {at : ℕ} {whole : Result (List A × List Token) ParseFault} (text : List ℕ) (g : Grammar A) (view : X → A) (items : List X) (item : X)
+    → more ≡ items ++ item ∷ [] → (word (kind.Mark mark.Comma)).read text rest ≡ Ok (at, m) → g.read text m ≡ Ok (view item, left) → length left < length rest → ListGoesOn text g (map view items) rest whole → ListGoesOn text g (map view more) left whole
+seen_list_goes_on text g view items item is comma one shorter so_far = list_goes_on text g (ap (map view) is ∙ map_push view items item) comma one shorter so_far
+
+-- The item behind a comma is refused.
+pub list_refused : {A : Type 0} {front : List A} {rest m : List Token} {at : ℕ} {whole : Result (List A × List Token) ParseFault} (text : List ℕ) (g : Grammar A) (e : ParseFault)
+    → (word (kind.Mark mark.Comma)).read text rest ≡ Ok (at, m) → Refuses e (g.read text m) → ListGoesOn text g front rest whole → Refuses e whole
+list_refused {front = front} {rest = rest} {m = m} {at = at} {whole = whole} text g e comma none so_far =
+    refused e (kind.Mark mark.Comma ∷ []) ((gives second (word (kind.Mark mark.Comma) then g)).read text) (λ xs t. Ok (xs, t)) front rest whole (word_starts text (kind.Mark mark.Comma) rest m at comma)
+    (behind_refused text e (kind.Mark mark.Comma) g rest m at comma none) so_far
+
+-- No comma follows.
+pub list_ends : {A : Type 0} {front : List A} {rest : List Token} {whole : Result (List A × List Token) ParseFault} (text : List ℕ) (g : Grammar A)
+    → starts (kind.Mark mark.Comma ∷ []) rest ≡ false → ListGoesOn text g front rest whole → whole ≡ Ok (front, rest)
+list_ends {front = front} {rest = rest} {whole = whole} text g none so_far =
+    ends (kind.Mark mark.Comma ∷ []) ((gives second (word (kind.Mark mark.Comma) then g)).read text) (λ xs t. Ok (xs, t)) front rest whole none so_far
 
 every : {A : Type 0} (read : Result (List A × List Token) ParseFault) → read ≡ (◌>>=◌ {A = List A × List Token} {B = List A × List Token} read (λ xs. Ok (xs.0, xs.1)))
 every (Err n) = refl

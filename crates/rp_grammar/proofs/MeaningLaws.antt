@@ -1,10 +1,10 @@
 -- The law of a token that means something.
-use Rattle.std.proofs.Common.{◌≡◌, ℕ, ◌<◌, List, [], ◌∷◌, length, Option, Some, None, Result, Ok, Err, Bool, true, false, ◌⊎◌, inl, inr, refl, ap, ◌∙◌, subst, arith, if◌then◌else◌}
+use Rattle.std.proofs.Common.{◌≡◌, ℕ, List, [], ◌∷◌, length, Option, Some, None, Ok, Err, Bool, true, false, inl, inr, refl, ap, ◌∙◌, subst, arith, if◌then◌else◌}
 use Rattle.rp_lexer.specs.declared.kind.TokenKind.{TokenKind}
 use Rattle.rp_lexer.specs.declared.token.Token.{Token}
 use Rattle.rp_grammar.specs.declared.fault.ParseFault.{ParseFault}
 use Rattle.rp_grammar.specs.declared.fault.ParseFault.TheVariants as faults_as
-use Rattle.rp_grammar.specs.Reading.{◌>>=◌, among, take_at, starts, IsPlace, IsFaultIn}
+use Rattle.rp_grammar.specs.Reading.{◌>>=◌, among, starts, IsPlace, IsFaultIn}
 use Rattle.rp_grammar.specs.Meaning.{Means, meant, meaning_of}
 use Rattle.rp_grammar.proofs.Laws.{Begins, Lawful, ok_same, err_same, no_fault}
 

@@ -1,5 +1,5 @@
 -- A lawful grammar over the whole of some tokens.
-use Rattle.std.proofs.Common.{◌≡◌, ℕ, List, [], ◌∷◌, length, Result, Ok, Err, false, refl, sym, ap, ◌∙◌, arith}
+use Rattle.std.proofs.Common.{◌≡◌, ℕ, List, [], ◌∷◌, length, Result, Ok, Err, refl, sym, ap, ◌∙◌, arith}
 use Rattle.rp_lexer.specs.declared.token.Token.{Token}
 use Rattle.rp_grammar.specs.declared.fault.ParseFault.{ParseFault}
 use Rattle.rp_grammar.specs.declared.fault.ParseFault.TheVariants as faults_as

@@ -1,3 +1,5 @@
 pub mod Reading
 pub mod Grammar
 pub mod Meaning
+pub mod Names
+pub mod Texts

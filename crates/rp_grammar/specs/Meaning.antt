@@ -1,5 +1,5 @@
 -- Tokens whose bytes decide what they stand for, as the names of kinds do.
-use Rattle.std.specs.Prelude.{◌≡◌, ℕ, List, [], ◌∷◌, Option, Some, None, Result, Ok, Err, Bool, true, false}
+use Rattle.std.specs.Prelude.{◌≡◌, ℕ, List, [], ◌∷◌, Option, Some, None, Result, Ok, Err, true, false}
 use Rattle.rp_lexer.specs.declared.kind.TokenKind.{TokenKind}
 use Rattle.rp_lexer.specs.declared.token.Token.{Token}
 use Rattle.rp_grammar.specs.declared.fault.ParseFault.{ParseFault}

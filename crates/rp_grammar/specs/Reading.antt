@@ -1,5 +1,5 @@
 -- Reading from the front of a list of tokens, and what a reader that may run out of memory returns.
-use Rattle.std.specs.Prelude.{◌≡◌, ℕ, List, [], ◌∷◌, Result, Ok, Err, Bool, true, false, ◌||◌, ◌⊎◌, if◌then◌else◌, length}
+use Rattle.std.specs.Prelude.{◌≡◌, ℕ, List, [], ◌∷◌, Result, Ok, Err, Bool, false, ◌||◌, ◌⊎◌, if◌then◌else◌, length}
 use Rattle.rp_lexer.specs.declared.kind.TokenKind.{TokenKind}
 use Rattle.rp_lexer.specs.declared.token.Token.{Token}
 use Rattle.rp_lexer.specs.contracts.kind.TokenKindPartialEq.TheImpl.{ghosts}

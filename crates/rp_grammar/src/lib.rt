@@ -1,4 +1,4 @@
-//! Grammars over the tokens of a text: how they are put together, and the readers of single tokens.
+//! Grammars over the tokens of a text: how they are put together, the readers of single tokens, and names.
 //!
 //! A grammar is written once, a rule a line, in `specs/Grammar`: `listed name` is one or more names with commas
 //! between. Each way to put grammars together has one law, in `proofs/Laws`: what the next token alone decides is
@@ -17,6 +17,10 @@
 
 mod cursor;
 mod fault;
+mod naming;
+mod written;
 
 pub use cursor::{begins, number, opening, place, word};
 pub use fault::ParseFault;
+pub use naming::{begins_name, name, named, text_at};
+pub use written::Name;
