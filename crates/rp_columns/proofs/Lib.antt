@@ -1,7 +1,6 @@
 mod Numbers
 mod Fractions
 mod Utf8
-mod NameMeanings
 mod ColumnsLaws
 mod Resolving
 mod OneText

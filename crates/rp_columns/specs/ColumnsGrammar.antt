@@ -1,17 +1,14 @@
 -- The grammar of a text of columns.
-use Rattle.std.specs.Prelude.{ℕ, false, List, [], ◌∷◌}
-use Rattle.rp_lexer.specs.Lexes.{Lexes}
-use Rattle.rp_lexer.specs.Meanings.{bytes_of}
+use Rattle.std.specs.Prelude.{ℕ, List, [], ◌∷◌}
 use Rattle.rp_lexer.specs.declared.kind.TokenKind.TheVariants as kind
 use Rattle.rp_lexer.specs.declared.kind.Mark.TheVariants as mark
-use Rattle.rp_lexer.specs.declared.token.Token.{Token}
-use Rattle.rp_grammar.specs.Reading.{IsPlace}
 use Rattle.rp_grammar.specs.Grammar.{Grammar, ◌then◌, ◌or◌, gives, listed, many, number, one_of, second, word}
-use Rattle.rp_columns.specs.Names.{behind_first, name, name_in, unquoted}
+use Rattle.rp_grammar.specs.Names.{name, name_in, text_in}
+use Rattle.rp_grammar.specs.Texts.{TextDerives}
+use Rattle.rp_grammar.specs.declared.written.Name.{Name}
 use Rattle.rp_columns.specs.declared.written.Argument.{Argument}
 use Rattle.rp_columns.specs.declared.written.Argument.TheVariants as argument_as
 use Rattle.rp_columns.specs.declared.written.Called.{Called}
-use Rattle.rp_columns.specs.declared.written.Name.{Name}
 use Rattle.rp_columns.specs.declared.written.Source.{Source}
 use Rattle.rp_columns.specs.declared.written.Source.TheVariants as source_as
 use Rattle.rp_columns.specs.declared.written.Written.{Written}
@@ -39,7 +36,7 @@ plain_name = one_of (kind.Name ∷ []) name_in
 
 -- a text literal
 abbrev pub literal : Grammar (List ℕ)
-literal = one_of (kind.Text ∷ []) (λ text t. unquoted false 39 (behind_first (bytes_of text t)))
+literal = one_of (kind.Text ∷ []) text_in
 
 -- number | text
 unfoldable pub argument : Grammar Argument
@@ -79,14 +76,5 @@ abbrev pub columns : Grammar (List WrittenTree)
 columns = listed column
 
 -- the tokens of the text derive these columns
-pub record AreWritten (text : List ℕ) (written : List WrittenTree) : Type 0 where
-  pub tokens : List Token
-  pub lexed : Lexes text tokens
-  pub derived : columns.derives text tokens written []
-
--- they derive none, and the offset is the start of one of them or the length of the text
-pub record IsMisplaced (text : List ℕ) (at : ℕ) : Type 0 where
-  pub tokens : List Token
-  pub lexed : Lexes text tokens
-  pub place : IsPlace text tokens at
-  pub none : (written : List WrittenTree) → AreWritten text written → ⊥
+abbrev pub AreWritten : List ℕ → List WrittenTree → Type 0
+AreWritten text written = TextDerives columns text written

@@ -6,7 +6,8 @@ use Rattle.rp_lexer.specs.declared.fault.LexFault.TheVariants as lex_fault
 use Rattle.rp_value.specs.declared.table.TableFault.{TableFault}
 use Rattle.rp_value.specs.declared.table.TableFault.TheVariants as table_fault_as
 use Rattle.rp_value.specs.Tables.{table_fault}
-use Rattle.rp_columns.specs.ColumnsGrammar.{AreWritten, IsMisplaced, WrittenTree}
+use Rattle.rp_grammar.specs.Texts.{IsMisplaced}
+use Rattle.rp_columns.specs.ColumnsGrammar.{AreWritten, WrittenTree, columns}
 use Rattle.rp_columns.specs.Headings.{headings}
 use Rattle.rp_columns.specs.Resolved.{AreColumns, IsUnknown}
 use Rattle.rp_columns.specs.declared.columns.InputColumn.{InputColumn}
@@ -34,7 +35,7 @@ pub record MakeNoTable (text : List ℕ) (why : TableFault) : Type 0 where
 -- what is wrong with the text, unless memory ran out
 abbrev pub IsColumnsFault : List ℕ → ColumnsFault → Type 0
 IsColumnsFault text (fault.Lex why) = IsFirstFault text why
-IsColumnsFault text (fault.Expected at) = IsMisplaced text at
+IsColumnsFault text (fault.Expected at) = IsMisplaced columns text at
 IsColumnsFault text (fault.Reading at) = IsNoReading text at
 IsColumnsFault text (fault.Table why) = MakeNoTable text why
 IsColumnsFault text fault.OutOfMemory = ⊤

@@ -6,7 +6,6 @@ pub mod Formats
 pub mod Readings
 pub mod Headings
 -- The text of columns.
-pub mod Names
 pub mod ColumnsGrammar
 pub mod Resolved
 pub mod ColumnsText

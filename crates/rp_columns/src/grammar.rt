@@ -1,18 +1,15 @@
 //! The columns that tokens derive.
 
-ghost use Rattle.std.specs.Prelude.{◌≡◌, ◌<◌, ◌≤◌, ◌∷◌, List, length, map, false, All, IfOk, [], string_bytes};
+ghost use Rattle.std.specs.Prelude.{◌≡◌, ◌<◌, ◌≤◌, ◌∷◌, List, length, map, All, IfOk, [], string_bytes};
 ghost use Rattle.rp_lexer.specs.Lexes.{IsToken};
-ghost use Rattle.rp_lexer.specs.Meanings.{bytes_of};
 ghost use Rattle.rp_grammar.specs.Reading.{Gives};
 ghost use Rattle.rp_columns.specs.ColumnsGrammar.{argument, arguments, called, called_tree, called_with, column, columns, field_operands, literal, operands, plain_name, written_tree};
-ghost use Rattle.rp_columns.specs.Names.{behind_first, unquoted};
 
-use crate::name::{name, named};
-use crate::written::{Argument, Called, Name, Source, Written};
-use rp_grammar::{ParseFault, begins, number, place, word};
-use rp_lexer::{Mark, Token, TokenKind, text_of};
+use crate::written::{Argument, Called, Source, Written};
+use rp_grammar::{Name, ParseFault, begins, name, named, number, place, text_at, word};
+use rp_lexer::{Mark, Token, TokenKind};
 use rp_value::Text;
-use std::alloc::{AllocError, Global};
+use std::alloc::Global;
 
 /// A plain name, and what follows it.
 fn plain_name<'a>(
@@ -31,17 +28,6 @@ fn plain_name<'a>(
         }
         _ => Err(ParseFault::Expected(place(text, tokens))),
     }
-}
-
-/// What a token means as a text.
-#[tactic(auto, using(crate::proofs::NameMeanings::texts))]
-fn text_at(alloc: Global, text: &str, token: Token) -> Result<Text, AllocError>
-    requires stands { IsToken text.now token }
-    requires literal { token.kind ≡ TokenKind.Text }
-    ensures { IfOk result (λ literal. literal ≡ unquoted false 39 (behind_first (bytes_of text.now token))) }
-{
-    let string = text_of(alloc, text, token)?;
-    Text::new(alloc, string)
 }
 
 /// A text, and what follows it.

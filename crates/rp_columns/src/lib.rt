@@ -14,7 +14,6 @@ mod formatted;
 mod fronts;
 mod grammar;
 mod instant;
-mod name;
 mod reading;
 mod resolve;
 mod texts;

@@ -1,15 +1,7 @@
 //! Columns as they are written.
 
+use rp_grammar::Name;
 use rp_value::Text;
-
-/// A name, and where it stands.
-#[derive(Debug, Drop)]
-pub struct Name {
-    /// What it means: the upper-case form of a plain name, what stands inside of a quoted one.
-    pub text: Text,
-    /// The offset of its first byte.
-    pub at: usize,
-}
 
 /// What a reading takes behind the name of the header.
 #[derive(Debug, Drop)]
