@@ -3,7 +3,7 @@ use Rattle.std.specs.Prelude.{ℕ, ◌+◌, ◌||◌, false, List, [], ◌∷◌
 use Rattle.rp_value.specs.declared.table.Column.{Column}
 use Rattle.rp_value.specs.declared.value.Kind.{Kind}
 use Rattle.rp_value.specs.declared.value.Kind.TheVariants.{Text}
-use Rattle.rp_syntax.specs.declared.tree.Name.{Name}
+use Rattle.rp_grammar.specs.declared.written.Name.{Name}
 use Rattle.rp_syntax.specs.declared.tree.RowsPerMatch.{RowsPerMatch}
 use Rattle.rp_syntax.specs.declared.tree.RowsPerMatch.TheVariants.{One, AllShowEmpty, AllOmitEmpty, AllWithUnmatched}
 use Rattle.rp_syntax.specs.Clauses.{ClauseTree, MeasureTree}

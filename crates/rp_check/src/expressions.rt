@@ -19,8 +19,9 @@ use crate::names::Names;
 use crate::operand::{condition, value};
 use crate::place::{fault, variables};
 use crate::resolved::Resolved;
+use rp_grammar::Name;
 use rp_query::{Condition, Expr, OutputColumn, SkipTo, Source, Total};
-use rp_syntax::{Definition, Expr as Written, Measure, Name, Skip};
+use rp_syntax::{Definition, Expr as Written, Measure, Skip};
 use rp_value::Kind;
 use std::alloc::{AllocError, Global};
 

@@ -7,8 +7,9 @@ ghost use Rattle.rp_check.specs.Output.{texts, key_column, key_columns, other_co
 
 use crate::lists::is_taken;
 use crate::names::column_named;
+use rp_grammar::Name;
 use rp_query::{OutputColumn, Source};
-use rp_syntax::{Clause, Name, Order, RowsPerMatch};
+use rp_syntax::{Clause, Order, RowsPerMatch};
 use rp_value::{Column, Kind, Text};
 use std::alloc::{AllocError, Global};
 

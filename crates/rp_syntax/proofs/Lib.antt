@@ -1,4 +1,3 @@
-pub mod Names
 pub mod Patterns
 pub mod Paths
 pub mod Exprs

@@ -4,7 +4,7 @@ use Rattle.rp_lexer.specs.declared.kind.TokenKind.TheVariants as kind
 use Rattle.rp_lexer.specs.declared.kind.Mark.TheVariants as mark
 use Rattle.rp_lexer.specs.declared.kind.Keyword.TheVariants as keyword
 use Rattle.rp_syntax.specs.Paths.{Path}
-use Rattle.rp_syntax.specs.Names.{name, name_kinds, name_in}
+use Rattle.rp_grammar.specs.Names.{name, name_kinds, name_in}
 use Rattle.rp_grammar.specs.Grammar.{Grammar, never}
 use Rattle.rp_syntax.specs.NavigationGrammar.{argument, as_path, column, deeper_path, edge, ending, inside_path, key, offset, path, path_kinds, plain, scope}
 use Rattle.rp_grammar.proofs.Laws.{Lawful, one_lawful, word_lawful, then_lawful, or_lawful, gives_lawful, optional_lawful, opening_lawful, never_lawful, under_lawful}

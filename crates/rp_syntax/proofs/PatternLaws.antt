@@ -6,7 +6,7 @@ use Rattle.rp_lexer.specs.declared.kind.Mark.TheVariants as mark
 use Rattle.rp_lexer.specs.declared.kind.Keyword.TheVariants as keyword
 use Rattle.rp_lexer.specs.Meanings.{number_of}
 use Rattle.rp_syntax.specs.declared.tree.Quantifier.{Quantifier}
-use Rattle.rp_syntax.specs.Names.{name, name_kinds, name_in}
+use Rattle.rp_grammar.specs.Names.{name, name_kinds, name_in}
 use Rattle.rp_syntax.specs.Tree.{Tree, Variable, PartitionStart, PartitionEnd, Concatenation, Alternation, Permute, Beside, Exclusion, joined, joined_all}
 use Rattle.rp_grammar.specs.Grammar.{Grammar, word, ◌then◌, ◌or◌, gives, optional, many, never, opening, second, listed, apart}
 use Rattle.rp_syntax.specs.PatternGrammar.{repeated, from_lower, bound, bounds, quantifier, with_quantifier, or_empty, group, permute, exclusion, primary, factor, sequence, alternatives, as_pattern, deeper, inside, pattern_kinds, after_pattern}

@@ -6,7 +6,7 @@ use Rattle.rp_lexer.specs.declared.kind.TokenKind.TheVariants as kind
 use Rattle.rp_lexer.specs.declared.kind.Mark.TheVariants as mark
 use Rattle.rp_lexer.specs.declared.kind.Keyword.{Keyword}
 use Rattle.rp_lexer.specs.declared.kind.Keyword.TheVariants as keyword
-use Rattle.rp_syntax.specs.declared.tree.Name.{Name}
+use Rattle.rp_grammar.specs.declared.written.Name.{Name}
 use Rattle.rp_syntax.specs.declared.tree.Order.{Order}
 use Rattle.rp_syntax.specs.declared.tree.RowsPerMatch.{RowsPerMatch}
 use Rattle.rp_syntax.specs.declared.tree.RowsPerMatch.TheVariants as rows_as
@@ -16,7 +16,7 @@ use Rattle.rp_grammar.specs.Grammar.{Grammar, word, nothing, here, ◌then◌, �
 use Rattle.rp_syntax.specs.Tree.{Tree}
 use Rattle.rp_syntax.specs.Terms.{Term}
 use Rattle.rp_syntax.specs.Clauses.{MeasureTree, UnionTree, DefinitionTree, ClauseTree}
-use Rattle.rp_syntax.specs.Names.{name}
+use Rattle.rp_grammar.specs.Names.{name}
 use Rattle.rp_syntax.specs.PatternGrammar.{inside}
 use Rattle.rp_syntax.specs.NavigationGrammar.{key}
 use Rattle.rp_syntax.specs.ExprGrammar.{as_expr, expr, inside_expr, open_mark, close_mark}

@@ -1,6 +1,6 @@
 -- A clause as plain data, wherever its parts are kept.
 use Rattle.std.specs.Prelude.{ℕ, List, map}
-use Rattle.rp_syntax.specs.declared.tree.Name.{Name}
+use Rattle.rp_grammar.specs.declared.written.Name.{Name}
 use Rattle.rp_syntax.specs.declared.tree.Order.{Order}
 use Rattle.rp_syntax.specs.declared.tree.Measure.{Measure}
 use Rattle.rp_syntax.specs.declared.tree.RowsPerMatch.{RowsPerMatch}

@@ -1,11 +1,11 @@
 -- The grammar of expressions.
 use Rattle.std.specs.Prelude.{ℕ, zero, suc, List, [], ◌∷◌, Option, Some, None, Bool, true, false}
-use Rattle.rp_lexer.specs.Meanings.{bytes_of, number_of}
+use Rattle.rp_lexer.specs.Meanings.{number_of}
 use Rattle.rp_lexer.specs.declared.kind.TokenKind.{TokenKind}
 use Rattle.rp_lexer.specs.declared.kind.TokenKind.TheVariants as kind
 use Rattle.rp_lexer.specs.declared.kind.Mark.TheVariants as mark
 use Rattle.rp_lexer.specs.declared.kind.Keyword.TheVariants as keyword
-use Rattle.rp_syntax.specs.declared.tree.Name.{Name}
+use Rattle.rp_grammar.specs.declared.written.Name.{Name}
 use Rattle.rp_syntax.specs.declared.tree.Column.{Column}
 use Rattle.rp_syntax.specs.declared.tree.Scope.{Scope}
 use Rattle.rp_syntax.specs.declared.tree.Counted.{Counted}
@@ -18,7 +18,7 @@ use Rattle.rp_syntax.specs.declared.tree.Operator.TheVariants as operator
 use Rattle.rp_syntax.specs.declared.tree.Operation.{Operation}
 use Rattle.rp_grammar.specs.Grammar.{Grammar, one_of, word, ◌then◌, ◌or◌, gives, optional, many, never, opening, second, under}
 use Rattle.rp_syntax.specs.Terms.{Term, Number, Literal, Navigation, Aggregated, MatchNumber, Classifier, Negative, Not, IsNull, Operate, from_left, from_right}
-use Rattle.rp_syntax.specs.Names.{name, unquoted, behind_first}
+use Rattle.rp_grammar.specs.Names.{name, text_in}
 use Rattle.rp_syntax.specs.NavigationGrammar.{key, column, scope, plain, edge, inside_path}
 
 abbrev pub open_mark : TokenKind
@@ -71,7 +71,7 @@ bracketed room inner = gives (λ x. x.1.0) (opening room open_mark then inner th
 unfoldable pub value : ℕ → Grammar Term → Grammar Term
 value room inner =
     one_of (kind.Number ∷ []) (λ text t. Number t.start (number_of text t))
-    or one_of (kind.Text ∷ []) (λ text t. Literal t.start (unquoted false 39 (behind_first (bytes_of text t))))
+    or one_of (kind.Text ∷ []) (λ text t. Literal t.start (text_in text t))
     or bracketed room inner
     or gives Navigation (plain room (inside_path room))
     or gives (λ x. MatchNumber x.0) (word (key keyword.MatchNumber) then opening room open_mark then word close_mark)

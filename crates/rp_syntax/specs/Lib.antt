@@ -2,7 +2,6 @@ pub mod Tree
 pub mod Paths
 pub mod Terms
 pub mod Clauses
-pub mod Names
 pub mod PatternGrammar
 pub mod NavigationGrammar
 pub mod ExprGrammar

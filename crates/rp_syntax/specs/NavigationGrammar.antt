@@ -6,7 +6,7 @@ use Rattle.rp_lexer.specs.declared.kind.TokenKind.TheVariants as kind
 use Rattle.rp_lexer.specs.declared.kind.Mark.TheVariants as mark
 use Rattle.rp_lexer.specs.declared.kind.Keyword.{Keyword}
 use Rattle.rp_lexer.specs.declared.kind.Keyword.TheVariants as keyword
-use Rattle.rp_syntax.specs.declared.tree.Name.{Name}
+use Rattle.rp_grammar.specs.declared.written.Name.{Name}
 use Rattle.rp_syntax.specs.declared.tree.Column.{Column}
 use Rattle.rp_syntax.specs.declared.tree.Scope.{Scope}
 use Rattle.rp_syntax.specs.declared.tree.Offset.{Offset}
@@ -14,7 +14,7 @@ use Rattle.rp_syntax.specs.declared.tree.Movement.{Movement}
 use Rattle.rp_syntax.specs.declared.tree.Movement.TheVariants.{Prev, Next, First, Last}
 use Rattle.rp_grammar.specs.Grammar.{Grammar, one_of, word, ◌then◌, ◌or◌, gives, optional, never, opening, second, under}
 use Rattle.rp_syntax.specs.Paths.{Path, At, Move}
-use Rattle.rp_syntax.specs.Names.{name}
+use Rattle.rp_grammar.specs.Names.{name}
 
 abbrev pub key : Keyword → TokenKind
 key = kind.Keyword

@@ -9,7 +9,7 @@ use Rattle.rp_syntax.specs.declared.tree.Bound.{Bound}
 use Rattle.rp_syntax.specs.declared.tree.Quantifier.{Quantifier}
 use Rattle.rp_syntax.specs.Tree.{Tree, Variable, Empty, PartitionStart, PartitionEnd, Concatenation, Alternation, Permute, Beside, Exclusion, Quantified, joined, joined_all}
 use Rattle.rp_grammar.specs.Grammar.{Grammar, one_of, word, nothing, ◌then◌, ◌or◌, gives, optional, many, never, opening, second, listed, under}
-use Rattle.rp_syntax.specs.Names.{name}
+use Rattle.rp_grammar.specs.Names.{name}
 
 -- a bound, where it stands
 unfoldable pub bound : Grammar Bound

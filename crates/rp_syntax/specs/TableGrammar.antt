@@ -1,23 +1,21 @@
 -- The grammar of a table's text, and what is wrong with a text that is none.
 use Rattle.std.specs.Prelude.{◌≡◌, ℕ, List, [], ◌∷◌, Option, Some, None, Bool, ◌||◌, ◌==◌, codes, if◌then◌else◌}
 use Rattle.std.specs.Cmp.Lexicographic.{pointwise}
-use Rattle.rp_lexer.specs.Lexes.{Lexes}
 use Rattle.rp_lexer.specs.Faults.{IsFirstFault}
 use Rattle.rp_lexer.specs.Meanings.{bytes_of}
 use Rattle.rp_lexer.specs.declared.fault.LexFault.{LexFault}
 use Rattle.rp_lexer.specs.declared.fault.LexFault.TheVariants as lex_fault
 use Rattle.rp_lexer.specs.declared.kind.TokenKind.TheVariants as token_kind
-use Rattle.rp_lexer.specs.declared.token.Token.{Token}
 use Rattle.rp_value.specs.declared.table.Column.{Column}
 use Rattle.rp_value.specs.declared.table.TableFault.{TableFault}
 use Rattle.rp_value.specs.declared.table.TableFault.TheVariants as table_fault_as
 use Rattle.rp_value.specs.declared.value.Kind.{Kind}
 use Rattle.rp_value.specs.declared.value.Kind.TheVariants as kind_as
 use Rattle.rp_value.specs.Tables.{table_fault}
-use Rattle.rp_grammar.specs.Reading.{IsPlace}
 use Rattle.rp_grammar.specs.Grammar.{Grammar, ◌then◌, gives, listed}
 use Rattle.rp_grammar.specs.Meaning.{meaning_of}
-use Rattle.rp_syntax.specs.Names.{name, name_meaning}
+use Rattle.rp_grammar.specs.Names.{name, name_meaning}
+use Rattle.rp_grammar.specs.Texts.{IsMisplaced, TextDerives}
 use Rattle.rp_syntax.specs.declared.table.TableTextFault.{TableTextFault}
 use Rattle.rp_syntax.specs.declared.table.TableTextFault.TheVariants as fault
 
@@ -40,17 +38,8 @@ abbrev pub table : Grammar (List Column)
 table = listed column
 
 -- the tokens of the text derive a table of these columns
-pub record IsTableText (text : List ℕ) (columns : List Column) : Type 0 where
-  pub tokens : List Token
-  pub lexed : Lexes text tokens
-  pub derived : table.derives text tokens columns []
-
--- they derive none, and the offset is the start of one of them or the length of the text
-pub record IsMisplaced (text : List ℕ) (at : ℕ) : Type 0 where
-  pub tokens : List Token
-  pub lexed : Lexes text tokens
-  pub place : IsPlace text tokens at
-  pub none : (columns : List Column) → IsTableText text columns → ⊥
+abbrev pub IsTableText : List ℕ → List Column → Type 0
+IsTableText text columns = TextDerives table text columns
 
 -- they derive columns that make no table
 pub record IsNoTable (text : List ℕ) (why : TableFault) : Type 0 where
@@ -61,7 +50,7 @@ pub record IsNoTable (text : List ℕ) (why : TableFault) : Type 0 where
 -- what is wrong with the text, unless memory ran out
 abbrev pub IsTextFault : List ℕ → TableTextFault → Type 0
 IsTextFault text (fault.Lex why) = IsFirstFault text why
-IsTextFault text (fault.Expected at) = IsMisplaced text at
+IsTextFault text (fault.Expected at) = IsMisplaced table text at
 IsTextFault text (fault.Table why) = IsNoTable text why
 IsTextFault text fault.OutOfMemory = Unit {0}
 

@@ -1,6 +1,6 @@
 -- A row pattern as plain data, wherever its parts are kept.
 use Rattle.std.specs.Prelude.{ℕ, List, [], ◌∷◌}
-use Rattle.rp_syntax.specs.declared.tree.Name.{Name}
+use Rattle.rp_grammar.specs.declared.written.Name.{Name}
 use Rattle.rp_syntax.specs.declared.tree.Quantifier.{Quantifier}
 use Rattle.rp_syntax.specs.declared.tree.Pattern.{Pattern}
 use Rattle.rp_syntax.specs.declared.tree.Pattern.TheOpen as P

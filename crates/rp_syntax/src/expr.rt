@@ -2,21 +2,19 @@
 
 ghost use Rattle.std.specs.Prelude.{◌≡◌, ◌<◌, ◌≤◌, length, map, All, IfOk, Option, List, [], ◌∷◌, Some, None, false};
 ghost use Rattle.rp_lexer.specs.Lexes.{IsToken};
-ghost use Rattle.rp_lexer.specs.Meanings.{bytes_of, number_of};
+ghost use Rattle.rp_lexer.specs.Meanings.{number_of};
 ghost use Rattle.rp_grammar.specs.Reading.{Gives, starts};
-ghost use Rattle.rp_syntax.specs.Names.{unquoted, behind_first};
 ghost use Rattle.rp_grammar.specs.Grammar.{gives, many, one_of};
+ghost use Rattle.rp_grammar.specs.Names.{text_in};
 ghost use Rattle.rp_syntax.specs.Terms.{IsNull, Negative, Not, Literal, Number, Operate, from_left, from_right, operand_of, term_of};
 ghost use Rattle.rp_syntax.specs.ExprGrammar.{addend, aggregate, aggregated, bracketed, comparison, comparison_kinds, conjunct, conjunction, counted, deeper_expr, disjunct, expr, factor, inside_expr, negation, nullness, operation, over_column, predicate, product, scoped, sign, sign_kinds, signed, sum, value};
 
-use crate::name::name;
 use crate::navigation::{begins_plain, column, edge, plain, scope};
 use crate::tree::{
     Aggregate, AggregateFunction, Column, Counted, Expr, Operation, Operator, Scope,
 };
-use rp_grammar::{ParseFault, begins, opening, place, word};
-use rp_lexer::{Keyword, Mark, Token, TokenKind, number_of, text_of};
-use rp_value::Text;
+use rp_grammar::{ParseFault, begins, name, opening, place, text_at, word};
+use rp_lexer::{Keyword, Mark, Token, TokenKind, number_of};
 use std::alloc::{AllocError, Global};
 
 /// A number, and what follows it.
@@ -39,17 +37,6 @@ fn number<'a>(text: &str, tokens: &'a [Token]) -> Result<(Expr, &'a [Token]), Pa
     }
 }
 
-/// What a token means as a text.
-#[tactic(auto, using(crate::proofs::Names::texts))]
-fn text_at(alloc: Global, text: &str, token: Token) -> Result<Text, AllocError>
-    requires stands { IsToken text.now token }
-    requires literal { token.kind ≡ TokenKind.Text }
-    ensures { IfOk result (λ literal. literal ≡ unquoted false 39 (behind_first (bytes_of text.now token))) }
-{
-    let string = text_of(alloc, text, token)?;
-    Text::new(alloc, string)
-}
-
 /// A text, and what follows it.
 fn literal<'a>(
     alloc: Global,
@@ -58,7 +45,7 @@ fn literal<'a>(
 ) -> Result<(Expr, &'a [Token]), ParseFault>
     requires stands { All (IsToken text.now) tokens.now }
     ensures exact { Gives (λ x. (term_of x.0, x.1.now)) result
-        ((one_of (TokenKind.Text ∷ []) (λ text t. Literal t.start (unquoted false 39 (behind_first (bytes_of text t))))).read text.now tokens.now) }
+        ((one_of (TokenKind.Text ∷ []) (λ text t. Literal t.start (text_in text t))).read text.now tokens.now) }
     ensures stands { IfOk result (λ x. All (IsToken text.now) x.1.now) }
     ensures shorter { IfOk result (λ x. length x.1.now < length tokens.now) }
 {

@@ -11,7 +11,6 @@
 
 mod clause;
 mod expr;
-mod name;
 mod navigation;
 mod pattern;
 mod table;
@@ -22,6 +21,6 @@ pub use rp_grammar::ParseFault;
 pub use table::{TableTextFault, read_table};
 pub use tree::{
     Aggregate, AggregateFunction, Bound, Clause, Column, Counted, Definition, Expr, Measure,
-    Movement, Name, Navigation, Offset, Operation, Operator, Order, Pattern, Quantifier,
-    RowsPerMatch, Scope, Skip, Union,
+    Movement, Navigation, Offset, Operation, Operator, Order, Pattern, Quantifier, RowsPerMatch,
+    Scope, Skip, Union,
 };

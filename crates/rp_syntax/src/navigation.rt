@@ -7,9 +7,8 @@ ghost use Rattle.rp_grammar.specs.Grammar.{gives, optional};
 ghost use Rattle.rp_syntax.specs.Paths.{Move, path_of};
 ghost use Rattle.rp_syntax.specs.NavigationGrammar.{argument, column, deeper_path, edge, ending, inside_path, offset, path, plain, plain_kinds, scope};
 
-use crate::name::{begins_name, name};
 use crate::tree::{Column, Movement, Navigation, Offset, Scope};
-use rp_grammar::{ParseFault, begins, opening, place, word};
+use rp_grammar::{ParseFault, begins, begins_name, name, opening, place, word};
 use rp_lexer::{Keyword, Mark, Token, TokenKind, number_of};
 use std::alloc::{AllocError, Global};
 

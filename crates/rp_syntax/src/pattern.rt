@@ -7,9 +7,8 @@ ghost use Rattle.rp_syntax.specs.Tree.{tree_of, joined_all, Concatenation, Alter
 ghost use Rattle.rp_grammar.specs.Grammar.{gives, listed};
 ghost use Rattle.rp_syntax.specs.PatternGrammar.{bound, bounds, lazily, quantifier, repeated, repetition, unwritten, group, permute, exclusion, primary, factor, sequence, alternatives, inside, deeper, pattern_kinds, quantifier_kinds};
 
-use crate::name::{begins_name, name};
 use crate::tree::{Bound, Pattern, Quantifier};
-use rp_grammar::{ParseFault, begins, opening, place, word};
+use rp_grammar::{ParseFault, begins, begins_name, name, opening, place, word};
 use rp_lexer::{Keyword, Mark, Token, TokenKind, number_of};
 use std::alloc::{AllocError, Global};
 

@@ -7,8 +7,7 @@ ghost use Rattle.rp_value.specs.declared.table.Column.{Column};
 ghost use Rattle.rp_grammar.specs.Reading.{Gives};
 ghost use Rattle.rp_syntax.specs.TableGrammar.{IsTableText, IsTextFault, column, column_kind, kind_called, table, told_lex, told_table};
 
-use crate::name::{name, named};
-use rp_grammar::{ParseFault, begins, place, word};
+use rp_grammar::{ParseFault, begins, name, named, place, word};
 use rp_lexer::{LexFault, Mark, Token, TokenKind, law_lexes, lex};
 use rp_value::{Kind, Table, TableFault};
 use std::alloc::{AllocError, AllocFailed, Global};

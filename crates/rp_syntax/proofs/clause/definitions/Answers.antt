@@ -1,11 +1,7 @@
-use Rattle.std.proofs.Common.{rules, ◌≡◌, ◌∙◌, map, sym, [], ◌∷◌, ◌++◌, Ok}
-use Rattle.std.proofs.lemmas.List.{map_push}
-use Rattle.rp_lexer.specs.declared.kind.TokenKind.TheVariants as kind
-use Rattle.rp_lexer.specs.declared.kind.Mark.TheVariants as mark
-use Rattle.rp_grammar.specs.Grammar.{◌then◌, gives, listed, second, word}
+use Rattle.std.proofs.Common.{rules, ◌∙◌, sym}
+use Rattle.rp_grammar.proofs.Loops.{list_begins, list_ends, list_refused, seen_list_goes_on}
 use Rattle.rp_syntax.specs.Clauses.{definition_tree}
 use Rattle.rp_syntax.specs.ClauseGrammar.{definition}
-use Rattle.rp_grammar.proofs.Loops.{list_begins, goes_on, ends, refused, behind, behind_refused}
 use Rattle.rp_syntax.proofs.clause.definitions.Goals as goal
 
 pub items-init : goal.items-init
@@ -16,27 +12,16 @@ items-init c = record {
 }
 
 pub items-preserved : goal.items-preserved
-items-preserved c =
-    let parser = definition c.args.room in
-    let e : map definition_tree c.push-in-items.new.self.items ≡ map definition_tree c.items.items.items ++ definition_tree c.in_ok-item.item ∷ [] = rw c.in_ok-push-2.ensures.items (map_push _ c.items.items.items c.in_ok-item.item) in
-    record {
-      stands = search rules;
-      shorter = search rules;
-      reads = rw e (goes_on (kind.Mark mark.Comma ∷ []) ((gives second (word (kind.Mark mark.Comma) then parser)).read c.args.text.now) (λ xs r. Ok (xs, r)) (map definition_tree c.items.items.items) c.items.rest.now
-          ((listed parser).read c.args.text.now c.args.tokens.now) (definition_tree c.in_ok-item.item) c.in_ok-item.behind.now (sym c.begins.ensures ∙ c.items-test.true)
-          (behind c.args.text.now (kind.Mark mark.Comma) parser c.items.rest.now c.in_ok-behind.behind.now c.in_ok-item.behind.now c.in_ok-behind.field-0-0 (definition_tree c.in_ok-item.item) c.in_ok-behind.ensures.exact c.in_ok-item.ensures.exact)
-          (search rules) c.items.invariant.reads);
-    }
+items-preserved c = record {
+  stands = search rules;
+  shorter = search rules;
+  reads = seen_list_goes_on c.args.text.now (definition c.args.room) definition_tree c.items.items.items c.in_ok-item.item c.in_ok-push-2.ensures.items c.in_ok-behind.ensures.exact c.in_ok-item.ensures.exact (search rules) c.items.invariant.reads;
+}
 
 pub returns-in_err-item-clause-exact : goal.returns-in_err-item-clause-exact
 returns-in_err-item-clause-exact c =
-    let parser = definition c.args.room in
-    let none = refused c.in_err-item.field-0.0 (kind.Mark mark.Comma ∷ []) ((gives second (word (kind.Mark mark.Comma) then parser)).read c.args.text.now) (λ xs r. Ok (xs, r)) (map definition_tree c.items.items.items) c.items.rest.now
-    ((listed parser).read c.args.text.now c.args.tokens.now) (sym c.begins.ensures ∙ c.items-test.true)
-    (behind_refused c.args.text.now c.in_err-item.field-0.0 (kind.Mark mark.Comma) parser c.items.rest.now c.in_ok-behind.behind.now c.in_ok-behind.field-0-0 c.in_ok-behind.ensures.exact c.in_err-item.ensures.exact) c.items.invariant.reads in
+    let none = list_refused c.args.text.now (definition c.args.room) c.in_err-item.field-0.0 c.in_ok-behind.ensures.exact c.in_err-item.ensures.exact c.items.invariant.reads in
     search (rules, none)
 
 pub returns-clause-exact : goal.returns-clause-exact
-returns-clause-exact c =
-    let parser = definition c.args.room in
-    ends (kind.Mark mark.Comma ∷ []) ((gives second (word (kind.Mark mark.Comma) then parser)).read c.args.text.now) (λ xs r. Ok (xs, r)) (map definition_tree c.items.items.items) c.items.rest.now ((listed parser).read c.args.text.now c.args.tokens.now) (sym c.begins.ensures ∙ c.items-test.false) c.items.invariant.reads
+returns-clause-exact c = list_ends c.args.text.now (definition c.args.room) (sym c.begins.ensures ∙ c.items-test.false) c.items.invariant.reads

@@ -1,11 +1,9 @@
-use Rattle.std.proofs.Common.{◌<◌, length, All, map, [], ◌∷◌, Ok}
+use Rattle.std.proofs.Common.{◌<◌, length, All, map}
 use Rattle.rp_lexer.specs.Lexes.{IsToken}
-use Rattle.rp_lexer.specs.declared.kind.TokenKind.TheVariants as kind
-use Rattle.rp_lexer.specs.declared.kind.Mark.TheVariants as mark
-use Rattle.rp_grammar.specs.Grammar.{◌then◌, gives, listed, second, word}
+use Rattle.rp_grammar.specs.Grammar.{listed}
+use Rattle.rp_grammar.proofs.Loops.{ListGoesOn}
 use Rattle.rp_syntax.specs.Clauses.{union_tree}
 use Rattle.rp_syntax.specs.ClauseGrammar.{union}
-use Rattle.rp_grammar.proofs.Loops.{GoesOn}
 use Rattle.rp_syntax.proofs.clause.unions.Given as goal
 
 abbrev pub decreases-items : goal.decreases-items
@@ -15,5 +13,5 @@ abbrev pub invariant-items : goal.invariant-items
 invariant-items l = record {
   stands : All (IsToken l.text) l.rest;
   shorter : length l.rest < length l.tokens;
-  reads : GoesOn (kind.Mark mark.Comma ∷ []) ((gives second (word (kind.Mark mark.Comma) then union l.room)).read l.text) (λ xs r. Ok (xs, r)) (map union_tree l.items.items) l.rest ((listed (union l.room)).read l.text l.tokens);
+  reads : ListGoesOn l.text (union l.room) (map union_tree l.items.items) l.rest ((listed (union l.room)).read l.text l.tokens);
 }
