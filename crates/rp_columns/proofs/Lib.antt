@@ -5,3 +5,5 @@ mod ColumnsLaws
 mod Resolving
 mod OneText
 mod TableColumns
+mod LocalTimes
+mod LoadedColumns

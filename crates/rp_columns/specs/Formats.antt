@@ -1,5 +1,5 @@
 -- Dates and times by a format of a column's own: POSIX.1-2017, strptime, as jiff has it, a part of it.
-use Rattle.std.specs.Prelude.{◌+◌, ◌-◌, ◌*◌, ◌/◌, ◌^◌, ◌==◌, ◌&&◌, ◌||◌, ℕ, ℤ, pos, Bool, true, false, not, nat_lt, List, [], ◌∷◌, Option, Some, None, Result, Ok, Err, if◌then◌else◌, unwrap_or}
+use Rattle.std.specs.Prelude.{◌+◌, ◌-◌, ◌*◌, ◌/◌, ◌^◌, ◌==◌, ◌&&◌, ◌||◌, ℕ, ℤ, pos, Bool, true, false, not, nat_lt, List, [], ◌∷◌, Option, Some, Result, Ok, Err, if◌then◌else◌, unwrap_or}
 use Rattle.std.specs.List.{list_all, list_any}
 use Rattle.std.specs.Borrow.{Bor}
 use Rattle.std.specs.Result.{result_map_both}
@@ -10,9 +10,11 @@ use Rattle.jiff_strtime.specs.Text.{Parts, parts_of}
 use Rattle.jiff_strtime.specs.declared.tm.BrokenDownTime.{BrokenDownTime}
 use Rattle.rp_columns.specs.Fronts.{Front, ◌>>=◌, are_blanks, without_blanks}
 use Rattle.rp_columns.specs.Instants.{day_number, in_units, places_of}
+use Rattle.rp_columns.specs.Zones.{ahead_in}
 use Rattle.rp_columns.specs.declared.fault.ReadingFault.{ReadingFault}
-use Rattle.rp_columns.specs.declared.fault.ReadingFault.TheVariants.{Form, NoOffset, NoSuchTime}
+use Rattle.rp_columns.specs.declared.fault.ReadingFault.TheVariants.{Form, NoSuchTime}
 use Rattle.rp_columns.specs.declared.reading.Unit.{Unit as Precision}
+use Rattle.rp_columns.specs.declared.zone.Zone.{Zone}
 
 -- the letters behind the per cent signs of a format, and 0 behind one that ends it
 unfoldable pub letters : List ℕ → List ℕ
@@ -85,22 +87,17 @@ clock_in unit hour minute second nanoseconds =
     then Ok (unwrap_or hour 0 * 3600 + unwrap_or minute 0 * 60 + unwrap_or second 0, unwrap_or nanoseconds 0 / 10 ^ (9 - places_of unit))
     else Err NoSuchTime
 
--- what is written goes before what is named
-abbrev pub ahead_in : Option ℤ → Option ℤ → Result ℤ ReadingFault
-ahead_in (Some written) named = Ok written
-ahead_in None (Some ahead) = Ok ahead
-ahead_in None None = Err NoOffset
-
-unfoldable pub instant_in : Precision → Option ℤ → Parts → Result ℤ ReadingFault
-instant_in unit named p = do
+-- the instant of parts; where they have no offset, the time is that of the zone
+unfoldable pub instant_in : Precision → Option Zone → Parts → Result ℤ ReadingFault
+instant_in unit zone p = do
   day ← day_in p.year p.month p.day
   time ← clock_in unit p.hour p.minute p.second p.subsec
-  ahead ← ahead_in p.offset named
+  ahead ← ahead_in p.offset zone day time.0
   Ok (in_units unit day time ahead)
 
 -- The instant that the bytes are by a format: so many units since 1970-01-01 00:00 UTC, cut downward.
-abbrev pub formatted : Precision → List ℕ → Option ℤ → List ℕ → Result ℤ ReadingFault
-formatted unit format named bytes = parts_by format bytes >>= instant_in unit named
+abbrev pub formatted : Precision → List ℕ → Option Zone → List ℕ → Result ℤ ReadingFault
+formatted unit format zone bytes = parts_by format bytes >>= instant_in unit zone
 
 -- The day that the bytes are by a format, since 1970-01-01.
 abbrev pub formatted_day : List ℕ → List ℕ → Result ℤ ReadingFault

@@ -3,11 +3,13 @@
 use Rattle.std.specs.Prelude.{ℕ, ◌+◌, ◌*◌, ◌^◌, ◌==◌, ◌&&◌, ◌||◌, ℤ, pos, neg_ℤ, ◌+ℤ◌, ◌-ℤ◌, ◌*ℤ◌, Bool, true, false, not, nat_lt, nat_le, List, [], ◌∷◌, Option, Some, None, Result, Ok, Err, if◌then◌else◌}
 use Rattle.std.specs.Int.Digits.{number_from_digits}
 use Rattle.jiff_core.specs.Calendar.{days_from_civil, days_in_month}
+use Rattle.rp_columns.specs.Zones.{ahead_in}
 use Rattle.rp_columns.specs.Fronts.{Front, ◌>>=◌, after, after_if, begins_with, begins_with_digit, four_digits, leading_digits, placed, two_digits, whole, without_blanks}
 use Rattle.rp_columns.specs.declared.fault.ReadingFault.{ReadingFault}
-use Rattle.rp_columns.specs.declared.fault.ReadingFault.TheVariants.{Form, NoOffset, NoSuchTime}
+use Rattle.rp_columns.specs.declared.fault.ReadingFault.TheVariants.{Form, NoSuchTime}
 use Rattle.rp_columns.specs.declared.reading.Unit.{Unit as Precision}
 use Rattle.rp_columns.specs.declared.reading.Unit.TheVariants.{Second, Millisecond, Microsecond}
+use Rattle.rp_columns.specs.declared.zone.Zone.{Zone}
 
 -- the calendar has this day
 abbrev pub is_day : ℕ → ℕ → ℕ → Bool
@@ -84,19 +86,16 @@ hours_minutes bytes = do
   if nat_lt h.0 24 && nat_lt m.0 60 then Ok (h.0 * 3600 + m.0 * 60, m.1) else Err NoSuchTime
 
 -- `UTC`
-abbrev pub utc : List ℕ → Front ℤ
-utc bytes = after 85 bytes >>= after 84 >>= after 67 >>= (λ rest. Ok (pos 0, rest))
+abbrev pub utc : List ℕ → Front (Option ℤ)
+utc bytes = after 85 bytes >>= after 84 >>= after 67 >>= (λ rest. Ok (Some (pos 0), rest))
 
--- The seconds by which a local time is ahead of UTC: `Z`, `UTC` or an offset, and else what was named for the column.
-unfoldable pub offset : Option ℤ → List ℕ → Front ℤ
-offset named [] = elim named [
-  | None ↦ Err NoOffset
-  | (Some ahead) ↦ Ok (ahead, [])
-]
-offset named (b ∷ rest) =
-    if b == 90 || b == 122 then Ok (pos 0, rest)
-    else (if b == 43 then (hours_minutes rest >>= (λ s. Ok (pos s.0, s.1)))
-    else (if b == 45 then (hours_minutes rest >>= (λ s. Ok (neg_ℤ (pos s.0), s.1)))
+-- The seconds by which a local time is ahead of UTC as they are written, `Z`, `UTC` or an offset; none where nothing is.
+unfoldable pub offset : List ℕ → Front (Option ℤ)
+offset [] = Ok (None, [])
+offset (b ∷ rest) =
+    if b == 90 || b == 122 then Ok (Some (pos 0), rest)
+    else (if b == 43 then (hours_minutes rest >>= (λ s. Ok (Some (pos s.0), s.1)))
+    else (if b == 45 then (hours_minutes rest >>= (λ s. Ok (Some (neg_ℤ (pos s.0)), s.1)))
     else utc (b ∷ rest)))
 
 -- how many digits behind the second a unit has
@@ -109,18 +108,19 @@ places_of Microsecond = 6
 abbrev pub in_units : Precision → ℤ → ℕ × ℕ → ℤ → ℤ
 in_units unit day time ahead = (day *ℤ pos 86400 +ℤ pos time.0 -ℤ ahead) *ℤ pos (10 ^ places_of unit) +ℤ pos time.1
 
--- a date, a time and an offset, as an instant
-unfoldable pub date_time : Precision → Option ℤ → List ℕ → Front ℤ
-date_time unit named bytes = do
+-- a date, a time and an offset, as an instant; where no offset is written, the time is that of the zone
+unfoldable pub date_time : Precision → Option Zone → List ℕ → Front ℤ
+date_time unit zone bytes = do
   d ← date bytes
   a ← time_after d.0.1 d.1
   t ← clock (places_of unit) a
-  o ← offset named (without_blanks t.1)
-  Ok (in_units unit d.0.0 t.0 o.0, o.1)
+  o ← offset (without_blanks t.1)
+  ahead ← ahead_in o.0 zone d.0.0 t.0.0
+  Ok (in_units unit d.0.0 t.0 ahead, o.1)
 
 -- The instant that the bytes are: so many units since 1970-01-01 00:00 UTC, cut downward.
-abbrev pub instant_of : Precision → Option ℤ → List ℕ → Result ℤ ReadingFault
-instant_of unit named bytes = whole (date_time unit named (without_blanks bytes))
+abbrev pub instant_of : Precision → Option Zone → List ℕ → Result ℤ ReadingFault
+instant_of unit zone bytes = whole (date_time unit zone (without_blanks bytes))
 
 -- The day that the bytes are, since 1970-01-01.
 abbrev pub day_of : List ℕ → Result ℤ ReadingFault

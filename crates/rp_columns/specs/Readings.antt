@@ -36,9 +36,9 @@ no_marks = record { thousands = None; point = None }
 -- the number of a field
 abbrev pub number_of : Reading → List ℕ → Result ℤ ReadingFault
 number_of (reading.Decimal places marks) bytes = decimal_of marks places bytes
-number_of (reading.Instant unit named) bytes = instant_of unit named bytes
+number_of (reading.Instant unit zone) bytes = instant_of unit zone bytes
 number_of reading.Day bytes = day_of bytes
-number_of (reading.Formatted unit format named) bytes = formatted unit format named bytes
+number_of (reading.Formatted unit format zone) bytes = formatted unit format zone bytes
 number_of (reading.FormattedDay format) bytes = formatted_day format bytes
 number_of _ bytes = decimal_of no_marks 0 bytes
 

@@ -1,6 +1,7 @@
 -- What columns as they are written mean.
-use Rattle.std.specs.Prelude.{◌≡◌, ⊤, ◌++◌, ℕ, ℤ, ◌==◌, ◌&&◌, ◌||◌, Bool, true, not, nat_le, nat_lt, List, [], ◌∷◌, length, is_some, slice_get, codes, Option, Some, None, Result, Ok, Err, if◌then◌else◌}
-use Rattle.std.specs.Char.{is_ascii_digit}
+use Rattle.std.specs.Prelude.{◌≡◌, ⊤, ◌++◌, ℕ, ℤ, ◌==◌, ◌&&◌, ◌||◌, Bool, true, false, not, nat_le, nat_lt, List, [], ◌∷◌, length, is_some, slice_get, codes, Option, Some, None, Result, Ok, Err, if◌then◌else◌}
+use Rattle.std.specs.Char.{is_ascii_alphabetic, is_ascii_alphanumeric, is_ascii_digit}
+use Rattle.std.specs.List.{list_all}
 use Rattle.std.specs.Cmp.Lexicographic.{pointwise}
 use Rattle.rp_columns.specs.ColumnsGrammar.{WrittenTree}
 use Rattle.rp_columns.specs.Formats.{has, letters, say_day}
@@ -16,6 +17,8 @@ use Rattle.rp_columns.specs.declared.written.Argument.{Argument}
 use Rattle.rp_columns.specs.declared.written.Argument.TheVariants as argument_as
 use Rattle.rp_columns.specs.declared.written.Source.{Source}
 use Rattle.rp_columns.specs.declared.written.Source.TheVariants as source_as
+use Rattle.rp_columns.specs.declared.zone.Zone.{Zone}
+use Rattle.rp_columns.specs.declared.zone.Zone.TheVariants as zone
 
 -- the argument at a place, where it is a text
 abbrev pub text_in : Option Argument → Option (List ℕ)
@@ -32,34 +35,53 @@ abbrev pub plain : Reading → List Argument → Option Reading
 plain r arguments = if length arguments == 0 then Some r else None
 
 -- an offset as a field may have it, alone
-abbrev pub ahead : Result (ℤ × List ℕ) ReadingFault → Option ℤ
-ahead (Ok x) = if are_blanks x.1 then Some x.0 else None
+abbrev pub ahead : Result (Option ℤ × List ℕ) ReadingFault → Option ℤ
+ahead (Ok x) = if are_blanks x.1 then x.0 else None
 ahead (Err e) = None
 
--- what clocks are ahead by where a field has no offset, as a text
-abbrev pub named : Option (List ℕ) → Option ℤ
+-- a letter, a digit, or one of _ + - /
+abbrev pub is_in_identifier : ℕ → Bool
+is_in_identifier b = is_ascii_alphanumeric b || b == 95 || b == 43 || b == 45 || b == 47
+
+-- An identifier of the IANA Time Zone Database, a part of what RFC 6557 and its theory file allow: there is no dot, so it names no
+-- file outside of the database's folder.
+abbrev pub is_identifier : List ℕ → Bool
+is_identifier [] = false
+is_identifier (b ∷ rest) = is_ascii_alphabetic b && list_all is_in_identifier rest
+
+-- an offset, or the identifier of a region, whose rules aren't loaded yet
+abbrev pub zone_or : Option ℤ → List ℕ → Option Zone
+zone_or (Some seconds) text = Some (zone.Fixed seconds)
+zone_or None text = if is_identifier text then Some (zone.Region (record { name = text; rules = None })) else None
+
+-- the zone that a text names
+abbrev pub zone_named : List ℕ → Option Zone
+zone_named text = zone_or (ahead (offset text)) text
+
+-- the zone of fields without an offset, as a text
+abbrev pub named : Option (List ℕ) → Option Zone
 named None = None
-named (Some text) = ahead (offset None text)
+named (Some text) = zone_named text
 
-abbrev pub with_offset : Precision → Option ℤ → Option Reading
-with_offset unit None = None
-with_offset unit (Some seconds) = Some (reading.Instant unit (Some seconds))
+abbrev pub with_zone : Precision → Option Zone → Option Reading
+with_zone unit None = None
+with_zone unit (Some z) = Some (reading.Instant unit (Some z))
 
--- a format that says an instant, where clocks are ahead by this if it has no offset
-abbrev pub formatted_as : Precision → List ℕ → Option ℤ → Option Reading
-formatted_as unit format ahead =
-    if say_day (letters format) && (has 122 (letters format) || is_some ahead) then Some (reading.Formatted unit format ahead) else None
+-- a format that says an instant, where clocks of this zone show it if it has no offset
+abbrev pub formatted_as : Precision → List ℕ → Option Zone → Option Reading
+formatted_as unit format zone =
+    if say_day (letters format) && (has 122 (letters format) || is_some zone) then Some (reading.Formatted unit format zone) else None
 
--- an offset, or a format, which has a per cent sign
+-- a zone, or a format, which has a per cent sign
 abbrev pub instant_by : Precision → Option (List ℕ) → Option Reading
 instant_by unit None = None
-instant_by unit (Some text) = if has 37 text then formatted_as unit text None else with_offset unit (named (Some text))
+instant_by unit (Some text) = if has 37 text then formatted_as unit text None else with_zone unit (zone_named text)
 
-abbrev pub formatted_with : Precision → Option (List ℕ) → Option ℤ → Option Reading
-formatted_with unit (Some format) (Some ahead) = formatted_as unit format (Some ahead)
+abbrev pub formatted_with : Precision → Option (List ℕ) → Option Zone → Option Reading
+formatted_with unit (Some format) (Some z) = formatted_as unit format (Some z)
 formatted_with unit _ _ = None
 
--- seconds(C), seconds(C, '+01:00'), seconds(C, '%d/%m/%Y %H:%M:%S %z'), seconds(C, '%d/%m/%Y %H:%M', '+01:00')
+-- seconds(C), seconds(C, '+01:00'), seconds(C, 'Europe/Berlin'), seconds(C, '%d/%m/%Y %H:%M:%S %z'), seconds(C, '%d/%m/%Y %H:%M', 'Europe/Berlin')
 abbrev pub instant : Precision → List Argument → Option Reading
 instant unit arguments =
     if length arguments == 0 then Some (reading.Instant unit None)

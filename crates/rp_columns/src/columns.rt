@@ -1,9 +1,11 @@
 //! The columns of an input.
-ghost use Rattle.std.specs.Prelude.{◌≡◌, IfOk};
+ghost use Rattle.std.specs.Prelude.{◌≡◌, IfOk, map, option_map};
 ghost use Rattle.rp_value.specs.Tables.{columns_of};
 ghost use Rattle.rp_columns.specs.Headings.{columns_for, headings};
+ghost use Rattle.rp_columns.specs.Loaded.{column_with, wanted_in, wanted_of, zone_of};
 
 use crate::reading::Reading;
+use crate::zone::{Rules, Zone, ZoneFault};
 use rp_value::{Column, Kind, Table, TableFault, Text};
 use std::alloc::{AllocError, Global};
 use std::marker::Model;
@@ -36,9 +38,11 @@ impl Model for Columns {
 }
 
 impl Columns {
-    ghost use Rattle.std.specs.Prelude.{◌≡◌, ◌≢◌, None, Some, IfOk, IfErr};
+    ghost use Rattle.std.specs.Prelude.{◌≡◌, ◌≢◌, None, Some, IfOk, IfErr, option_map};
     ghost use Rattle.rp_value.specs.Tables.{table_fault};
     ghost use Rattle.rp_columns.specs.Headings.{columns_for, headings};
+    ghost use Rattle.rp_columns.specs.Loaded.{AreLoaded, wanted_in};
+    ghost use Rattle.rp_columns.specs.Zones.{AreNoRules};
 
     /// Columns in this order, where their names are those of a table.
     pub fn new(alloc: Global, columns: Vec<InputColumn>) -> Result<Columns, TableFault>
@@ -57,6 +61,25 @@ impl Columns {
     {
         let columns = read_by_kind(alloc, table.columns())?;
         let table = table.share()?;
+        Ok(Columns { columns, table })
+    }
+
+    /// The first region whose rules aren't loaded: a field without an offset is a fault there (`ReadingFault::NoOffset`).
+    pub fn region_without_rules(&self) -> Option<&str>
+        ensures { option_map (λ name. name.now) result ≡ wanted_in self.now }
+    {
+        first_wanted(self.columns.as_slice())
+    }
+
+    /// The columns with the rules of a region, which are read from its TZif file (RFC 9636): the bytes are what it holds, as
+    /// that of `/usr/share/zoneinfo/Europe/Berlin` for `Europe/Berlin`.
+    pub fn with_rules(self, alloc: Global, name: &str, bytes: &[u8]) -> Result<Columns, ZoneFault>
+        ensures ok { IfOk result (λ c. AreLoaded self name.now bytes.now c) }
+        ensures err { IfErr result (λ fault. fault ≡ ZoneFault.Tzif → AreNoRules bytes.now) }
+    {
+        let rules = Rules::read(alloc, bytes)?;
+        let columns = columns_with(alloc, self.columns.as_slice(), name, &rules)?;
+        let table = self.table.share()?;
         Ok(Columns { columns, table })
     }
 
@@ -103,4 +126,52 @@ fn read_by_kind(alloc: Global, columns: &[Column]) -> Result<Vec<InputColumn>, A
         })?;
     }
     Ok(read)
+}
+
+/// Columns with the rules of a region.
+fn columns_with(
+    alloc: Global,
+    columns: &[InputColumn],
+    region: &str,
+    rules: &Rules,
+) -> Result<Vec<InputColumn>, AllocError>
+    ensures { IfOk result (λ with. with.items ≡ map (column_with region.now rules.now) columns.now) }
+{
+    let mut with = Vec::with_capacity(alloc, columns.len())?;
+    for column in columns {
+        let reading = column.reading.with_rules(region, rules)?;
+        let name = column.name.share()?;
+        let source = column.source.share()?;
+        with.push(InputColumn {
+            name,
+            reading,
+            source,
+        })?;
+    }
+    Ok(with)
+}
+
+/// The first region of columns whose rules aren't loaded.
+fn first_wanted(columns: &[InputColumn]) -> Option<&str>
+    ensures { option_map (λ name. name.now) result ≡ wanted_in columns.now }
+{
+    for column in columns {
+        if let Some(name) = wanted(&column.reading) {
+            return Some(name);
+        }
+    }
+    None
+}
+
+/// The region of a reading whose rules aren't loaded.
+fn wanted(reading: &Reading) -> Option<&str>
+    ensures { option_map (λ name. name.now) result ≡ wanted_of (zone_of reading.now) }
+{
+    match reading.zone() {
+        Some(Zone::Region(region)) => match &region.rules {
+            Some(_) => None,
+            None => Some(region.name.as_str()),
+        },
+        _ => None,
+    }
 }

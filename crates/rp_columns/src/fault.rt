@@ -16,9 +16,15 @@ pub enum ReadingFault {
     /// in a format is out of its bounds.
     #[error("NoSuchTime")]
     NoSuchTime,
-    /// A time has no offset from UTC, and the column names none.
+    /// A time has no offset from UTC, and the column names none, nor a time zone whose rules are loaded.
     #[error("NoOffset")]
     NoOffset,
+    /// Clocks of the column's time zone skip this time: it is in the gap when they go forward.
+    #[error("Gap")]
+    Gap,
+    /// Clocks of the column's time zone show this time twice: it is in the fold when they go back.
+    #[error("Fold")]
+    Fold,
     /// A decimal number has more places than the column: nothing is rounded.
     #[error("Places")]
     Places,

@@ -87,9 +87,9 @@ fn number(reading: &Reading, field: &[u8]) -> Result<i64, ReadingFault>
 {
     match reading {
         Reading::Decimal(places, marks) => decimal(*marks, *places, field),
-        Reading::Instant(unit, named) => instant(*unit, *named, field),
+        Reading::Instant(unit, zone) => instant(*unit, zone, field),
         Reading::Day => day(field),
-        Reading::Formatted(unit, format, named) => formatted(*unit, format, *named, field),
+        Reading::Formatted(unit, format, zone) => formatted(*unit, format, zone, field),
         Reading::FormattedDay(format) => formatted_day(format, field),
         _ => decimal(NO_MARKS, 0, field),
     }

@@ -10,6 +10,7 @@ use crate::formats::Format;
 use crate::fronts::{are_blanks, without_blanks};
 use crate::instant::{day_number, in_units};
 use crate::reading::Unit;
+use crate::zone::{Zone, ahead_in};
 use jiff_core::{Error, Offset};
 use jiff_strtime::{BrokenDownTime, parse_prefix};
 
@@ -17,13 +18,13 @@ use jiff_strtime::{BrokenDownTime, parse_prefix};
 pub(crate) fn formatted(
     unit: Unit,
     format: &Format,
-    named: Option<i32>,
+    zone: &Option<Zone>,
     bytes: &[u8],
 ) -> Result<i64, ReadingFault>
-    ensures { result ≡ spec.formatted unit format.now named bytes.now }
+    ensures { result ≡ spec.formatted unit format.now zone.now bytes.now }
 {
     let parts = parts_by(format, bytes)?;
-    instant_in(unit, named, &parts)
+    instant_in(unit, zone, &parts)
 }
 
 /// A day, as days since 1970-01-01.
@@ -75,14 +76,14 @@ fn refusal(error: Error) -> ReadingFault
 #[tactic(auto, unfolding(crate::specs::Formats::instant_in))]
 fn instant_in(
     unit: Unit,
-    named: Option<i32>,
+    zone: &Option<Zone>,
     parts: &BrokenDownTime<'_>,
 ) -> Result<i64, ReadingFault>
-    ensures { result ≡ spec.instant_in unit named (parts_of parts.now) }
+    ensures { result ≡ spec.instant_in unit zone.now (parts_of parts.now) }
 {
     let day = day_in(parts.year, parts.month, parts.day)?;
     let time = clock_in(unit, parts.hour, parts.minute, parts.second, parts.subsec)?;
-    let ahead = ahead_in(parts.offset, named)?;
+    let ahead = ahead_in(seconds_of(parts.offset), zone, day, time.0)?;
     Ok(in_units(unit, day, time, ahead))
 }
 
@@ -143,13 +144,12 @@ fn cut(unit: Unit, nanoseconds: u32) -> u32
     }
 }
 
-/// The seconds by which a local time is ahead of UTC.
-fn ahead_in(written: Option<Offset>, named: Option<i32>) -> Result<i32, ReadingFault>
-    ensures { result ≡ spec.ahead_in (option_map (λ o. o.seconds) written) named }
+/// The seconds of an offset that is written.
+fn seconds_of(written: Option<Offset>) -> Option<i32>
+    ensures { result ≡ option_map (λ o. o.seconds) written }
 {
-    match (written, named) {
-        (Some(written), _) => Ok(written.seconds),
-        (None, Some(ahead)) => Ok(ahead),
-        (None, None) => Err(ReadingFault::NoOffset),
+    match written {
+        Some(written) => Some(written.seconds),
+        None => None,
     }
 }

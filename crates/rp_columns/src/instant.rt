@@ -11,13 +11,14 @@ use crate::fronts::{
     placed, two_digits, without_blanks,
 };
 use crate::reading::Unit;
+use crate::zone::{Zone, ahead_in};
 use jiff_core::civil::Date;
 
 /// An instant, as so many units since 1970-01-01 00:00 UTC.
-pub(crate) fn instant(unit: Unit, named: Option<i32>, bytes: &[u8]) -> Result<i64, ReadingFault>
-    ensures { result ≡ spec.instant_of unit named bytes.now }
+pub(crate) fn instant(unit: Unit, zone: &Option<Zone>, bytes: &[u8]) -> Result<i64, ReadingFault>
+    ensures { result ≡ spec.instant_of unit zone.now bytes.now }
 {
-    let (instant, rest) = date_time(unit, named, without_blanks(bytes))?;
+    let (instant, rest) = date_time(unit, zone, without_blanks(bytes))?;
     if !are_blanks(rest) {
         return Err(ReadingFault::Form);
     }
@@ -37,13 +38,18 @@ pub(crate) fn day(bytes: &[u8]) -> Result<i64, ReadingFault>
 
 /// A date, a time and an offset, as an instant.
 #[tactic(auto, unfolding(crate::specs::Instants::date_time))]
-fn date_time(unit: Unit, named: Option<i32>, bytes: &[u8]) -> Result<(i64, &[u8]), ReadingFault>
-    ensures { front_view result ≡ spec.date_time unit named bytes.now }
+fn date_time<'a>(
+    unit: Unit,
+    zone: &Option<Zone>,
+    bytes: &'a [u8],
+) -> Result<(i64, &'a [u8]), ReadingFault>
+    ensures { front_view result ≡ spec.date_time unit zone.now bytes.now }
 {
     let ((day, dashes), rest) = date(bytes)?;
     let rest = time_after(dashes, rest)?;
     let (time, rest) = clock(places_of(unit), rest)?;
-    let (ahead, rest) = offset(named, without_blanks(rest))?;
+    let (written, rest) = offset(without_blanks(rest))?;
+    let ahead = ahead_in(written, zone, day, time.0)?;
     Ok((in_units(unit, day, time, ahead), rest))
 }
 
@@ -195,35 +201,32 @@ fn some_fraction(places: u8, bytes: &[u8]) -> Result<(u32, &[u8]), ReadingFault>
     }
 }
 
-/// The seconds by which a local time is ahead of UTC.
+/// The seconds by which a local time is ahead of UTC, where anything is written.
 #[tactic(auto, unfolding(crate::specs::Instants::offset))]
-pub(crate) fn offset(named: Option<i32>, bytes: &[u8]) -> Result<(i32, &[u8]), ReadingFault>
-    ensures { front_view result ≡ spec.offset named bytes.now }
+pub(crate) fn offset(bytes: &[u8]) -> Result<(Option<i32>, &[u8]), ReadingFault>
+    ensures { front_view result ≡ spec.offset bytes.now }
 {
     match bytes {
-        [] => match named {
-            Some(seconds) => Ok((seconds, bytes)),
-            None => Err(ReadingFault::NoOffset),
-        },
-        [b'Z' | b'z', rest @ ..] => Ok((0, rest)),
+        [] => Ok((None, bytes)),
+        [b'Z' | b'z', rest @ ..] => Ok((Some(0), rest)),
         [b'+', rest @ ..] => {
             let (seconds, rest) = hours_minutes(rest)?;
-            Ok((seconds as i32, rest))
+            Ok((Some(seconds as i32), rest))
         }
         [b'-', rest @ ..] => {
             let (seconds, rest) = hours_minutes(rest)?;
-            Ok((-(seconds as i32), rest))
+            Ok((Some(-(seconds as i32)), rest))
         }
         _ => utc(bytes),
     }
 }
 
 /// `UTC`.
-fn utc(bytes: &[u8]) -> Result<(i32, &[u8]), ReadingFault>
+fn utc(bytes: &[u8]) -> Result<(Option<i32>, &[u8]), ReadingFault>
     ensures { front_view result ≡ spec.utc bytes.now }
 {
     let rest = after(after(after(bytes, b'U')?, b'T')?, b'C')?;
-    Ok((0, rest))
+    Ok((Some(0), rest))
 }
 
 /// Hours and minutes of an offset, as seconds.

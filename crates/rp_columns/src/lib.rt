@@ -18,6 +18,7 @@ mod reading;
 mod resolve;
 mod texts;
 mod written;
+mod zone;
 
 pub use columns::{Columns, InputColumn};
 pub use columns_text::{ColumnsFault, read_columns};
@@ -26,3 +27,4 @@ pub use field::read;
 pub use formats::Format;
 pub use reading::{Marks, Reading, Unit};
 pub use texts::Texts;
+pub use zone::{Region, Rules, Zone, ZoneFault};

@@ -1,9 +1,12 @@
 //! How the fields of a column are read.
-ghost use Rattle.std.specs.Prelude.{◌≡◌, IfOk};
+ghost use Rattle.std.specs.Prelude.{◌≡◌, IfOk, option_map};
 ghost use Rattle.rp_columns.specs.Headings.{reading_of};
+ghost use Rattle.rp_columns.specs.Loaded.{reading_with, zone_of};
 ghost use Rattle.rp_columns.specs.Readings.{kind_of, reads_field};
+ghost use Rattle.rp_columns.specs.Zones as spec;
 
 use crate::formats::Format;
+use crate::zone::{Rules, Zone};
 use rp_value::Kind;
 use std::alloc::AllocError;
 
@@ -35,13 +38,13 @@ pub enum Reading {
     Int,
     /// A decimal number, in units of its last place: so many places, and the signs inside it. Of two places, `12.5` is 1250.
     Decimal(u8, Marks),
-    /// A date and a time, as units since 1970-01-01 00:00 UTC, cut downward. Where the field has no offset, it is so many
-    /// seconds ahead of UTC; none: that is a fault.
-    Instant(Unit, Option<i32>),
+    /// A date and a time, as units since 1970-01-01 00:00 UTC, cut downward. Where the field has no offset, clocks of the
+    /// zone show it; none: that is a fault.
+    Instant(Unit, Option<Zone>),
     /// A date, as days since 1970-01-01.
     Day,
     /// An instant as `Instant` has it, of a field of this format.
-    Formatted(Unit, Format, Option<i32>),
+    Formatted(Unit, Format, Option<Zone>),
     /// A date as `Day` has it, of a field of this format.
     FormattedDay(Format),
     /// The number of the record, from 1 on, and no field.
@@ -69,7 +72,17 @@ impl Reading {
         }
     }
 
-    /// An equal reading, which shares its format.
+    /// The zone of fields without an offset, where the reading names one.
+    pub fn zone(&self) -> Option<&Zone>
+        ensures { option_map (λ z. z.now) result ≡ zone_of self.now }
+    {
+        match self {
+            Reading::Instant(_, Some(zone)) | Reading::Formatted(_, _, Some(zone)) => Some(zone),
+            _ => None,
+        }
+    }
+
+    /// An equal reading, which shares its format and the rules of its zone.
     pub fn share(&self) -> Result<Reading, AllocError>
         ensures { IfOk result (λ reading. reading ≡ self.now) }
     {
@@ -78,13 +91,30 @@ impl Reading {
             Reading::Lower => Ok(Reading::Lower),
             Reading::Int => Ok(Reading::Int),
             Reading::Decimal(places, marks) => Ok(Reading::Decimal(*places, *marks)),
-            Reading::Instant(unit, named) => Ok(Reading::Instant(*unit, *named)),
+            Reading::Instant(unit, zone) => Ok(Reading::Instant(*unit, share_if_any(zone)?)),
             Reading::Day => Ok(Reading::Day),
-            Reading::Formatted(unit, format, named) => {
-                Ok(Reading::Formatted(*unit, format.share()?, *named))
+            Reading::Formatted(unit, format, zone) => {
+                let zone = share_if_any(zone)?;
+                Ok(Reading::Formatted(*unit, format.share()?, zone))
             }
             Reading::FormattedDay(format) => Ok(Reading::FormattedDay(format.share()?)),
             Reading::Record => Ok(Reading::Record),
+        }
+    }
+
+    /// The reading with these rules for its zone, where that is the region of this name. It shares all else.
+    pub(crate) fn with_rules(&self, name: &str, rules: &Rules) -> Result<Reading, AllocError>
+        ensures { IfOk result (λ reading. reading ≡ reading_with name.now rules.now self.now) }
+    {
+        match self {
+            Reading::Instant(unit, zone) => {
+                Ok(Reading::Instant(*unit, zone_with(zone, name, rules)?))
+            }
+            Reading::Formatted(unit, format, zone) => {
+                let zone = zone_with(zone, name, rules)?;
+                Ok(Reading::Formatted(*unit, format.share()?, zone))
+            }
+            _ => self.share(),
         }
     }
 
@@ -96,5 +126,25 @@ impl Reading {
             Kind::Text => Reading::Text,
             Kind::Int => Reading::Int,
         }
+    }
+}
+
+/// An equal zone, where there is one.
+fn share_if_any(zone: &Option<Zone>) -> Result<Option<Zone>, AllocError>
+    ensures { IfOk result (λ shared. shared ≡ zone.now) }
+{
+    match zone {
+        Some(zone) => Ok(Some(zone.share()?)),
+        None => Ok(None),
+    }
+}
+
+/// A zone with these rules, where it is the region of this name; none where there is none.
+fn zone_with(zone: &Option<Zone>, name: &str, rules: &Rules) -> Result<Option<Zone>, AllocError>
+    ensures { IfOk result (λ with. with ≡ option_map (spec.zone_with name.now rules.now) zone.now) }
+{
+    match zone {
+        Some(zone) => Ok(Some(zone.with_rules(name, rules)?)),
+        None => Ok(None),
     }
 }

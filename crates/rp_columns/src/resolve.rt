@@ -1,6 +1,8 @@
 //! What columns as they are written mean.
 ghost use Rattle.std.specs.Prelude.{◌≡◌, ◌<◌, ℕ, ◌==◌, IfOk, IfSome, MatchOption, Ok, Err, Some, None, length, map, slice_get};
+ghost use Rattle.std.specs.List.{list_all};
 ghost use Rattle.rp_columns.specs.ColumnsGrammar.{written_tree};
+ghost use Rattle.rp_columns.specs.Instants.{offset as spec_offset};
 ghost use Rattle.rp_columns.specs.Resolved as spec;
 
 use crate::columns::InputColumn;
@@ -9,6 +11,7 @@ use crate::fronts::are_blanks;
 use crate::instant::offset;
 use crate::reading::{Marks, Reading, Unit};
 use crate::written::{Argument, Source, Written};
+use crate::zone::{Region, Zone};
 use rp_value::Text;
 use std::alloc::{AllocError, Global};
 
@@ -82,7 +85,7 @@ fn plain(reading: Reading, arguments: &[Argument]) -> Option<Reading>
     None
 }
 
-/// An instant, perhaps with an offset or by a format.
+/// An instant, perhaps of a zone or by a format.
 fn instant(alloc: Global, unit: Unit, arguments: &[Argument]) -> Result<Option<Reading>, AllocError>
     ensures { IfOk result (λ reading. reading ≡ spec.instant unit arguments.now) }
 {
@@ -93,12 +96,13 @@ fn instant(alloc: Global, unit: Unit, arguments: &[Argument]) -> Result<Option<R
         return instant_by(alloc, unit, &arguments[0]);
     }
     if arguments.len() == 2 {
-        return formatted_with(alloc, unit, &arguments[0], named(&arguments[1]));
+        let zone = named(&arguments[1])?;
+        return formatted_with(alloc, unit, &arguments[0], zone);
     }
     Ok(None)
 }
 
-/// An instant with an offset, or by a format, which has a per cent sign.
+/// An instant of a zone, or by a format, which has a per cent sign.
 fn instant_by(alloc: Global, unit: Unit, argument: &Argument) -> Result<Option<Reading>, AllocError>
     ensures { IfOk result (λ reading. reading ≡ spec.instant_by unit (spec.text_in (Some argument.now))) }
 {
@@ -114,20 +118,20 @@ fn instant_of(alloc: Global, unit: Unit, text: &Text) -> Result<Option<Reading>,
     if has(b'%', text.as_str().as_bytes()) {
         return formatted_as(alloc, unit, text, None);
     }
-    Ok(with_offset(unit, ahead(text.as_str().as_bytes())))
+    Ok(with_zone(unit, zone_named(text)?))
 }
 
-/// An instant by a format, with an offset where fields have none.
+/// An instant by a format, of a zone where fields have no offset.
 fn formatted_with(
     alloc: Global,
     unit: Unit,
     argument: &Argument,
-    ahead: Option<i32>,
+    zone: Option<Zone>,
 ) -> Result<Option<Reading>, AllocError>
-    ensures { IfOk result (λ reading. reading ≡ spec.formatted_with unit (spec.text_in (Some argument.now)) ahead) }
+    ensures { IfOk result (λ reading. reading ≡ spec.formatted_with unit (spec.text_in (Some argument.now)) zone) }
 {
-    match (argument, ahead) {
-        (Argument::Text(format), Some(ahead)) => formatted_as(alloc, unit, format, Some(ahead)),
+    match (argument, zone) {
+        (Argument::Text(format), Some(zone)) => formatted_as(alloc, unit, format, Some(zone)),
         _ => Ok(None),
     }
 }
@@ -137,14 +141,14 @@ fn formatted_as(
     alloc: Global,
     unit: Unit,
     format: &Text,
-    ahead: Option<i32>,
+    zone: Option<Zone>,
 ) -> Result<Option<Reading>, AllocError>
-    ensures { IfOk result (λ reading. reading ≡ spec.formatted_as unit format.now ahead) }
+    ensures { IfOk result (λ reading. reading ≡ spec.formatted_as unit format.now zone) }
 {
     let letters = letters(alloc, format.as_str().as_bytes())?;
-    if say_day(&letters) && (has(b'z', &letters) || ahead.is_some()) {
+    if say_day(&letters) && (has(b'z', &letters) || zone.is_some()) {
         let format = Format::new(alloc, format)?;
-        return Ok(Some(Reading::Formatted(unit, format, ahead)));
+        return Ok(Some(Reading::Formatted(unit, format, zone)));
     }
     Ok(None)
 }
@@ -182,41 +186,82 @@ fn formatted_day(alloc: Global, format: &Text) -> Result<Option<Reading>, AllocE
     Ok(None)
 }
 
-fn with_offset(unit: Unit, seconds: Option<i32>) -> Option<Reading>
-    ensures { result ≡ spec.with_offset unit seconds }
+fn with_zone(unit: Unit, zone: Option<Zone>) -> Option<Reading>
+    ensures { result ≡ spec.with_zone unit zone }
 {
-    match seconds {
-        Some(seconds) => Some(Reading::Instant(unit, Some(seconds))),
+    match zone {
+        Some(zone) => Some(Reading::Instant(unit, Some(zone))),
         None => None,
     }
 }
 
-/// What clocks are ahead by, as a text.
-fn named(argument: &Argument) -> Option<i32>
-    ensures { result ≡ spec.named (spec.text_in (Some argument.now)) }
+/// The zone of fields without an offset, as a text.
+fn named(argument: &Argument) -> Result<Option<Zone>, AllocError>
+    ensures { IfOk result (λ zone. zone ≡ spec.named (spec.text_in (Some argument.now))) }
 {
     match argument {
-        Argument::Text(text) => ahead(text.as_str().as_bytes()),
-        Argument::Number(_) => None,
+        Argument::Text(text) => zone_named(text),
+        Argument::Number(_) => Ok(None),
     }
 }
 
-fn ahead(text: &[u8]) -> Option<i32>
-    ensures { result ≡ spec.named (Some text.now) }
+/// The zone that a text names: an offset as a field may have it, or a region.
+fn zone_named(text: &Text) -> Result<Option<Zone>, AllocError>
+    ensures { IfOk result (λ zone. zone ≡ spec.zone_named text.now) }
 {
-    match offset(None, text) {
+    let bytes = text.as_str().as_bytes();
+    if let Some(seconds) = ahead(bytes) {
+        return Ok(Some(Zone::Fixed(seconds)));
+    }
+    if !is_identifier(bytes) {
+        return Ok(None);
+    }
+    Ok(Some(Zone::Region(Region {
+        name: text.share()?,
+        rules: None,
+    })))
+}
+
+/// What clocks are ahead by, as a text.
+fn ahead(text: &[u8]) -> Option<i32>
+    ensures { result ≡ spec.ahead (spec_offset text.now) }
+{
+    match offset(text) {
         Ok((seconds, rest)) => if_all(seconds, rest),
         Err(_) => None,
     }
 }
 
-fn if_all(seconds: i32, rest: &[u8]) -> Option<i32>
+fn if_all(seconds: Option<i32>, rest: &[u8]) -> Option<i32>
     ensures { result ≡ spec.ahead (Ok (seconds, rest.now)) }
 {
     if are_blanks(rest) {
-        return Some(seconds);
+        return seconds;
     }
     None
+}
+
+/// Whether a text is an identifier of the database of time zones.
+fn is_identifier(text: &[u8]) -> bool
+    ensures { result ≡ spec.is_identifier text.now }
+{
+    match text {
+        [first, rest @ ..] if first.is_ascii_alphabetic() => are_in_identifiers(rest),
+        _ => false,
+    }
+}
+
+fn are_in_identifiers(bytes: &[u8]) -> bool
+    ensures { result ≡ list_all spec.is_in_identifier bytes.now }
+{
+    bytes.iter().all(|byte| is_in_identifier(*byte))
+}
+
+/// Whether a byte is a letter, a digit, or one of `_`, `+`, `-` and `/`.
+fn is_in_identifier(byte: u8) -> bool
+    ensures { result ≡ spec.is_in_identifier byte }
+{
+    byte.is_ascii_alphanumeric() || byte == b'_' || byte == b'+' || byte == b'-' || byte == b'/'
 }
 
 /// A decimal number with its places and marks.
