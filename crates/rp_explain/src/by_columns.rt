@@ -307,6 +307,8 @@ fn wrong(reading: &Reading, why: ReadingFault) -> &'static str {
     match why {
         ReadingFault::NoSuchTime => "is a time that the calendar or the clock doesn't have",
         ReadingFault::NoOffset => "has no offset from UTC",
+        ReadingFault::Gap => "is a time that clocks of the column's time zone skip",
+        ReadingFault::Fold => "is a time that clocks of the column's time zone show twice",
         ReadingFault::Places => "has more digits behind the point than the column",
         ReadingFault::Range => "is outside of 64 bits",
         ReadingFault::NotText => "isn't UTF-8",
@@ -331,7 +333,10 @@ fn to_write(reading: &Reading, why: ReadingFault, field: &str) -> &'static str {
     match why {
         ReadingFault::NoSuchTime => "a day has the hours 0 to 23, and a minute the seconds 0 to 59",
         ReadingFault::NoOffset => {
-            "say what the times of this column are ahead of UTC by: seconds(Time, '+01:00'), or 'UTC'"
+            "say where clocks show the times of this column: seconds(Time, 'Europe/Berlin'), seconds(Time, '+01:00'), or 'UTC'"
+        }
+        ReadingFault::Gap | ReadingFault::Fold => {
+            "a field may have an offset of its own, as 2024-10-27T02:30:00+01:00; or give the column a fixed one, as seconds(Time, '+01:00')"
         }
         ReadingFault::Places =>
             "nothing is rounded: give the column as many places, as decimal(Amount, 4)",

@@ -36,6 +36,34 @@ pub fn explain_columns(
     Ok(report)
 }
 
+/// Explains that the system has no time zone of this name, which a text of columns has as a text.
+///
+/// The first line is `columns: Zone Europe/Berln`.
+pub fn explain_zone(alloc: Global, text: &str, name: &str) -> Result<Report, AllocError> {
+    let mut report = Report::new(alloc, "columns", &format!(in alloc; "Zone {name}")?)?;
+    let tokens = tokens_of(alloc, text)?;
+    let mut reading = Reading::new(text, tokens.as_slice(), 0);
+    reading.at = place_of_text(alloc, &reading, name)?;
+    let advice = Advice::new(
+        alloc,
+        "this system has no time zone of this name",
+        "write its identifier in the IANA Time Zone Database, as 'Europe/Berlin', or an offset, as '+01:00'",
+    )?;
+    report.point("columns", text, reading.span(), &advice)?;
+    Ok(report)
+}
+
+/// The index of the token that has this text between single quotes; the number of tokens where none has.
+fn place_of_text(alloc: Global, reading: &Reading<'_>, name: &str) -> Result<usize, AllocError> {
+    let quoted = format!(in alloc; "'{name}'")?;
+    for index in 0..reading.tokens.len() {
+        if reading.written(index) == quoted.as_str() {
+            return Ok(index);
+        }
+    }
+    Ok(reading.tokens.len())
+}
+
 /// Explains a token that can't stand where it is.
 fn expected_at(
     alloc: Global,
@@ -100,7 +128,7 @@ fn form_of(word: &str) -> &'static str {
         return "write decimal(Amount, 2), or decimal(Amount, 2, ',') with a comma between thousands, or decimal(Amount, 2, '.', ',') with a comma as the point";
     }
     if is_one_of(word, "SECONDS MILLIS MICROS") {
-        return "write seconds(Time), or seconds(Time, '+01:00') where the times have no offset from UTC, or with a format seconds(Time, '%d/%m/%Y %H:%M:%S')";
+        return "write seconds(Time), or seconds(Time, 'Europe/Berlin') or seconds(Time, '+01:00') where the times have no offset from UTC, or with a format seconds(Time, '%d/%m/%Y %H:%M:%S', 'UTC')";
     }
     if is_one_of(word, "RECORD") {
         return "write n = record()";

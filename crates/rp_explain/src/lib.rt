@@ -44,7 +44,7 @@ mod words;
 
 pub use by_columns::{explain_csv_by, explain_no_header};
 pub use clause::explain_clause;
-pub use columns_text::explain_columns;
+pub use columns_text::{explain_columns, explain_zone};
 pub use csv_text::explain_csv;
 pub use described::describe;
 pub use objects::explain_objects;
