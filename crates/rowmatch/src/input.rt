@@ -1,6 +1,7 @@
 //! The rows of an input, by the options that say how it is read.
 use crate::fault::ProgramFault;
 use crate::progress::Progress;
+use crate::zones::with_zones;
 use rp_columns::{Columns, InputColumn, read_columns};
 use rp_command::{InputFormat, InputOptions};
 use rp_explain::shown_text;
@@ -95,7 +96,7 @@ fn null_words(alloc: Global, words: &[String], is_csv: bool) -> Result<Vec<Text>
 impl InputShape {
     /// The columns that the options name; None where they name none.
     pub fn of(
-        alloc: Global,
+        rt: &HostRuntime,
         options: &InputOptions,
         form: &InputForm,
     ) -> Result<Option<InputShape>, ProgramFault> {
@@ -103,9 +104,10 @@ impl InputShape {
             (Some(_), Some(_)) => Err(ProgramFault::Usage(
                 "--table and --columns say the same thing: give one of them",
             )),
-            (Some(text), None) => Ok(Some(of_table(alloc, text.as_str(), form)?)),
+            (Some(text), None) => Ok(Some(of_table(rt.alloc(), text.as_str(), form)?)),
             (None, Some(text)) => {
-                let columns = read_columns(alloc, text.as_str())?;
+                let columns = read_columns(rt.alloc(), text.as_str())?;
+                let columns = with_zones(rt, columns)?;
                 Ok(Some(InputShape::by_columns(columns, form)))
             }
             (None, None) if options.no_header => Err(ProgramFault::Usage(

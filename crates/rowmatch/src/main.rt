@@ -14,6 +14,7 @@ mod source;
 mod state;
 mod texts;
 mod whole;
+mod zones;
 
 use crate::check::{Verdict, run_check};
 use crate::fault::ProgramFault;

@@ -24,7 +24,7 @@ type Counter<'a> = Counted<Port<&'a TcpStream>>;
 /// Hands all rows of standard input to each node in turn. The first fault ends it.
 pub fn run_source(rt: &HostRuntime, job: &SourceJob) -> Result<(), ProgramFault> {
     let form = InputForm::of(rt.alloc(), &job.input)?;
-    let Some(shape) = InputShape::of(rt.alloc(), &job.input, &form)? else {
+    let Some(shape) = InputShape::of(rt, &job.input, &form)? else {
         return Err(ProgramFault::Usage("nodes have a table: give --table or --columns"));
     };
     let query = compile(rt.alloc(), job.clause.as_str(), shape.table())?;

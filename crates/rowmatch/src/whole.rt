@@ -26,7 +26,7 @@ pub fn run_answer(rt: &HostRuntime, job: &WholeJob) -> Result<Verdict, ProgramFa
     } else {
         None
     };
-    match InputShape::of(rt.alloc(), &job.input, &form)? {
+    match InputShape::of(rt, &job.input, &form)? {
         Some(shape) => {
             let query = compile(rt.alloc(), job.clause.as_str(), shape.table())?;
             let filter = filter_of(rt.alloc(), job, shape.table())?;
