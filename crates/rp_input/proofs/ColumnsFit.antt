@@ -59,9 +59,9 @@ value_kind words reading.Text n bytes = null_given kind.Text (is_null words byte
 value_kind words reading.Lower n bytes = null_given kind.Text (is_null words bytes) _ (text_given (is_utf8 bytes) (map to_ascii_lowercase bytes))
 value_kind words reading.Int n bytes = null_given kind.Int (is_null words bytes) _ (null_given kind.Int (are_blanks bytes) _ (number_given (number_of reading.Int bytes)))
 value_kind words (reading.Decimal places marks) n bytes = null_given kind.Int (is_null words bytes) _ (null_given kind.Int (are_blanks bytes) _ (number_given (number_of (reading.Decimal places marks) bytes)))
-value_kind words (reading.Instant unit named) n bytes = null_given kind.Int (is_null words bytes) _ (null_given kind.Int (are_blanks bytes) _ (number_given (number_of (reading.Instant unit named) bytes)))
+value_kind words (reading.Instant unit z) n bytes = null_given kind.Int (is_null words bytes) _ (null_given kind.Int (are_blanks bytes) _ (number_given (number_of (reading.Instant unit z) bytes)))
 value_kind words reading.Day n bytes = null_given kind.Int (is_null words bytes) _ (null_given kind.Int (are_blanks bytes) _ (number_given (number_of reading.Day bytes)))
-value_kind words (reading.Formatted unit format named) n bytes = null_given kind.Int (is_null words bytes) _ (null_given kind.Int (are_blanks bytes) _ (number_given (number_of (reading.Formatted unit format named) bytes)))
+value_kind words (reading.Formatted unit format z) n bytes = null_given kind.Int (is_null words bytes) _ (null_given kind.Int (are_blanks bytes) _ (number_given (number_of (reading.Formatted unit format z) bytes)))
 value_kind words (reading.FormattedDay format) n bytes = null_given kind.Int (is_null words bytes) _ (null_given kind.Int (are_blanks bytes) _ (number_given (number_of (reading.FormattedDay format) bytes)))
 
 -- ---- a record's row

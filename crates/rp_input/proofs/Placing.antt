@@ -137,6 +137,8 @@ module _ (words : List (List ℕ)) (nth : ℕ) (columns : List Placed) (fields :
   cell_fault p why_as.Form next is = bad p why_as.Form next is
   cell_fault p why_as.NoSuchTime next is = bad p why_as.NoSuchTime next is
   cell_fault p why_as.NoOffset next is = bad p why_as.NoOffset next is
+  cell_fault p why_as.Gap next is = bad p why_as.Gap next is
+  cell_fault p why_as.Fold next is = bad p why_as.Fold next is
   cell_fault p why_as.Places next is = bad p why_as.Places next is
   cell_fault p why_as.Range next is = bad p why_as.Range next is
   cell_fault p why_as.NotText next is = bad p why_as.NotText next is
