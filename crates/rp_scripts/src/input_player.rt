@@ -2,6 +2,7 @@
 //!
 //! - `columns TEXT` gives the columns from there on, and tells nothing; of a text that has none it tells the fault. `each` tells
 //!   each column, as `[NAME READING SOURCE]`.
+//! - `rules NAME [BYTES]` gives the rules of a time zone that the columns name, the bytes of its TZif file.
 //! - `nulls [WORD] [WORD] ..` gives the words for null, `delimiter [;]` the delimiter, and `headless` leaves out the header.
 //! - `field [FIELD]` tells the value of a field of record 7 by the first column: `null`, a number, a text in square brackets, or
 //!   the fault. `rows [TEXT]` tells the rows of a CSV as `(CELL CELL ..)`, or the fault. `\x0a` stands for the byte of that number.
@@ -10,7 +11,9 @@ ghost use Rattle.std.specs.Prelude.{◌<◌, IfOk};
 use crate::fault::EventFault;
 use crate::line::{Line, no_words};
 use crate::told::tell;
-use rp_columns::{Columns, ColumnsFault, InputColumn, ReadingFault, Texts, read, read_columns};
+use rp_columns::{
+    Columns, ColumnsFault, InputColumn, ReadingFault, Texts, ZoneFault, read, read_columns,
+};
 use rp_input::{ColumnsCsvFault, CsvLayout, rows_by};
 use rp_reference::write_cell;
 use rp_value::{Row, Text, Value};
@@ -41,6 +44,7 @@ impl InputPlayer {
         match line.event {
             "columns" => self.set_columns(line.rest, told),
             "each" => self.tell_each(line.rest, told),
+            "rules" => self.set_rules(line.rest, told),
             "nulls" => self.set_nulls(line.rest),
             "delimiter" => self.set_delimiter(line.rest),
             "headless" => self.leave_header(line.rest),
@@ -55,6 +59,22 @@ impl InputPlayer {
         match read_columns(self.alloc, text) {
             Ok(columns) => self.columns = Some(columns),
             Err(ColumnsFault::OutOfMemory) => return Err(EventFault::OutOfMemory),
+            Err(fault) => tell(told, format!(in self.alloc; "{fault}")?.as_str())?,
+        }
+        Ok(())
+    }
+
+    fn set_rules(&mut self, words: &str, told: &mut String) -> Result<(), EventFault> {
+        let Some((name, bytes)) = words.split_once(" ") else {
+            return Err(EventFault::NoBytes);
+        };
+        let bytes = bytes_of(self.alloc, bytes)?;
+        let Some(columns) = self.columns.take() else {
+            return Err(EventFault::NoColumns);
+        };
+        match columns.with_rules(self.alloc, name, bytes.as_slice()) {
+            Ok(columns) => self.columns = Some(columns),
+            Err(ZoneFault::OutOfMemory) => return Err(EventFault::OutOfMemory),
             Err(fault) => tell(told, format!(in self.alloc; "{fault}")?.as_str())?,
         }
         Ok(())
