@@ -129,10 +129,13 @@ fn resolved(alloc: Global, written: &[Written]) -> Result<Vec<InputColumn>, Colu
 ///     text(C), lower(C)              a text; with small letters for the capital ones of ASCII
 ///     int(C)                         a whole number
 ///     decimal(C, 2)                  1234.56 as 123456; decimal(C, 2, ',') with 1,234.56; decimal(C, 2, '.', ',') with 1.234,56
-///     seconds(C), millis(C), micros(C)   an instant since 1970 UTC; seconds(C, '+01:00') where fields have no offset;
-///                                    seconds(C, '%d/%m/%Y %H:%M %z') or seconds(C, '%d/%m/%Y %H:%M', '+01:00') by a format
+///     seconds(C), millis(C), micros(C)   an instant since 1970 UTC; seconds(C, '+01:00') or seconds(C, 'Europe/Berlin') where
+///                                    fields have no offset; by a format seconds(C, '%d/%m/%Y %H:%M %z') or
+///                                    seconds(C, '%d/%m/%Y %H:%M', 'Europe/Berlin')
 ///     date(C)                        days since 1970; date(C, '%d.%m.%Y') by a format
 ///     record()                       the number of the record, from 1, and no field of it
+///
+/// The rules of a region that it names aren't loaded yet: `Columns::with_rules` does that.
 pub fn read_columns(alloc: Global, text: &str) -> Result<Columns, ColumnsFault>
     ensures columns { IfOk result (λ columns. AreColumnsOf text.now columns) }
     ensures only { IfOk result (λ columns. (others : List Heading) → AreColumnsOf text.now others → columns ≡ others) }
