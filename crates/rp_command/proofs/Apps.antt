@@ -5,7 +5,7 @@ use Rattle.clap.specs.declared.builder.command.Command.{Command}
 use Rattle.clap.specs.declared.builder.value_parser.ValueParser.TheVariants as parser
 use Rattle.clap.specs.declared.parser.matches.ArgMatches.{ArgMatches}
 use Rattle.rp_command.proofs.Rules.{is_separate, meets_rules}
-use Rattle.rp_command.specs.Commands.{by_place, check_app, is_ruled, node_app, source_app, trace_app, whole_app}
+use Rattle.rp_command.specs.Commands.{by_place, check_app, is_ruled, node_app, source_app, trace_app, whole_app, why_app}
 use Rattle.rp_command.specs.Values.{HasValue, MeetsRules, Passes, number_parser}
 
 -- ---- trace
@@ -215,3 +215,47 @@ check_from m h = (h 5 (by_place (codes "from")) (omega arith)).0 refl
 pub check_format : (m : ArgMatches) → MeetsRules check_app m → HasValue (codes "format") m
 unfolding check_app
 check_format m h = (h 7 (by_place (codes "format")) (omega arith)).0 refl
+
+-- ---- why
+
+why_is_simple : is_simple why_app ≡ true
+unfolding why_app
+why_is_simple = refl
+
+pub why_simple : (a : App) → a ≡ why_app → is_simple a ≡ true
+why_simple a e = rw e why_is_simple
+
+pub why_ruled : is_ruled why_app ≡ true
+unfolding why_app is_ruled
+why_ruled = refl
+
+why_separate : is_separate why_app ≡ true
+unfolding why_app
+why_separate = refl
+
+pub why_meets : (cmd : Command) (m : ArgMatches) → app_of cmd ≡ why_app → IsParsedFrom cmd m → MeetsRules why_app m
+why_meets cmd m is parsed = meets_rules cmd why_app m is why_separate parsed
+
+pub why_no_header : (m : ArgMatches) → MeetsRules why_app m → Passes false parser.Bool (codes "no-header") m
+unfolding why_app
+why_no_header m h = (h 4 (by_place (codes "no-header")) (omega arith)).1 _ refl
+
+pub why_from : (m : ArgMatches) → MeetsRules why_app m → HasValue (codes "from") m
+unfolding why_app
+why_from m h = (h 5 (by_place (codes "from")) (omega arith)).0 refl
+
+pub why_clause : (m : ArgMatches) → MeetsRules why_app m → HasValue (codes "clause") m
+unfolding why_app
+why_clause m h = (h 6 (by_place (codes "clause")) (omega arith)).0 refl
+
+pub why_format : (m : ArgMatches) → MeetsRules why_app m → HasValue (codes "format") m
+unfolding why_app
+why_format m h = (h 7 (by_place (codes "format")) (omega arith)).0 refl
+
+pub why_row : (m : ArgMatches) → MeetsRules why_app m → Passes false number_parser (codes "row") m
+unfolding why_app
+why_row m h = (h 9 (by_place (codes "row")) (omega arith)).1 _ refl
+
+pub why_most_turns : (m : ArgMatches) → MeetsRules why_app m → Passes false number_parser (codes "most-turns") m
+unfolding why_app
+why_most_turns m h = (h 11 (by_place (codes "most-turns")) (omega arith)).1 _ refl

@@ -18,7 +18,7 @@ use clap::{ArgMatches, Command};
 use std::alloc::{AllocError, Global};
 
 /// The words that `--format` takes.
-const REPORTS: &str = "text, json";
+pub(crate) const REPORTS: &str = "text, json";
 
 /// The job of the words.
 pub(crate) fn read_check(alloc: Global, words: &[String]) -> Result<Job, JobFault>
@@ -77,7 +77,7 @@ fn check_job(
 }
 
 /// How what is found is printed that the word is for.
-fn report_named(word: &str) -> Option<ReportFormat>
+pub(crate) fn report_named(word: &str) -> Option<ReportFormat>
     ensures named { IfSome result (λ format. word.now ≡ report_word format) }
     ensures other { result ≡ None → (format : Named) → word.now ≡ report_word format → ⊥ }
 {

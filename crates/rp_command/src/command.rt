@@ -13,6 +13,7 @@ use crate::node::{node_command, read_node};
 use crate::source::{read_source, source_command};
 use crate::trace::{read_trace, trace_command};
 use crate::whole::{read_whole, whole_command};
+use crate::why::{read_why, why_command};
 use clap::error::ErrorKind;
 use clap::{Command, Error};
 use std::alloc::{AllocError, Global};
@@ -35,6 +36,7 @@ pub fn read_command(alloc: Global, words: &[String]) -> Result<Job, JobFault>
         Some(name) if name.as_str() == "node" => read_node(alloc, words),
         Some(name) if name.as_str() == "source" => read_source(alloc, words),
         Some(name) if name.as_str() == "check" => read_check(alloc, words),
+        Some(name) if name.as_str() == "why" => read_why(alloc, words),
         _ => Err(no_job(alloc, words)),
     }
 }
@@ -75,7 +77,8 @@ fn program<'a>(alloc: Global) -> Result<Command<'a>, AllocError> {
         .subcommand(whole_command(alloc)?)?
         .subcommand(node_command(alloc)?)?
         .subcommand(source_command(alloc)?)?
-        .subcommand(check_command(alloc)?)
+        .subcommand(check_command(alloc)?)?
+        .subcommand(why_command(alloc)?)
 }
 
 fn line_of_no_job(alloc: Global, words: &[String]) -> Result<Error, AllocError> {

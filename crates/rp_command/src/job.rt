@@ -16,6 +16,8 @@ pub enum Job {
     Source(SourceJob),
     /// Tells what is wrong with a table, a clause or an input.
     Check(CheckJob),
+    /// Tells what is in the way of a match.
+    Why(WhyJob),
 }
 
 /// An input, and how it is read.
@@ -125,6 +127,27 @@ pub struct CheckJob {
     pub format: ReportFormat,
     /// The path of the input's file; None where it is standard input.
     pub file: Option<String>,
+}
+
+/// What is asked of partitions without a match.
+#[derive(Drop)]
+pub struct WhyJob {
+    /// How the input is read.
+    pub input: InputOptions,
+    /// The text of the clause.
+    pub clause: String,
+    /// How what is found is printed.
+    pub format: ReportFormat,
+    /// The key of the partition that is asked about, a list of JSON; None where each partition is.
+    pub key: Option<String>,
+    /// The row that a match should begin with, at least 1; None where it may be any.
+    pub row: Option<u32>,
+    /// The text of a condition, of which only rows that meet it are looked at; None where all are.
+    pub filter: Option<String>,
+    /// The most turns of the searches for a match, at least 1; None where the program's own limit holds.
+    pub most_turns: Option<u32>,
+    /// The paths of the input's files; none where it is standard input.
+    pub files: Vec<String>,
 }
 
 /// How what is found is printed.

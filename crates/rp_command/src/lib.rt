@@ -5,6 +5,7 @@
 //!     node --table TEXT --clause TEXT --listen ADDR --state FILE --connections N [--idle SECONDS] [--verbose]
 //!     source [INPUT] --clause TEXT [--budget N] [--idle SECONDS] [--acknowledge] [--verbose] ADDR..
 //!     check [INPUT] [--clause TEXT] [--format FORMAT] [FILE]
+//!     why [INPUT] --clause TEXT [--format FORMAT] [--key JSON] [--row N] [--where CONDITION] [--most-turns N] [FILE]..
 //!
 //! where INPUT says how the input is read:
 //!
@@ -24,9 +25,10 @@ mod node;
 mod source;
 mod trace;
 mod whole;
+mod why;
 
 pub use command::{not_utf8, read_command};
 pub use job::{
     AnswerFormat, CheckJob, InputFormat, InputOptions, Job, JobFault, NodeJob, ReportFormat,
-    SourceJob, WholeJob,
+    SourceJob, WholeJob, WhyJob,
 };

@@ -21,6 +21,9 @@ use std::alloc::{AllocError, Global};
 /// The words that `--format` takes.
 const ANSWERS: &str = "lines, csv, objects";
 
+/// What help tells of an option that names a condition of rows.
+pub(crate) const WHERE: &str = "Leaves out the rows that don't meet this condition, as \"p > 0\"";
+
 /// The job of the words.
 pub(crate) fn read_whole(alloc: Global, words: &[String]) -> Result<Job, JobFault>
     ensures named { IfOk result (λ job. name_of job ≡ codes "whole") }
@@ -107,13 +110,12 @@ pub(crate) fn whole_command<'a>(alloc: Global) -> Result<Command<'a>, AllocError
         .after_help(help::WHOLE);
     let about_format = "How the answer is printed: lines (of JSON), csv or objects (of JSON)";
     let about_progress = "Tells every few seconds on standard error how far it is";
-    let about_where = "Leaves out the rows that don't meet this condition, as \"p > 0\"";
     let about_turns = "Ends a partition's answer where a start row takes more turns";
     with_input(command, alloc)?
         .arg(text_option(alloc, "clause", "TEXT", CLAUSE))?
         .arg(text_option_or(alloc, "format", "FORMAT", about_format, "lines"))?
         .arg(flag(alloc, "progress", about_progress))?
-        .arg(text_option_if_any(alloc, "where", "CONDITION", about_where))?
+        .arg(text_option_if_any(alloc, "where", "CONDITION", WHERE))?
         .arg(number_option(alloc, "most-turns", "N", about_turns))?
         .arg(files(alloc))
 }

@@ -230,3 +230,32 @@ fn source_command_of_many(rt: HostRuntime) -> Result<(), Fail> {
     }
     Ok(())
 }
+
+/// `why` with all that it can be given beside its input.
+#[test]
+fn why_command_of_many(rt: HostRuntime) -> Result<(), Fail> {
+    let words = [
+        "why",
+        "--clause=c",
+        "--format=json",
+        "--key=[1]",
+        "--row=7",
+        "--where=p > 0",
+        "--most-turns=8",
+        "a.csv",
+    ];
+    match &job_of(rt.alloc(), words.as_slice())? {
+        Job::Why(why) => {
+            assert_eq!(rt; why.clause.as_str(), "c");
+            assert_eq!(rt; why.format, ReportFormat::Json);
+            assert_eq!(rt; shown(&why.key), "[1]");
+            assert_eq!(rt; why.row, Some(7));
+            assert_eq!(rt; shown(&why.filter), "p > 0");
+            assert_eq!(rt; why.most_turns, Some(8));
+            assert_eq!(rt; why.files.len(), 1);
+            assert_eq!(rt; why.files[0].as_str(), "a.csv");
+            Ok(())
+        }
+        _ => Err(Fail::from("the words name no why")),
+    }
+}
