@@ -2,6 +2,7 @@
 #![tactic(auto)]
 
 mod accepting;
+mod asked;
 mod check;
 mod client;
 mod fault;
@@ -14,6 +15,7 @@ mod source;
 mod state;
 mod texts;
 mod whole;
+mod why;
 mod zones;
 
 use crate::check::{Verdict, run_check};
@@ -22,6 +24,7 @@ use crate::node::run_node;
 use crate::source::run_source;
 use crate::texts::with_texts;
 use crate::whole::run_answer;
+use crate::why::run_why;
 use rp_command::{Job, not_utf8, read_command};
 use rp_io::{Port, READS};
 use rp_trace::{run_trace, trace_pattern};
@@ -70,7 +73,7 @@ fn run(rt: &HostRuntime) -> Result<Verdict, ProgramFault> {
     run_job(rt, &job)
 }
 
-/// Does the job. Only `check` and `whole` have a verdict.
+/// Does the job. Only `check`, `whole` and `why` have a verdict.
 fn run_job(rt: &HostRuntime, job: &Job) -> Result<Verdict, ProgramFault> {
     match job {
         Job::Trace { pattern } => trace(rt, pattern.as_str())?,
@@ -78,6 +81,7 @@ fn run_job(rt: &HostRuntime, job: &Job) -> Result<Verdict, ProgramFault> {
         Job::Node(job) => run_node(rt, job)?,
         Job::Source(job) => run_source(rt, job)?,
         Job::Check(job) => return run_check(rt, job),
+        Job::Why(job) => return run_why(rt, job),
     }
     Ok(Verdict::Well)
 }

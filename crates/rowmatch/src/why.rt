@@ -1,0 +1,137 @@
+//! `why`: what is in the way of a match, partition by partition.
+use crate::asked::Asked;
+use crate::check::Verdict;
+use crate::fault::ProgramFault;
+use crate::seed::seeded_hasher;
+use crate::shown::shown_key;
+use rp_command::{ReportFormat, WhyJob};
+use rp_explain::shown_text;
+use rp_input::{order_rows, partitions};
+use rp_io::{Port, write_all};
+use rp_json::cells_of;
+use rp_query::Query;
+use rp_value::{Cells, Row};
+use rp_why::{Finding, Wanted, object_line, told, why};
+use serde_json::Value as Json;
+use std::alloc::Global;
+
+/// The most turns of the searches of a clause, where no number is given.
+const MOST_TURNS: u32 = 10_000_000;
+
+/// Prints for each partition, or for that of the key that is given, its first match, or what is in the way of one.
+pub fn run_why(rt: &HostRuntime, job: &WhyJob) -> Result<Verdict, ProgramFault> {
+    let key = key_of(rt.alloc(), job)?;
+    let asked = Asked {
+        input: &job.input,
+        clause: job.clause.as_str(),
+        filter: job.filter.as_ref().map(|text| text.as_str()),
+        files: job.files.as_slice(),
+    };
+    let (query, rows) = asked.query_and_rows(rt, &mut None)?;
+    let mut verdict = None;
+    for (found, rows) in partitions(rt.alloc(), &query, rows, seeded_hasher(rt)?)? {
+        if is_asked(&key, &found) {
+            let one = tell_partition(rt, job, &query, &found, rows)?;
+            verdict = Some(worse(verdict, one));
+        }
+    }
+    match (verdict, key) {
+        (Some(verdict), _) => Ok(verdict),
+        (None, None) => Ok(Verdict::Well),
+        (None, Some(key)) => Err(no_partition(rt.alloc(), &key)?),
+    }
+}
+
+/// The key that is asked about; None where each is.
+fn key_of(alloc: Global, job: &WhyJob) -> Result<Option<Cells>, ProgramFault> {
+    let Some(text) = &job.key else {
+        return Ok(None);
+    };
+    let no_key = ProgramFault::Usage(
+        "--key is a list of JSON, of whole numbers, texts and null, as '[\"eve\"]'",
+    );
+    let Ok(json) = Json::from_slice(alloc, text.as_str().as_bytes()) else {
+        return Err(no_key);
+    };
+    match cells_of(alloc, &json)? {
+        Some(key) => Ok(Some(key)),
+        None => Err(no_key),
+    }
+}
+
+/// Whether a partition is asked about.
+fn is_asked(key: &Option<Cells>, found: &Cells) -> bool {
+    match key {
+        Some(key) => key.same(found),
+        None => true,
+    }
+}
+
+/// The fault that the input has no row of a key.
+fn no_partition(alloc: Global, key: &Cells) -> Result<ProgramFault, ProgramFault> {
+    let key = shown_key(alloc, key)?;
+    let text = format!(in alloc; "key: the input has no row of {key}")?;
+    Ok(ProgramFault::Input(text))
+}
+
+/// Prints what is found of a partition.
+fn tell_partition(
+    rt: &HostRuntime,
+    job: &WhyJob,
+    query: &Query,
+    key: &Cells,
+    rows: Vec<Row>,
+) -> Result<Verdict, ProgramFault> {
+    let count = rows.len() as u64;
+    let mut rows = rows;
+    order_rows(query, &mut rows)?;
+    let finding = why(rt.alloc(), query, rows, wanted(job, count))?;
+    let bytes = match job.format {
+        ReportFormat::Text => {
+            let shown = shown_key(rt.alloc(), key)?;
+            let text = told(rt.alloc(), query, shown.as_str(), count, &finding)?;
+            shown_text(rt.alloc(), text.as_str())?.into_bytes()
+        }
+        ReportFormat::Json => {
+            let mut line = object_line(rt.alloc(), query, key.as_slice(), count, &finding)?;
+            line.push(b'\n')?;
+            line
+        }
+    };
+    match write_all(&mut Port::new(rt.stdout()), bytes.as_slice()) {
+        Ok(()) => Ok(verdict_of(&finding)),
+        Err(_) => Err(ProgramFault::Write),
+    }
+}
+
+/// Which matches are looked for, in a partition of so many rows.
+fn wanted(job: &WhyJob, count: u64) -> Wanted {
+    let (first, last) = match job.row {
+        Some(row) => (u64::from(row), u64::from(row)),
+        None => (1, count),
+    };
+    Wanted {
+        first,
+        last,
+        with_rows: true,
+        most_turns: job.most_turns.unwrap_or(MOST_TURNS),
+    }
+}
+
+/// How a partition's part of the job ended.
+fn verdict_of(finding: &Finding) -> Verdict {
+    match finding {
+        Finding::Matched(_) => Verdict::Well,
+        Finding::Unmatched(_) | Finding::NoRow(_) => Verdict::Faulty,
+        Finding::GivenUp => Verdict::GivenUp,
+    }
+}
+
+/// The worse of two verdicts.
+fn worse(one: Option<Verdict>, other: Verdict) -> Verdict {
+    match (one, other) {
+        (Some(Verdict::GivenUp), _) | (_, Verdict::GivenUp) => Verdict::GivenUp,
+        (Some(Verdict::Faulty), _) | (_, Verdict::Faulty) => Verdict::Faulty,
+        _ => Verdict::Well,
+    }
+}
