@@ -16,8 +16,8 @@ use rp_value::Row;
 use rp_walker::{MatcherState, Poll, Walker, law_walkers};
 use rp_words::End;
 use std::alloc::{AllocError, AllocFailed, Global};
-use std::marker::Model;
-use std::sync::ledger::Ledger;
+use std::marker::{Brand, Model};
+use std::sync::ledger::{Blank, Ledger};
 
 /// A matcher over the rows of one partition.
 ///
@@ -152,6 +152,7 @@ impl Matcher {
     /// A budget of 0 answers `Paused`, changes nothing and takes no memory. After `AllocError` the same item is still
     /// to come, the record's search begins again, and no row is dropped; after any other answer to a budget of 1 or more
     /// the rows below the horizon are dropped.
+    /// `next` does the same for a caller that keeps no count of turns.
     pub fn poll<L: Ledger>(&mut self, budget: u32, steps: &mut Steps<L>) -> Result<Poll, AllocError>
         ensures query { self.new.query ≡ self.old.query }
         ensures count { count self.new.known ≡ count self.old.known }
@@ -175,6 +176,57 @@ impl Matcher {
         let answer = self.walker.poll(&self.query, &self.rows, budget, steps)?;
         drop_rows(&self.query, &mut self.rows, &mut self.walker);
         Ok(answer)
+    }
+
+    /// The next item, or why there is none yet: what `poll` does with the same budget, for a caller that keeps no count
+    /// of turns.
+    ///
+    ///     match matcher.next(1_000)? {
+    ///         Poll::Item(place, item) => println!(rt; "    item {place}: {item:?}")?,
+    ///         Poll::Paused => {}
+    ///         Poll::Idle => break,
+    ///     }
+    pub fn next(&mut self, budget: u32) -> Result<Poll, AllocError>
+        ensures query { self.new.query ≡ self.old.query }
+        ensures count { count self.new.known ≡ count self.old.known }
+        ensures end { self.new.known.end ≡ self.old.known.end }
+        ensures answers { IfOk result (PollComesTo self.old.query self.old.known self.old.state self.new.state) }
+        ensures moves { GoesAlong self.old.query self.old.known self.old.state self.new.state }
+        ensures out_of_memory { OnErr result (StartsAgain self.old.query self.old.known
+            self.old.state.given self.new.state self.new.left) }
+        ensures lowers { IfOk result (PollLowers budget self.old.left self.new.left) }
+        ensures rows { (p : Known) → AgreesFrom self.old.state.first self.old.known p →
+            AgreesFrom self.new.state.first self.new.known p }
+        ensures held { OnOk result (1 ≤ budget → HoldsNoMore self.new.query self.new.known self.new.state) }
+        ensures kept { OnErr result (self.new.known ≡ self.old.known) }
+        ensures enters { (self.old.entered ≤ self.new.entered) × (self.new.entered ≤ self.old.entered + budget) }
+        ensures nothing { budget ≡ 0 → (result ≡ Ok Poll.Paused) × (self.new ≡ self.old) }
+    {
+        self.uncounted::<Brand>(budget, Blank::new(1))
+    }
+
+    /// Polls over a count of its own, which nobody reads.
+    fn uncounted<L: Ledger>(&mut self, budget: u32, blank: Blank) -> Result<Poll, AllocError>
+        requires name { blank.name ≡ L.name }
+        requires parts { blank.parts ≡ L.parts }
+        requires some { 0 < blank.parts }
+        ensures query { self.new.query ≡ self.old.query }
+        ensures count { count self.new.known ≡ count self.old.known }
+        ensures end { self.new.known.end ≡ self.old.known.end }
+        ensures answers { IfOk result (PollComesTo self.old.query self.old.known self.old.state self.new.state) }
+        ensures moves { GoesAlong self.old.query self.old.known self.old.state self.new.state }
+        ensures out_of_memory { OnErr result (StartsAgain self.old.query self.old.known
+            self.old.state.given self.new.state self.new.left) }
+        ensures lowers { IfOk result (PollLowers budget self.old.left self.new.left) }
+        ensures rows { (p : Known) → AgreesFrom self.old.state.first self.old.known p →
+            AgreesFrom self.new.state.first self.new.known p }
+        ensures held { OnOk result (1 ≤ budget → HoldsNoMore self.new.query self.new.known self.new.state) }
+        ensures kept { OnErr result (self.new.known ≡ self.old.known) }
+        ensures enters { (self.old.entered ≤ self.new.entered) × (self.new.entered ≤ self.old.entered + budget) }
+        ensures nothing { budget ≡ 0 → (result ≡ Ok Poll.Paused) × (self.new ≡ self.old) }
+    {
+        let mut steps = Steps::<L>::new(blank);
+        self.poll(budget, &mut steps)
     }
 }
 
