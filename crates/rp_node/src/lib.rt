@@ -2,15 +2,17 @@
 //! they are certain.
 //!
 //! ```text
-//! let mut node = Node::new(alloc, query, hasher);
-//! node.accept(packet)?;                         // Taken::New, Repeat or Old, or why it is refused
-//! match node.poll(key, 1_000, &mut steps)? {
-//!     Poll::Item(place, item) => .., // the next item of this partition's answer
-//!     Poll::Paused => ..,            // the budget is used up: poll again
-//!     Poll::Idle => ..,              // nothing more is certain until a packet comes
+//! let mut node = Node::new(rt.alloc(), query, RandomState::new(rt)?);
+//! let taken = node.accept(Packet::Row { number, cells })?; // Taken::New, Repeat or Old, or why it is refused
+//! match node.next(key, 1_000)? {
+//!     Poll::Item(place, item) => println!(rt; "    item {place}: {item:?}")?, // the next of this partition's answer
+//!     Poll::Paused => {}    // the budget is used up: call it again
+//!     Poll::Idle => break,  // nothing more is certain until a packet comes
 //! }
-//! let bytes = node.save()?;                     // Node::restart(alloc, query, hasher, &bytes) goes on from here
+//! let bytes = node.save()?; // Node::restart(alloc, query, hasher, &bytes) goes on from here
 //! ```
+//!
+//! The whole program is the crate rp_example.
 //!
 //! Behind a connection a node answers lines: it is what `rp_serve::serve` and `rp_serve::round` run over. `begin` goes on from
 //! what was saved, or begins with nothing.

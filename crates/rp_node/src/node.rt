@@ -1,5 +1,5 @@
 //! Partitions by key.
-ghost use Rattle.std.specs.Prelude.{◌≡◌, ◌≢◌, ◌⊎◌, ◌-◌, ◌<◌, ◌≤◌, [], Ok, Err, Some, IfErr, IfOk, OnOk};
+ghost use Rattle.std.specs.Prelude.{◌≡◌, ◌≢◌, ◌⊎◌, ◌+◌, ◌-◌, ◌<◌, ◌≤◌, [], Ok, Err, Some, IfErr, IfOk, OnOk};
 ghost use Rattle.indexmap.specs.IndexMap.{index_map_len};
 ghost use Rattle.rp_query.specs.QueryView.{data_of};
 ghost use Rattle.rp_feed.specs.declared.answer.Taken.TheVariants.{New};
@@ -27,8 +27,8 @@ use rp_value::{Cells, Row, Value};
 use rp_walker::Poll;
 use std::alloc::{AllocError, Global};
 use std::collections::hash_map::RandomState;
-use std::marker::Model;
-use std::sync::ledger::Ledger;
+use std::marker::{Brand, Model};
+use std::sync::ledger::{Blank, Ledger};
 
 /// A node of one query: what was taken of each partition, and where the walk over its rows stands.
 ///
@@ -187,6 +187,7 @@ impl Node {
     /// still to come.
     /// Where each condition judges its row alone, no test of a known row is open and all that fails is remembered, a poll
     /// that finds no further match takes no more turns than what is left falls by, and one if it is idle.
+    /// `next` does the same for a caller that keeps no count of turns.
     pub fn poll<L: Ledger>(
         &mut self,
         key: &[Value],
@@ -215,6 +216,54 @@ impl Node {
                 told_poll(answer)
             }
         }
+    }
+
+    /// The next item of the partition of a key, or why there is none yet: what `poll` does with the same budget, for a
+    /// caller that keeps no count of turns.
+    ///
+    ///     match node.next(key, 1_000)? {
+    ///         Poll::Item(place, item) => println!(rt; "    item {place}: {item:?}")?,
+    ///         Poll::Paused => {}
+    ///         Poll::Idle => break,
+    ///     }
+    pub fn next(&mut self, key: &[Value], budget: u32) -> Result<Poll, NodeFault>
+        ensures query { self.new.query ≡ self.old.query }
+        ensures polls { NodePolls self.old self.new key.now result }
+        ensures lowers { IfOk result (PollLowers budget (work_at self.old key.now).left
+            (work_at self.new key.now).left) }
+        ensures bounded { AllBounded self.new }
+        ensures enters { ((work_at self.old key.now).entered ≤ (work_at self.new key.now).entered)
+            × ((work_at self.new key.now).entered ≤ (work_at self.old key.now).entered + budget) }
+        ensures held { OnOk result (1 ≤ budget → HoldsNoMoreAt self.new key.now) }
+        ensures paused { budget ≡ 0 → (result ≡ Ok Poll.Paused) ⊎ (result ≡ Err NodeFault.UnknownPartition) }
+        ensures nothing { budget ≡ 0 → self.new ≡ self.old }
+    {
+        self.uncounted::<Brand>(key, budget, Blank::new(1))
+    }
+
+    /// Polls over a count of its own, which nobody reads.
+    fn uncounted<L: Ledger>(
+        &mut self,
+        key: &[Value],
+        budget: u32,
+        blank: Blank,
+    ) -> Result<Poll, NodeFault>
+        requires name { blank.name ≡ L.name }
+        requires parts { blank.parts ≡ L.parts }
+        requires some { 0 < blank.parts }
+        ensures query { self.new.query ≡ self.old.query }
+        ensures polls { NodePolls self.old self.new key.now result }
+        ensures lowers { IfOk result (PollLowers budget (work_at self.old key.now).left
+            (work_at self.new key.now).left) }
+        ensures bounded { AllBounded self.new }
+        ensures enters { ((work_at self.old key.now).entered ≤ (work_at self.new key.now).entered)
+            × ((work_at self.new key.now).entered ≤ (work_at self.old key.now).entered + budget) }
+        ensures held { OnOk result (1 ≤ budget → HoldsNoMoreAt self.new key.now) }
+        ensures paused { budget ≡ 0 → (result ≡ Ok Poll.Paused) ⊎ (result ≡ Err NodeFault.UnknownPartition) }
+        ensures nothing { budget ≡ 0 → self.new ≡ self.old }
+    {
+        let mut steps = Steps::<L>::new(blank);
+        self.poll(key, budget, &mut steps)
     }
 }
 

@@ -1,18 +1,15 @@
 //! A node behind connections: each request is a call of it, and the call's answer is the reply.
-ghost use Rattle.std.specs.Prelude.{◌≡◌, ◌<◌, IfOk, OnErr, Some, None};
+ghost use Rattle.std.specs.Prelude.{◌≡◌, IfOk, OnErr, Some, None};
 ghost use Rattle.rp_node.specs.Replies.{Does, fault_reply};
 ghost use Rattle.rp_wire.specs.declared.request.Request.TheVariants as request;
 
 use crate::fault::{NodeFault, RestartFault};
 use crate::node::Node;
-use rp_search::Steps;
 use rp_serve::{Answers, Keeps};
 use rp_value::{Cells, RowFault};
 use rp_walker::Poll;
 use rp_wire::{Packet, Refusal, Reply, Request};
 use std::alloc::AllocError;
-use std::marker::Brand;
-use std::sync::ledger::{Blank, Ledger};
 
 /// The turns of polls that lines ask for aren't counted.
 impl Answers for Node {
@@ -26,7 +23,7 @@ impl Answers for Node {
     fn answer(&mut self, request: Request) -> Result<Reply, AllocError> {
         match request {
             Request::Packet(packet) => take(self, packet),
-            Request::Poll { key, budget } => poll::<Brand>(self, key, budget, Blank::new(1)),
+            Request::Poll { key, budget } => poll(self, key, budget),
         }
     }
 }
@@ -82,20 +79,11 @@ fn take(node: &mut Node, packet: Packet) -> Result<Reply, AllocError>
 }
 
 /// Polls the partition of a key.
-fn poll<L: Ledger>(
-    node: &mut Node,
-    key: Cells,
-    budget: u32,
-    blank: Blank,
-) -> Result<Reply, AllocError>
-    requires name { blank.name ≡ L.name }
-    requires parts { blank.parts ≡ L.parts }
-    requires some { 0 < blank.parts }
+fn poll(node: &mut Node, key: Cells, budget: u32) -> Result<Reply, AllocError>
     ensures ok { IfOk result (λ reply. Does node.old (request.Poll key budget) (Some reply) node.new) }
     ensures err { OnErr result (Does node.old (request.Poll key budget) None node.new) }
 {
-    let mut steps = Steps::<L>::new(blank);
-    match node.poll(key.as_slice(), budget, &mut steps) {
+    match node.next(key.as_slice(), budget) {
         Ok(Poll::Item(place, item)) => Ok(Reply::Item { key, place, item }),
         Ok(Poll::Idle) => Ok(Reply::Idle(key)),
         Ok(Poll::Paused) => Ok(Reply::Paused(key)),
