@@ -1,10 +1,14 @@
 //! Why a CSV input is no rows of columns that are computed.
 
-use crate::advice::{Advice, is_one_of};
+use crate::advice::Advice;
 use crate::csv_text::{reader_of, take_record, write_at};
-use crate::field::{Wanted, at_record, noun, of_number, record_at, shortened};
-use crate::first_line::{listed_fields, of_front};
+use crate::field::{Wanted, at_record, noun, record_at, shortened};
+use crate::first_line::listed_fields;
+use crate::fronts::of_front;
+use crate::heading::of_heading;
 use crate::names::{nearest, shown};
+use crate::null_words::of_null_word;
+use crate::number_cells::{of_known_fraction, of_number, of_sign};
 use crate::report::Report;
 use crate::scan::{field_span, record_start};
 use csv::ByteRecord;
@@ -39,7 +43,7 @@ pub fn explain_csv_by(
     };
     let mut report = headline(alloc, &input, fault)?;
     match fault {
-        ColumnsCsvFault::Header => of_no_header(&mut report, bytes)?,
+        ColumnsCsvFault::Header => of_no_header(alloc, &mut report, bytes, layout.delimiter)?,
         ColumnsCsvFault::Missing(index) => of_missing(alloc, &mut report, &input, *index)?,
         ColumnsCsvFault::Double(index) => of_double(alloc, &mut report, &input, *index)?,
         ColumnsCsvFault::Record(number) => of_record(alloc, &mut report, &input, *number)?,
@@ -51,10 +55,11 @@ pub fn explain_csv_by(
     Ok(report)
 }
 
-/// Explains why no columns can be proposed for the bytes of a CSV text: it is empty or no CSV, or its header has no name.
-pub fn explain_no_header(alloc: Global, bytes: &[u8]) -> Result<Report, AllocError> {
+/// Explains why no columns can be proposed for the bytes of a CSV text, in which this byte is between fields: it is empty or no CSV,
+/// something stands above its header, or that has no name.
+pub fn explain_no_header(alloc: Global, bytes: &[u8], delimiter: u8) -> Result<Report, AllocError> {
     let mut report = Report::new(alloc, "csv", &ColumnsCsvFault::Header)?;
-    of_no_header(&mut report, bytes)?;
+    of_no_header(alloc, &mut report, bytes, delimiter)?;
     Ok(report)
 }
 
@@ -99,10 +104,14 @@ fn source_of(columns: &[InputColumn], index: usize) -> &str {
 }
 
 /// Explains an input that has no header.
-fn of_no_header(report: &mut Report, bytes: &[u8]) -> Result<(), AllocError> {
-    if let Some(found) = of_front(bytes) {
-        report.say("csv", found.what)?;
-        return report.help(found.help);
+fn of_no_header(
+    alloc: Global,
+    report: &mut Report,
+    bytes: &[u8],
+    delimiter: u8,
+) -> Result<(), AllocError> {
+    if of_above(alloc, report, bytes, delimiter)? {
+        return Ok(());
     }
     if bytes.is_empty() {
         report.say("csv", "the input is empty")?;
@@ -110,6 +119,26 @@ fn of_no_header(report: &mut Report, bytes: &[u8]) -> Result<(), AllocError> {
     }
     report.say("csv", "no field of the header has a name of its own")?;
     report.help("the first line names the columns, each once")
+}
+
+/// Explains an input that is no CSV, or has something above its header; and says whether it is so.
+fn of_above(
+    alloc: Global,
+    report: &mut Report,
+    bytes: &[u8],
+    delimiter: u8,
+) -> Result<bool, AllocError> {
+    if let Some(found) = of_front(bytes) {
+        report.say("csv", found.what)?;
+        report.help(found.help)?;
+        return Ok(true);
+    }
+    let Some(found) = of_heading(alloc, bytes, delimiter)? else {
+        return Ok(false);
+    };
+    report.say("csv", found.what.as_str())?;
+    report.help(found.help.as_str())?;
+    Ok(true)
 }
 
 /// The header of an input; it has no field where there is none.
@@ -127,9 +156,8 @@ fn of_missing(
     input: &Input<'_>,
     index: usize,
 ) -> Result<(), AllocError> {
-    if let Some(found) = of_front(input.bytes) {
-        report.say("csv", found.what)?;
-        return report.help(found.help);
+    if of_above(alloc, report, input.bytes, input.layout.delimiter)? {
+        return Ok(());
     }
     let header = header_of(alloc, input)?;
     let source = source_of(input.columns, index);
@@ -155,7 +183,7 @@ fn of_missing(
 }
 
 /// What to write where the header is one field that holds another delimiter.
-fn of_delimiter(header: &ByteRecord) -> Option<&'static str> {
+pub(crate) fn of_delimiter(header: &ByteRecord) -> Option<&'static str> {
     let first = header.get(0)?;
     if header.len() > 1 {
         return None;
@@ -272,11 +300,14 @@ fn of_field(
         "record {number}, column {name}: `{short}` {}",
         wrong(&column.reading, why)
     )?;
-    let advice = Advice::new(
-        alloc,
-        what.as_str(),
-        to_write(&column.reading, why, text.as_str()),
-    )?;
+    let advice = match of_null_word(alloc, input.bytes, input.layout, place, text.as_str())? {
+        Some(help) => Advice::new(alloc, what.as_str(), help.as_str())?,
+        None => Advice::new(
+            alloc,
+            what.as_str(),
+            to_write(&column.reading, why, text.as_str()),
+        )?,
+    };
     let span = field_span(input.bytes, found.start, place, input.layout.delimiter);
     write_at(alloc, report, input.bytes, span, &advice)
 }
@@ -327,9 +358,6 @@ fn wrong(reading: &Reading, why: ReadingFault) -> &'static str {
 
 /// What to write for such a field.
 fn to_write(reading: &Reading, why: ReadingFault, field: &str) -> &'static str {
-    if is_one_of(field.trim(), "NULL NIL NONE NA N/A NAN \\N - ? #N/A") {
-        return "where this word is null, say so: --null 'n/a' (and --null '' for empty fields)";
-    }
     match why {
         ReadingFault::NoSuchTime => "a day has the hours 0 to 23, and a minute the seconds 0 to 59",
         ReadingFault::NoOffset => {
@@ -349,13 +377,8 @@ fn to_write(reading: &Reading, why: ReadingFault, field: &str) -> &'static str {
 /// What to write for a field that hasn't the form of its reading.
 fn of_form(reading: &Reading, field: &str) -> &'static str {
     match reading {
-        Reading::Int if field.contains('.') || field.contains(',') => {
-            "read it by decimal(C, 2) where it has fractions, or by decimal(C, 0, ',') where it has signs between thousands"
-        }
-        Reading::Int => of_number(field),
-        Reading::Decimal(_, _) => {
-            "signs between thousands are named, and so is the point where it is no full stop: decimal(C, 2, ',') reads 1,234.56, and decimal(C, 2, '.', ',') reads 1.234,56"
-        }
+        Reading::Int => of_int(field),
+        Reading::Decimal(_, _) => of_decimal(field),
         Reading::Day => {
             "dates as 2024-01-05 and 20240105 are read; for others give their format: date(C, '%d.%m.%Y')"
         }
@@ -366,5 +389,26 @@ fn of_form(reading: &Reading, field: &str) -> &'static str {
             "each field has the format's parts and the text between them"
         }
         _ => "",
+    }
+}
+
+/// What to write for a field that is no whole number.
+fn of_int(field: &str) -> &'static str {
+    if let Some(help) = of_known_fraction(field.trim()) {
+        return help;
+    }
+    if of_sign(field.trim()).is_none() && (field.contains('.') || field.contains(',')) {
+        return "read it by decimal(C, 2) where it has fractions, or by decimal(C, 0, ',') where it has signs between thousands";
+    }
+    of_number(field)
+}
+
+/// What to write for a field that is no decimal number of its column's form.
+fn of_decimal(field: &str) -> &'static str {
+    match of_sign(field.trim()) {
+        Some(help) => help,
+        None => {
+            "signs between thousands are named, and so is the point where it is no full stop: decimal(C, 2, ',') reads 1,234.56, and decimal(C, 2, '.', ',') reads 1.234,56"
+        }
     }
 }

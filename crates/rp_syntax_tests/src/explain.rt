@@ -125,6 +125,7 @@ A has no definition and takes any row
 B looks at its own row, 1 row back
 up to 1 row before a match are read (PREV)
 each condition looks at its own row and rows at fixed distances from it
+where no match comes, the time grows in step with the rows
 no condition waits for later rows
 ";
 

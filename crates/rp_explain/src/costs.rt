@@ -1,0 +1,68 @@
+//! What a search costs that finds nothing, by which rows the conditions look at, and which variables may take any number of rows.
+
+use crate::looks::Looks;
+use crate::precedes::has;
+use rp_words::Form;
+use std::alloc::AllocError;
+use std::fmt::Write;
+
+/// Writes what rows cost that are read without a match, by which rows all conditions look at.
+pub(crate) fn push_cost(out: &mut String, all: Looks) -> Result<(), AllocError> {
+    if all.elsewhere {
+        return out.push_str(
+            "where no match comes, each way to take the rows is tried: one row more may double the time\n",
+        );
+    }
+    if all.first {
+        return out.push_str(
+            "where no match comes, a row may be read again for each first row whose bound lets it in\n",
+        );
+    }
+    out.push_str("where no match comes, the time grows in step with the rows\n")
+}
+
+/// Whether nothing bounds how many rows a variable takes: a quantifier without an upper bound goes over it, and no condition of what
+/// is repeated looks at other rows of the match. `looks` has for each variable which rows its condition looks at.
+pub(crate) fn is_boundless(form: &Form, variable: usize, looks: &[Looks]) -> bool {
+    match form {
+        Form::Variable(_) | Form::Empty | Form::PartitionStart | Form::PartitionEnd => false,
+        Form::Concatenation(first, second) | Form::Alternation(first, second) => {
+            is_boundless(first, variable, looks) || is_boundless(second, variable, looks)
+        }
+        Form::Permute(parts) => {
+            for part in parts {
+                if is_boundless(part, variable, looks) {
+                    return true;
+                }
+            }
+            false
+        }
+        Form::Exclusion(body) => is_boundless(body, variable, looks),
+        Form::Quantified { body, upper, .. } => {
+            upper.is_none() && has(body, variable) && !is_bounded(body, looks)
+                || is_boundless(body, variable, looks)
+        }
+    }
+}
+
+/// Whether a condition of the form's variables may bound how many rows it takes: it looks at other rows of the match.
+fn is_bounded(form: &Form, looks: &[Looks]) -> bool {
+    for (number, one) in looks.iter().enumerate() {
+        if (one.first || one.elsewhere) && has(form, number) {
+            return true;
+        }
+    }
+    false
+}
+
+/// Writes that nothing bounds how many rows the variables of a list take, and what to do where that may cost much.
+pub(crate) fn push_boundless(out: &mut String, list: &str, all: Looks) -> Result<(), AllocError> {
+    if list.is_empty() {
+        return Ok(());
+    }
+    write!(out, "nothing bounds how many rows {list} may take")?;
+    if all.elsewhere {
+        out.push_str(": bound them by a time, or by a number as {0,100}")?;
+    }
+    out.push('\n')
+}
