@@ -33,6 +33,7 @@ mod fronts;
 mod heading;
 mod looks;
 mod meaning;
+mod mixed;
 mod names;
 mod null_words;
 mod number_cells;

@@ -10,6 +10,14 @@ use std::alloc::{AllocError, Global};
 /// The words.
 const WORDS: &str = "NULL NIL NONE NA N/A NAN NAT \\N - ? #N/A <NA>";
 
+/// Whether a field is such a word.
+pub(crate) fn is_null_word(field: &[u8]) -> bool {
+    match std::str::from_utf8(field) {
+        Ok(text) => is_one_of(text.trim(), WORDS),
+        Err(_) => false,
+    }
+}
+
 /// What to do about a field that holds such a word, at this place of the records; None where it holds none.
 pub(crate) fn of_null_word(
     alloc: Global,

@@ -2,32 +2,54 @@
 
 use crate::by_columns::of_delimiter;
 use crate::csv_text::{reader_of, take_record};
+use crate::mixed::push_mixed;
 use crate::names::shown;
 use crate::proposed::meanings;
 use crate::report::shown_text;
 use csv::{ByteRecord, Reader};
-use rp_input::MAX_RECORDS;
+use rp_input::{CsvLayout, MAX_RECORDS};
 use rp_place::push_help;
+use rp_value::Text;
 use std::alloc::{AllocError, Global};
 use std::fmt::Write;
 
 /// Says what is to be known of the columns that `propose_columns` proposes for the bytes of a CSV text, in which this byte is between
-/// fields: each field of the header that has no column, and what seems to be between fields where the header is one field.
+/// fields: each field of the header that has no column, what seems to be between fields where the header is one field, and columns that
+/// are text since words for null stand among their numbers.
 ///
 /// Each line ends in LF; there may be none.
-pub fn explain_proposal(alloc: Global, bytes: &[u8], delimiter: u8) -> Result<String, AllocError> {
+pub fn explain_proposal(
+    alloc: Global,
+    bytes: &[u8],
+    delimiter: u8,
+    nulls: &[Text],
+) -> Result<String, AllocError> {
     let mut out = String::new(alloc);
+    push_header(alloc, &mut out, bytes, delimiter)?;
+    let layout = CsvLayout {
+        delimiter,
+        has_header: true,
+    };
+    push_mixed(alloc, &mut out, bytes, layout, nulls)?;
+    shown_text(alloc, out.as_str())
+}
+
+/// Writes what is to be known of the header.
+fn push_header(
+    alloc: Global,
+    out: &mut String,
+    bytes: &[u8],
+    delimiter: u8,
+) -> Result<(), AllocError> {
     let mut reader = reader_of(alloc, bytes, delimiter);
     let mut header = ByteRecord::new(alloc);
     if !take_record(&mut reader, &mut header)? {
-        return Ok(out);
+        return Ok(());
     }
     if header.len() == 1 {
-        push_between(alloc, &mut out, &header, &mut reader)?;
-    } else {
-        push_left_out(alloc, &mut out, &header, delimiter)?;
+        return push_between(alloc, out, &header, &mut reader);
     }
-    shown_text(alloc, out.as_str())
+    push_left_out(alloc, out, &header, delimiter)
 }
 
 /// Writes what to do where a header is one field, and something else seems to be between fields.
