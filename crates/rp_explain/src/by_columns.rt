@@ -3,12 +3,13 @@
 use crate::advice::Advice;
 use crate::csv_text::{reader_of, take_record, write_at};
 use crate::field::{Wanted, at_record, noun, record_at, shortened};
-use crate::first_line::listed_fields;
+use crate::first_line::{BLANKS, listed_fields};
 use crate::fronts::of_front;
 use crate::heading::of_heading;
 use crate::names::{nearest, shown};
 use crate::null_words::of_null_word;
 use crate::number_cells::{of_known_fraction, of_number, of_sign};
+use crate::proposal_notes::words_in;
 use crate::report::Report;
 use crate::scan::{field_span, record_start};
 use csv::ByteRecord;
@@ -170,6 +171,9 @@ fn of_missing(
     if let Some(help) = of_delimiter(&header) {
         return report.help(help);
     }
+    if has_word(alloc, &header, source)? {
+        return report.help(BLANKS);
+    }
     let names = names_of(alloc, &header)?;
     if let Some(place) = nearest(alloc, source, names.as_slice())?
         && let Some(name) = names.get(place)
@@ -180,6 +184,19 @@ fn of_missing(
     report.help(
         "a name with blanks or small letters that count is in double quotes, as the header has it",
     )
+}
+
+/// Whether the header is one field of words with blanks between, of which one is this name.
+fn has_word(alloc: Global, header: &ByteRecord, name: &str) -> Result<bool, AllocError> {
+    if words_in(header) < 2 {
+        return Ok(false);
+    }
+    let line = String::from_utf8_lossy(alloc, header.get(0).unwrap_or(b""))?;
+    let found = line
+        .as_str()
+        .split(' ')
+        .any(|word| word.eq_ignore_ascii_case(name));
+    Ok(found)
 }
 
 /// What to write where the header is one field that holds another delimiter.

@@ -80,7 +80,7 @@ fn push_between(
 }
 
 /// How many words with blanks between the one field of a record has; 0 where it has more fields.
-fn words_in(fields: &ByteRecord) -> usize {
+pub(crate) fn words_in(fields: &ByteRecord) -> usize {
     if fields.len() > 1 {
         return 0;
     }
