@@ -103,7 +103,7 @@ fn is_variable(alloc: Global, reading: &Reading<'_>, written: &str) -> Result<bo
 }
 
 /// The variables of the pattern, by first appearance.
-fn variables(alloc: Global, reading: &Reading<'_>) -> Result<Vec<String>, AllocError> {
+pub(crate) fn variables(alloc: Global, reading: &Reading<'_>) -> Result<Vec<String>, AllocError> {
     let mut names = Vec::new(alloc);
     let mut inside = false;
     for token in reading.tokens {
@@ -141,41 +141,61 @@ pub(crate) fn unknown_variable(
     table: &Table,
     reading: &Reading<'_>,
 ) -> Result<Advice, AllocError> {
-    let written = reading.here();
     let variables = variables(alloc, reading)?;
     let list = listed_variables(alloc, variables.as_slice())?;
-    let what = format!(in alloc; "the pattern has no variable {written}")?;
-    let mut help = String::new(alloc);
-    let name = meant(alloc, written)?;
-    if let Some(index) = nearest(alloc, written, variables.as_slice())? {
-        push_variable(alloc, &mut help, variables.as_slice(), index)?;
-    } else if is_column(table, name.as_str()) {
-        let line = format!(in alloc;
-            "{written} is a column: a variable stands before the point, A.{written}\n"
-        )?;
-        help.push_str(line.as_str())?;
-    } else if look_up(&FUNCTIONS, written).is_some() {
-        help.push_str(
-            "there are no functions but COUNT, SUM, MIN, MAX, FIRST, LAST, PREV, NEXT\n",
-        )?;
-    }
+    let what = format!(in alloc; "the pattern has no variable {}", reading.here())?;
+    let mut help = meant_variable(alloc, table, reading, variables.as_slice())?;
     help.push_str("the variables are ")?;
     help.push_str(list.as_str())?;
     Advice::new(alloc, what.as_str(), help.as_str())
 }
 
-/// Writes a line with one of the variables.
-fn push_variable(
+/// A line that guesses what is meant in place of a variable; nothing where there is no guess.
+fn meant_variable(
     alloc: Global,
-    help: &mut String,
-    names: &[String],
-    index: usize,
-) -> Result<(), AllocError> {
-    let Some(name) = names.get(index) else {
-        return Ok(());
-    };
-    let line = format!(in alloc; "write {}\n", name.as_str())?;
-    help.push_str(line.as_str())
+    table: &Table,
+    reading: &Reading<'_>,
+    variables: &[String],
+) -> Result<String, AllocError> {
+    let written = reading.here();
+    if let Some(index) = nearest(alloc, written, variables)? {
+        return variable_line(alloc, variables, index);
+    }
+    let name = meant(alloc, written)?;
+    if is_column(table, name.as_str()) {
+        return format!(in alloc;
+            "{written} is a column: a variable stands before the point, A.{written}\n"
+        );
+    }
+    if is_column_of_table(alloc, table, reading)? {
+        return format!(in alloc;
+            "is {written} a table? a column stands without its table: {}\n",
+            reading.next(2)
+        );
+    }
+    if look_up(&FUNCTIONS, written).is_some() {
+        let line = "there are no functions but COUNT, SUM, MIN, MAX, FIRST, LAST, PREV, NEXT\n";
+        return String::from_str(alloc, line);
+    }
+    Ok(String::new(alloc))
+}
+
+/// Whether a point and a column of the table stand behind the place.
+fn is_column_of_table(
+    alloc: Global,
+    table: &Table,
+    reading: &Reading<'_>,
+) -> Result<bool, AllocError> {
+    let column = meant(alloc, reading.next(2))?;
+    Ok(reading.next(1) == "." && is_column(table, column.as_str()))
+}
+
+/// A line with one of the variables.
+fn variable_line(alloc: Global, names: &[String], index: usize) -> Result<String, AllocError> {
+    match names.get(index) {
+        Some(name) => format!(in alloc; "write {}\n", name.as_str()),
+        None => Ok(String::new(alloc)),
+    }
 }
 
 /// Whether the table has a column of this name.

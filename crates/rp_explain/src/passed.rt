@@ -1,0 +1,118 @@
+//! A text as far as it has tokens: what no token begins with is passed over.
+
+use rp_lexer::{LexFault, lex};
+use rp_place::Span;
+use std::alloc::{AllocError, Global};
+
+/// A text whose faults are passed over, and those faults.
+#[derive(Drop)]
+pub(crate) struct Passed {
+    /// The text, with a blank for each byte that is passed over.
+    pub(crate) read: String,
+    /// What was passed over, by place.
+    pub(crate) faults: Vec<LexFault>,
+}
+
+/// What begins with the first of these goes on to the second behind it, if that comes.
+const PAIRS: [(&str, &str); 7] = [
+    ("/*", "*/"),
+    ("//", "\n"),
+    ("#", "\n"),
+    ("`", "`"),
+    ("[", "]"),
+    ("\u{2018}", "\u{2019}"),
+    ("\u{201c}", "\u{201d}"),
+];
+
+/// Signs of two characters that are one fault.
+const SIGNS: [&str; 5] = ["!=", "&&", "::", ":=", "\"\""];
+
+/// The text with so many of its faults passed over, at most.
+pub(crate) fn pass_over(alloc: Global, text: &str, most: u32) -> Result<Passed, AllocError> {
+    let mut read = String::from_str(alloc, text)?;
+    let mut faults = Vec::new(alloc);
+    for _ in 0..most {
+        let Some(fault) = first_fault(alloc, read.as_str())? else {
+            return Ok(Passed { read, faults });
+        };
+        faults.push(fault)?;
+        read = without(alloc, read.as_str(), fault)?;
+    }
+    Ok(Passed { read, faults })
+}
+
+/// The first fault of a text that has one.
+fn first_fault(alloc: Global, text: &str) -> Result<Option<LexFault>, AllocError> {
+    match lex(alloc, text) {
+        Ok(_) => Ok(None),
+        Err(LexFault::OutOfMemory) => Err(AllocError),
+        Err(fault) => Ok(Some(fault)),
+    }
+}
+
+/// Where a fault stands in its text.
+pub(crate) fn place_of(fault: LexFault) -> usize {
+    match fault {
+        LexFault::BadChar(at) => at,
+        LexFault::OpenText(at) => at,
+        LexFault::OpenName(at) => at,
+        LexFault::NumberRange(at) => at,
+        LexFault::OutOfMemory => 0,
+    }
+}
+
+/// The text with blanks for what is wrong by a fault.
+fn without(alloc: Global, text: &str, fault: LexFault) -> Result<String, AllocError> {
+    let start = place_of(fault);
+    let rest = text.get(start..).unwrap_or("");
+    let length = match fault {
+        LexFault::BadChar(_) => extent(rest),
+        LexFault::NumberRange(_) => digits(rest),
+        _ => rest.len(),
+    };
+    let end = start.saturating_add(length);
+    let mut read = String::new(alloc);
+    read.push_str(text.get(..start).unwrap_or(""))?;
+    push_blanks(&mut read, text, Span { start, end })?;
+    read.push_str(text.get(end..).unwrap_or(""))?;
+    Ok(read)
+}
+
+/// Writes a blank for each byte of a part of a text, but its line ends.
+pub(crate) fn push_blanks(out: &mut String, text: &str, part: Span) -> Result<(), AllocError> {
+    let part = text.get(part.start..part.end).unwrap_or("");
+    for byte in part.bytes() {
+        out.push(if byte == b'\n' { '\n' } else { ' ' })?;
+    }
+    Ok(())
+}
+
+/// How many bytes a bad character has, with what belongs to it.
+fn extent(rest: &str) -> usize {
+    if SIGNS.iter().any(|sign| rest.starts_with(*sign)) {
+        return 2;
+    }
+    for (front, end) in &PAIRS {
+        if let Some(inside) = rest.strip_prefix(*front) {
+            return pair_extent(inside, end).saturating_add(front.len());
+        }
+    }
+    match rest.chars().next() {
+        Some(character) => character.len_utf8(),
+        None => 0,
+    }
+}
+
+/// How many bytes stand up to the end of a pair, with that; none where it doesn't come.
+fn pair_extent(inside: &str, end: &str) -> usize {
+    match inside.find(end) {
+        Some(at) => at.saturating_add(end.len()),
+        None => 0,
+    }
+}
+
+/// How many digits stand in front.
+fn digits(rest: &str) -> usize {
+    let found = rest.bytes().take_while(|byte| byte.is_ascii_digit());
+    found.count()
+}
