@@ -26,8 +26,11 @@ pub struct Explained {
     pub query: Option<Query>,
 }
 
-/// Explains why `compile` refuses a text over a table, by the fault that it gave, and what else can't stand in it. Of a statement
-/// round MATCH_RECOGNIZE ( .. ) it is said once that it isn't read; the rest is of what stands in the brackets.
+/// Explains why `compile` refuses a text over a table, by the fault that it gave, and what else can't stand in it. Of a
+/// statement round MATCH_RECOGNIZE ( .. ) it is said once that it isn't read; the rest is of what stands in the
+/// brackets.
+///
+/// The only error is that memory is out.
 pub fn explain_text(
     alloc: Global,
     table: &Table,

@@ -18,7 +18,7 @@ struct Quotient {
     under: u64,
 }
 
-/// What a comparison with a fraction is where both sides are multiplied: p > 1.5 * AVG(q), where the place is the point.
+/// What a comparison with a fraction is where both sides are multiplied: p > 1.5 * AVG(q). The place is its point.
 pub(crate) fn of_fraction(
     alloc: Global,
     reading: &Reading<'_>,

@@ -186,9 +186,16 @@ fn is_certain_value(reading: &Reading<'_>) -> bool {
     }
 }
 
-/// Whether a function is called that isn't one.
+/// Whether a function is called that isn't one, and that wasn't told of before: behind a fraction it was.
 fn is_function(reading: &Reading<'_>) -> bool {
-    reading.kind_back(1) == Some(TokenKind::Name) && look_up(&FUNCTIONS, reading.back(1)).is_some()
+    reading.kind_back(1) == Some(TokenKind::Name)
+        && look_up(&FUNCTIONS, reading.back(1)).is_some()
+        && !is_behind_fraction(reading)
+}
+
+/// Whether the function's value is multiplied by a fraction.
+fn is_behind_fraction(reading: &Reading<'_>) -> bool {
+    reading.back(2) == "*" && reading.back(4) == "."
 }
 
 /// Whether a point stands behind a number.

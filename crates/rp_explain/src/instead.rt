@@ -143,6 +143,7 @@ fn in_arguments(alloc: Global, reading: &Reading<'_>) -> Result<Option<Advice>, 
     let function = reading.function();
     let column = argument(reading);
     if is_one_of(function, "MIN MAX") {
+        let column = whole_argument(reading);
         let help = format!(in alloc;
             "write {function}({column}); to compare columns let one more column of the file have the value"
         )?;
@@ -162,6 +163,14 @@ fn in_arguments(alloc: Global, reading: &Reading<'_>) -> Result<Option<Advice>, 
 fn argument<'a>(reading: &Reading<'a>) -> &'a str {
     if is_name(reading.kind_back(1)) {
         return reading.back(1);
+    }
+    "p"
+}
+
+/// The same with the variable before it, if there is one.
+fn whole_argument<'a>(reading: &Reading<'a>) -> &'a str {
+    if is_name(reading.kind_back(1)) {
+        return text_of(reading, operand_start(reading, reading.at), reading.at);
     }
     "p"
 }

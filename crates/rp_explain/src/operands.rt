@@ -7,8 +7,8 @@ use rp_lexer::{Mark, TokenKind};
 /// The most bytes of a part of a clause that is written again in a help.
 const SHORT: usize = 60;
 
-/// The index of the token with which the operand begins that ends before a token: a literal, a column, perhaps of a variable, a
-/// call or a bracket.
+/// The index of the token with which the operand begins that ends before a token: a literal, a column, perhaps of a
+/// variable, a call or a bracket.
 pub(crate) fn operand_start(reading: &Reading<'_>, end: usize) -> usize {
     let last = end.saturating_sub(1);
     if reading.written(last) == ")" {
