@@ -169,11 +169,24 @@ fn is_certain(reading: &Reading<'_>, walk: Walk) -> bool {
     if walk.is_behind(reading) {
         return false;
     }
+    if is_part_again(reading, walk) {
+        return true;
+    }
     match walk.part {
         Part::Measures | Part::Define => is_certain_value(reading),
         Part::Pattern => is_within(reading, walk) || is_fraction(reading),
         _ => false,
     }
+}
+
+/// Whether PATTERN or DEFINE begins again in that part, outside of its brackets.
+fn is_part_again(reading: &Reading<'_>, walk: Walk) -> bool {
+    let Some(kind) = reading.kind_here() else {
+        return false;
+    };
+    walk.depth == walk.outside
+        && matches!(walk.part, Part::Pattern | Part::Define)
+        && part_of(kind) == Some(walk.part)
 }
 
 /// The same in MEASURES and DEFINE.
