@@ -57,7 +57,7 @@ pub fn explain_csv_by(
 }
 
 /// Explains why no columns can be proposed for the bytes of a CSV text, in which this byte is between fields: it is empty or no CSV,
-/// something stands above its header, or that has no name.
+/// there is something above its header, or that has no name.
 pub fn explain_no_header(alloc: Global, bytes: &[u8], delimiter: u8) -> Result<Report, AllocError> {
     let mut report = Report::new(alloc, "csv", &ColumnsCsvFault::Header)?;
     of_no_header(alloc, &mut report, bytes, delimiter)?;

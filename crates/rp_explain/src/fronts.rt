@@ -11,7 +11,7 @@ const PAGE_HELP: &str = "was the address that of the file itself, and were you s
 
 /// What is said of a first line that is for spreadsheets.
 const SEPARATOR: &str =
-    "the first line says what is between fields, for a spreadsheet, and the names stand below it";
+    "the first line says what is between fields, for a spreadsheet, and the names are below it";
 
 /// What bytes begin with that are no CSV text, what they are, and what to do.
 const FRONTS: [(&[u8], &str, &str); 22] = [

@@ -1,4 +1,4 @@
-//! What stands above the header of a CSV text.
+//! Lines above the header of a CSV text.
 
 use crate::advice::Advice;
 use crate::csv_text::{reader_of, take_record};
@@ -36,7 +36,7 @@ fn is_remark(fields: &ByteRecord) -> bool {
     fields.get(0).unwrap_or(b"").starts_with(b"#")
 }
 
-/// Whether a record is one field, in which nothing else stands that may be between fields.
+/// Whether a record is one field without anything else that may be between fields.
 fn is_title(fields: &ByteRecord) -> bool {
     let title = fields.get(0).unwrap_or(b"");
     fields.len() == 1
@@ -135,7 +135,7 @@ fn title(alloc: Global, is_there: bool, line: usize) -> Result<Option<Advice>, A
         return Ok(None);
     }
     let what = format!(in alloc;
-        "the names of the columns are wanted in line 1, and seem to stand in line {line}"
+        "the names of the columns are wanted in line 1, and seem to be in line {line}"
     )?;
     let help = format!(in alloc; "tail -n +{line} FILE | rowmatch ..")?;
     let advice = Advice::new(alloc, what.as_str(), help.as_str())?;

@@ -1,4 +1,4 @@
-//! Columns that are proposed as text, since words for null stand among their numbers.
+//! Columns that are proposed as text, since words for null are among their numbers.
 
 use crate::csv_text::{reader_of, take_record};
 use crate::names::shown;

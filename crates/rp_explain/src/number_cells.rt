@@ -101,7 +101,7 @@ fn is_epoch(text: &str) -> bool {
     text.len() == 10 && (text.starts_with('1') || text.starts_with('2'))
 }
 
-/// Whether commas stand between groups of three digits, as in 1,234,567.
+/// Whether there are commas between groups of three digits, as in 1,234,567.
 fn is_grouped(text: &str) -> bool {
     let mut groups = 0usize;
     for group in unsigned(text).split(',') {

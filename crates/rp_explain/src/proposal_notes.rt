@@ -15,7 +15,7 @@ use std::fmt::Write;
 
 /// Says what is to be known of the columns that `propose_columns` proposes for the bytes of a CSV text, in which this byte is between
 /// fields: each field of the header that has no column, what seems to be between fields where the header is one field, and columns that
-/// are text since words for null stand among their numbers.
+/// are text since words for null are among their numbers.
 ///
 /// Each line ends in LF; there may be none.
 pub fn explain_proposal(
@@ -106,7 +106,7 @@ fn have_words(alloc: Global, reader: &mut Reader<&[u8]>, words: usize) -> Result
     Ok(any)
 }
 
-/// Whether two blanks stand side by side, or one at an end.
+/// Whether there are two blanks in a row, or one at an end.
 fn has_runs(line: &[u8]) -> bool {
     line.split(|byte| *byte == b' ').any(|word| word.is_empty())
 }
@@ -163,7 +163,7 @@ fn push_double(alloc: Global, out: &mut String, name: &str) -> Result<(), AllocE
     let typed = shown(alloc, name)?;
     writeln!(
         out,
-        "  {typed} stands more than once in the header, and is left out"
+        "  {typed} is the name of more than one field of the header, and is left out"
     )?;
     push_help(
         out,
