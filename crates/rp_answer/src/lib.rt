@@ -4,7 +4,7 @@
 //! let table = read_table(rt.alloc(), "sym text, t int, p int")?;
 //! let query = compile(rt.alloc(), CLAUSE, &table)?;
 //! let mut matcher = Matcher::new(rt.alloc(), query);
-//! matcher.push(row)?;
+//! matcher.push(row)?; // matcher.close() once no further row comes
 //! match matcher.next(1_000)? {
 //!     Poll::Item(place, item) => println!(rt; "    item {place}: {item:?}")?, // the last one is `Item::End` or a fault
 //!     Poll::Paused => {}    // the budget is used up: call it again

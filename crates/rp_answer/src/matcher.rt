@@ -68,6 +68,9 @@ impl Matcher {
     }
 
     /// A matcher that goes on from a record. The row `state.first` comes next.
+    ///
+    ///     let state = matcher.state();
+    ///     let mut matcher = Matcher::resume(rt.alloc(), query, state);
     pub fn resume(alloc: Global, query: Query, state: MatcherState) -> Matcher
         requires one { 1 ≤ state.first }
         requires can { CanGoOn (data_of query) state }

@@ -84,7 +84,12 @@ impl Node {
     }
 
     /// A node that goes on from what an earlier one saved. Where it is refused, the query comes back: for the
-    /// bytes' fault, then `ClauseDiffers`, then `BadState`; want of memory may come before.
+    /// bytes' fault, then `ClauseDiffers`, then `BadState`; `OutOfMemory` may come before.
+    ///
+    ///     match Node::restart(rt.alloc(), query, RandomState::new(rt)?, bytes) {
+    ///         Ok(node) => Ok(node),
+    ///         Err(refused) => Err(refused.fault.into()),
+    ///     }
     pub fn restart(
         alloc: Global,
         query: Query,
@@ -126,8 +131,11 @@ impl Node {
         self.query
     }
 
-    /// Takes a row or a close. `BadRow` comes first, then the feed's order; want of memory may come before either.
+    /// Takes a row or a close. `BadRow` comes first, then the feed's order; `OutOfMemory` may come before either.
     /// What isn't `New` changes nothing: a refused packet leaves no partition, no row and no close.
+    ///
+    ///     let taken = node.accept(Packet::Row { number, cells })?;
+    ///     let taken = node.accept(Packet::Close { key, count: 4 })?;
     pub fn accept(&mut self, packet: Packet) -> Result<Taken, NodeFault>
         ensures answer { IsAnswered self.old packet result }
         ensures taken { result ≡ Ok New → Accepted self.old packet self.new }
