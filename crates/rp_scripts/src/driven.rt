@@ -9,12 +9,9 @@ use crate::fault::EventFault;
 use crate::refusals::Refusals;
 use rp_answer::Matcher;
 use rp_query::Query;
-use rp_search::Steps;
 use rp_value::Row;
 use rp_walker::{MatcherState, Poll};
-use std::alloc::{AllocError, Global};
-use std::marker::Brand;
-use std::sync::ledger::{Blank, Ledger};
+use std::alloc::Global;
 
 /// More rows than a partition may have.
 const MANY_ROWS: u64 = 1 << 50;
@@ -109,9 +106,9 @@ impl Driven {
         Ok(())
     }
 
-    /// Polls once. Its turns aren't counted.
+    /// Polls once.
     pub fn poll(&mut self, budget: u32) -> Result<Poll, EventFault> {
-        match poll_matcher(&mut self.matcher, budget) {
+        match self.matcher.next(budget) {
             Ok(answer) => Ok(answer),
             Err(_) => self.poll_again(budget),
         }
@@ -121,29 +118,11 @@ impl Driven {
         if !self.refusals.is_first() {
             return Err(EventFault::RefusedTwice);
         }
-        match poll_matcher(&mut self.matcher, budget) {
+        match self.matcher.next(budget) {
             Ok(answer) => Ok(answer),
             Err(_) => Err(EventFault::RefusedTwice),
         }
     }
-}
-
-fn poll_matcher(matcher: &mut Matcher, budget: u32) -> Result<Poll, AllocError>
-    ensures count { count matcher.new.known ≡ count matcher.old.known }
-    ensures end { matcher.new.known.end ≡ matcher.old.known.end }
-{
-    polled::<Brand>(Blank::new(1), matcher, budget)
-}
-
-fn polled<L: Ledger>(blank: Blank, matcher: &mut Matcher, budget: u32) -> Result<Poll, AllocError>
-    requires name { blank.name ≡ L.name }
-    requires parts { blank.parts ≡ L.parts }
-    requires some { 0 < blank.parts }
-    ensures count { count matcher.new.known ≡ count matcher.old.known }
-    ensures end { matcher.new.known.end ≡ matcher.old.known.end }
-{
-    let mut steps = Steps::<L>::new(blank);
-    matcher.poll(budget, &mut steps)
 }
 
 /// The conditions of a matcher that begins from a record.

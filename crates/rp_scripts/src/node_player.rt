@@ -20,12 +20,9 @@ use crate::told::tell;
 use rp_node::{Node, NodeFault, Packet, Poll, RestartFault, RestartRefused, Taken};
 use rp_query::Query;
 use rp_reference::item_text;
-use rp_search::Steps;
 use rp_value::{Cells, Row, Value};
 use std::alloc::{AllocError, Global};
 use std::collections::hash_map::RandomState;
-use std::marker::Brand;
-use std::sync::ledger::{Blank, Ledger};
 
 /// A node of a clause, and what is kept of it.
 #[derive(Drop)]
@@ -87,7 +84,7 @@ impl NodePlayer {
     }
 
     fn polled(&mut self, key: &[Value], budget: u32) -> Result<Poll, NodeFault> {
-        match poll_node(&mut self.node, key, budget) {
+        match self.node.next(key, budget) {
             Err(NodeFault::OutOfMemory) => self.polled_again(key, budget),
             answer => answer,
         }
@@ -95,7 +92,7 @@ impl NodePlayer {
 
     fn polled_again(&mut self, key: &[Value], budget: u32) -> Result<Poll, NodeFault> {
         if self.refusals.is_first() {
-            return poll_node(&mut self.node, key, budget);
+            return self.node.next(key, budget);
         }
         Err(NodeFault::OutOfMemory)
     }
@@ -262,25 +259,6 @@ fn packet_of(alloc: Global, line: Line) -> Result<Packet, EventFault> {
     }
     let cells = Row::new(alloc, cells)?;
     Ok(Packet::Row { number, cells })
-}
-
-/// Polls a node. Its turns aren't counted.
-fn poll_node(node: &mut Node, key: &[Value], budget: u32) -> Result<Poll, NodeFault> {
-    polled::<Brand>(Blank::new(1), node, key, budget)
-}
-
-fn polled<L: Ledger>(
-    blank: Blank,
-    node: &mut Node,
-    key: &[Value],
-    budget: u32,
-) -> Result<Poll, NodeFault>
-    requires name { blank.name ≡ L.name }
-    requires parts { blank.parts ≡ L.parts }
-    requires some { 0 < blank.parts }
-{
-    let mut steps = Steps::<L>::new(blank);
-    node.poll(key, budget, &mut steps)
 }
 
 /// A node that goes on from bytes. After a first refusal of memory it is made of the query that came back.
