@@ -1,4 +1,4 @@
-//! The clause without a term, and with a lower bound that is lower.
+//! The clause without a term or an anchor, and with a lower bound that is lower.
 
 use crate::case::Case;
 use crate::edit::Edit;
@@ -13,6 +13,9 @@ use std::alloc::{AllocError, Global};
 
 /// A condition that is true of each row.
 const TRUE: &str = "1 = 1";
+
+/// A pattern that every match has anywhere.
+const EMPTY: &str = "()";
 
 /// Tries the clause without a term.
 pub(crate) fn term_way(case: &Case<'_>, term: &Term) -> Result<Tried, AllocError> {
@@ -139,6 +142,24 @@ fn meaning(alloc: Global, written: &str) -> Result<String, AllocError> {
         name.push_str(piece)?;
     }
     Ok(name)
+}
+
+/// Tries the clause with an empty pattern in the place of an anchor.
+pub(crate) fn anchor_way(case: &Case<'_>, anchor: Range) -> Result<Tried, AllocError> {
+    let (start, end) = case.tokens.bytes(anchor);
+    let edit = Edit {
+        start,
+        end,
+        text: EMPTY,
+    };
+    match case.answer(&[edit])? {
+        Sought::NotFound => Ok(Tried::Nothing),
+        Sought::GivenUp => Ok(Tried::GivenUp),
+        Sought::Found(found) => {
+            let written = case.tokens.written(case.alloc, anchor)?;
+            Ok(Tried::Way(way(Demand::Anchor(written), &found)))
+        }
+    }
 }
 
 /// Tries the clause with a quantifier's lower bound lower, and finds the greatest by which there is a match.

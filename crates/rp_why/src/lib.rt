@@ -4,10 +4,10 @@
 //!       found T{3,} (T in rows 1 to 3) and no BIG after it: 1 of 2 parts
 //!       without `t - FIRST(T.t) <= 1800` of BIG it matches, rows 1 to 4; at row 4 that is 1801 <= 1800
 //!
-//! A demand is a term of an AND in DEFINE (one that several variables demand is one), a lower bound of a quantifier, or that no
-//! row is between those of a match. Each is tried by the clause without it, compiled and searched as any other: so each line says what
-//! that clause finds among the same rows, and nothing is guessed. How far the searches come is counted in parts of the pattern, each
-//! front of which is searched as a pattern of its own.
+//! A demand is a term of an AND in DEFINE (one that several variables demand is one), a lower bound of a quantifier, an anchor, or
+//! that no row is between those of a match. Each is tried by the clause without it, compiled and searched as any other: so each line
+//! says what that clause finds among the same rows, and nothing is guessed. How far the searches come is counted in parts of the
+//! pattern: the first parts are searched as a pattern of their own.
 //!
 //! `why` gives what is found, `told` says it in lines for people, and `object_line` as JSON.
 #![tactic(auto)]

@@ -162,6 +162,10 @@ fn push_demand(out: &mut String, demand: &Demand) -> Result<(), AllocError> {
             let part = bound.part.as_str();
             write!(out, "  with {instead} in place of {written} of {part}")
         }
+        Demand::Anchor(anchor) => {
+            let anchor = anchor.as_str();
+            write!(out, "  without {anchor} in PATTERN")
+        }
         Demand::RowBetween(row) => write!(out, "  without row {row}"),
     }
 }

@@ -132,6 +132,7 @@ fn write_demand(writer: &mut Writer, demand: &Demand) -> Result<(), AllocError> 
             write_text(writer, "part", bound.part.as_str())?;
             write_text(writer, "quantifier", bound.written.as_str())?;
         }
+        Demand::Anchor(anchor) => write_text(writer, "anchor", anchor.as_str())?,
         Demand::RowBetween(row) => write_count(writer, "row_between", *row)?,
     }
     writer.end_object()

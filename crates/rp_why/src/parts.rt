@@ -1,4 +1,4 @@
-//! The parts of a pattern, and the lower bounds of its quantifiers.
+//! The parts of a pattern, its anchors, and the lower bounds of its quantifiers.
 
 use crate::tokens::{Range, Tokens};
 use rp_lexer::{Keyword, Mark, TokenKind};
@@ -105,6 +105,21 @@ pub(crate) fn bounds_of(alloc: Global, tokens: &Tokens<'_>) -> Result<Vec<LowerB
         }
     }
     Ok(bounds)
+}
+
+/// The anchors of a pattern, each a token.
+pub(crate) fn anchors_of(alloc: Global, tokens: &Tokens<'_>) -> Result<Vec<Range>, AllocError> {
+    let mut anchors = Vec::new(alloc);
+    let pattern = pattern_of(tokens);
+    for at in pattern.from..pattern.to {
+        if tokens.is(at, Mark::Circumflex) || tokens.is(at, Mark::DollarSign) {
+            anchors.push(Range {
+                from: at,
+                to: at.saturating_add(1),
+            })?;
+        }
+    }
+    Ok(anchors)
 }
 
 /// The lower bound of the quantifier at a token.

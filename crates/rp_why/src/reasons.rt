@@ -6,8 +6,8 @@ ghost use Rattle.rp_why.specs.Sought.{IsFinding};
 
 use crate::between::row_between;
 use crate::case::Case;
-use crate::demands::{bound_way, term_way};
-use crate::parts::bounds_of;
+use crate::demands::{anchor_way, bound_way, term_way};
+use crate::parts::{anchors_of, bounds_of};
 use crate::reached::{Reached, how_far};
 use crate::seeking::{Match, Sought, Wanted, seek};
 use crate::terms::terms_of;
@@ -125,6 +125,7 @@ fn reasons_of(case: &Case<'_>) -> Result<Reasons, AllocError> {
     };
     add_terms(case, &mut reasons)?;
     reasons.take(row_between(case, from)?)?;
+    add_anchors(case, &mut reasons)?;
     add_bounds(case, &mut reasons)?;
     Ok(reasons)
 }
@@ -134,6 +135,15 @@ fn add_terms(case: &Case<'_>, reasons: &mut Reasons) -> Result<(), AllocError> {
     let terms = terms_of(case.alloc, &case.tokens)?;
     for term in terms.as_slice() {
         reasons.take(term_way(case, term)?)?;
+    }
+    Ok(())
+}
+
+/// Tries the clause without each anchor.
+fn add_anchors(case: &Case<'_>, reasons: &mut Reasons) -> Result<(), AllocError> {
+    let anchors = anchors_of(case.alloc, &case.tokens)?;
+    for anchor in anchors.as_slice() {
+        reasons.take(anchor_way(case, *anchor)?)?;
     }
     Ok(())
 }

@@ -20,6 +20,8 @@ pub enum Demand {
     Term(TermDemand),
     /// A lower bound of a quantifier.
     LowerBound(LowerBoundDemand),
+    /// That a match begins or ends where its partition does: `^` or `$`.
+    Anchor(String),
     /// That the rows of a match follow one another: this one is between them.
     RowBetween(u64),
 }
@@ -59,7 +61,7 @@ pub(crate) enum Tried {
     GivenUp,
 }
 
-/// How telling a demand is: the lower the more. Bounds come before other terms, and these before a row between and quantifiers; of
+/// How telling a demand is: the lower the more. Bounds come before other terms, and these before a row between, anchors and quantifiers; of
 /// terms those come first that fewer rows of the match fail.
 pub(crate) fn rank(way: &Way) -> (u8, u64) {
     match &way.demand {
@@ -71,6 +73,7 @@ pub(crate) fn rank(way: &Way) -> (u8, u64) {
             }
         }
         Demand::RowBetween(_) => (2, 0),
-        Demand::LowerBound(_) => (3, 0),
+        Demand::Anchor(_) => (3, 0),
+        Demand::LowerBound(_) => (4, 0),
     }
 }
