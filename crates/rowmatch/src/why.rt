@@ -13,7 +13,7 @@ use rp_query::Query;
 use rp_value::{Cells, Row};
 use rp_why::{Finding, Wanted, object_line, told, why};
 use serde_json::Value as Json;
-use std::alloc::Global;
+use std::alloc::{AllocError, Global};
 
 /// The most turns of the searches of a clause, where no number is given.
 const MOST_TURNS: u32 = 10_000_000;
@@ -47,15 +47,20 @@ fn key_of(alloc: Global, job: &WhyJob) -> Result<Option<Cells>, ProgramFault> {
     let Some(text) = &job.key else {
         return Ok(None);
     };
-    let no_key = ProgramFault::Usage(
-        "--key is a list of JSON, of whole numbers, texts and null, as '[\"eve\"]'",
-    );
-    let Ok(json) = Json::from_slice(alloc, text.as_str().as_bytes()) else {
-        return Err(no_key);
-    };
-    match cells_of(alloc, &json)? {
+    match cells_in(alloc, text.as_str())? {
         Some(key) => Ok(Some(key)),
-        None => Err(no_key),
+        None => Err(ProgramFault::Usage(
+            "--key is a list of JSON, of whole numbers, texts and null, as '[\"eve\"]'",
+        )),
+    }
+}
+
+/// The cells that a text lists as JSON; None where it is no such list.
+fn cells_in(alloc: Global, text: &str) -> Result<Option<Cells>, AllocError> {
+    match Json::from_slice(alloc, text.as_bytes()) {
+        Ok(json) => cells_of(alloc, &json),
+        Err(error) if error.is_memory() => Err(AllocError),
+        Err(_) => Ok(None),
     }
 }
 
