@@ -50,7 +50,7 @@ fn of_colon(
     };
     Ok(Some(Advice::new(
         alloc,
-        "AS stands between a variable and its condition",
+        "AS comes between a variable and its condition",
         help.as_str(),
     )?))
 }

@@ -75,7 +75,7 @@ fn push_quoted_guess(
         push_write(alloc, help, names, index)?;
     }
     let line = format!(in alloc;
-        "a name stands in double quotes; a text stands in single ones: '{inside}'\n"
+        "a name is written in double quotes; a text is written in single ones: '{inside}'\n"
     )?;
     help.push_str(line.as_str())
 }
@@ -164,12 +164,12 @@ fn meant_variable(
     let name = meant(alloc, written)?;
     if is_column(table, name.as_str()) {
         return format!(in alloc;
-            "{written} is a column: a variable stands before the point, A.{written}\n"
+            "{written} is a column: a variable comes before the point, A.{written}\n"
         );
     }
     if is_column_of_table(alloc, table, reading)? {
         return format!(in alloc;
-            "is {written} a table? a column stands without its table: {}\n",
+            "is {written} a table? a column is written without its table: {}\n",
             reading.next(2)
         );
     }

@@ -95,7 +95,7 @@ fn unexpected(alloc: Global, reading: &Reading<'_>) -> Result<Advice, AllocError
             "write t = seconds(Time), or t seconds where the header has the name t",
         );
     }
-    Advice::new(alloc, "this can't stand here", LIKE)
+    Advice::new(alloc, "this can't come here", LIKE)
 }
 
 /// Explains a word that calls no reading.

@@ -113,7 +113,7 @@ pub(crate) fn of_front(bytes: &[u8]) -> Option<Hint> {
     }
     if bytes.contains(&0) {
         return said(
-            "a byte 0 stands in it, so this is no text in UTF-8",
+            "it has a byte 0, so this is no text in UTF-8",
             "UTF-8 is read: iconv -f UTF-16LE -t UTF-8 FILE | rowmatch ..",
         );
     }

@@ -240,11 +240,7 @@ fn in_pattern(alloc: Global, reading: &Reading<'_>) -> Result<Option<Advice>, Al
     let help = format!(in alloc;
         "for any rows between write {before} ANY*? {after}: ANY has no definition, and takes any row"
     )?;
-    told(
-        alloc,
-        "a point stands for no row in a pattern",
-        help.as_str(),
-    )
+    told(alloc, "a point means no row in a pattern", help.as_str())
 }
 
 /// Whether a number stands at the place, and letters behind it without a gap.

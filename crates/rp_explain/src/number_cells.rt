@@ -137,7 +137,7 @@ fn of_digits(text: &str) -> &'static str {
         return "is the column one of text?";
     }
     if text.bytes().all(|byte| byte.is_ascii_digit() || byte == b'-' || byte == b'+') {
-        return "it has more than 64 bits, or its sign stands in a wrong place";
+        return "it has more than 64 bits, or its sign is in a wrong place";
     }
     if is_decimal(text, '.') || is_decimal(text, ',') {
         return "there are no fractions: let the file have a smaller unit, as cents";
