@@ -97,7 +97,7 @@ pub(crate) fn check_command<'a>(alloc: Global) -> Result<Command<'a>, AllocError
 {
     let command = Command::new(alloc, "check")
         .bin_name("rowmatch check")?
-        .about("Tells what is wrong with a table, a clause or a file")
+        .about("Says what is wrong with a table, a clause or a file")
         .after_help(help::CHECK);
     let about_format = "How what is found is printed: text or json";
     with_input(command, alloc)?

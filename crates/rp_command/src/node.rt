@@ -67,5 +67,5 @@ pub(crate) fn node_command<'a>(alloc: Global) -> Result<Command<'a>, AllocError>
         .arg(number_option(alloc, "connections", "N", about_connections))?
         .arg(number_option(alloc, "idle", "SECONDS", about_idle))?
         .arg(flag(alloc, "acknowledge", about_acknowledge))?
-        .arg(flag(alloc, "verbose", "Tells on standard error what goes on"))
+        .arg(flag(alloc, "verbose", "Reports on standard error what goes on"))
 }

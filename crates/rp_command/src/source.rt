@@ -83,7 +83,7 @@ pub(crate) fn source_command<'a>(alloc: Global) -> Result<Command<'a>, AllocErro
         .arg(flag(
             alloc,
             "verbose",
-            "Tells on standard error what a node refused",
+            "Reports on standard error what a node refused",
         ))?
         .arg(addresses(alloc))
 }

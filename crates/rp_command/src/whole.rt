@@ -109,7 +109,7 @@ pub(crate) fn whole_command<'a>(alloc: Global) -> Result<Command<'a>, AllocError
         .about("Prints the answer of a clause over a file, partition by partition")
         .after_help(help::WHOLE);
     let about_format = "How the answer is printed: lines (of JSON), csv or objects (of JSON)";
-    let about_progress = "Tells every few seconds on standard error how far it is";
+    let about_progress = "Reports every few seconds on standard error how far it is";
     let about_turns = "Ends a partition's answer where a start row takes more turns";
     with_input(command, alloc)?
         .arg(text_option(alloc, "clause", "TEXT", CLAUSE))?

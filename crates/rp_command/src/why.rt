@@ -86,7 +86,7 @@ pub(crate) fn why_command<'a>(alloc: Global) -> Result<Command<'a>, AllocError>
 {
     let command = Command::new(alloc, "why")
         .bin_name("rowmatch why")?
-        .about("Tells why there is no match, partition by partition")
+        .about("Says why there is no match, partition by partition")
         .after_help(help::WHY);
     let about_format = "How what is found is printed: text or json";
     let about_key = "The partition that is asked about: its key, as [\"eve\",1]";
