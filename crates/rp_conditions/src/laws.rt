@@ -1,4 +1,5 @@
-//! Laws over the definitions alone. A call does nothing, and its caller may then use them.
+//! Laws of a query's conditions as tests of a search: over rows that go on, and where they judge a row alone.
+//! A call does nothing, and its caller may then use them.
 ghost use Rattle.rp_conditions.specs.Locality.{LedAreTestedAlone, RowsAreTestedAlone, SpansAreTestedAlone};
 ghost use Rattle.rp_conditions.specs.Outlives.{TestsGoOn};
 

@@ -1,4 +1,5 @@
-//! Laws over the definitions alone. A call does nothing, and its caller may then use them.
+//! Laws of the known answer: that it only grows, leg by leg, and what its output rows have.
+//! A call does nothing, and its caller may then use them.
 ghost use Rattle.rp_known.specs.Earlier.{EarlierBegins, EarlierWalkStays, EarlierLegStays};
 ghost use Rattle.rp_known.specs.Named.{KnownIsNamed};
 ghost use Rattle.rp_known.specs.Typed.{KnownIsTyped};

@@ -1,4 +1,5 @@
-//! Laws over the definitions alone. A call does nothing, and its caller may then use them.
+//! The law of a node's calls: each is an event of the law over schedules.
+//! A call does nothing, and its caller may then use it.
 ghost use Rattle.rp_node.specs.Events.{ClosesAreEvents, PollsAreEvents, RefusedPollsAreEvents, RestartsAreOne, RestartsAreSame, RestartsAreTaken, RowsAreEvents};
 
 /// The law of calls: what the contracts of a node's calls say is what the law over schedules calls an event, of a run of each

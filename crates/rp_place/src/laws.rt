@@ -1,4 +1,4 @@
-//! Laws over the definitions alone.
+//! Laws of drawings: where the marks are, and that no line is added.
 ghost use Rattle.rp_place.specs.Drawn.{HasThreeLines};
 ghost use Rattle.rp_place.specs.Marks.{AreAsWideAsTheirPart, StandUnderTheirPlace};
 

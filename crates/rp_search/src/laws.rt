@@ -1,4 +1,5 @@
-//! Laws over the definitions alone. A call does nothing, and its caller may then use them.
+//! Laws of what is found among words, of searches over what goes on, and of tests that agree.
+//! A call does nothing, and its caller may then use them.
 ghost use Rattle.rp_search.specs.Agreement.{SameIsTested, SameIsTestedFirst, HeadedAgree, SameStatus, SameIsFound, LeaderFindsSame, LeaderHeads};
 ghost use Rattle.rp_search.specs.Bound.{WorkGrows};
 ghost use Rattle.rp_search.specs.FoundLaws.{FoundStays, FoundResumes, ClosedDecides, MatchIsWord, RefusedStays, GoodStays};

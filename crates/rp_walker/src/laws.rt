@@ -1,4 +1,5 @@
-//! Laws over the definitions alone. A call does nothing, and its caller may then use them.
+//! Laws of steps, records and walkers over rows that go on, and of the turns that are left to them.
+//! A call does nothing, and its caller may then use them.
 ghost use Rattle.rp_walker.specs.Bound.{ClosedIsDecided, LookingBackIsDecided, PollsAreSeen, SeenGrows, SeenIsSame, WalkerWorkGrows, WorkIsLinear};
 ghost use Rattle.rp_walker.specs.EarlierFits.{EarlierFits};
 ghost use Rattle.rp_walker.specs.FitLaws.{StepsMean, FitsStay, FirstFits, FitsInRows};

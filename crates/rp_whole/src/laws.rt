@@ -1,4 +1,5 @@
-//! Laws over the definitions alone. A call does nothing, and its caller may then use them.
+//! Laws of whole answers: names head the cells, and limits leave answers whole.
+//! A call does nothing, and its caller may then use them.
 ghost use Rattle.rp_whole.specs.Limits.{HaltedByLimit, WholeUnlessHalted};
 ghost use Rattle.rp_whole.specs.Named.{HeaderNames, HeaderNamesOf, ObjectsName};
 
