@@ -34,8 +34,8 @@ use std::{env, io};
 
 fn main(rt: HostRuntime) -> io::Result<ExitCode> {
     match run(&rt) {
-        Ok(Verdict::Well) => Ok(ExitCode::SUCCESS),
-        Ok(Verdict::Faulty) => Ok(ExitCode::from(1)),
+        Ok(Verdict::Clean) => Ok(ExitCode::SUCCESS),
+        Ok(Verdict::Findings) => Ok(ExitCode::from(1)),
         Ok(Verdict::GivenUp) => Ok(ExitCode::from(3)),
         Err(fault) => Ok(ExitCode::from(told(&rt, fault).status().unwrap_or(0))),
     }
@@ -44,7 +44,7 @@ fn main(rt: HostRuntime) -> io::Result<ExitCode> {
 /// Tells the fault, and gives the one to end with: where help can't be written, that is a device's fault. What standard
 /// error doesn't take is lost.
 fn told(rt: &HostRuntime, fault: ProgramFault) -> ProgramFault {
-    let ProgramFault::Line(error) = &fault else {
+    let ProgramFault::CommandLine(error) = &fault else {
         let _ = eprintln!(rt; "rowmatch: {fault}");
         if let ProgramFault::Refused(_, Some(text)) = &fault {
             let _ = eprintln!(rt; "rowmatch: {text}");
@@ -83,7 +83,7 @@ fn run_job(rt: &HostRuntime, job: &Job) -> Result<Verdict, ProgramFault> {
         Job::Check(job) => return run_check(rt, job),
         Job::Why(job) => return run_why(rt, job),
     }
-    Ok(Verdict::Well)
+    Ok(Verdict::Clean)
 }
 
 fn trace(rt: &HostRuntime, pattern: &str) -> Result<(), ProgramFault> {

@@ -94,8 +94,8 @@ fn tell_early(
     if !halted.is_empty() {
         Ok(Verdict::GivenUp)
     } else if stopped.is_empty() {
-        Ok(Verdict::Well)
+        Ok(Verdict::Clean)
     } else {
-        Ok(Verdict::Faulty)
+        Ok(Verdict::Findings)
     }
 }

@@ -37,7 +37,7 @@ pub fn run_why(rt: &HostRuntime, job: &WhyJob) -> Result<Verdict, ProgramFault> 
     }
     match (verdict, key) {
         (Some(verdict), _) => Ok(verdict),
-        (None, None) => Ok(Verdict::Well),
+        (None, None) => Ok(Verdict::Clean),
         (None, Some(key)) => Err(no_partition(rt.alloc(), &key)?),
     }
 }
@@ -126,8 +126,8 @@ fn wanted(job: &WhyJob, count: u64) -> Wanted {
 /// How a partition's part of the job ended.
 fn verdict_of(finding: &Finding) -> Verdict {
     match finding {
-        Finding::Matched(_) => Verdict::Well,
-        Finding::Unmatched(_) | Finding::NoRow(_) => Verdict::Faulty,
+        Finding::Matched(_) => Verdict::Clean,
+        Finding::Unmatched(_) | Finding::NoRow(_) => Verdict::Findings,
         Finding::GivenUp => Verdict::GivenUp,
     }
 }
@@ -136,7 +136,7 @@ fn verdict_of(finding: &Finding) -> Verdict {
 fn worse(one: Option<Verdict>, other: Verdict) -> Verdict {
     match (one, other) {
         (Some(Verdict::GivenUp), _) | (_, Verdict::GivenUp) => Verdict::GivenUp,
-        (Some(Verdict::Faulty), _) | (_, Verdict::Faulty) => Verdict::Faulty,
-        _ => Verdict::Well,
+        (Some(Verdict::Findings), _) | (_, Verdict::Findings) => Verdict::Findings,
+        _ => Verdict::Clean,
     }
 }
