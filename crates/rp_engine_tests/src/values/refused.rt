@@ -43,16 +43,18 @@ fn entered_again<R: Rows>(
     Ok(totals)
 }
 
+/// The totals of the plan below.
+const PLANNED: [(Of, Function); 4] = [
+    (Of::A, Function::Listed),
+    (Of::Every, Function::Greatest(2)),
+    (Of::B, Function::Listed),
+    (Of::AOrB, Function::Sum(1)),
+];
+
 #[test]
 fn refused_totals(rt: HostRuntime) -> Result<(), Fail> {
     let alloc = rt.alloc();
-    let totals = [
-        (Of::A, Function::Listed),
-        (Of::Every, Function::Greatest(2)),
-        (Of::B, Function::Listed),
-        (Of::AOrB, Function::Sum(1)),
-    ];
-    let plan = plan(alloc, &totals)?;
+    let plan = plan(alloc, &PLANNED)?;
     let cells = [(Some(1), Some("a longer text")); 12];
     let rows = rows_of_cells(alloc, &cells, End::Open)?;
     let labels = [label(0), label(1), label(1), label(0), label(3), label(0)];
