@@ -1,7 +1,7 @@
 //! The keys of partitions.
 ghost use Rattle.std.specs.Prelude.{◌≡◌, ◌<◌, IfOk, IfSome, length, map, not, position, zip};
 ghost use Rattle.rp_value.specs.Rows.{admits, row_fault};
-ghost use Rattle.rp_query.specs.Keys.{key_kinds, key_of as key_is, kind_at, value_at as value_is};
+ghost use Rattle.rp_query.specs.Keys.{key_kinds, key_of as key_is, kind_at, value_at as value_is, values_in as values_are};
 ghost use Rattle.rp_query.specs.QueryView.{data_of};
 
 use crate::Query;
@@ -15,11 +15,7 @@ impl Query {
         ensures { IfOk result (λ key. key ≡ key_is (data_of self.now) row.now) }
     {
         let columns = self.partition();
-        let mut values = Vec::with_capacity(alloc, columns.len())?;
-        for column in columns {
-            values.push(value_at(row, *column)?)?;
-        }
-        Ok(Cells::new(values))
+        values_in(Vec::with_capacity(alloc, columns.len())?, columns, row)
     }
 
     /// Why these are no values of a key: `Width` where they are not as many as PARTITION BY has columns, else `Kind` of the
@@ -40,6 +36,19 @@ fn fault_in(table: &[Column], columns: &[usize], values: &[Value]) -> Option<Row
     }
     let index = first_misplaced(table, columns, values)?;
     Some(RowFault::Kind(index + 1))
+}
+
+/// The values of a row in these columns, each by its number from 1, in the room of an earlier list; null where the row lacks a
+/// column.
+pub fn values_in(room: Vec<Value>, columns: &[usize], row: &Row) -> Result<Cells, AllocError>
+    ensures { IfOk result (λ cells. cells ≡ values_are columns.now row.now) }
+{
+    let mut values = room;
+    values.clear();
+    for column in columns {
+        values.push(value_at(row, *column)?)?;
+    }
+    Ok(Cells::new(values))
 }
 
 /// The value of a row in a column, from 1, null where there is none.

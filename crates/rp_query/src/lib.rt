@@ -19,6 +19,7 @@ mod plan;
 mod query;
 
 pub use item::{Item, SkipFault};
+pub use key::values_in;
 pub use laws::law_keys;
 pub use locality::{Leader, Locality, condition_is_local, goes_from_leader, goes_from_own_row};
 pub use plan::{
