@@ -1,4 +1,4 @@
--- What contracts of public calls cite: the rows of a text, what a fault says, and the packets of rows.
+-- What contracts of public calls cite: the records and the rows of a text, what a fault says, and the packets of rows.
 pub mod Fields
 pub mod Headers
 pub mod CsvRows
@@ -12,6 +12,6 @@ pub mod Gathering
 pub mod Numbered
 pub mod Fitting
 pub mod SameFields
--- The inside of reading a text.
 pub mod Standing
+-- The inside of reading a text.
 pub mod Beginning

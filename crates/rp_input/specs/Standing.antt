@@ -1,4 +1,4 @@
--- Inside: where a reader of csv stands among the records of a text.
+-- Where a reader of csv is among the records of a text.
 use Rattle.std.specs.Prelude.{◌≡◌, ℕ, List, Some}
 use Rattle.std.specs.Borrow.{Bor}
 use Rattle.csv.specs.Reading.{AreRecords, Reached, Ready, source_of, strip_bom}

@@ -9,6 +9,26 @@ use rp_columns::Texts;
 use rp_value::{Column, Kind, Value};
 use std::alloc::{AllocError, Global};
 
+/// Whether a field has a value of a column of this kind: an empty one is null, any other UTF-8, and for whole numbers a sign or
+/// none and digits, within 64 bits.
+pub fn is_value(kind: Kind, field: &[u8]) -> bool
+    ensures { MatchBool result (IsNoField kind field.now → ⊥) (IsNoField kind field.now) }
+{
+    if field.is_empty() {
+        return true;
+    }
+    let Ok(text) = std::str::from_utf8(field) else {
+        return false;
+    };
+    match kind {
+        Kind::Text => true,
+        Kind::Int => match text.parse::<i64>() {
+            Ok(_) => true,
+            Err(_) => false,
+        },
+    }
+}
+
 /// The value of a field of a column of this kind. None where it has none.
 fn field_of(
     alloc: Global,

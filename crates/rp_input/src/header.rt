@@ -28,8 +28,8 @@ pub(crate) fn names_columns(
     Ok(true)
 }
 
-/// Whether a field names a column.
-fn names_column(alloc: Global, column: &Column, field: &[u8]) -> Result<bool, AllocError>
+/// Whether a field of a header names a column: it is the column's name, or has the form of a name whose upper-case form that is.
+pub fn names_column(alloc: Global, column: &Column, field: &[u8]) -> Result<bool, AllocError>
     ensures { IfOk result (λ named. MatchBool named (NamesColumn column.now field.now)
         (NamesColumn column.now field.now → ⊥)) }
 {

@@ -29,10 +29,13 @@ mod taking;
 
 pub use by_columns::rows_by;
 pub use columns_fault::ColumnsCsvFault;
+pub use fields::is_value;
+pub use header::names_column;
 pub use input::{read_rows, read_rows_by};
 pub use laws::{law_fitting, law_fitting_columns, law_same_fields, law_same_rows};
 pub use layout::{CsvLayout, is_delimiter};
 pub use number::number_rows;
 pub use order::{law_orders, order_rows};
 pub use partition::partitions;
+pub use records::{reader_of, take_record};
 pub use rows::{CsvFault, MAX_RECORDS, rows_of};

@@ -2,12 +2,11 @@
 ghost use Rattle.std.specs.Prelude.{◌≡◌, ◌++◌, ◌∷◌, [], None, IfOk, OnOk};
 ghost use Rattle.indexmap.specs.IndexMap.{get};
 ghost use Rattle.rp_query.specs.QueryView.{data_of};
-ghost use Rattle.rp_query.specs.Keys.{value_at as value_is, values_in};
 ghost use Rattle.rp_input.specs.Partitions.{partitions as partitions_are};
 ghost use Rattle.rp_input.specs.Gathering.{parts_added, parts_of, with_row};
 
 use indexmap::IndexMap;
-use rp_query::Query;
+use rp_query::{Query, values_in};
 use rp_value::{Cells, Row, RowList, Value};
 use std::alloc::{AllocError, Global};
 use std::collections::hash_map::RandomState;
@@ -48,7 +47,7 @@ fn gather(
     let mut room = Vec::new(alloc);
     let mut cells = Vec::new(alloc);
     for row in rows {
-        let key = key_of(room, columns, &row)?;
+        let key = values_in(room, columns, &row)?;
         copy_cells(&mut cells, &row)?;
         room = add_row(alloc, &mut parts, key, &mut cells)?;
     }
@@ -133,26 +132,4 @@ fn copy_cells(cells: &mut Vec<Value>, row: &Row) -> Result<(), AllocError>
         cells.push(cell.share()?)?;
     }
     Ok(())
-}
-
-/// The key of a row: its values in these columns, in the room of an earlier key.
-fn key_of(room: Vec<Value>, columns: &[usize], row: &Row) -> Result<Cells, AllocError>
-    ensures { IfOk result (λ key. key ≡ values_in columns.now row.now) }
-{
-    let mut values = room;
-    values.clear();
-    for column in columns {
-        values.push(value_at(*column, row)?)?;
-    }
-    Ok(Cells::new(values))
-}
-
-/// The value of a row in a column, from 1.
-fn value_at(column: usize, row: &Row) -> Result<Value, AllocError>
-    ensures { IfOk result (λ value. value ≡ value_is column row.now) }
-{
-    match row.cell(column) {
-        Some(value) => value.share(),
-        None => Ok(Value::Null),
-    }
 }

@@ -6,8 +6,9 @@ ghost use Rattle.rp_input.specs.Standing.{AreAll, Stands};
 use csv::{ByteRecord, Reader, ReaderBuilder};
 use std::alloc::{AllocError, Global};
 
-/// A reader that stands before the first record of a text with this delimiter.
-pub(crate) fn reader_of<'a>(alloc: Global, text: &'a [u8], delimiter: u8) -> Reader<&'a [u8]>
+/// A reader before the first record of a text with this byte between fields. The header is the first record, and records may have
+/// any number of fields.
+pub fn reader_of<'a>(alloc: Global, text: &'a [u8], delimiter: u8) -> Reader<&'a [u8]>
     ensures { Stands delimiter text.now [] result }
 {
     ReaderBuilder::new()
@@ -18,10 +19,7 @@ pub(crate) fn reader_of<'a>(alloc: Global, text: &'a [u8], delimiter: u8) -> Rea
 }
 
 /// Takes the next record, and says whether there was one.
-pub(crate) fn take_record(
-    reader: &mut Reader<&[u8]>,
-    fields: &mut ByteRecord,
-) -> Result<bool, AllocError>
+pub fn take_record(reader: &mut Reader<&[u8]>, fields: &mut ByteRecord) -> Result<bool, AllocError>
     ensures { IfOk result (λ found. (delimiter : ℕ) (text : List ℕ) (before : List (List (List ℕ)))
         → Stands delimiter text before reader.old
         → MatchBool found (Stands delimiter text (before ++ fields_of fields.new ∷ []) reader.new)
