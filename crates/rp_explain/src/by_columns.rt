@@ -1,7 +1,7 @@
 //! Why a CSV input is no rows of columns that are computed.
 
 use crate::advice::Advice;
-use crate::csv_text::{reader_of, take_record, write_at};
+use crate::csv_text::write_at;
 use crate::field::{Wanted, at_record, noun, record_at, shortened};
 use crate::first_line::{BLANKS, listed_fields};
 use crate::fronts::of_front;
@@ -14,7 +14,7 @@ use crate::report::Report;
 use crate::scan::{field_span, record_start};
 use csv::ByteRecord;
 use rp_columns::{Columns, InputColumn, Reading, ReadingFault};
-use rp_input::{ColumnsCsvFault, CsvLayout};
+use rp_input::{ColumnsCsvFault, CsvLayout, reader_of, take_record};
 use rp_value::upper_case_name;
 use std::alloc::{AllocError, Global};
 

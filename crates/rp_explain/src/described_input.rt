@@ -1,13 +1,12 @@
 //! What is said of rows without a fault: what a clause doesn't see of them as it may be meant.
 
-use crate::csv_text::{reader_of, take_record};
 use crate::field::{is_date, noun, shortened};
 use crate::first_line::is_whole;
 use crate::names::shown;
 use crate::proposed::is_plain_number;
 use crate::report::shown_text;
 use csv::ByteRecord;
-use rp_input::MAX_RECORDS;
+use rp_input::{MAX_RECORDS, reader_of, take_record};
 use rp_query::{Condition, Expr, Query};
 use rp_value::{Column, Comparison, Kind, Row, Table, Value};
 use std::alloc::{AllocError, Global};

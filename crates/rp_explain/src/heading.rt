@@ -1,10 +1,9 @@
 //! Lines above the header of a CSV text.
 
 use crate::advice::Advice;
-use crate::csv_text::{reader_of, take_record};
 use crate::scan::record_start;
 use csv::{ByteRecord, Reader};
-use rp_input::MAX_RECORDS;
+use rp_input::{MAX_RECORDS, reader_of, take_record};
 use rp_place::line_number;
 use std::alloc::{AllocError, Global};
 

@@ -1,11 +1,10 @@
 //! Columns that are proposed as text, since words for null are among their numbers.
 
-use crate::csv_text::{reader_of, take_record};
 use crate::names::shown;
 use crate::null_words::{is_null_word, of_null_word};
 use crate::proposed::{is_null, is_plain_number, meaning};
 use csv::{ByteRecord, Reader};
-use rp_input::{CsvLayout, MAX_RECORDS};
+use rp_input::{CsvLayout, MAX_RECORDS, reader_of, take_record};
 use rp_place::push_help;
 use rp_value::Text;
 use std::alloc::{AllocError, Global};

@@ -1,10 +1,9 @@
 //! Words that other programs write for a null.
 
 use crate::advice::is_one_of;
-use crate::csv_text::{reader_of, take_record};
 use crate::field::{noun, shortened};
 use csv::ByteRecord;
-use rp_input::{CsvLayout, MAX_RECORDS};
+use rp_input::{CsvLayout, MAX_RECORDS, reader_of, take_record};
 use std::alloc::{AllocError, Global};
 
 /// The words.

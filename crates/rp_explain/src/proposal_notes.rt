@@ -1,13 +1,12 @@
 //! What is said of columns that are proposed: which fields have none, and whether something else is between fields.
 
 use crate::by_columns::of_delimiter;
-use crate::csv_text::{reader_of, take_record};
 use crate::mixed::push_mixed;
 use crate::names::shown;
 use crate::proposed::meanings;
 use crate::report::shown_text;
 use csv::{ByteRecord, Reader};
-use rp_input::{CsvLayout, MAX_RECORDS};
+use rp_input::{CsvLayout, MAX_RECORDS, reader_of, take_record};
 use rp_place::push_help;
 use rp_value::Text;
 use std::alloc::{AllocError, Global};
