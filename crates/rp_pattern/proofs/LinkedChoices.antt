@@ -1,11 +1,12 @@
 -- What becomes of choices whose continuations are linked parts.
-use Rattle.std.proofs.Common.{◌≡◌, ℕ, ◌+◌, List, [], ◌∷◌, map, drop, Option, Some, None, Result, Ok, Err, OnOk, false, refl, sym, ap, ◌∙◌, subst, arith}
+use Rattle.std.proofs.Common.{◌≡◌, ℕ, ◌+◌, ◌≤◌, List, [], ◌∷◌, map, drop, Option, Some, None, Result, Ok, Err, OnOk, false, refl, sym, ap, ◌∙◌, subst, arith}
 use Rattle.std.specs.Prelude.{sum_by}
 use Rattle.std.proofs.lemmas.List.Sums.{sum_by-cons}
 use Rattle.std.specs.declared.rc.Rc.{Rc}
 use Rattle.std.specs.declared.alloc.Global.{Global}
 use Rattle.std.specs.declared.alloc.AllocError.{AllocError}
 use Rattle.rp_words.specs.declared.form.Form.{Form}
+use Rattle.rp_words.specs.declared.form.Form.TheVariants.{Variable}
 use Rattle.rp_words.specs.declared.word.End.{End}
 use Rattle.rp_words.specs.declared.word.Label.{Label}
 use Rattle.rp_words.specs.Mapping.{Mapping, Full, Open, preceded}
@@ -22,8 +23,9 @@ use Rattle.rp_pattern.specs.declared.machine.continuation.Choice.{Choice}
 use Rattle.rp_pattern.specs.declared.machine.split.Split.{Split}
 use Rattle.rp_pattern.specs.declared.machine.split.Expansion.{Expansion}
 use Rattle.rp_pattern.specs.declared.machine.split.Expansion.TheVariants.{Full as FullExpansion, Row as RowExpansion, Open as OpenExpansion, Split as SplitExpansion}
-use Rattle.rp_pattern.specs.Continuations.{links_from, reached_parts, links_parts, tail_links, tail_parts, continuation_parts, later_parts, chain_words, pushed}
+use Rattle.rp_pattern.specs.Continuations.{links_from, reached_parts, links_parts, tail_links, tail_parts, continuation_parts, later_parts, form_part, chain_words, pushed, BeginsWithRow}
 use Rattle.rp_pattern.specs.Splits.{StandsFor, Splits, TakenUp as PartsTakenUp}
+use Rattle.rp_pattern.proofs.Steps.{row_taken as takes_row, taken_as}
 use Rattle.rp_pattern.specs.Linked.{chain, tail_chain, linked_rest, linked_ways}
 use Rattle.rp_pattern.specs.Rests.{Way, IsPut, GivesWay, TakenUp, first_later}
 
@@ -116,6 +118,15 @@ module _ (Stays : Type 0) (old new : List Choice) (c : Choice) (n : ℕ) (e : En
       from_first SplitExpansion
       (subst (λ zs. GivesWay n e i (linked_way c) (linked_ways (drop 1 old)) (linked_ways zs)) (sym set)
       (gives_way c (drop 1 old) n e i s.preferred s.other w))
+
+-- a choice that maps a known row first
+pub known_row : (Stays : Type 0) (old new : List Choice) (c : Choice) (n : ℕ) (e : End) (i : ℕ) (l : Label) → old ≡ c ∷ drop 1 old → BeginsWithRow l c.continuation → Stays → i ≤ n →
+    TakenUp Stays n e i (linked_ways old) (linked_ways new) (RowExpansion l)
+known_row Stays old new c n e i l on begins stays known =
+    let none : Split = record { preferred = None; other = None } in
+    row_taken Stays old new c n e i none on l stays
+    (taken_as n e i (λ n' e'. form_part n' e' (Variable l.var) l.excluded ∷ later_parts n' e' c.continuation) (λ n' e'. continuation_parts n' e' c.continuation) (λ n' e'. sym (begins n' e')) none (RowExpansion l)
+    (takes_row n e i l.var l.excluded (λ n' e'. later_parts n' e' c.continuation) known))
 
 none_after : (i : ℕ) (ws : List Mapping) → sum_by (turns_after (chain_turns []) i) ws ≡ 0
 none_after i [] = refl

@@ -5,6 +5,7 @@ use Rattle.std.specs.declared.alloc.Global.{Global}
 use Rattle.rp_words.specs.declared.form.Form.{Form}
 use Rattle.rp_words.specs.declared.form.Form.TheVariants.{Variable}
 use Rattle.rp_words.specs.declared.word.End.{End}
+use Rattle.rp_words.specs.declared.word.Label.{Label}
 use Rattle.rp_pattern.specs.declared.machine.node.Node.{Node}
 use Rattle.rp_pattern.specs.declared.machine.iterations.Iterations.{Iterations}
 use Rattle.rp_pattern.specs.declared.machine.link.Part.{Part}
@@ -101,6 +102,10 @@ later_parts n e Done = []
 later_parts n e (Then node then) = tail_parts n e then
 later_parts n e (Row var next then) = node_part n e next ∷ tail_parts n e then
 later_parts n e (Reached link) = links_parts n e (drop 1 (links_from link.value))
+
+-- it maps a row first, with this label
+abbrev pub BeginsWithRow : Label → Continuation → Type 0
+BeginsWithRow l r = (n : ℕ) (e : End) → continuation_parts n e r ≡ form_part n e (Variable l.var) l.excluded ∷ later_parts n e r
 
 -- the words of parts one after another
 abbrev pub chain_words : List WordsAndTurns → Mappings

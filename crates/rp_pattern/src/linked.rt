@@ -83,9 +83,30 @@ impl Linked {
         push(&mut self.stack, 0, first)
     }
 
-    /// Takes up the preferred choice at its row, over the rows 1 to n and that end.
+    /// Takes up the preferred choice at its row, over the rows 1 to n and that end. Known rows come up most often: such a choice stays as
+    /// it is, and no others are made.
     #[inline(never)]
     pub(crate) fn take_up(&mut self, row: u64, n: u64, end: End) -> Result<Expansion, AllocError>
+        requires { 0 < length self.old.stack }
+        ensures kept { self.new.origin ≡ self.old.origin }
+        ensures taken { IfOk result
+            (TakenUp (self.new ≡ self.old) n end row (linked_ways self.old.stack) (linked_ways self.new.stack)) }
+    {
+        let Some(choice) = self.stack.top() else {
+            unreachable!();
+        };
+        if row > n {
+            return self.take_up_part(row, n, end);
+        }
+        match choice.continuation.label() {
+            None => self.take_up_part(row, n, end),
+            Some(label) => Ok(Expansion::Row(label)),
+        }
+    }
+
+    /// The same, whatever the choice begins with, and whether or not its row is known.
+    #[inline(never)]
+    fn take_up_part(&mut self, row: u64, n: u64, end: End) -> Result<Expansion, AllocError>
         requires { 0 < length self.old.stack }
         ensures kept { self.new.origin ≡ self.old.origin }
         ensures taken { IfOk result

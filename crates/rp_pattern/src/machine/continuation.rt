@@ -1,14 +1,14 @@
 //! What is left of a pattern from a choice on.
-ghost use Rattle.std.specs.Prelude.{◌≡◌, ℕ, ◌∷◌, IfOk, IsTrue, Some};
+ghost use Rattle.std.specs.Prelude.{◌≡◌, ℕ, ◌∷◌, IfOk, IfSome, IsTrue, Some};
 ghost use Rattle.rp_words.specs.declared.word.End.{End};
 ghost use Rattle.rp_words.specs.Bounds.{is_allowed};
-ghost use Rattle.rp_pattern.specs.Continuations.{continuation_parts, later_parts, form_part, tail_parts};
+ghost use Rattle.rp_pattern.specs.Continuations.{BeginsWithRow, continuation_parts, later_parts, form_part, tail_parts};
 ghost use Rattle.rp_pattern.specs.Splits.{Replaces, StandsFor, TakenUp};
 
-use crate::machine::link::{Link, Tail, reach, reach_shared, share, take_reached};
+use crate::machine::link::{Link, Part, Tail, reach, reach_shared, share, take_reached};
 use crate::machine::node::Node;
 use crate::machine::split::{Expansion, Split, take_row};
-use rp_words::{End, Form};
+use rp_words::{End, Form, Label};
 use std::alloc::{AllocError, Global};
 use std::rc::Rc;
 
@@ -33,6 +33,25 @@ pub(crate) struct Choice {
 }
 
 impl Continuation {
+    /// The label of the row that it maps first, where it is seen to begin with one.
+    #[inline(always)]
+    pub(crate) fn label(&self) -> Option<Label>
+        ensures { IfSome result (λ label. BeginsWithRow label self.now) }
+    {
+        match self {
+            Continuation::Done => None,
+            Continuation::Then { node, then: _ } => node.label(),
+            Continuation::Row { var, next, then: _ } => Some(Label {
+                var: *var,
+                excluded: next.excluded,
+            }),
+            Continuation::Reached(link) => match &link.part {
+                Part::Whole(node) => node.label(),
+                _ => None,
+            },
+        }
+    }
+
     /// Taken up at a row, over the rows 1 to n and that end.
     #[inline(always)]
     pub(crate) fn take_up(

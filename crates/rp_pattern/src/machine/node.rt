@@ -7,7 +7,7 @@ use crate::machine::iterations::Iterations;
 use crate::machine::link::{Part, Tail, linked, reach_shared, share};
 use crate::machine::orders::Orders;
 use crate::machine::split::{Expansion, Split, take_row};
-use rp_words::{End, Form, MAX_PARTS};
+use rp_words::{End, Form, Label, MAX_PARTS};
 use std::alloc::{AllocError, Global};
 use std::rc::Rc;
 
@@ -21,7 +21,7 @@ pub(crate) struct Node {
 }
 
 impl Node {
-    ghost use Rattle.std.specs.Prelude.{◌≡◌, ◌≢◌, ℕ, ◌∷◌, ◌<◌, ◌≤◌, ◌++◌, IfOk, OnOk, IsTrue, List, Option, Some, None, map, length};
+    ghost use Rattle.std.specs.Prelude.{◌≡◌, ◌≢◌, ℕ, ◌∷◌, ◌<◌, ◌≤◌, ◌++◌, IfOk, IfSome, OnOk, IsTrue, List, Option, Some, None, map, length};
     ghost use Rattle.std.specs.List.{AllByRecursion};
     ghost use Rattle.std.specs.declared.vec.Vec.{Vec};
     ghost use Rattle.std.specs.declared.rc.Rc.{Rc};
@@ -52,6 +52,20 @@ impl Node {
         ensures { IfOk result (IsNodeOf self.now.form.value self.now.excluded) }
     {
         Node::of(&self.form, self.excluded)
+    }
+
+    /// The label of its row, if it is a variable.
+    #[inline(always)]
+    pub(crate) fn label(&self) -> Option<Label>
+        ensures { IfSome result (λ label. IsNodeOf (Form.Variable label.var) label.excluded self.now) }
+    {
+        match &*self.form {
+            Form::Variable(var) => Some(Label {
+                var: *var,
+                excluded: self.excluded,
+            }),
+            _ => None,
+        }
     }
 
     /// Taken up at a row, before later parts. `form` is its own, as it stands in memory. What comes up most often is taken up
