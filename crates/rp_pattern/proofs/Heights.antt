@@ -4,11 +4,12 @@ use Rattle.std.proofs.lemmas.List.{length-take-le}
 use Rattle.rp_words.specs.declared.word.End.{End}
 use Rattle.rp_words.specs.declared.word.Label.{Label}
 use Rattle.rp_pattern.specs.declared.choices.Choices.{Choices}
+use Rattle.rp_pattern.specs.declared.compiled.TopSplit.{TopSplit}
 use Rattle.rp_pattern.specs.Rests.{Way, way_words, stack_words, stack_left, first_weight, rises, OfFirst, HasDepth}
 use Rattle.rp_words.specs.Mapping.{preceded}
 use Rattle.rp_words.proofs.Algebra.{append_nil}
-use Rattle.rp_pattern.specs.Ways.{kept_of, stack_of, kept_place_words, kept_place_left, IsAtWayPlace}
-use Rattle.rp_pattern.specs.Choices.{start_of, entered, height, above, of_top, before_top, place_words, kept, HasTop, IsAtPlace, cut_to}
+use Rattle.rp_pattern.specs.Ways.{kept_of, stack_of, kept_place_words, kept_place_left, IsAtWayPlace, IsTopSplit}
+use Rattle.rp_pattern.specs.Choices.{start_of, entered, height, above, of_top, before_top, place_words, kept, HasTop, IsAtPlace, IsAtSplitPoint, cut_to}
 use Rattle.rp_pattern.proofs.ChoiceStacks.{Stack, rises_first, has_top, height_is, left_is, below_left_is, remaining_is, below_is}
 use Rattle.rp_pattern.proofs.Costs.{weight_begun, under_is, top_drop, drop_left}
 
@@ -45,10 +46,6 @@ height_begun c h = sym (ap (λ b. cond b (length (stack_of c.ways)) 0) h)
 pub no_height : (c : Choices) → c.begun ≡ false → height c ≡ 0
 unfolding height
 no_height c h = ap (λ b. cond b (length (stack_of c.ways)) 0) h
-
-pub no_row : (c : Choices) → (stack_of c.ways) ≡ [] → c.start ≡ start_of c + length (before_top c)
-unfolding start_of before_top
-no_row c h = omega (arith, ap (λ cs. length (cut_to cs c.labels.items)) h)
 
 pub top_row : (c : Choices) (depth : ℕ) → HasDepth depth (stack_of c.ways) (drop 1 (stack_of c.ways)) → c.start + depth ≡ start_of c + length (before_top c)
 unfolding start_of before_top
@@ -106,3 +103,13 @@ at_place c begun q a =
             ap (λ z. stack_left n e c.start (drop z a.below)) none,
           );
     }
+
+-- the same of a split, with its row and how many choices are below it
+pub at_split : (c : Choices) → c.begun ≡ true → (s : TopSplit) → IsTopSplit (kept_of c.ways) (stack_of c.ways) s →
+    IsAtSplitPoint c (record { place = s.place; row = c.start + s.depth; height = s.height })
+at_split c begun s a = record {
+  at = at_place c begun s.place a.at;
+  row = top_row c s.depth a.depth;
+  top = a.height ∙ height_begun c begun;
+  words = λ n e. top_above c s.height n e (a.height ∙ height_begun c begun);
+}

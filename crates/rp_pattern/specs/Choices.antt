@@ -9,6 +9,7 @@ use Rattle.rp_words.specs.Turns.{turns}
 use Rattle.rp_words.specs.declared.word.End.TheVariants.{Open as OpenEnd}
 use Rattle.rp_words.specs.declared.word.Label.{Label}
 use Rattle.rp_pattern.specs.declared.choices.Choices.{Choices}
+use Rattle.rp_pattern.specs.declared.choices.SplitPoint.{SplitPoint}
 use Rattle.rp_pattern.specs.declared.choices.Taken.{Taken}
 use Rattle.rp_pattern.specs.declared.choices.Taken.TheVariants.{Row, Split, Full as FullTaken, Open as OpenTaken, Nothing}
 use Rattle.rp_words.specs.Mapping.{Mapping, Full, Open, preceded}
@@ -278,3 +279,10 @@ pub record IsAtPlace (c : Choices) (place : ℕ) : Type 0 where
       kept_place_left (kept c) place n e (start_of c + length (before_top c)) + turns_left_below c n e
   pub under : (h n : ℕ) (e : End) → h < height c → turns_under c h n e ≤ turns_left_below c n e
   pub under_top : (h n : ℕ) (e : End) → h + 1 ≡ height c → turns_under c h n e ≡ turns_left_below c n e
+
+-- The preferred choice gives way to two others, or may: it is at this place, goes on at this row, and is alone above so many choices.
+pub record IsAtSplitPoint (c : Choices) (s : SplitPoint) : Type 0 where
+  pub at : IsAtPlace c s.place
+  pub row : s.row ≡ start_of c + length (before_top c)
+  pub top : s.height + 1 ≡ height c
+  pub words : (n : ℕ) (e : End) → above c s.height n e ≡ of_top c n e

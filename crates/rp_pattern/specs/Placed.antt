@@ -1,10 +1,11 @@
 -- Inside: choices at places of a program.
-use Rattle.std.specs.Prelude.{◌≡◌, ℕ, ◌<◌, Bool, true, false, ◌&&◌, List, [], ◌∷◌, map, nat_lt, Option, Some, None}
+use Rattle.std.specs.Prelude.{◌≡◌, ℕ, ◌<◌, Bool, true, false, ◌&&◌, List, [], ◌∷◌, map, length, nat_lt, Option, Some, None}
 use Rattle.rp_words.specs.declared.word.End.{End}
 use Rattle.rp_program.specs.declared.program.Program.{Program}
 use Rattle.rp_program.specs.Programs.{place_count, place_words, place_turns, next_place, option_words, option_turns}
 use Rattle.rp_program.specs.Costs.{place_cost, place_weight}
 use Rattle.rp_pattern.specs.declared.compiled.PlacedChoice.{PlacedChoice}
+use Rattle.rp_pattern.specs.declared.compiled.TopSplit.{TopSplit}
 use Rattle.rp_pattern.specs.Rests.{Rest, Way}
 
 -- each of them is at one of the first k places
@@ -31,10 +32,10 @@ abbrev pub placed : ℕ → Option ℕ → List PlacedChoice → List PlacedChoi
 placed depth None cs = cs
 placed depth (Some q) cs = (record { depth = depth; place = q }) ∷ cs
 
--- The first choice is at this place, which takes a turn.
-pub record IsAtSplit (p : Program) (cs : List PlacedChoice) (q : ℕ) : Type 0 where
-  pub depth : ℕ
+-- The first choice is at this place, behind so many labels and on so many others, and the place takes a turn.
+pub record IsAtSplit (p : Program) (cs : List PlacedChoice) (s : TopSplit) : Type 0 where
   pub below : List PlacedChoice
-  pub on : cs ≡ (record { depth = depth; place = q }) ∷ below
-  pub there : q < place_count p
-  pub turns : (n : ℕ) (e : End) (row : ℕ) → 0 < place_turns p n e q row
+  pub on : cs ≡ (record { depth = s.depth; place = s.place }) ∷ below
+  pub height : length below ≡ s.height
+  pub there : s.place < place_count p
+  pub turns : (n : ℕ) (e : End) (row : ℕ) → 0 < place_turns p n e s.place row

@@ -1,5 +1,5 @@
 -- Inside: a stack of choices, however the pattern is kept: the ways to go on, and the words and turns of the pattern.
-use Rattle.std.specs.Prelude.{◌≡◌, ℕ, zero, suc, ◌+◌, ◌<◌, List, [], ◌∷◌, length, Option}
+use Rattle.std.specs.Prelude.{◌≡◌, ℕ, zero, suc, ◌+◌, ◌<◌, List, [], ◌∷◌, drop, length, Option}
 use Rattle.std.specs.declared.rc.Rc.{Rc}
 use Rattle.std.specs.declared.alloc.Global.{Global}
 use Rattle.rp_words.specs.declared.form.Form.{Form}
@@ -11,9 +11,10 @@ use Rattle.rp_program.specs.declared.program.Program.{Program}
 use Rattle.rp_program.specs.Programs as programs
 use Rattle.rp_program.specs.Costs.{place_cost, place_weight}
 use Rattle.rp_pattern.specs.declared.machine.link.Link.{Link}
+use Rattle.rp_pattern.specs.declared.compiled.TopSplit.{TopSplit}
 use Rattle.rp_pattern.specs.declared.ways.Ways.{Ways}
 use Rattle.rp_pattern.specs.declared.ways.Ways.TheVariants as ways
-use Rattle.rp_pattern.specs.Rests.{Way, left_at}
+use Rattle.rp_pattern.specs.Rests.{Way, HasDepth, left_at}
 use Rattle.rp_pattern.specs.Linked.{tail_chain, linked_ways}
 use Rattle.rp_pattern.specs.Placed.{placed_ways}
 
@@ -95,3 +96,9 @@ pub record IsAtWayPlace (place : ℕ) (k : Kept) (ws : List Way) : Type 0 where
   pub there : place < kept_places k
   pub takes : (n : ℕ) (e : End) (row : ℕ) → left_at (way.rest.left n e) row ≡ kept_place_left k place n e row
   pub weighs : way.rest.weight ≡ kept_weight k place
+
+-- The first way is at the place of a split, behind as many labels and on as many others as it says.
+pub record IsTopSplit (k : Kept) (ws : List Way) (s : TopSplit) : Type 0 where
+  pub at : IsAtWayPlace s.place k ws
+  pub depth : HasDepth s.depth ws (drop 1 ws)
+  pub height : s.height + 1 ≡ length ws

@@ -26,6 +26,17 @@ pub enum Taken {
     Nothing,
 }
 
+/// Where the preferred choice gives way to two others, or may.
+#[derive(Clone, Copy, Debug, PartialEq, Eq)]
+pub struct SplitPoint {
+    /// The place of the pattern that it is at, by its number.
+    pub place: u32,
+    /// The row that it goes on at.
+    pub row: u64,
+    /// How many choices are below it.
+    pub height: usize,
+}
+
 /// The words of a pattern from a start row, listed lazily in preferment order.
 #[derive(Drop)]
 pub struct Choices {
@@ -45,7 +56,7 @@ impl Choices {
     ghost use Rattle.rp_words.specs.Turns.{turns};
     ghost use Rattle.rp_words.specs.PatternForm.{form_of};
     ghost use Rattle.rp_pattern.specs.Ways.{kept_of};
-    ghost use Rattle.rp_pattern.specs.Choices.{start_of, entered, whole, whole_turns, whole_from, whole_turns_from, remaining, turns_left, height, of_top, before_top, above, above_below, below, turns_left_below, after, turns_left_after, HasTop, AtRow, AreFirstOf, AreStrictlyFirstOf, IsSameWhole, IsSamePattern, IsListOf, IsAtPlace, TakenAs, HasBegun};
+    ghost use Rattle.rp_pattern.specs.Choices.{start_of, entered, whole, whole_turns, whole_from, whole_turns_from, remaining, turns_left, height, of_top, before_top, above, above_below, below, turns_left_below, after, turns_left_after, HasTop, AtRow, AreFirstOf, AreStrictlyFirstOf, IsSameWhole, IsSamePattern, IsListOf, IsAtSplitPoint, TakenAs, HasBegun};
     ghost use Rattle.rp_pattern.specs.Choices.{costs, kept, top_weight, BeginsWith, KeepsUnder, Spends};
     ghost use Rattle.rp_pattern.specs.Ways.{IsNumbered, all_weight, whole_cost};
     ghost use Rattle.rp_words.specs.declared.form.Form.{Form};
@@ -144,27 +155,25 @@ impl Choices {
         if self.begun { self.ways.height() } else { 0 }
     }
 
-    /// The row that the preferred choice goes on at.
+    /// Where the preferred choice gives way to two others, if it does, or may; None elsewhere, and for a pattern whose places aren't
+    /// numbered. Choices at one place have the same words from a row, whatever came before and whatever is called, also after
+    /// `restart` at another row. So what fails from there once fails from there always, as far as the tests don't look back.
     #[inline]
-    pub fn row(&self) -> u64
-        ensures { result ≡ start_of self.now + length (before_top self.now) }
-    {
-        match self.ways.depth() {
-            None => self.start,
-            Some(depth) => self.start + depth as u64,
-        }
-    }
-
-    /// The place of the pattern that the preferred choice is at, by its number, if it gives way to two others; None
-    /// elsewhere, and for a pattern whose places aren't numbered. Choices at one place have the same words from a row,
-    /// whatever came before and whatever is called, also after `restart` at another row. So what fails from there once
-    /// fails from there always, as far as the tests don't look back.
-    #[inline]
-    pub fn place(&self) -> Option<u32>
-        ensures at { IfSome result (IsAtPlace self.now) }
+    pub fn split_point(&self) -> Option<SplitPoint>
+        ensures at { IfSome result (IsAtSplitPoint self.now) }
         ensures none { IsNumbered (kept self.now) → result ≡ None → top_weight self.now ≡ 0 }
     {
-        if self.begun { self.ways.place() } else { None }
+        if !self.begun {
+            return None;
+        }
+        match self.ways.top_split() {
+            None => None,
+            Some(split) => Some(SplitPoint {
+                place: split.place,
+                row: self.start + split.depth as u64,
+                height: split.height,
+            }),
+        }
     }
 
     /// Takes up the preferred choice, over the rows 1 to n and that end. Where memory is refused, nothing is said of the

@@ -19,6 +19,16 @@ pub(crate) struct PlacedChoice {
     pub place: u32,
 }
 
+/// Where the preferred choice gives way to two others, or may.
+#[derive(Clone, Copy)]
+pub(crate) struct TopSplit {
+    /// So many labels come before it.
+    pub depth: usize,
+    pub place: u32,
+    /// So many choices are below it.
+    pub height: usize,
+}
+
 /// Choices on a stack, and the program that they go through.
 #[derive(Drop)]
 pub(crate) struct Compiled {
@@ -91,9 +101,9 @@ impl Compiled {
         }
     }
 
-    /// The place of the preferred choice, if it gives way to two others, or may.
+    /// Where the preferred choice gives way to two others, if it does, or may.
     #[inline(always)]
-    pub(crate) fn split_place(&self) -> Option<u32>
+    pub(crate) fn top_split(&self) -> Option<TopSplit>
         ensures at { IfSome result (IsAtSplit self.now.program.value self.now.stack) }
         ensures none { result ≡ None → first_weight (placed_ways self.now.program.value self.now.stack) ≡ 0 }
     {
@@ -101,7 +111,11 @@ impl Compiled {
             return None;
         };
         match self.program.instruction(choice.place) {
-            Instruction::Split { .. } | Instruction::RowSplit { .. } => Some(choice.place),
+            Instruction::Split { .. } | Instruction::RowSplit { .. } => Some(TopSplit {
+                depth: choice.depth,
+                place: choice.place,
+                height: self.stack.height() - 1,
+            }),
             _ => None,
         }
     }

@@ -23,7 +23,7 @@ mod prepared;
 mod stack;
 mod ways;
 
-pub use choices::{Choices, Taken};
+pub use choices::{Choices, SplitPoint, Taken};
 pub use list::{ListFault, list_words};
 pub use outlook::{Outlook, Sight};
 pub use prepared::Prepared;

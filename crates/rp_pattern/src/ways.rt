@@ -1,7 +1,7 @@
 //! A stack of choices, by how the pattern is kept: as a program, or as linked parts where its program would be too large.
 ghost use Rattle.std.specs.Prelude.{◌≡◌};
 
-use crate::compiled::Compiled;
+use crate::compiled::{Compiled, TopSplit};
 use crate::linked::Linked;
 use crate::machine::split::Expansion;
 use rp_program::Program;
@@ -26,7 +26,7 @@ impl Ways {
     ghost use Rattle.rp_words.specs.PatternForm.{form_of};
     ghost use Rattle.rp_words.specs.declared.form.Form.{Form};
     ghost use Rattle.rp_pattern.specs.Rests.{HasDepth, IsPut, SpendsWays, TakenUp, first_later, first_weight, stack_cost};
-    ghost use Rattle.rp_pattern.specs.Ways.{IsAtWayPlace, IsNumbered, Keeps, kept_of, origin, stack_of, whole_cost};
+    ghost use Rattle.rp_pattern.specs.Ways.{IsAtWayPlace, IsNumbered, IsTopSplit, Keeps, kept_of, origin, stack_of, whole_cost};
 
     /// No choices, for this pattern.
     pub(crate) fn new(alloc: Global, pattern: &Pattern) -> Result<Ways, AllocError>
@@ -85,15 +85,27 @@ impl Ways {
         }
     }
 
+    /// Where the preferred choice gives way to two others, if it does, or may, and its place is numbered.
+    #[inline(always)]
+    pub(crate) fn top_split(&self) -> Option<TopSplit>
+        ensures at { IfSome result (IsTopSplit (kept_of self.now) (stack_of self.now)) }
+        ensures none { IsNumbered (kept_of self.now) → result ≡ None → first_weight (stack_of self.now) ≡ 0 }
+    {
+        match self {
+            Ways::Linked(_) => None,
+            Ways::Compiled(compiled) => compiled.top_split(),
+        }
+    }
+
     /// The place of the preferred choice, if it has one and gives way to two others.
     #[inline(always)]
     pub(crate) fn place(&self) -> Option<u32>
         ensures at { IfSome result (λ place. IsAtWayPlace place (kept_of self.now) (stack_of self.now)) }
         ensures none { IsNumbered (kept_of self.now) → result ≡ None → first_weight (stack_of self.now) ≡ 0 }
     {
-        match self {
-            Ways::Linked(_) => None,
-            Ways::Compiled(compiled) => compiled.split_place(),
+        match self.top_split() {
+            None => None,
+            Some(split) => Some(split.place),
         }
     }
 

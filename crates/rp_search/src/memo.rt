@@ -88,12 +88,12 @@ pub(crate) fn mark_of<T: Tests>(remembers: bool, choices: &Choices, tests: &T) -
     if !tests.is_lasting() {
         return None;
     }
-    match choices.place() {
+    match choices.split_point() {
         None => None,
-        Some(place) => Some(Mark {
-            height: choices.height() - 1,
-            place,
-            row: choices.row(),
+        Some(split) => Some(Mark {
+            height: split.height,
+            place: split.place,
+            row: split.row,
             until: u64::MAX,
         }),
     }
