@@ -349,6 +349,14 @@ module _ (old new : Choices) (asked : Asked) (same : IsSameWhole old new) (split
       go (Ok u) e f = subst (λ ms. AreMarksUnder (suc (height new)) new asked (Above old) ms) (sym e) (set_on mark memo.marks m r.marks)
       go (Err u) e f = subst (λ ms. AreMarksUnder (suc (height new)) new asked (Above old) ms) (sym f) (set_on None memo.marks tt r.marks)
 
+-- no mark is set, so none is left behind
+pub none_marked : (c : Choices) (asked : Asked) (memo : Memo) (until : ℕ) → length memo.marks ≡ 0 → RemembersUpTo until memo c asked → Remembers memo c asked
+none_marked c asked memo until none r = record { marks = go memo.marks none; failures = r.failures }
+  where
+    go : (marks : List Mark) → length marks ≡ 0 → AreMarksUnder (height c) c asked (Above c) marks
+    go [] none = tt
+    go (mark ∷ marks) none = absurd cc
+
 -- ---- a choice whose place has failed
 
 -- the words of the preferred choice are dead

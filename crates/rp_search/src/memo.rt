@@ -180,9 +180,25 @@ impl Memo {
     }
 
     /// What was given up fails from each start row below that one. Takes the marks away above which no choice is left, and
-    /// remembers that they failed.
-    #[inline]
+    /// remembers that they failed. Most turns find no mark.
+    #[inline(always)]
     pub(crate) fn note_failures<T: Tests>(&mut self, until: u64, choices: &Choices, tests: &T)
+        requires { RemembersUpTo until self.old choices.now (T.asked (T.subject tests.now)) }
+        ensures remembers { Remembers self.new choices.now (T.asked (T.subject tests.now)) }
+        ensures less { TakeLess choices.now (T.asked (T.subject tests.now)) self.old.marks →
+            TakeLess choices.now (T.asked (T.subject tests.now)) self.new.marks }
+        ensures notes { NotesAll (kept choices.now) (start_of choices.now) self.old self.new }
+        ensures lasts { start_of choices.now < most_u64 → NoneOrEver self.old.marks until → LastsAll self.old → LastsAll self.new }
+    {
+        if self.marks.height() == 0 {
+            return;
+        }
+        self.note_marks(until, choices, tests);
+    }
+
+    /// The same, where there are marks.
+    #[inline(never)]
+    fn note_marks<T: Tests>(&mut self, until: u64, choices: &Choices, tests: &T)
         requires { RemembersUpTo until self.old choices.now (T.asked (T.subject tests.now)) }
         ensures remembers { Remembers self.new choices.now (T.asked (T.subject tests.now)) }
         ensures less { TakeLess choices.now (T.asked (T.subject tests.now)) self.old.marks →

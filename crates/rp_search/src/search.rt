@@ -311,10 +311,7 @@ impl Search {
         if self.outlook.is_none() {
             return self.take_up(remembers, tests);
         }
-        match self.outlook.take() {
-            None => self.take_up(remembers, tests),
-            Some(outlook) => self.explore(outlook, remembers, tests),
-        }
+        self.go_further(remembers, tests)
     }
 
     /// Takes up the preferred choice.

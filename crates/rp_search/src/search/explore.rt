@@ -18,10 +18,43 @@ impl Search {
     ghost use Rattle.rp_search.specs.Turned.{Covers, EntersAtMost, IsWithinRun, Turned, exploring};
     ghost use Rattle.rp_search.specs.Work.{LastsAll, NoneIsOpen, Spent, added_by, counted};
 
+    /// Takes up what would follow a row whose test is open, if one is, and else the preferred choice.
+    #[inline(never)]
+    pub(super) fn go_further<T: Tests>(
+        &mut self,
+        remembers: bool,
+        tests: &mut T,
+    ) -> Result<Outcome, AllocError>
+        requires covers { Covers (T.asked (T.subject tests.old)) self.old }
+        requires searches { IsWithinRun self.old (T.asked (T.subject tests.old)) }
+        requires memo { MemoStands self.old (T.asked (T.subject tests.old)) }
+        requires entered { T.entered tests.old (start_of_search self.old) (labels_of_search self.old) }
+        requires marks { MarksStand self.old (T.asked (T.subject tests.old)) }
+
+        ensures same { IsSameSearch self.old self.new }
+        ensures subject { T.subject tests.new ≡ T.subject tests.old }
+        ensures entries { EntersAtMost 1 (T.entries tests.old) (T.entries tests.new) }
+        ensures entered { OnOk result (T.entered tests.new (start_of_search self.new) (labels_of_search self.new)) }
+        ensures searches { OnOk result (IsWithinRun self.new (T.asked (T.subject tests.old))) }
+        ensures memo { OnOk result (MemoStands self.new (T.asked (T.subject tests.old))) }
+        ensures turned { IfOk result (Turned 1 self.old self.new
+            (T.asked (T.subject tests.old)) (left_by self.old (T.asked (T.subject tests.old)))) }
+        ensures marks { OnOk result (MarksStand self.new (T.asked (T.subject tests.old))) }
+        ensures spent { IfOk result (λ outcome. T.always (T.subject tests.old) → NoneIsOpen (T.asked (T.subject tests.old)) →
+            Spent (counted outcome) (added_by remembers self.old.choices)
+            self.old.choices self.new.choices self.old.memo self.new.memo (T.asked (T.subject tests.old))) }
+        ensures lasts { OnOk result (T.always (T.subject tests.old) → LastsAll self.old.memo → LastsAll self.new.memo) }
+        ensures held { IfOk result (λ outcome. outcome ≡ Outcome.NoMatch → self.new.memo.marks ≡ []) }
+    {
+        match self.outlook.take() {
+            None => self.take_up(remembers, tests),
+            Some(outlook) => self.explore(outlook, remembers, tests),
+        }
+    }
+
     /// Takes up what would follow a row whose test is open. There each row is taken without a test. Where nothing would
     /// follow it, the choice that maps it is given up, and the next one is taken up.
-    #[inline(never)]
-    pub(super) fn explore<T: Tests>(
+    fn explore<T: Tests>(
         &mut self,
         mut outlook: Outlook,
         remembers: bool,

@@ -1,16 +1,8 @@
-use Rattle.rp_pattern.specs.Choices.{kept, start_of}
-use Rattle.rp_search.proofs.Fresh.{fresh_same}
-use Rattle.rp_search.proofs.Marks.{remembers_lessened}
-use Rattle.rp_search.proofs.Spending.{lessened_less, same_less}
+use Rattle.std.proofs.Common.{◌≡◌, length, rules}
+use Rattle.rp_search.proofs.Marks.{none_marked}
 use Rattle.rp_search.proofs.memo.Memo.note_failures.Goals as goal
 
-pub marks-init : goal.marks-init
-marks-init g c =
-    let old = c.args.self.now in
-    let new = c.lessen.new.self in
-    let is = c.lessen.ensures in (
-      remembers_lessened c.args.until old new c.args.choices.now _ is.marks is.failed c.requires,
-      λ less. same_less c.args.choices.now (g.T.Tests.asked (g.T.Tests.subject c.args.tests.now)) _ new.marks is.marks (lessened_less c.args.choices.now (g.T.Tests.asked (g.T.Tests.subject c.args.tests.now)) c.args.until old.marks less),
-      λ all. (is.keeps all, λ rows. fresh_same (kept c.args.choices.now) old new c.args.until (start_of c.args.choices.now) rows is.marks is.failed),
-      λ few either lasts. is.lasts either lasts,
-    )
+pub returns-then-height-eq0-clause-remembers : goal.returns-then-height-eq0-clause-remembers
+returns-then-height-eq0-clause-remembers g c =
+    let none : length c.args.self.now.marks ≡ 0 = search rules in
+    none_marked c.args.choices.now (g.T.Tests.asked (g.T.Tests.subject c.args.tests.now)) c.args.self.now c.args.until none c.requires

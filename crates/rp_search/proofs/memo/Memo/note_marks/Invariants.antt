@@ -3,7 +3,7 @@ use Rattle.rp_words.specs.Numbers.{most_u64}
 use Rattle.rp_pattern.specs.Choices.{kept, start_of}
 use Rattle.rp_search.specs.Memo.{StillRemembers}
 use Rattle.rp_search.specs.Work.{LastsAll, NoneOrEver, NotesAll, TakeLess}
-use Rattle.rp_search.proofs.memo.Memo.note_failures.Given as goal
+use Rattle.rp_search.proofs.memo.Memo.note_marks.Given as goal
 
 abbrev pub invariant-marks : goal.invariant-marks
 invariant-marks g l =
