@@ -12,3 +12,5 @@ pub mod Rests
 pub mod Linked
 pub mod Placed
 pub mod Ways
+-- Which places an outlook has come to.
+pub mod Visited

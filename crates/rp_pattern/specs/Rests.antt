@@ -1,5 +1,5 @@
 -- Inside: ways to go on, by their words and their turns: what the choices on a stack come to, however a pattern is kept.
-use Rattle.std.specs.Prelude.{◌≡◌, ℕ, ◌+◌, ◌<◌, ◌≤◌, Bool, true, ◌&&◌, List, [], ◌∷◌, ◌++◌, map, length, take, Option, Some, None, nat_le}
+use Rattle.std.specs.Prelude.{◌≡◌, ℕ, ◌+◌, ◌<◌, ◌≤◌, Bool, true, false, ◌&&◌, ◌||◌, List, [], ◌∷◌, ◌++◌, map, length, take, Option, Some, None, nat_le, nat_lt}
 use Rattle.std.specs.List.{AllByRecursion}
 use Rattle.rp_words.specs.declared.word.End.{End}
 use Rattle.rp_words.specs.declared.word.End.TheVariants.{Open as OpenEnd}
@@ -59,6 +59,17 @@ first_weight (w ∷ ws) = w.rest.weight
 abbrev pub stack_count : ℕ → End → ℕ → List Way → ℕ
 stack_count n e start [] = 0
 stack_count n e start (w ∷ ws) = length ((w.rest.left n e).0 (start + w.depth)) + stack_count n e start ws
+
+-- a way has a word, and fewer turns are left for it than so many
+abbrev pub has_fewer : ℕ → ℕ → End → ℕ → Way → Bool
+has_fewer turns n e start w =
+    nat_lt 0 (length ((w.rest.left n e).0 (start + w.depth)))
+    && nat_lt (left_at (w.rest.left n e) (start + w.depth)) turns
+
+-- one of these ways is such a one
+abbrev pub any_has_fewer : ℕ → ℕ → End → ℕ → List Way → Bool
+any_has_fewer turns n e start [] = false
+any_has_fewer turns n e start (w ∷ ws) = has_fewer turns n e start w || any_has_fewer turns n e start ws
 
 -- no way has more labels before it than there are, or than the one above it
 abbrev pub rises : ℕ → List Way → Bool

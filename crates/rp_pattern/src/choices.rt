@@ -296,7 +296,8 @@ impl Choices {
         ensures turns { IfOk result (λ o. (n : ℕ) (e : End) → turns_ahead o n e ≡ turns_left_after self.now n e) }
     {
         let row = self.start + self.labels.len() as u64;
-        Ok(Outlook::at(row, self.ways.ahead(row)?))
+        let ways = self.ways.ahead(row)?;
+        Ok(Outlook::at(self.ways.alloc(), row, ways))
     }
 
     /// Begins again. It takes no memory, and keeps its room.

@@ -32,7 +32,7 @@ pub(crate) struct TopSplit {
 /// Choices on a stack, and the program that they go through.
 #[derive(Drop)]
 pub(crate) struct Compiled {
-    alloc: Global,
+    pub alloc: Global,
     pub program: Rc<Program>,
     /// What the program was made of.
     pub form: Rc<Form>,

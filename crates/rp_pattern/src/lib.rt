@@ -21,6 +21,7 @@ mod machine;
 mod outlook;
 mod prepared;
 mod stack;
+mod visited;
 mod ways;
 
 pub use choices::{Choices, SplitPoint, Taken};

@@ -14,7 +14,7 @@ use std::rc::Rc;
 /// Choices on a stack, and the pattern that they begin with.
 #[derive(Drop)]
 pub(crate) struct Linked {
-    alloc: Global,
+    pub alloc: Global,
     pub origin: Tail,
     pub stack: Stack<Choice>,
 }

@@ -62,6 +62,14 @@ impl Ways {
         }
     }
 
+    /// What it takes memory from.
+    pub(crate) fn alloc(&self) -> Global {
+        match self {
+            Ways::Linked(linked) => linked.alloc,
+            Ways::Compiled(compiled) => compiled.alloc,
+        }
+    }
+
     /// How many choices there are.
     #[inline(always)]
     pub(crate) fn height(&self) -> usize

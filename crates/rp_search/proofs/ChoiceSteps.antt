@@ -1,5 +1,5 @@
 -- How the choices of a search stand to its tests, step by step.
-use Rattle.std.proofs.Common.{map, ◌≡◌, ℕ, ◌+◌, ◌<◌, ◌≤◌, List, [], ◌∷◌, ◌++◌, length, take, refl, sym, ap, ◌∙◌, subst, arith, length-append}
+use Rattle.std.proofs.Common.{map, ◌≡◌, ◌↔◌, ℕ, ◌+◌, ◌<◌, ◌≤◌, List, [], ◌∷◌, ◌++◌, length, take, refl, sym, ap, ◌∙◌, subst, arith, length-append}
 use Rattle.std.specs.List.{AllByRecursion}
 use Rattle.std.proofs.lemmas.List.{length-take}
 use Rattle.rp_words.specs.declared.word.Label.{Label}
@@ -202,9 +202,10 @@ finds_begun c n e test s r seen some = go (after c n e) refl some
         ∙ ap (found test) (r.divides.words n e (now_later n e) ∙ ap (λ xs. map (preceded (entered c)) xs ++ below c n e) follows)
         ∙ begun_waits (entered c) w test (map (preceded (entered c)) ws ++ below c n e) (row_decides c n e test r ∙ seen)
 
-pub no_words : (ws : List Mapping) → length ws ≡ 0 → ws ≡ []
-no_words [] h = refl
-no_words (w ∷ ws) h = absurd (omega (arith, h))
+-- there is a word exactly where a count says so, which is 0
+pub no_words : (count : ℕ) (ws : List Mapping) → (0 < count) ↔ (0 < length ws) → count ≡ 0 → ws ≡ []
+no_words count [] h none = refl
+no_words count (w ∷ ws) h none = absurd (omega (arith, none, h.1 (omega arith)))
 
 -- at its start again
 pub stands_again : (old new : Choices) (n : ℕ) (e : End) (test : Test) → 1 ≤ start_of old → IsSameWhole old new →

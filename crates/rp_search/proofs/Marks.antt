@@ -275,7 +275,7 @@ module _ (old new : Choices) (asked : Asked) (until : ℕ) (s : ChoicesFit old a
 pub explored_passes : (old new : Choices) (outlook : Outlook) (asked : Asked) (until : ℕ) → ChoicesFit old asked.known asked.end (asked.outcome (start_of old)) → Explores old outlook asked.known asked.end (asked.outcome (start_of old)) →
     ((n : ℕ) (e : End) → words_ahead outlook n e ≡ 0) → GivesUp old new → PassesNothing old new asked
 explored_passes old new outlook asked until s x none g =
-    wordless_passes old new asked until s x.row g (λ n e later. no_words (after old n e) (sym (x.words n e later) ∙ none n e))
+    wordless_passes old new asked until s x.row g (λ n e later. no_words (words_ahead outlook n e) (after old n e) (x.words n e later) (none n e))
 
 -- as the tests tell it
 pub told_passes : (o : Option Form) (old new : Choices) (asked : Asked) (until : ℕ) → AreOfPattern o old → ChoicesFit old asked.known asked.end (asked.outcome (start_of old)) → StandsAtRow old asked.known asked.end (asked.outcome (start_of old)) → GivesUp old new →

@@ -91,12 +91,12 @@ left_settled old new outlook p q n e test some none decided h =
 
 -- a word would follow a row
 pub explored_word : (c : Choices) (outlook : Outlook) (n : ℕ) (e : End) (test : Test) → ChoicesFit c n e test → Explores c outlook n e test → test (entered c) ≡ OpenTest → 0 < words_ahead outlook n e → found test (whole c n e) ≡ Waits
-explored_word c outlook n e test s x seen some = finds_begun c n e test s x.row seen (omega (arith, some, x.words n e (now_later n e)))
+explored_word c outlook n e test s x seen some = finds_begun c n e test s x.row seen ((x.words n e (now_later n e)).0 some)
 
 -- nothing would follow it
 pub explored_nothing : (c d : Choices) (outlook : Outlook) (n : ℕ) (e : End) (test : Test) → ChoicesFit c n e test → Explores c outlook n e test → ((n' : ℕ) (e' : End) → words_ahead outlook n' e' ≡ 0) → IsSameWhole c d → GivesUp c d → Goes c d n e test
 explored_nothing c d outlook n e test s x none keeps g =
-    goes_wordless c d n e test s x.row (λ n' e' h. no_words (after c n' e') (sym (x.words n' e' h) ∙ none n' e')) keeps g
+    goes_wordless c d n e test s x.row (λ n' e' h. no_words (words_ahead outlook n' e') (after c n' e') (x.words n' e' h) (none n' e')) keeps g
 
 -- ---- a label that is not tested
 
@@ -213,7 +213,7 @@ searches_exploring s outlook asked some stands row below words turns seen =
       fits = record {
         stands = stands;
         labels = subst (λ l. AreAdmitted l s.choices asked.known asked.end (asked.outcome (start_of s.choices))) (sym some)
-            (record { row = row; words = λ n' e' h. words n' e'; turns = λ n' e' h. omega (arith, turns n' e') });
+            (record { row = row; words = λ n' e' h. (λ k. omega (arith, words n' e', k), λ k. omega (arith, words n' e', k)); turns = λ n' e' h. omega (arith, turns n' e') });
         below = below;
       };
       is_open = subst (λ l. IsOpenAt l s.choices (asked.outcome (start_of s.choices))) (sym some) seen;

@@ -1,6 +1,6 @@
 -- Inside: how the choices and the outlook of a search stand to what is asked, and how many turns are left. A caller
 -- needs no more of it than the names `SearchFits` and `left_by`.
-use Rattle.std.specs.Prelude.{◌≡◌, ℕ, ◌+◌, ◌≤◌, List, [], ◌∷◌, ◌++◌, length, Option, Some, None}
+use Rattle.std.specs.Prelude.{◌≡◌, ◌↔◌, ℕ, ◌+◌, ◌<◌, ◌≤◌, List, [], ◌∷◌, ◌++◌, length, Option, Some, None}
 use Rattle.rp_words.specs.declared.word.Label.{Label}
 use Rattle.rp_words.specs.declared.word.End.{End}
 use Rattle.rp_words.specs.declared.word.Seen.{Seen}
@@ -49,11 +49,10 @@ pub record StandsAtRow (c : Choices) (n : ℕ) (e : End) (test : Test) : Type 0 
 abbrev pub StandsAtRowBy : Choices → Asked → Type 0
 StandsAtRowBy c asked = StandsAtRow c asked.known asked.end (test_from c asked)
 
--- The preferred choice maps a row, and an outlook has as many words as would follow it, with no more turns left for
--- them.
+-- The preferred choice maps a row, and an outlook has a word exactly where one would follow it, with no more turns left.
 pub record Explores (c : Choices) (outlook : Outlook) (n : ℕ) (e : End) (test : Test) : Type 0 where
   pub row : StandsAtRow c n e test
-  pub words : AtEachLater n e (λ n' e'. words_ahead outlook n' e' ≡ length (after c n' e'))
+  pub words : AtEachLater n e (λ n' e'. (0 < words_ahead outlook n' e') ↔ (0 < length (after c n' e')))
   pub turns : AtEachLater n e (λ n' e'. turns_ahead outlook n' e' ≤ turns_left_after c n' e')
 
 -- without an outlook the labels are tested true; with one it explores what would follow the last label's row (`Explores`), and all
@@ -84,7 +83,7 @@ MarksStand s asked = TakeLess s.choices asked s.memo.marks
 
 -- A search stands by what is asked: the words that it has passed over are refused, its choices stand for all others, and
 -- its labels are tested true and of variables that are tested. Where it has an outlook, all labels but the last are tested
--- true, and the outlook has as many words as would follow the last one's row, with no more turns left for them.
+-- true, and the outlook has a word exactly where one would follow the last one's row, with no more turns left.
 pub record SearchStands (s : Search) (asked : Asked) : Type 0 where
   pub stands : ChoicesStand s asked
   pub labels : LabelsStand s asked

@@ -10,12 +10,12 @@ pub ahead-requires : goal.ahead-requires
 ahead-requires c = row_some c.args.self.now c.requires
 
 pub at-requires : goal.at-requires
-at-requires c = put_rises _ _ 0 [] (stack_of c.in_ok-ahead.field-0) c.in_ok-ahead.ensures refl
+at-requires c = put_rises _ _ 0 [] (stack_of c.in_ok-ways.ways) c.in_ok-ways.ensures refl
 
 pub returns-clause-words : goal.returns-clause-words
 returns-clause-words c = λ n e.
     let old = c.args.self.now in
-    let put = c.in_ok-ahead.ensures in
+    let put = c.in_ok-ways.ensures in
     let long : c.len.result ≡ length old.labels.items = omega (arith, c.len.ensures, old.labels.ok.0) in
     words_at c.at.result put.rest n e (ap stack_of c.at.ensures.ways ∙ put.is)
     ∙ ap (λ i. length (option_words n e put.rest i)) c.at.ensures.start
@@ -24,7 +24,7 @@ returns-clause-words c = λ n e.
 pub returns-clause-turns : goal.returns-clause-turns
 returns-clause-turns c = λ n e.
     let old = c.args.self.now in
-    let put = c.in_ok-ahead.ensures in
+    let put = c.in_ok-ways.ensures in
     let long : c.len.result ≡ length old.labels.items = omega (arith, c.len.ensures, old.labels.ok.0) in
     turns_at c.at.result put.rest n e (ap stack_of c.at.ensures.ways ∙ put.is)
     ∙ ap (λ i. option_turns n e put.rest i + length (option_words n e put.rest i)) c.at.ensures.start

@@ -1,113 +1,53 @@
-use Rattle.std.proofs.Common.{◌≡◌, ◌∷◌, ◌+◌, ◌-◌, ◌^◌, [], refl, subst, sym, ap, ◌∙◌, IsTrue, arith, drop}
-use Rattle.rp_words.specs.Mapping as mapping
-use Rattle.rp_pattern.specs.declared.machine.split.Expansion.TheVariants.{Full, Row, Open, Split}
-use Rattle.rp_pattern.specs.Rests.{Way, IsPut, rises, first_later}
-use Rattle.rp_pattern.specs.Ways.{stack_of}
-use Rattle.rp_pattern.proofs.ChoiceStacks.{rises_more}
-use Rattle.rp_pattern.proofs.Rising.{rises_taken, rises_put, taken_first}
-use Rattle.rp_pattern.proofs.Outlooks.{preferred_within, word_ahead, nothing_ahead, all_within, further_split, further_row, same_outlook}
+use Rattle.std.proofs.Common.{◌≡◌, ◌+◌, inl, refl, subst, sym, ◌∙◌, IsTrue, drop}
+use Rattle.rp_pattern.specs.declared.outlook.Outlook.{Outlook}
+use Rattle.rp_pattern.specs.Rests.{Way, rises}
+use Rattle.rp_pattern.specs.Ways.{kept_of, stack_of}
+use Rattle.rp_pattern.proofs.Outlooks.{preferred_within, nothing_ahead, all_within, further_drop, seen_ok, alike}
+use Rattle.rp_pattern.proofs.Serving.{KeepsServing, drop_keeps, served_later, still_served, visited_served, visited_takes}
 use Rattle.rp_pattern.proofs.outlook.Outlook.take_up.Goals as goal
 
 pub returns-in_default : goal.returns-in_default
 returns-in_default c = (refl, nothing_ahead c.args.self.now c.in_default.ensures)
-
-pub overflow_add-row : goal.overflow_add-row
-overflow_add-row c =
-    let old = c.args.self.now in
-    let h = c.in-Some.ensures in
-    omega (arith, (preferred_within old (record { depth = c.in-Some.depth; rest = h.rest }) (drop 1 (stack_of old.ways)) h.is).0)
 
 pub invariant_of-self : goal.invariant_of-self
 invariant_of-self c =
     let a = c.args in
     let old = a.self.now in
     let h = c.in-Some.ensures in
-    let t : Way = record { depth = c.in-Some.depth; rest = h.rest } in
-    let w = preferred_within old t (drop 1 (stack_of old.ways)) h.is in
+    let d = c.in-Some.depth in
+    let t : Way = record { depth = d; rest = h.rest } in
+    let ws = stack_of old.ways in
+    let k = kept_of old.ways in
+    let mid = c.go_on.new.self in
+    let new = c.drop_top.new.self in
+    let dropped : stack_of new ≡ drop 1 ws = c.drop_top.ensures.dropped in
+    let w = preferred_within old t (drop 1 ws) h.is in
+    let served = served_later old.visited mid k old.start ws a.n a.end c.go_on.ensures.known c.go_on.ensures.end c.go_on.ensures.only old.served in
+    let others = visited_served mid c.place-place.result d ws k old.start a.n a.end c.go_on.ensures.known c.go_on.ensures.end (sym c.has.ensures ∙ c.if-has.true) c.place-place.ensures.at h served in
     record {
       starts = old.starts;
-      within = all_within old.start t.depth (stack_of c.take_up.new.self) w.0
-          (rises_taken old.ways c.take_up.new.self t.depth (2 ^ 64 - 1 - old.start) a.n a.end (old.start + t.depth) c.take_up.result h old.within c.take_up.ensures.taken c.take_up.ensures.refused);
+      within = all_within old.start d (stack_of new) w.0 (subst (λ zs. IsTrue (rises d zs)) (sym dropped) w.1);
+      served = still_served mid mid k (kept_of new) old.start ws (stack_of new) a.n a.end c.go_on.ensures.known c.go_on.ensures.end refl refl c.drop_top.ensures.kept (λ q d at. inl at)
+          (subst (λ zs. KeepsServing a.n a.end old.start ws zs) (sym dropped) (drop_keeps a.n a.end old.start t (drop 1 ws) ws h.is others)) served;
     }
 
-pub returns-in-Full : goal.returns-in-Full
-returns-in-Full c =
+pub returns-then-has : goal.returns-then-has
+returns-then-has c =
     let a = c.args in
     let old = a.self.now in
     let h = c.in-Some.ensures in
-    let t : Way = record { depth = c.in-Some.depth; rest = h.rest } in
-    let cs = drop 1 (stack_of old.ways) in
-    let x = c.in_ok-take_up.field-0 in
-    let new = c.take_up.new.self in
-    let came = taken_first old.ways new t cs a.n a.end (old.start + t.depth) x Full h.is c.in-Full.is c.in_ok-take_up.ensures.taken in
-    (same_outlook old.start new old.ways _ old.starts _ old.within came.0, word_ahead old t cs h.is a.n a.end (mapping.Full []) [] (came.1 a.n a.end))
+    let d = c.in-Some.depth in
+    let t : Way = record { depth = d; rest = h.rest } in
+    let ws = stack_of old.ways in
+    let k = kept_of old.ways in
+    let mid = c.go_on.new.self in
+    let was = sym c.has.ensures ∙ c.if-has.true in
+    let served = served_later old.visited mid k old.start ws a.n a.end c.go_on.ensures.known c.go_on.ensures.end c.go_on.ensures.only old.served in
+    let others = visited_served mid c.place-place.result d ws k old.start a.n a.end c.go_on.ensures.known c.go_on.ensures.end was c.place-place.ensures.at h served in
+    further_drop old _ t (drop 1 ws) a.n a.end h.is refl c.drop_top.ensures.dropped (λ n' e' later. visited_takes mid c.place-place.result d ws k was c.place-place.ensures.at h n' e' (old.start + d)) others
 
-pub returns-in-Open : goal.returns-in-Open
-returns-in-Open c =
-    let a = c.args in
-    let old = a.self.now in
-    let h = c.in-Some.ensures in
-    let t : Way = record { depth = c.in-Some.depth; rest = h.rest } in
-    let cs = drop 1 (stack_of old.ways) in
-    let x = c.in_ok-take_up.field-0 in
-    let new = c.take_up.new.self in
-    let came = taken_first old.ways new t cs a.n a.end (old.start + t.depth) x Open h.is c.in-Open.is c.in_ok-take_up.ensures.taken in
-    (same_outlook old.start new old.ways _ old.starts _ old.within came.0, word_ahead old t cs h.is a.n a.end (mapping.Open []) came.1.more came.1.words)
-
-pub returns-in-Split : goal.returns-in-Split
-returns-in-Split c =
-    let a = c.args in
-    let old = a.self.now in
-    let h = c.in-Some.ensures in
-    let t : Way = record { depth = c.in-Some.depth; rest = h.rest } in
-    let cs = drop 1 (stack_of old.ways) in
-    let x = c.in_ok-take_up.field-0 in
-    let new = c.take_up.new.self in
-    let came = taken_first old.ways new t cs a.n a.end (old.start + t.depth) x Split h.is c.in-Split.is c.in_ok-take_up.ensures.taken in
-    further_split old _ t cs a.n a.end h.is refl came.preferred came.other came.is came.splits
-
-pub returns-in_ok-follow-in-Row : goal.returns-in_ok-follow-in-Row
-returns-in_ok-follow-in-Row c =
-    let a = c.args in
-    let old = a.self.now in
-    let h = c.in-Some.ensures in
-    let t : Way = record { depth = c.in-Some.depth; rest = h.rest } in
-    let cs = drop 1 (stack_of old.ways) in
-    let x = c.in_ok-take_up.field-0 in
-    let new = c.take_up.new.self in
-    let came = taken_first old.ways new t cs a.n a.end (old.start + t.depth) x (Row c.in-Row.field-0) h.is c.in-Row.is c.in_ok-take_up.ensures.taken in
-    let on : stack_of new ≡ t ∷ cs = ap stack_of came.0 ∙ h.is in
-    let put = subst (λ ws. IsPut (first_later ws) (old.start + t.depth + 1) (t.depth + 1) (drop 1 ws) (stack_of c.follow.new.self)) on c.in_ok-follow-in-Row.ensures.put in
-    further_row old _ t cs a.n a.end h.is refl c.in-Row.field-0 put.rest put.is came.1 put.stands
-
-pub invariant_of-self-in-Row : goal.invariant_of-self-in-Row
-invariant_of-self-in-Row c =
-    let a = c.args in
-    let old = a.self.now in
-    let h = c.in-Some.ensures in
-    let t : Way = record { depth = c.in-Some.depth; rest = h.rest } in
-    let cs = drop 1 (stack_of old.ways) in
-    let x = c.in_ok-take_up.field-0 in
-    let new = c.take_up.new.self in
-    let came = taken_first old.ways new t cs a.n a.end (old.start + t.depth) x (Row c.in-Row.field-0) h.is c.in-Row.is c.in_ok-take_up.ensures.taken in
-    let on : stack_of new ≡ t ∷ cs = ap stack_of came.0 ∙ h.is in
-    let w = preferred_within old t cs h.is in
-    let below = subst (λ ws. IsTrue (rises (t.depth + 1) (drop 1 ws))) (sym on) (rises_more t.depth (t.depth + 1) cs (omega arith) w.1) in
-    record {
-      starts = old.starts;
-      within = all_within old.start (t.depth + 1) (stack_of c.follow.new.self) (omega (arith, came.1.known, c.requires))
-          (rises_put (first_later (stack_of new)) (old.start + t.depth + 1) (t.depth + 1) (drop 1 (stack_of new)) (stack_of c.follow.new.self) c.follow.result below c.follow.ensures.put c.follow.ensures.refused);
-    }
-
-pub invariant_of-self-in-Split : goal.invariant_of-self-in-Split
-invariant_of-self-in-Split c =
-    let a = c.args in
-    let old = a.self.now in
-    let h = c.in-Some.ensures in
-    let t : Way = record { depth = c.in-Some.depth; rest = h.rest } in
-    let w = preferred_within old t (drop 1 (stack_of old.ways)) h.is in
-    record {
-      starts = old.starts;
-      within = all_within old.start t.depth (stack_of c.take_up.new.self) w.0
-          (rises_taken old.ways c.take_up.new.self t.depth (2 ^ 64 - 1 - old.start) a.n a.end (old.start + t.depth) c.take_up.result h old.within c.take_up.ensures.taken c.take_up.ensures.refused);
-    }
+pub returns : goal.returns
+returns c =
+    let old = c.args.self.now in
+    let mid : Outlook = record { start = old.start; ways = old.ways; visited = c.go_on.new.self; starts = _; within = _; served = _ } in
+    seen_ok old mid c.expand.new.self c.args.n c.args.end c.expand.result (alike old mid refl refl) c.expand.ensures.some c.expand.ensures.seen

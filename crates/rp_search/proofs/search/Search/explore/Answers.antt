@@ -1,7 +1,7 @@
 use Rattle.std.proofs.Common.{ap, arith, refl, subst, sym}
 use Rattle.rp_pattern.specs.declared.outlook.Sight.TheVariants.{Word, Nothing}
 use Rattle.rp_pattern.specs.Choices.{start_of, entered, height, whole, whole_from}
-use Rattle.rp_pattern.specs.Outlooks.{SeenAs, turns_ahead}
+use Rattle.rp_pattern.specs.Outlooks.{SeenAs}
 use Rattle.rp_search.specs.declared.search.Search.{Search}
 use Rattle.rp_search.specs.Asked.{Asked}
 use Rattle.rp_search.specs.Search.{start_of_search, labels_of_search, words_from}
@@ -26,7 +26,7 @@ returns-in-Word-clause-turned g c =
     let test = asked.outcome (start_of choices) in (
       explored_word choices c.args.outlook _ _ _ fits.stands fits.labels is_open seen.1,
       open_end asked.end (λ h. g.met.T.Tests.decided c.args.tests.now (start_of choices) (entered choices) h is_open),
-      omega (arith, left_exploring choices c.args.outlook asked.known asked.end test is_open, left_exploring choices c.take_up.new.self asked.known asked.end test is_open, ap (λ o. turns_ahead o asked.known asked.end) seen.0),
+      omega (arith, left_exploring choices c.args.outlook asked.known asked.end test is_open, left_exploring choices c.take_up.new.self asked.known asked.end test is_open, seen.0.turns asked.known asked.end),
     )
 
 pub take_up-requires-in-Nothing-clause-searches : goal.take_up-requires-in-Nothing-clause-searches
