@@ -160,3 +160,23 @@ fn turns_behind_an_open_test(rt: HostRuntime) -> Result<(), Fail> {
     assert_eq!(rt; turns(alloc, form, &FIRST_OPEN, &[], 3, End::Open)?, 4);
     Ok(())
 }
+
+/// A, whose test is open, and behind it `(A | B){30} $`, which fails only after 30 rows, at the end of each of 2^30 paths.
+/// Where r rows are left it takes 4 * 2^r - 3 turns, so that the first 1,000 turns, of which nothing is remembered, go
+/// through the last 8 rows at most. Then a row takes 6 turns: the choice of the row before it, the choice of two, and of
+/// each the row and a place that was come to before. So it fails within 1,000 turns, 6 for each of 30 rows, and those of
+/// the way down, 60. As long as rows may come that make a word, it waits.
+#[test]
+fn turns_of_dead_ends_behind_an_open_test(rt: HostRuntime) -> Result<(), Fail> {
+    let alloc = rt.alloc();
+    let either = Form::alternation(alloc, a(), b())?;
+    let rows = Form::quantified(alloc, either, 30, Some(30), false)?;
+    let behind = Form::concatenation(alloc, rows, Form::PartitionEnd)?;
+    let form = Form::concatenation(alloc, a(), behind)?;
+    let grid = Grid::answering(alloc, 0, &FIRST_OPEN, &[])?;
+    let stages = [(20, End::Open), (31, End::Open), (41, End::Open)];
+    let played = play(alloc, form, grid, &stages, 1, 5_000)?;
+    assert_eq!(rt; played.outcomes.as_str(), "waits waits none ");
+    assert!(rt; played.runs < 1_300);
+    Ok(())
+}
