@@ -167,7 +167,7 @@ pub all_cut : (p : Rows) (plan : List Total) (start d : ℕ) (ls : List Label) �
 all_cut p [] start d ls le = refl
 all_cut p (t ∷ plan) start d ls le = let one = kept_cut p t start d ls le in let more = all_cut p plan start d ls le in cc (one, more)
 
-all_uncut : (p : Rows) (plan : List Total) (start d : ℕ) (ls : List Label) → d ≡ length ls → map (cut_back d) (map (kept_of p start ls) plan) ≡ map (kept_of p start ls) plan
+pub all_uncut : (p : Rows) (plan : List Total) (start d : ℕ) (ls : List Label) → d ≡ length ls → map (cut_back d) (map (kept_of p start ls) plan) ≡ map (kept_of p start ls) plan
 all_uncut p [] start d ls is = refl
 all_uncut p (t ∷ plan) start d ls is = let one = kept_uncut p t start d ls is in let more = all_uncut p plan start d ls is in cc (one, more)
 
