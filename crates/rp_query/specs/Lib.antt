@@ -6,6 +6,7 @@ pub mod SkipRules
 pub mod Definitions
 pub mod QueryView
 pub mod Keys
+pub mod Changes
 -- What each query meets.
 pub mod Kinds
 pub mod Allowed

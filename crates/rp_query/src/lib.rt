@@ -7,10 +7,12 @@
 //! What a query is made of is seen as plain data: `specs/QueryView`, `Keys`, `Formulas`, `Scopes`, `Reach`, `SkipRules`
 //! and `Definitions`. What each query meets is `specs/Sound`, in the words of `Kinds` and `Allowed`: columns and totals
 //! that are named are there, kinds agree, offsets are at most 1,000, and no definition sees the whole match. On which rows
-//! of a match its conditions depend is `specs/Locality`, and which of them never look ahead `specs/LooksBack`.
+//! of a match its conditions depend is `specs/Locality`, and which of them never look ahead `specs/LooksBack`. What a row that is
+//! mapped to a variable changes of the plan's totals is `specs/Changes`.
 #![tactic(auto)]
 
 mod ahead;
+mod changes;
 mod item;
 mod key;
 mod laws;
@@ -18,6 +20,7 @@ mod locality;
 mod plan;
 mod query;
 
+pub use changes::{Change, Changes};
 pub use item::{Item, SkipFault};
 pub use key::values_in;
 pub use laws::law_keys;

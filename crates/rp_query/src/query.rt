@@ -2,6 +2,7 @@
 
 ghost use Rattle.std.specs.Prelude.{◌≡◌, ◌↔◌, IfSome, IsTrue, Some};
 ghost use Rattle.rp_query.specs.declared.locality.Leader.{Leader as Leads};
+ghost use Rattle.rp_query.specs.Changes.{AreChangesOf};
 ghost use Rattle.rp_query.specs.Locality.{ConditionsAreLocal, IsLeaderOf};
 ghost use Rattle.rp_query.specs.LooksBack.{ConditionsLookBack};
 ghost use Rattle.rp_query.specs.declared.locality.Locality.TheVariants.{Row};
@@ -9,6 +10,7 @@ ghost use Rattle.rp_query.specs.Sound.{IsSound};
 ghost use Rattle.rp_words.specs.PatternForm.{form_of};
 ghost use Rattle.rp_pattern.specs.Prepared.{Prepares};
 
+use crate::changes::Changes;
 use crate::locality::{Leader, Locality, leader_of};
 use crate::plan::{Condition, Expr, Total, Variables};
 use rp_pattern::Prepared;
@@ -124,11 +126,14 @@ pub struct Query {
     looks_back: bool,
     /// A variable that each match begins with, if one is known.
     lead: Option<Leader>,
+    /// What a row changes of the plan's totals.
+    changes: Rc<Changes>,
     ghost sound: { IsSound parts.value },
     ghost ready: { Prepares (form_of parts.value.pattern) prepared },
     ghost alone: { IsTrue judges_rows ↔ ConditionsAreLocal Row parts.value.plan },
     ghost back: { IsTrue looks_back → ConditionsLookBack parts.value.plan },
     ghost led: { (l : Leads) → lead ≡ Some l → IsLeaderOf (form_of parts.value.pattern) l },
+    ghost changed: { AreChangesOf parts.value.plan.totals.value.items changes.value },
 }
 
 impl Plan {
@@ -149,7 +154,7 @@ impl Plan {
 impl Query {
     ghost use Rattle.std.specs.Prelude.{◌≡◌, IfOk, option_map};
     ghost use Rattle.rp_query.specs.Definitions.{definition_of};
-    ghost use Rattle.rp_query.specs.QueryView.{data_of};
+    ghost use Rattle.rp_query.specs.QueryView.{data_of, totals_in};
 
     /// The query of this data. The error says that no memory was left.
     ///
@@ -163,6 +168,7 @@ impl Query {
         let judges_rows = parts.plan.is_local(Locality::Row);
         let looks_back = parts.plan.looks_back();
         let lead = leader_of(&parts);
+        let changes = Rc::new(alloc, Changes::new(alloc, parts.plan.totals.as_slice())?)?;
         let parts = Rc::new(alloc, parts)?;
         Ok(Query {
             parts,
@@ -170,6 +176,7 @@ impl Query {
             judges_rows,
             looks_back,
             lead,
+            changes,
         })
     }
 
@@ -279,18 +286,27 @@ impl Query {
         &self.parts.plan.totals
     }
 
+    /// What a row of a match changes of these, by the variable that it is mapped to.
+    pub fn changes(&self) -> &Rc<Changes>
+        ensures { AreChangesOf (totals_in (data_of self.now)) result.now.value }
+    {
+        &self.changes
+    }
+
     /// An equal query: a further owner of the same data. The error says that the count of owners is full.
     pub fn share(&self) -> Result<Query, AllocError>
         ensures { IfOk result (λ query. data_of query ≡ data_of self.now) }
     {
         let parts = self.parts.clone()?;
         let prepared = self.prepared.share()?;
+        let changes = self.changes.clone()?;
         Ok(Query {
             parts,
             prepared,
             judges_rows: self.judges_rows,
             looks_back: self.looks_back,
             lead: self.lead,
+            changes,
         })
     }
 }

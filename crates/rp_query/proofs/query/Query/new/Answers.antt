@@ -1,9 +1,10 @@
-use Rattle.std.proofs.Common.{subst, sym}
+use Rattle.std.proofs.Common.{rules, subst, sym}
 use Rattle.std.specs.Prelude.{◌↔◌, IfSome, IsTrue}
 use Rattle.rp_words.specs.PatternForm.{form_of}
 use Rattle.rp_pattern.specs.Prepared.{Prepares}
 use Rattle.rp_query.specs.declared.locality.Locality.TheVariants.{Row}
 use Rattle.rp_query.specs.declared.query.QueryData.{QueryData}
+use Rattle.rp_query.specs.Changes.{AreChangesOf}
 use Rattle.rp_query.specs.Locality.{ConditionsAreLocal, IsLeaderOf}
 use Rattle.rp_query.specs.LooksBack.{ConditionsLookBack}
 use Rattle.rp_query.specs.Sound.{IsSound}
@@ -17,5 +18,6 @@ invariant_of-result c =
       ready = subst (λ (d : QueryData). Prepares (form_of d.pattern) c.in_ok-prepared.prepared) same c.in_ok-prepared.ensures;
       alone = subst (λ (d : QueryData). IsTrue c.is_local-judges_rows.result ↔ ConditionsAreLocal Row d.plan) same c.is_local-judges_rows.ensures;
       back = λ is. subst (λ (d : QueryData). ConditionsLookBack d.plan) same (c.looks_back-looks_back.ensures.0 is);
+      changed = subst (λ (d : QueryData). AreChangesOf d.plan.totals.value.items c.in_ok-changes.changes.value) same (search rules);
       led = λ l is. subst (λ (d : QueryData). IsLeaderOf (form_of d.pattern) l) same (subst (λ o. IfSome o (IsLeaderOf (form_of c.args.parts.pattern))) is c.leader_of-lead.ensures);
     }
