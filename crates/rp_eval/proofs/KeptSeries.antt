@@ -8,6 +8,7 @@ use Rattle.std.proofs.lemmas.Option.{slice_get-map}
 use Rattle.std.proofs.lemmas.Bool.Decides.{nat_tests}
 use Rattle.std.proofs.lemmas.List.Sums.{fold-append}
 use Rattle.rp_words.specs.declared.word.Label.{Label}
+use Rattle.rp_query.specs.Changes.{changed_by, change_of}
 use Rattle.rp_query.specs.declared.plan.Function.{Function}
 use Rattle.rp_query.specs.declared.plan.Function.TheVariants.{Listed, Rows as RowCount, Count, Sum, Least as Min, Greatest as Max}
 use Rattle.rp_query.specs.declared.plan.Total.{Total}
@@ -18,7 +19,7 @@ use Rattle.rp_eval.specs.Partition.{Rows}
 use Rattle.rp_eval.specs.Mapped.{rows_of, listed}
 use Rattle.rp_eval.specs.Aggregated.{aggregate}
 use Rattle.rp_eval.specs.Tallies.{no_tally, with_row, tally_of, tally_value}
-use Rattle.rp_eval.specs.Kept.{Kept, tally_over, tallies_to, tallied, kept_of, tally_at, places_to, cut_back}
+use Rattle.rp_eval.specs.Kept.{Kept, tally_over, tallies_to, tallied, kept_of, tally_at, places_to, cut_back, changed}
 use Rattle.rp_eval.proofs.MappedRows.{one_if, rows_of-last, rows_few, rows_each, listed_each}
 use Rattle.rp_eval.proofs.Below.{none_left, rows_left, rows_ascend, rows_from}
 use Rattle.rp_eval.proofs.Tallied.{IsWithin, tally_within, tally_is}
@@ -281,6 +282,64 @@ entered_place p t start place ls before l k all_places b is lists mapped kept pl
     ∙ sym (ap (λ f. listed f (rows_of t.variables 0 ls)) lists) in
     cc (none, places)
 
+-- what the row of a label changes of a total is what there is to keep of one label more
+pub entered_next : (p : Rows) (start place : ℕ) (ls before : List Label) (l : Label) (t : Total) → ls ≡ before ++ l ∷ [] → place ≡ length ls - 1 →
+    changed p start place (change_of l.var t) (kept_of p start before t) ≡ kept_of p start ls t
+entered_next p start place ls before l t is at = go t.function (includes t.variables l.var) refl refl
+  where
+    k : Kept
+    k = kept_of p start before t
+
+    by : (f : Function) (b : Bool) → t.function ≡ f → includes t.variables l.var ≡ b → changed p start place (change_of l.var t) k ≡ changed p start place (changed_by f b) k
+    by f b e own = ap (λ g. changed p start place (changed_by g (includes t.variables l.var)) k) e ∙ ap (λ z. changed p start place (changed_by f z) k) own
+
+    with_tally : (f : Function) (b : Bool) → t.function ≡ f → includes t.variables l.var ≡ b → ¬ (f ≡ Listed) →
+        record { tallies = k.tallies ++ cond b (with_row p f (tally_at k.tallies place) (start + place)) (tally_at k.tallies place) ∷ []; places = k.places } ≡ kept_of p start ls t
+    with_tally f b e own keeps =
+        entered_tally p t start (start + place) ls before l k (tally_at k.tallies place) (cond b (with_row p f (tally_at k.tallies place) (start + place)) (tally_at k.tallies place)) b is
+        (λ h. keeps (sym e ∙ h)) own refl (ap (tally_at k.tallies) at) (ap (λ z. start + z) at)
+        (ap (λ g. cond b (with_row p g (tally_at k.tallies place) (start + place)) (tally_at k.tallies place)) (sym e))
+
+    go : (f : Function) (b : Bool) → t.function ≡ f → includes t.variables l.var ≡ b → changed p start place (change_of l.var t) k ≡ kept_of p start ls t
+    go Listed true e own = by Listed true e own ∙ entered_place p t start place ls before l k (k.places ++ place ∷ []) true is e own refl at refl
+    go Listed false e own = by Listed false e own ∙ entered_place p t start place ls before l k k.places false is e own refl at (sym (append-nil k.places))
+    go RowCount true e own = by RowCount true e own ∙ with_tally RowCount true e own (λ h. cc)
+    go RowCount false e own = by RowCount false e own ∙ with_tally RowCount false e own (λ h. cc)
+    go (Count c) true e own = by (Count c) true e own ∙ with_tally (Count c) true e own (λ h. cc)
+    go (Count c) false e own = by (Count c) false e own ∙ with_tally (Count c) false e own (λ h. cc)
+    go (Sum c) true e own = by (Sum c) true e own ∙ with_tally (Sum c) true e own (λ h. cc)
+    go (Sum c) false e own = by (Sum c) false e own ∙ with_tally (Sum c) false e own (λ h. cc)
+    go (Min c) true e own = by (Min c) true e own ∙ with_tally (Min c) true e own (λ h. cc)
+    go (Min c) false e own = by (Min c) false e own ∙ with_tally (Min c) false e own (λ h. cc)
+    go (Max c) true e own = by (Max c) true e own ∙ with_tally (Max c) true e own (λ h. cc)
+    go (Max c) false e own = by (Max c) false e own ∙ with_tally (Max c) false e own (λ h. cc)
+
+few : (n d : ℕ) → IsWithin n (tally_at [] d)
+few n d = go (d == 0)
+  where
+    go : (b : Bool) → IsWithin n (cond b no_tally no_tally)
+    go true = record { count = omega arith; sum = omega arith }
+    go false = record { count = omega arith; sum = omega arith }
+
+-- there is room for it
+pub entered_few : (p : Rows) (start place : ℕ) (ls before : List Label) (l : Label) (t : Total) → ls ≡ before ++ l ∷ [] → place ≡ length ls - 1 →
+    IsWithin (length before) (tally_at (kept_of p start before t).tallies place)
+entered_few p start place ls before l t is at = go t.function refl
+  where
+    k : Kept
+    k = kept_of p start before t
+
+    counted : (f : Function) → t.function ≡ f → ¬ (f ≡ Listed) → IsWithin (length before) (tally_at k.tallies place)
+    counted f e keeps = last_few p t start ls before l k (tally_at k.tallies place) is (λ h. keeps (sym e ∙ h)) refl (ap (tally_at k.tallies) at)
+
+    go : (f : Function) → t.function ≡ f → IsWithin (length before) (tally_at k.tallies place)
+    go Listed e = subst (λ g. IsWithin (length before) (tally_at (tallied g (tallies_to p t start before (length before))) place)) (sym e) (few (length before) place)
+    go RowCount e = counted RowCount e (λ h. cc)
+    go (Count c) e = counted (Count c) e (λ h. cc)
+    go (Sum c) e = counted (Sum c) e (λ h. cc)
+    go (Min c) e = counted (Min c) e (λ h. cc)
+    go (Max c) e = counted (Max c) e (λ h. cc)
+
 -- ---- what is listed
 
 listed_ascends : (f : Function) (vs : Variables) (ls : List Label) → IsNonDecreasing (listed f (rows_of vs 0 ls))
@@ -364,6 +423,21 @@ series_of p plan start ls ks number k is some = go (slice_get plan number) refl
     go (Some t) e = record { total = t; there = e; is = series_some p plan start ls ks number t k is e some }
 
 -- ---- a list that is gone through
+
+-- an item of a list that isn't empty
+pub item_of : {A : Type 0} (xs : List A) (n : ℕ) → n < length xs → A
+item_of [] n lt = absurd (omega arith)
+item_of (x ∷ xs) n lt = x
+
+pub same_get : {A : Type 0} (xs : List A) (n : ℕ) (a b : A) → n < length xs → get_or xs n b ≡ get_or xs n a
+same_get [] n a b lt = absurd (omega arith)
+same_get (x ∷ xs) zero a b lt = refl
+same_get (x ∷ xs) (suc n) a b lt = same_get xs n a b (omega arith)
+
+pub get_mapped : {A B : Type 0} (f : A → B) (xs : List A) (n : ℕ) (a : A) (b : B) → n < length xs → get_or (map f xs) n b ≡ f (get_or xs n a)
+get_mapped f [] n a b lt = absurd (omega arith)
+get_mapped f (x ∷ xs) zero a b lt = refl
+get_mapped f (x ∷ xs) (suc n) a b lt = get_mapped f xs n a b (omega arith)
 
 pub mixed_set : {A : Type 0} (f g : A → Kept) (xs : List A) (n m : ℕ) (a : A) (y : Kept) (ks : List Kept) → n < length xs → m ≡ n + 1 → ks ≡ map f (take n xs) ++ map g (drop n xs) → y ≡ f (get_or xs n a) →
     set ks n y ≡ map f (take m xs) ++ map g (drop m xs)

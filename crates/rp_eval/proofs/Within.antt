@@ -3,7 +3,7 @@ use Rattle.std.proofs.Common.{◌≡◌, ℕ, zero, suc, ◌+◌, ◌-◌, ◌�
 use Rattle.std.specs.Prelude.{nat_le}
 use Rattle.std.specs.List.{suffix_len}
 use Rattle.std.proofs.lemmas.Bool.{leb-false, lt-leb}
-use Rattle.std.proofs.lemmas.List.{length-append, length-map, length-take, take-append-le, take_all}
+use Rattle.std.proofs.lemmas.List.{length-map, length-take, take-append-le, take_all}
 use Rattle.std.proofs.lemmas.List.Sums.{suffix_len-take_yes, suffix_len-take_no}
 use Rattle.rp_words.specs.declared.word.Label.{Label}
 use Rattle.rp_query.specs.declared.plan.Total.{Total}

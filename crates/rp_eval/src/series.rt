@@ -6,8 +6,7 @@ ghost use Rattle.rp_eval.specs.Kept.{places_to};
 
 use crate::Rows;
 use crate::tally::Tally;
-use rp_query::{Edge, Function, Total};
-use rp_words::Label;
+use rp_query::{Change, Edge};
 use std::alloc::{AllocError, Global};
 use std::marker::Model;
 
@@ -31,7 +30,7 @@ impl Model for Series {
 impl Series {
     ghost use Rattle.std.specs.Prelude.{ℕ, ◌+◌, ◌-◌, ◌^◌, ◌<◌, List, [], ◌∷◌, ◌++◌, map, OnOk, OnErr};
     ghost use Rattle.std.specs.List.{AllByRecursion};
-    ghost use Rattle.rp_eval.specs.Kept.{kept_of, tally_at, cut_back, NextOf};
+    ghost use Rattle.rp_eval.specs.Kept.{tally_at, cut_back, changed};
 
     /// That of no label.
     pub fn new(alloc: Global) -> Series
@@ -65,32 +64,30 @@ impl Series {
         Some(start + place as u64)
     }
 
-    /// The last of the labels is new.
+    /// One more label is entered that so many are before, by what its row changes.
     pub fn enter<R: Rows>(
         &mut self,
-        total: &Total,
+        change: Change,
         rows: &R,
         start: u64,
-        labels: &[Label],
+        place: usize,
     ) -> Result<(), AllocError>
-        requires from_one { 1 ≤ start }
-        requires on_rows { start + length labels.now ≤ length (R.known rows.now) + 1 }
-        requires new { NextOf self.old (R.known rows.now) start labels.now total.now }
-        ensures entered { OnOk result (self.new ≡ kept_of (R.known rows.now) start labels.now total.now) }
+        requires row { start + place < 2 ^ 64 }
+        requires count { (tally_at self.old.tallies place).count < 2 ^ 64 - 1 }
+        requires sum { (tally_at self.old.tallies place).sum.count < 2 ^ 64 - 1 }
+        ensures entered { OnOk result (self.new ≡ changed (R.known rows.now) start place change self.old) }
         ensures err { OnErr result (self.new ≡ self.old) }
     {
-        let last = labels.len() - 1;
-        let is_mapped = total.variables.includes(labels[last].var);
-        match total.function {
-            Function::Listed if is_mapped => self.list(last),
-            Function::Listed => Ok(()),
-            function => {
-                let old = self.tally(last);
-                if is_mapped {
-                    self.push(old.with_row(function, rows, start + last as u64))
-                } else {
-                    self.push(old)
-                }
+        match change {
+            Change::Nothing => Ok(()),
+            Change::Listed => self.list(place),
+            Change::Same => {
+                let tally = self.tally(place);
+                self.push(tally)
+            }
+            Change::Added(function) => {
+                let tally = self.tally(place);
+                self.push(tally.with_row(function, rows, start + place as u64))
             }
         }
     }
