@@ -6,7 +6,7 @@ use Rattle.std.specs.List.Sorted.{IsNonDecreasing}
 use Rattle.std.proofs.lemmas.Bool.{le-leb, lt-leb}
 use Rattle.std.proofs.lemmas.List.{reverse-append, take-append-le, take-append-drop, take_all, length-append, length-take-le}
 use Rattle.std.proofs.lemmas.List.Sums.{suffix_len_is}
-use Rattle.std.proofs.lemmas.Option.{slice_get-map}
+use Rattle.std.proofs.lemmas.Option.{slice_get-map, slice_get-get_or}
 use Rattle.rp_words.specs.declared.word.Label.{Label}
 use Rattle.rp_query.specs.declared.plan.Edge.{Edge}
 use Rattle.rp_query.specs.declared.plan.Edge.TheVariants.{First, Last}
@@ -14,7 +14,7 @@ use Rattle.rp_query.specs.declared.plan.Variables.{Variables}
 use Rattle.rp_query.specs.Scopes.{includes}
 use Rattle.rp_eval.specs.Mapped.{rows_of, place_in}
 use Rattle.rp_eval.specs.Kept.{places_to}
-use Rattle.rp_eval.proofs.MappedRows.{rows_of-append, rows_each, place_each}
+use Rattle.rp_eval.proofs.MappedRows.{from_last, rows_of-append, rows_each, place_each}
 
 -- ---- those below a depth
 
@@ -49,6 +49,21 @@ split_left : (depth : ℕ) (xs ys : List ℕ) → AllByRecursion (λ x. x < dept
 split_left depth xs ys below beyond =
     sym (left_is depth (length xs) (xs ++ ys) (omega (arith, length-append xs ys)) (λ k from lt. beyond_front (λ y. depth ≤ y) xs ys k beyond from lt) (λ some. within_front (λ x. x < depth) xs ys (length xs - 1) below (omega arith)))
     ∙ take-append-le (length xs) xs ys (omega arith) ∙ take_all (length xs) xs (omega arith)
+
+-- the last of some places
+pub last_place : (xs : List ℕ) → place_in Last 0 xs ≡ slice_get xs (length xs - 1)
+last_place [] = refl
+last_place (x ∷ xs) = let same : length (x ∷ xs) - 1 - 0 ≡ length (x ∷ xs) - 1 = omega arith in from_last (x ∷ xs) 0 (omega arith) ∙ ap (slice_get (x ∷ xs)) same
+
+-- none is left out where the last one is below the depth
+pub all_left : (depth place : ℕ) (xs : List ℕ) → place_in Last 0 xs ≡ Some place → place < depth → places_to depth xs ≡ xs
+all_left depth place xs is lt = sym (left_is depth (length xs) xs (omega arith) (λ k from past. absurd (omega arith)) last) ∙ take_all (length xs) xs (omega arith)
+  where
+    last : 0 < length xs → get_or xs (length xs - 1) 0 < depth
+    last some =
+        let e : Some (get_or xs (length xs - 1) 0) ≡ Some place = sym (slice_get-get_or xs (length xs - 1) 0 (omega arith)) ∙ sym (last_place xs) ∙ is in
+        let same : get_or xs (length xs - 1) 0 ≡ place = cc in
+        omega (arith, same)
 
 -- those of the first labels
 pub rows_left : (vs : Variables) (depth : ℕ) (ls : List Label) → depth ≤ length ls → places_to depth (rows_of vs 0 ls) ≡ rows_of vs 0 (take depth ls)

@@ -1,6 +1,7 @@
 //! What is kept of one total of a plan, by depth of the label list.
-ghost use Rattle.std.specs.Prelude.{◌≡◌, ◌≤◌, length, take};
+ghost use Rattle.std.specs.Prelude.{◌≡◌, ◌≤◌, true, Some, length, take};
 ghost use Rattle.std.specs.List.Sorted.{IsNonDecreasing};
+ghost use Rattle.rp_query.specs.declared.plan.Edge.TheVariants.{Last};
 ghost use Rattle.rp_eval.specs.Mapped.{place_in};
 ghost use Rattle.rp_eval.specs.Kept.{places_to};
 
@@ -50,6 +51,16 @@ impl Series {
             Tally::new()
         } else {
             self.tallies[depth - 1]
+        }
+    }
+
+    /// Whether the last row that is listed lies so far after the start row.
+    pub fn ends_at(&self, distance: u64) -> bool
+        ensures { result ≡ true → place_in Last 0 self.now.places ≡ Some distance }
+    {
+        match self.places.last() {
+            None => false,
+            Some(last) => *last as u64 == distance,
         }
     }
 
