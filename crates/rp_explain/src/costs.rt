@@ -1,7 +1,6 @@
 //! What a search costs that finds nothing, by which rows the conditions look at, and which variables may take any number of rows.
 
-use crate::looks::Looks;
-use crate::precedes::has;
+use rp_describe::{Looks, has_variable};
 use rp_words::Form;
 use std::alloc::AllocError;
 use std::fmt::Write;
@@ -39,7 +38,7 @@ pub(crate) fn is_boundless(form: &Form, variable: usize, looks: &[Looks]) -> boo
         }
         Form::Exclusion(body) => is_boundless(body, variable, looks),
         Form::Quantified { body, upper, .. } => {
-            upper.is_none() && has(body, variable) && !is_bounded(body, looks)
+            upper.is_none() && has_variable(body, variable) && !is_bounded(body, looks)
                 || is_boundless(body, variable, looks)
         }
     }
@@ -48,7 +47,7 @@ pub(crate) fn is_boundless(form: &Form, variable: usize, looks: &[Looks]) -> boo
 /// Whether a condition of the form's variables may bound how many rows it takes: it looks at other rows of the match.
 fn is_bounded(form: &Form, looks: &[Looks]) -> bool {
     for (number, one) in looks.iter().enumerate() {
-        if (one.first || one.elsewhere) && has(form, number) {
+        if (one.first || one.elsewhere) && has_variable(form, number) {
             return true;
         }
     }

@@ -1,0 +1,5 @@
+pub mod Precedences
+pub mod Looking
+pub mod Waiting
+pub mod Depending
+pub mod MissingNull
