@@ -4,14 +4,15 @@ use Rattle.rp_codec.specs.declared.reply.Reply.{Reply}
 use Rattle.rp_io.specs.Pending.{coming, most_lines_to_come}
 use Rattle.rp_io.specs.Reading.{ReadsSoFar, ReadsStop, Told}
 use Rattle.rp_io.specs.Reading.Told.{NoReadsLeft, Other, ReadFailed}
+use Rattle.rp_io.specs.State.{IntakeState}
 use Rattle.rp_drive.specs.Lines.{replies_within}
 use Rattle.rp_drive.specs.declared.fault.DriveFault.{DriveFault}
 use Rattle.rp_drive.specs.declared.fault.DriveFault.TheVariants.{Read, Turns, OutOfMemory}
 use Rattle.rp_drive.specs.declared.replies.Replies.{Replies}
 
--- the replies that are still to come, where the bytes that are still to be read are known
-abbrev pub replies_left : Replies → Option (List ℕ) → Option (List (Option Reply))
-replies_left replies remaining = if replies.over then option_map (λ bytes. []) remaining else replies_within replies.limit (coming replies.lines remaining)
+-- the replies that are still to come, where the bytes that the reader has still to give are known
+abbrev pub replies_left : Replies → IntakeState → Option (List (Option Reply))
+replies_left replies reader = if replies.over then option_map (λ bytes. []) reader.remaining else replies_within replies.limit (coming replies.lines reader)
 
 -- no more lines than this can still come
 abbrev pub lines_left : Replies → ℕ
@@ -32,17 +33,12 @@ cut_by _ = None
 
 -- What was read of a reader in a part of a run, by what cut it short, and by whether the input had ended before and has ended after.
 -- Once it has ended nothing is read, so a read can neither fail nor be one too many.
-abbrev pub HearsBy : Option Told → Bool → Bool → ℕ → ℕ → ℕ → ℕ → ℕ → ℕ → Bool → Bool → Option (List ℕ) → Option (List ℕ) → Type 0
-HearsBy None over false reads left calls calls' failures failures' ended ended' remaining remaining' =
-    (over ≡ false) × ReadsSoFar reads left calls calls' failures failures' ended ended' remaining remaining'
-HearsBy None over true reads left calls calls' failures failures' ended ended' remaining remaining' =
-    ReadsStop Other reads left calls calls' failures failures' ended ended' remaining remaining'
-HearsBy (Some Other) over over' reads left calls calls' failures failures' ended ended' remaining remaining' =
-    ReadsStop Other reads left calls calls' failures failures' ended ended' remaining remaining'
-HearsBy (Some told) over over' reads left calls calls' failures failures' ended ended' remaining remaining' =
-    (over ≡ false) × ReadsStop told reads left calls calls' failures failures' ended ended' remaining remaining'
+abbrev pub HearsBy : Option Told → Bool → Bool → ℕ → ℕ → IntakeState → IntakeState → Type 0
+HearsBy None over false reads left old new = (over ≡ false) × ReadsSoFar reads left old new
+HearsBy None over true reads left old new = ReadsStop Other reads left old new
+HearsBy (Some Other) over over' reads left old new = ReadsStop Other reads left old new
+HearsBy (Some told) over over' reads left old new = (over ≡ false) × ReadsStop told reads left old new
 
 -- the same of the replies of a reader, before and after
-abbrev pub Hears : Option Told → Replies → Replies → ℕ → ℕ → ℕ → ℕ → Bool → Bool → Option (List ℕ) → Option (List ℕ) → Type 0
-Hears cut old new calls calls' failures failures' ended ended' remaining remaining' =
-    HearsBy cut old.over new.over old.lines.reads new.lines.reads calls calls' failures failures' ended ended' remaining remaining'
+abbrev pub Hears : Option Told → Replies → Replies → IntakeState → IntakeState → Type 0
+Hears cut replies replies' old new = HearsBy cut replies.over replies'.over replies.lines.reads replies'.lines.reads old new

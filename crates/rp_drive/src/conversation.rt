@@ -41,17 +41,15 @@ pub fn drive<R: Intake, W: Outlet, O: Outlet>(
     out: &mut O,
 ) -> Result<(), DriveFault>
     ensures done { OnOk result (Ends (data_of query.now) budget node_number Finished
-        (Packets packets.now) (replies_in (R.remaining reader.old))
+        (Packets packets.now) (replies_in (R.seen reader.old).remaining)
         (W.contents writer.old) (W.contents writer.new) (O.contents out.old) (O.contents out.new)) }
     ensures stops { IfErr result (λ fault. Stops (data_of query.now) budget node_number fault
-        (Packets packets.now) (replies_in (R.remaining reader.old))
+        (Packets packets.now) (replies_in (R.seen reader.old).remaining)
         (W.contents writer.old) (W.contents writer.new) (O.contents out.old) (O.contents out.new)) }
     ensures front { OnErr result (EndsInPart (data_of query.now) budget node_number
-        (Packets packets.now) (replies_in (R.remaining reader.old))
+        (Packets packets.now) (replies_in (R.seen reader.old).remaining)
         (W.contents writer.old) (W.contents writer.new) (O.contents out.old) (O.contents out.new)) }
-    ensures reads { ReadsWithin reads (reads_told result)
-        (R.calls reader.old) (R.calls reader.new) (R.failures reader.old) (R.failures reader.new)
-        (R.ended reader.old) (R.ended reader.new) (R.remaining reader.old) (R.remaining reader.new) }
+    ensures reads { ReadsWithin reads (reads_told result) (R.seen reader.old) (R.seen reader.new) }
     ensures write { TellsWrites result (W.failures writer.old) (W.failures writer.new)
         (O.failures out.old) (O.failures out.new) }
 {
@@ -91,20 +89,18 @@ pub fn drive_within<R: Intake, W: Outlet, O: Outlet>(
 ) -> Result<(), Stop>
     requires { limit + 1 < 2 ^ 64 }
     ensures done { OnOk result (Ends (data_of query.now) budget node_number Finished
-        (Packets packets.now) (replies_within limit (R.remaining reader.old))
+        (Packets packets.now) (replies_within limit (R.seen reader.old).remaining)
         (W.contents writer.old) (W.contents writer.new) (O.contents out.old) (O.contents out.new)) }
     ensures stops { IfErr result (λ stop. StopsBy (data_of query.now) budget node_number stop.refusal stop.fault
-        (Packets packets.now) (replies_within limit (R.remaining reader.old))
+        (Packets packets.now) (replies_within limit (R.seen reader.old).remaining)
         (W.contents writer.old) (W.contents writer.new) (O.contents out.old) (O.contents out.new)) }
     ensures at { IfErr result (λ stop. StopsAt (data_of query.now) budget node_number
-        stop.packet stop.refusal stop.fault packets.now (replies_within limit (R.remaining reader.old))
+        stop.packet stop.refusal stop.fault packets.now (replies_within limit (R.seen reader.old).remaining)
         (W.contents writer.old) (W.contents writer.new) (O.contents out.old) (O.contents out.new)) }
     ensures front { OnErr result (EndsInPart (data_of query.now) budget node_number
-        (Packets packets.now) (replies_within limit (R.remaining reader.old))
+        (Packets packets.now) (replies_within limit (R.seen reader.old).remaining)
         (W.contents writer.old) (W.contents writer.new) (O.contents out.old) (O.contents out.new)) }
-    ensures reads { ReadsWithin reads (reads_told (by_fault result))
-        (R.calls reader.old) (R.calls reader.new) (R.failures reader.old) (R.failures reader.new)
-        (R.ended reader.old) (R.ended reader.new) (R.remaining reader.old) (R.remaining reader.new) }
+    ensures reads { ReadsWithin reads (reads_told (by_fault result)) (R.seen reader.old) (R.seen reader.new) }
     ensures write { TellsWrites (by_fault result) (W.failures writer.old) (W.failures writer.new)
         (O.failures out.old) (O.failures out.new) }
 {
@@ -158,21 +154,19 @@ impl Conversation<'_> {
         requires limit { self.now.limit + 1 < 2 ^ 64 }
         requires place { place.old ≡ 0 }
         ensures done { OnOk result (Ends (data_of self.now.query.now) self.now.budget self.now.node_number Finished
-            (Packets packets.now) (replies_within self.now.limit (R.remaining reader.old))
+            (Packets packets.now) (replies_within self.now.limit (R.seen reader.old).remaining)
             (W.contents writer.old) (W.contents writer.new) (O.contents out.old) (O.contents out.new)) }
         ensures stops { IfErr result (λ fault.
             StopsBy (data_of self.now.query.now) self.now.budget self.now.node_number refusal.new fault
-            (Packets packets.now) (replies_within self.now.limit (R.remaining reader.old))
+            (Packets packets.now) (replies_within self.now.limit (R.seen reader.old).remaining)
             (W.contents writer.old) (W.contents writer.new) (O.contents out.old) (O.contents out.new)) }
         ensures at { IfErr result (λ fault. StopsAt (data_of self.now.query.now) self.now.budget self.now.node_number
-            place.new refusal.new fault packets.now (replies_within self.now.limit (R.remaining reader.old))
+            place.new refusal.new fault packets.now (replies_within self.now.limit (R.seen reader.old).remaining)
             (W.contents writer.old) (W.contents writer.new) (O.contents out.old) (O.contents out.new)) }
         ensures front { OnErr result (EndsInPart (data_of self.now.query.now) self.now.budget self.now.node_number
-            (Packets packets.now) (replies_within self.now.limit (R.remaining reader.old))
+            (Packets packets.now) (replies_within self.now.limit (R.seen reader.old).remaining)
             (W.contents writer.old) (W.contents writer.new) (O.contents out.old) (O.contents out.new)) }
-        ensures reads { ReadsWithin self.now.reads (reads_told result)
-            (R.calls reader.old) (R.calls reader.new) (R.failures reader.old) (R.failures reader.new)
-            (R.ended reader.old) (R.ended reader.new) (R.remaining reader.old) (R.remaining reader.new) }
+        ensures reads { ReadsWithin self.now.reads (reads_told result) (R.seen reader.old) (R.seen reader.new) }
         ensures write { TellsWrites result (W.failures writer.old) (W.failures writer.new)
             (O.failures out.old) (O.failures out.new) }
     {
@@ -197,15 +191,13 @@ impl Conversation<'_> {
         ensures goes { OnOk result ((rest : List Sent) →
             GoesOn (data_of self.now.query.now) self.now.budget self.now.node_number
             (Packets (packet.now ∷ rest)) (Packets rest)
-            (replies_left replies.old (R.remaining reader.old)) (replies_left replies.new (R.remaining reader.new))
+            (replies_left replies.old (R.seen reader.old)) (replies_left replies.new (R.seen reader.new))
             (W.contents writer.old) (W.contents writer.new) (O.contents out.old) (O.contents out.new)) }
         ensures stops { IfErr result (λ fault. (rest : List Sent) →
             StopsBy (data_of self.now.query.now) self.now.budget self.now.node_number refusal.new fault
-            (Packets (packet.now ∷ rest)) (replies_left replies.old (R.remaining reader.old))
+            (Packets (packet.now ∷ rest)) (replies_left replies.old (R.seen reader.old))
             (W.contents writer.old) (W.contents writer.new) (O.contents out.old) (O.contents out.new)) }
-        ensures reads { Hears (cut_by result) replies.old replies.new
-            (R.calls reader.old) (R.calls reader.new) (R.failures reader.old) (R.failures reader.new)
-            (R.ended reader.old) (R.ended reader.new) (R.remaining reader.old) (R.remaining reader.new) }
+        ensures reads { Hears (cut_by result) replies.old replies.new (R.seen reader.old) (R.seen reader.new) }
         ensures write { TellsWrites result (W.failures writer.old) (W.failures writer.new)
             (O.failures out.old) (O.failures out.new) }
     {
@@ -233,21 +225,19 @@ impl Conversation<'_> {
         ensures again { result ≡ Ok true → (rest : List Sent) →
             GoesOn (data_of self.now.query.now) self.now.budget self.now.node_number
             (Poll key.now rest) (Poll key.now rest)
-            (replies_left replies.old (R.remaining reader.old)) (replies_left replies.new (R.remaining reader.new))
+            (replies_left replies.old (R.seen reader.old)) (replies_left replies.new (R.seen reader.new))
             (W.contents writer.old) (W.contents writer.new) (O.contents out.old) (O.contents out.new) }
         ensures idle { result ≡ Ok false → (rest : List Sent) →
             GoesOn (data_of self.now.query.now) self.now.budget self.now.node_number
             (Poll key.now rest) (Packets rest)
-            (replies_left replies.old (R.remaining reader.old)) (replies_left replies.new (R.remaining reader.new))
+            (replies_left replies.old (R.seen reader.old)) (replies_left replies.new (R.seen reader.new))
             (W.contents writer.old) (W.contents writer.new) (O.contents out.old) (O.contents out.new) }
         ensures stops { IfErr result (λ fault. (rest : List Sent) →
             StopsBy (data_of self.now.query.now) self.now.budget self.now.node_number refusal.new fault
-            (Poll key.now rest) (replies_left replies.old (R.remaining reader.old))
+            (Poll key.now rest) (replies_left replies.old (R.seen reader.old))
             (W.contents writer.old) (W.contents writer.new) (O.contents out.old) (O.contents out.new)) }
         ensures falls { result ≡ Ok true → lines_left replies.new < lines_left replies.old }
-        ensures reads { Hears (cut_by result) replies.old replies.new
-            (R.calls reader.old) (R.calls reader.new) (R.failures reader.old) (R.failures reader.new)
-            (R.ended reader.old) (R.ended reader.new) (R.remaining reader.old) (R.remaining reader.new) }
+        ensures reads { Hears (cut_by result) replies.old replies.new (R.seen reader.old) (R.seen reader.new) }
         ensures write { TellsWrites result (W.failures writer.old) (W.failures writer.new)
             (O.failures out.old) (O.failures out.new) }
     {
@@ -294,11 +284,9 @@ fn ask<R: Intake, W: Outlet>(
     ensures asked { OnOk result (Appends (W.contents writer.old) (W.contents writer.new) line.now) }
     ensures stops { IfErr result (λ fault. SendsLine fault (W.contents writer.old) (W.contents writer.new) line.now) }
     ensures came { IfOk result (Comes
-        (replies_left replies.old (R.remaining reader.old)) (replies_left replies.new (R.remaining reader.new))) }
+        (replies_left replies.old (R.seen reader.old)) (replies_left replies.new (R.seen reader.new))) }
     ensures falls { IfOk result (λ reply. (reply ≡ None → ⊥) → lines_left replies.new < lines_left replies.old) }
-    ensures reads { Hears (cut_by result) replies.old replies.new
-        (R.calls reader.old) (R.calls reader.new) (R.failures reader.old) (R.failures reader.new)
-        (R.ended reader.old) (R.ended reader.new) (R.remaining reader.old) (R.remaining reader.new) }
+    ensures reads { Hears (cut_by result) replies.old replies.new (R.seen reader.old) (R.seen reader.new) }
     ensures write { TellsWrite result (W.failures writer.old) (W.failures writer.new) }
 {
     write_all(writer, line)?;

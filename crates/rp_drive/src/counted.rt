@@ -72,13 +72,7 @@ fn tally(in_line: bool, bytes: &[u8]) -> Passed
 }
 
 impl<R: Intake> Intake for Counted<R> {
-    ghost remaining = { λ counted. R.remaining counted.device };
-
-    ghost calls = { λ counted. R.calls counted.device };
-
-    ghost failures = { λ counted. R.failures counted.device };
-
-    ghost ended = { λ counted. R.ended counted.device };
+    ghost seen = { λ counted. R.seen counted.device };
 
     fn read(&mut self, buffer: &mut [u8]) -> Result<usize, ReadFailed> {
         match self.device.read(buffer) {

@@ -48,12 +48,10 @@ impl Replies {
     /// the reader isn't called again.
     pub(crate) fn next<R: Intake>(&mut self, reader: &mut R) -> Result<Option<Reply>, DriveFault>
         ensures came { IfOk result (Comes
-            (replies_left self.old (R.remaining reader.old)) (replies_left self.new (R.remaining reader.new))) }
+            (replies_left self.old (R.seen reader.old)) (replies_left self.new (R.seen reader.new))) }
         ensures falls { IfOk result (λ reply. (reply ≡ None → ⊥) → lines_left self.new < lines_left self.old) }
         ensures fault { IfErr result IsOfReading }
-        ensures reads { Hears (cut_by result) self.old self.new
-            (R.calls reader.old) (R.calls reader.new) (R.failures reader.old) (R.failures reader.new)
-            (R.ended reader.old) (R.ended reader.new) (R.remaining reader.old) (R.remaining reader.new) }
+        ensures reads { Hears (cut_by result) self.old self.new (R.seen reader.old) (R.seen reader.new) }
     {
         if self.over {
             return Ok(None);

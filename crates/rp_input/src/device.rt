@@ -45,10 +45,9 @@ pub(crate) fn read_all<R: Intake>(
     reader: &mut R,
     reads: u64,
 ) -> Result<Vec<u8>, DeviceFault>
-    ensures ok { IfOk result (λ bytes. Consumes (R.remaining reader.old) (R.remaining reader.new) bytes.items) }
-    ensures reads { ReadsWithin reads (bytes_told result)
-        (R.calls reader.old) (R.calls reader.new) (R.failures reader.old) (R.failures reader.new)
-        (R.ended reader.old) (R.ended reader.new) (R.remaining reader.old) (R.remaining reader.new) }
+    ensures ok { IfOk result (λ bytes.
+        Consumes (R.seen reader.old).remaining (R.seen reader.new).remaining bytes.items) }
+    ensures reads { ReadsWithin reads (bytes_told result) (R.seen reader.old) (R.seen reader.new) }
 {
     let mut bytes = Vec::new(alloc);
     let mut chunk = Vec::new(alloc);

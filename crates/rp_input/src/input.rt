@@ -22,11 +22,11 @@ pub fn read_rows<R: Intake>(
     table: &Table,
     reads: u64,
 ) -> Result<Vec<Row>, CsvFault>
-    ensures ok { IfOk result (λ rows. IfSome (R.remaining reader.old) (λ text. AreRowsOf table.now text rows.items)) }
-    ensures err { IfErr result (λ fault. IfSome (R.remaining reader.old) (λ text. IsInputFault table.now text fault)) }
-    ensures reads { ReadsWithin reads (rows_told result)
-        (R.calls reader.old) (R.calls reader.new) (R.failures reader.old) (R.failures reader.new)
-        (R.ended reader.old) (R.ended reader.new) (R.remaining reader.old) (R.remaining reader.new) }
+    ensures ok { IfOk result (λ rows. IfSome (R.seen reader.old).remaining
+        (λ text. AreRowsOf table.now text rows.items)) }
+    ensures err { IfErr result (λ fault. IfSome (R.seen reader.old).remaining
+        (λ text. IsInputFault table.now text fault)) }
+    ensures reads { ReadsWithin reads (rows_told result) (R.seen reader.old) (R.seen reader.new) }
 {
     let text = read_all(alloc, reader, reads)?;
     rows_of(alloc, &text, table)
@@ -41,13 +41,11 @@ pub fn read_rows_by<R: Intake>(
     nulls: &[Text],
     reads: u64,
 ) -> Result<Vec<Row>, ColumnsCsvFault>
-    ensures ok { IfOk result (λ rows. IfSome (R.remaining reader.old)
+    ensures ok { IfOk result (λ rows. IfSome (R.seen reader.old).remaining
         (λ text. AreRowsByColumns nulls.now layout columns.now text rows.items)) }
-    ensures err { IfErr result (λ fault. IfSome (R.remaining reader.old)
+    ensures err { IfErr result (λ fault. IfSome (R.seen reader.old).remaining
         (λ text. IsByColumnsInputFault nulls.now layout columns.now text fault)) }
-    ensures reads { ReadsWithin reads (columns_told result)
-        (R.calls reader.old) (R.calls reader.new) (R.failures reader.old) (R.failures reader.new)
-        (R.ended reader.old) (R.ended reader.new) (R.remaining reader.old) (R.remaining reader.new) }
+    ensures reads { ReadsWithin reads (columns_told result) (R.seen reader.old) (R.seen reader.new) }
 {
     let text = read_all(alloc, reader, reads)?;
     rows_by(alloc, &text, layout, columns, nulls)

@@ -1,5 +1,6 @@
 -- What contracts of public calls cite: what a line is, what calls do to a device, and what the reads of a run did.
 pub mod Counts
+pub mod State
 pub mod Devices
 pub mod Lines
 pub mod Pending

@@ -3,15 +3,16 @@ use Rattle.std.specs.Prelude.{◌≡◌, ℕ, ◌+◌, ◌-◌, ◌*◌, List, �
 use Rattle.std.specs.Io.KnownBytes.{prepend_known}
 use Rattle.rp_io.specs.declared.lines.Lines.{Lines}
 use Rattle.rp_io.specs.Lines.{line_feed}
+use Rattle.rp_io.specs.State.{IntakeState}
 use Rattle.rp_io.specs.declared.lines.TheConstants.{CHUNK}
 
 -- the bytes that are read and not yet cut into lines
 abbrev pub pending_of : Lines → List ℕ
 pending_of lines = drop lines.taken lines.chunk.items
 
--- the bytes of the lines to come: those pending and those that are still to be read, where these are known
-abbrev pub coming : Lines → Option (List ℕ) → Option (List ℕ)
-coming lines remaining = prepend_known (pending_of lines) remaining
+-- the bytes of the lines to come: those pending and those that the reader has still to give, where these are known
+abbrev pub coming : Lines → IntakeState → Option (List ℕ)
+coming lines reader = prepend_known (pending_of lines) reader.remaining
 
 -- No more lines than this can still come: each takes a byte at least, of those pending or of those that the reads still allowed
 -- can give, which is CHUNK each at most.

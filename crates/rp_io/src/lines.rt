@@ -82,16 +82,17 @@ impl Lines {
     /// what stood behind the last LF of the input, perhaps nothing, and the input has ended.
     pub fn next<R: Intake>(&mut self, reader: &mut R, line: &mut Vec<u8>) -> Result<bool, LineFault>
         ensures line { result ≡ Ok true → TakesLine self.old.kept
-            (coming self.old (R.remaining reader.old)) (coming self.new (R.remaining reader.new)) line.new.items }
+            (coming self.old (R.seen reader.old)) (coming self.new (R.seen reader.new)) line.new.items }
         ensures last { result ≡ Ok false → TakesLast self.old.kept
-            (coming self.old (R.remaining reader.old)) (coming self.new (R.remaining reader.new)) line.new.items }
-        ensures end { result ≡ Ok false → IsAtEnd (R.remaining reader.new) }
-        ensures told { EndIsTold result (R.ended reader.old) (R.ended reader.new) }
-        ensures failures { FailureIsCounted result (R.failures reader.old) (R.failures reader.new) }
-        ensures calls { UsesCalls self.old.reads self.new.reads (R.calls reader.old) (R.calls reader.new) }
+            (coming self.old (R.seen reader.old)) (coming self.new (R.seen reader.new)) line.new.items }
+        ensures end { result ≡ Ok false → IsAtEnd (R.seen reader.new).remaining }
+        ensures told { EndIsTold result (R.seen reader.old).ended (R.seen reader.new).ended }
+        ensures failures { FailureIsCounted result (R.seen reader.old).failures (R.seen reader.new).failures }
+        ensures calls { UsesCalls self.old.reads self.new.reads (R.seen reader.old).calls (R.seen reader.new).calls }
         ensures reads { result ≡ Err LineFault.TooManyReads → self.new.reads ≡ 0 }
         ensures gives { (result ≡ Ok true) ⊎ (result ≡ Err LineFault.TooManyReads) →
-            AsManyBytesAsReads self.old.reads self.new.reads (R.remaining reader.old) (R.remaining reader.new) }
+            AsManyBytesAsReads self.old.reads self.new.reads
+            (R.seen reader.old).remaining (R.seen reader.new).remaining }
         ensures falls { result ≡ Ok true → most_lines_to_come self.new < most_lines_to_come self.old }
         ensures few { vec_len line.new ≤ self.old.kept }
         ensures kept { self.new.kept ≡ self.old.kept }
@@ -131,16 +132,18 @@ impl Lines {
     /// changes.
     fn fill<R: Intake>(&mut self, reader: &mut R) -> Result<bool, LineFault>
         requires { pending_of self.old ≡ [] }
-        ensures ok { OnOk result (Consumes (R.remaining reader.old) (R.remaining reader.new) (pending_of self.new)) }
+        ensures ok { OnOk result
+            (Consumes (R.seen reader.old).remaining (R.seen reader.new).remaining (pending_of self.new)) }
         ensures none { result ≡ Ok false → pending_of self.new ≡ [] }
-        ensures end { result ≡ Ok false → IsAtEnd (R.remaining reader.new) }
-        ensures told { EndIsTold result (R.ended reader.old) (R.ended reader.new) }
-        ensures failures { FailureIsCounted result (R.failures reader.old) (R.failures reader.new) }
-        ensures calls { UsesCalls self.old.reads self.new.reads (R.calls reader.old) (R.calls reader.new) }
+        ensures end { result ≡ Ok false → IsAtEnd (R.seen reader.new).remaining }
+        ensures told { EndIsTold result (R.seen reader.old).ended (R.seen reader.new).ended }
+        ensures failures { FailureIsCounted result (R.seen reader.old).failures (R.seen reader.new).failures }
+        ensures calls { UsesCalls self.old.reads self.new.reads (R.seen reader.old).calls (R.seen reader.new).calls }
         ensures unread { result ≡ Err LineFault.TooManyReads →
             (self.old.reads ≡ 0) × (self.new ≡ self.old) × (reader.new ≡ reader.old) }
         ensures gives { result ≡ Ok true →
-            AsManyBytesAsReads self.old.reads self.new.reads (R.remaining reader.old) (R.remaining reader.new) }
+            AsManyBytesAsReads self.old.reads self.new.reads
+            (R.seen reader.old).remaining (R.seen reader.new).remaining }
         ensures fewer { OnOk result (self.new.reads < self.old.reads) }
         ensures kept { self.new.kept ≡ self.old.kept }
     {

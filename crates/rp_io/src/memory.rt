@@ -59,13 +59,14 @@ impl<'a> MemoryInput<'a> {
 }
 
 impl Intake for MemoryInput<'_> {
-    ghost remaining = { λ input. Some input.bytes.now };
+    ghost use Rattle.rp_io.specs.State.{IntakeState};
 
-    ghost calls = { λ input. input.calls };
-
-    ghost failures = { λ input. input.failures };
-
-    ghost ended = { λ input. input.ended };
+    ghost seen = { λ input. record {
+      calls = input.calls;
+      failures = input.failures;
+      ended = input.ended;
+      remaining = Some input.bytes.now;
+    } };
 
     fn read(&mut self, buffer: &mut [u8]) -> Result<usize, ReadFailed> {
         self.calls = self.calls.saturating_add(1);

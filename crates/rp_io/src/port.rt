@@ -1,8 +1,9 @@
 //! Devices whose bytes, calls and failures clauses see, over any of std's.
-ghost use Rattle.std.specs.Prelude.{◌≡◌, ℕ, ◌<◌, ◌≤◌, Bool, true, false, List, length, vec_len, Option, IfOk, OnOk, OnErr};
+ghost use Rattle.std.specs.Prelude.{◌≡◌, ℕ, ◌<◌, ◌≤◌, true, false, List, length, vec_len, Option, IfOk, OnOk, OnErr};
 ghost use Rattle.std.specs.Io.KnownBytes.{Appends, ReadConsumes, WriteAppends};
 ghost use Rattle.rp_io.specs.Counts.{raised};
 ghost use Rattle.rp_io.specs.Devices.{AppendsFront, MakesCalls, Moves};
+ghost use Rattle.rp_io.specs.State.{IntakeState};
 
 use std::io::{Read, Write};
 use thiserror::Error;
@@ -25,29 +26,20 @@ pub struct WriteFailed;
 
 /// Where bytes come from.
 pub trait Intake {
-    /// The bytes that are still to come, where they are known.
-    ghost remaining: { Self → Option (List ℕ) };
-
-    /// How many calls were made, up to 2^64 - 1, where the count stays.
-    ghost calls: { Self → ℕ };
-
-    /// How many of them failed, counted in the same way.
-    ghost failures: { Self → ℕ };
-
-    /// Whether a call has told the end: it gave no byte where the buffer had room.
-    ghost ended: { Self → Bool };
+    /// How many calls were made and how many failed, whether one has reported the end, and what is still to come.
+    ghost seen: { Self → IntakeState };
 
     /// Fills the front of the buffer. No byte, where the buffer has room, is the end.
     fn read(&mut self, buffer: &mut [u8]) -> Result<usize, ReadFailed>
         ensures within { IfOk result (λ count. count ≤ length buffer.new) }
-        ensures bytes { ReadConsumes (remaining self.old) (remaining self.new) result buffer.new }
-        ensures calls { calls self.new ≡ raised (calls self.old) }
-        ensures fails { OnErr result (failures self.new ≡ raised (failures self.old)) }
-        ensures no_failure { OnOk result (failures self.new ≡ failures self.old) }
-        ensures end { IfOk result (λ count. count ≡ 0 → 0 < length buffer.new → ended self.new ≡ true) }
-        ensures more { IfOk result (λ count. 0 < count → ended self.new ≡ ended self.old) }
-        ensures no_room { length buffer.new ≡ 0 → ended self.new ≡ ended self.old }
-        ensures stays { OnErr result (ended self.new ≡ ended self.old) };
+        ensures bytes { ReadConsumes (seen self.old).remaining (seen self.new).remaining result buffer.new }
+        ensures calls { (seen self.new).calls ≡ raised (seen self.old).calls }
+        ensures fails { OnErr result ((seen self.new).failures ≡ raised (seen self.old).failures) }
+        ensures no_failure { OnOk result ((seen self.new).failures ≡ (seen self.old).failures) }
+        ensures end { IfOk result (λ count. count ≡ 0 → 0 < length buffer.new → (seen self.new).ended ≡ true) }
+        ensures more { IfOk result (λ count. 0 < count → (seen self.new).ended ≡ (seen self.old).ended) }
+        ensures no_room { length buffer.new ≡ 0 → (seen self.new).ended ≡ (seen self.old).ended }
+        ensures stays { OnErr result ((seen self.new).ended ≡ (seen self.old).ended) };
 }
 
 /// Where bytes go.
@@ -102,13 +94,14 @@ impl<D> Port<D> {
 }
 
 impl<R: Read> Intake for Port<R> {
-    ghost remaining = { λ port. R.remaining port.device };
+    ghost use Rattle.rp_io.specs.State.{IntakeState};
 
-    ghost calls = { λ port. port.calls };
-
-    ghost failures = { λ port. port.failures };
-
-    ghost ended = { λ port. port.ended };
+    ghost seen = { λ port. record {
+      calls = port.calls;
+      failures = port.failures;
+      ended = port.ended;
+      remaining = R.remaining port.device;
+    } };
 
     fn read(&mut self, buffer: &mut [u8]) -> Result<usize, ReadFailed> {
         self.calls = self.calls.saturating_add(1);

@@ -1,8 +1,9 @@
 -- What a fault says of the devices.
-use Rattle.std.specs.Prelude.{◌≡◌, ℕ, Bool, true, false, List, Option, Some, None, Result, Ok, Err}
+use Rattle.std.specs.Prelude.{◌≡◌, ℕ, Bool, true, false, Option, Some, None, Result, Ok, Err}
 use Rattle.rp_io.specs.Counts.{raised}
 use Rattle.rp_io.specs.Reading.{ReadsSoFar, ReadsStop, Told}
 use Rattle.rp_io.specs.Reading.Told.{Ended, NoReadsLeft, Other, ReadFailed}
+use Rattle.rp_io.specs.State.{IntakeState}
 use Rattle.rp_io.specs.declared.lines.LineFault.{LineFault}
 use Rattle.rp_io.specs.declared.lines.LineFault.TheVariants.{Read as LineRead, TooManyReads, OutOfMemory as LineOutOfMemory}
 use Rattle.rp_serve.specs.declared.fault.ServeFault.{ServeFault}
@@ -34,10 +35,7 @@ TellsWrite _ old new = new ≡ old
 
 -- What was read for the next line: the session goes on after one with a line feed, the input has ended where it has none, and the
 -- session stops by a fault.
-abbrev pub NextReads : Result Bool ServeFault → ℕ → ℕ → ℕ → ℕ → ℕ → ℕ → Bool → Bool → Option (List ℕ) → Option (List ℕ) → Type 0
-NextReads (Ok true) reads left calls calls' failures failures' ended ended' remaining remaining' =
-    ReadsSoFar reads left calls calls' failures failures' ended ended' remaining remaining'
-NextReads (Ok false) reads left calls calls' failures failures' ended ended' remaining remaining' =
-    ReadsStop Ended reads left calls calls' failures failures' ended ended' remaining remaining'
-NextReads (Err fault) reads left calls calls' failures failures' ended ended' remaining remaining' =
-    ReadsStop (reads_told (Some fault)) reads left calls calls' failures failures' ended ended' remaining remaining'
+abbrev pub NextReads : Result Bool ServeFault → ℕ → ℕ → IntakeState → IntakeState → Type 0
+NextReads (Ok true) reads left old new = ReadsSoFar reads left old new
+NextReads (Ok false) reads left old new = ReadsStop Ended reads left old new
+NextReads (Err fault) reads left old new = ReadsStop (reads_told (Some fault)) reads left old new

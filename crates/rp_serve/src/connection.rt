@@ -43,14 +43,14 @@ pub fn round<R: Intake, W: Outlet, N: Keeps + Drop>(
 ) -> Result<RoundEnd<N>, AllocError>
     requires { ForSome saved (λ bytes. N.can_go_back node bytes.items) }
     ensures round { IfOk result (λ end. IsRound N.step N.cut_short N.is_saved N.goes_back end.fault end.lines
-        (R.remaining reader.old) node end.node (W.contents writer.old) (W.contents writer.new)
+        (R.seen reader.old).remaining node end.node (W.contents writer.old) (W.contents writer.new)
         (kept_bytes saved) (kept_bytes end.saved)) }
     ensures again { IfOk result (λ end. ForSome end.saved (λ bytes. N.can_go_back end.node bytes.items)) }
     ensures reads { IfOk result (λ end. ReadsWithin turns (reads_told end.fault)
-        (R.calls reader.old) (R.calls reader.new) (R.failures reader.old) (R.failures reader.new)
-        (R.ended reader.old) (R.ended reader.new) (R.remaining reader.old) (R.remaining reader.new)) }
+        (R.seen reader.old) (R.seen reader.new)) }
     ensures write { IfOk result (λ end. TellsWrite end.fault (W.failures writer.old) (W.failures writer.new)) }
-    ensures current { IfOk result (λ end. end.is_current ≡ true → IsSavedAs N.is_saved end.node (kept_bytes end.saved)) }
+    ensures current { IfOk result (λ end.
+        end.is_current ≡ true → IsSavedAs N.is_saved end.node (kept_bytes end.saved)) }
     ensures new { IfOk result (λ end. IsTrue end.is_new ↔ (kept_bytes end.saved ≢ kept_bytes saved)) }
 {
     round_on(alloc, node, saved, false, reader, writer, turns)
@@ -70,14 +70,14 @@ pub fn round_on<R: Intake, W: Outlet, N: Keeps + Drop>(
     requires back { ForSome saved (λ bytes. N.can_go_back node bytes.items) }
     requires known { is_current ≡ true → IsSavedAs N.is_saved node (kept_bytes saved) }
     ensures round { IfOk result (λ end. IsRound N.step N.cut_short N.is_saved N.goes_back end.fault end.lines
-        (R.remaining reader.old) node end.node (W.contents writer.old) (W.contents writer.new)
+        (R.seen reader.old).remaining node end.node (W.contents writer.old) (W.contents writer.new)
         (kept_bytes saved) (kept_bytes end.saved)) }
     ensures again { IfOk result (λ end. ForSome end.saved (λ bytes. N.can_go_back end.node bytes.items)) }
     ensures reads { IfOk result (λ end. ReadsWithin turns (reads_told end.fault)
-        (R.calls reader.old) (R.calls reader.new) (R.failures reader.old) (R.failures reader.new)
-        (R.ended reader.old) (R.ended reader.new) (R.remaining reader.old) (R.remaining reader.new)) }
+        (R.seen reader.old) (R.seen reader.new)) }
     ensures write { IfOk result (λ end. TellsWrite end.fault (W.failures writer.old) (W.failures writer.new)) }
-    ensures current { IfOk result (λ end. end.is_current ≡ true → IsSavedAs N.is_saved end.node (kept_bytes end.saved)) }
+    ensures current { IfOk result (λ end.
+        end.is_current ≡ true → IsSavedAs N.is_saved end.node (kept_bytes end.saved)) }
     ensures new { IfOk result (λ end. IsTrue end.is_new ↔ (kept_bytes end.saved ≢ kept_bytes saved)) }
 {
     let mut watched = Watched {

@@ -31,13 +31,11 @@ pub fn serve<R: Intake, W: Outlet, N: Answers>(
     node: &mut N,
     turns: u64,
 ) -> Result<Served, ServeFault>
-    ensures served { IfOk result (λ served. ServesAll N.step (R.remaining reader.old) node.old node.new
+    ensures served { IfOk result (λ served. ServesAll N.step (R.seen reader.old).remaining node.old node.new
         (W.contents writer.old) (W.contents writer.new) served.lines) }
-    ensures stops { IfErr result (λ fault. StopsServing N.step N.cut_short fault (R.remaining reader.old)
+    ensures stops { IfErr result (λ fault. StopsServing N.step N.cut_short fault (R.seen reader.old).remaining
         node.old node.new (W.contents writer.old) (W.contents writer.new)) }
-    ensures reads { ReadsWithin turns (reads_told (fault_of result))
-        (R.calls reader.old) (R.calls reader.new) (R.failures reader.old) (R.failures reader.new)
-        (R.ended reader.old) (R.ended reader.new) (R.remaining reader.old) (R.remaining reader.new) }
+    ensures reads { ReadsWithin turns (reads_told (fault_of result)) (R.seen reader.old) (R.seen reader.new) }
     ensures write { TellsWrite (fault_of result) (W.failures writer.old) (W.failures writer.new) }
 {
     let mut count = 0u128;
@@ -57,13 +55,11 @@ pub(crate) fn serve_counted<R: Intake, W: Outlet, N: Answers>(
     count: &mut u128,
 ) -> Result<(), ServeFault>
     requires { count.old ≡ 0 }
-    ensures served { OnOk result (ServesAll N.step (R.remaining reader.old) node.old node.new
+    ensures served { OnOk result (ServesAll N.step (R.seen reader.old).remaining node.old node.new
         (W.contents writer.old) (W.contents writer.new) count.new) }
-    ensures stops { IfErr result (λ fault. StopsAfter N.step N.cut_short fault (R.remaining reader.old)
+    ensures stops { IfErr result (λ fault. StopsAfter N.step N.cut_short fault (R.seen reader.old).remaining
         node.old node.new (W.contents writer.old) (W.contents writer.new) count.new) }
-    ensures reads { ReadsWithin turns (reads_told (fault_of result))
-        (R.calls reader.old) (R.calls reader.new) (R.failures reader.old) (R.failures reader.new)
-        (R.ended reader.old) (R.ended reader.new) (R.remaining reader.old) (R.remaining reader.new) }
+    ensures reads { ReadsWithin turns (reads_told (fault_of result)) (R.seen reader.old) (R.seen reader.new) }
     ensures write { TellsWrite (fault_of result) (W.failures writer.old) (W.failures writer.new) }
 {
     let mut lines = Lines::new(alloc, turns, KEPT);
@@ -91,16 +87,14 @@ fn next_line<R: Intake, W: Outlet>(
     requires { lines.old.kept ≡ KEPT }
     ensures kept { lines.new.kept ≡ KEPT }
     ensures line { result ≡ Ok true → TakesLine KEPT
-        (coming lines.old (R.remaining reader.old)) (coming lines.new (R.remaining reader.new)) line.new.items }
+        (coming lines.old (R.seen reader.old)) (coming lines.new (R.seen reader.new)) line.new.items }
     ensures last { result ≡ Ok false → TakesLast KEPT
-        (coming lines.old (R.remaining reader.old)) (coming lines.new (R.remaining reader.new)) line.new.items }
+        (coming lines.old (R.seen reader.old)) (coming lines.new (R.seen reader.new)) line.new.items }
     ensures falls { result ≡ Ok true → most_lines_to_come lines.new < most_lines_to_come lines.old }
     ensures moves { OnOk result (Moves (W.contents writer.old) text.old.items (W.contents writer.new) text.new.items) }
     ensures stops { IfErr result (λ fault.
         IsWrittenBefore fault (W.contents writer.old) (W.contents writer.new) text.old.items) }
-    ensures reads { NextReads result lines.old.reads lines.new.reads
-        (R.calls reader.old) (R.calls reader.new) (R.failures reader.old) (R.failures reader.new)
-        (R.ended reader.old) (R.ended reader.new) (R.remaining reader.old) (R.remaining reader.new) }
+    ensures reads { NextReads result lines.old.reads lines.new.reads (R.seen reader.old) (R.seen reader.new) }
     ensures write { TellsWrite (fault_of result) (W.failures writer.old) (W.failures writer.new) }
 {
     if lines.has_line() {

@@ -53,12 +53,10 @@ pub fn run_trace<R: Intake, W: Outlet>(
 ) -> Result<(), TraceFault>
     requires { are_below letter_count (form_of pattern.now) ≡ true }
     ensures written { OnOk result (WritesReplies
-        (form_of pattern.now) (R.remaining reader.old) (W.contents writer.old) (W.contents writer.new)) }
+        (form_of pattern.now) (R.seen reader.old).remaining (W.contents writer.old) (W.contents writer.new)) }
     ensures front { OnErr result (WritesFront
-        (form_of pattern.now) (R.remaining reader.old) (W.contents writer.old) (W.contents writer.new)) }
-    ensures reads { ReadsWithin reads (run_told result)
-        (R.calls reader.old) (R.calls reader.new) (R.failures reader.old) (R.failures reader.new)
-        (R.ended reader.old) (R.ended reader.new) (R.remaining reader.old) (R.remaining reader.new) }
+        (form_of pattern.now) (R.seen reader.old).remaining (W.contents writer.old) (W.contents writer.new)) }
+    ensures reads { ReadsWithin reads (run_told result) (R.seen reader.old) (R.seen reader.new) }
     ensures no_failure { OnOk result (W.failures writer.new ≡ W.failures writer.old) }
     ensures write { result ≡ Err TraceFault.Write → W.failures writer.new ≡ raised (W.failures writer.old) }
 {

@@ -1,8 +1,9 @@
 -- What a fault of a run says of its reads and of what it leaves.
-use Rattle.std.proofs.Common.{ℕ, Bool, List, Option, inr}
+use Rattle.std.proofs.Common.{ℕ, List, Option, inr}
 use Rattle.rp_query.specs.declared.query.QueryData.{QueryData}
 use Rattle.rp_io.specs.Reading.{ReadsWithin}
 use Rattle.rp_io.specs.Reading.Told.{Ended}
+use Rattle.rp_io.specs.State.{IntakeState}
 use Rattle.rp_io.proofs.SoFar.{reads_ended}
 use Rattle.rp_input.specs.Devices.{fault_told as csv_told}
 use Rattle.rp_input.specs.declared.rows.CsvFault.{CsvFault}
@@ -18,10 +19,9 @@ module _ (q : QueryData) (input old : Option (List ℕ)) (front : Type 0) where
   left_front Write new of_output left = left
   left_front WholeOutOfMemory new of_output left = inr left
 
-module _ (reads calls calls' failures failures' : ℕ) (ended ended' : Bool) (remaining remaining' : Option (List ℕ)) where
+module _ (reads : ℕ) (old new : IntakeState) where
   -- a fault of the input tells of the reads what it told of them before
-  pub input_told : (why : CsvFault) → ReadsWithin reads (csv_told why) calls calls' failures failures' ended ended' remaining remaining'
-      → ReadsWithin reads (fault_told (told_csv why)) calls calls' failures failures' ended ended' remaining remaining'
+  pub input_told : (why : CsvFault) → ReadsWithin reads (csv_told why) old new → ReadsWithin reads (fault_told (told_csv why)) old new
   input_told Header all = all
   input_told (Record n) all = all
   input_told (Field n) all = all
@@ -30,8 +30,7 @@ module _ (reads calls calls' failures failures' : ℕ) (ended ended' : Bool) (re
   input_told OutOfMemory all = all
 
   -- a fault of the output, after all of the input was read
-  pub fault_after : (why : WholeFault) → IsOfOutput why → ReadsWithin reads Ended calls calls' failures failures' ended ended' remaining remaining'
-      → ReadsWithin reads (fault_told why) calls calls' failures failures' ended ended' remaining remaining'
+  pub fault_after : (why : WholeFault) → IsOfOutput why → ReadsWithin reads Ended old new → ReadsWithin reads (fault_told why) old new
   fault_after (Csv why) of_output all = absurd of_output
-  fault_after Write of_output all = reads_ended reads calls calls' failures failures' ended ended' remaining remaining' all
-  fault_after WholeOutOfMemory of_output all = reads_ended reads calls calls' failures failures' ended ended' remaining remaining' all
+  fault_after Write of_output all = reads_ended reads old new all
+  fault_after WholeOutOfMemory of_output all = reads_ended reads old new all

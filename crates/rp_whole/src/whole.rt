@@ -34,12 +34,10 @@ pub fn run_whole<R: Intake, W: Outlet, V: Watch>(
     hasher: RandomState,
 ) -> Result<(), WholeFault>
     ensures written { OnOk result
-        (WritesLines (data_of query) (R.remaining reader.old) (W.contents writer.old) (W.contents writer.new)) }
+        (WritesLines (data_of query) (R.seen reader.old).remaining (W.contents writer.old) (W.contents writer.new)) }
     ensures front { IfErr result
-        (LeavesFront (data_of query) (R.remaining reader.old) (W.contents writer.old) (W.contents writer.new)) }
-    ensures reads { ReadsWithin reads (whole_told result)
-        (R.calls reader.old) (R.calls reader.new) (R.failures reader.old) (R.failures reader.new)
-        (R.ended reader.old) (R.ended reader.new) (R.remaining reader.old) (R.remaining reader.new) }
+        (LeavesFront (data_of query) (R.seen reader.old).remaining (W.contents writer.old) (W.contents writer.new)) }
+    ensures reads { ReadsWithin reads (whole_told result) (R.seen reader.old) (R.seen reader.new) }
     ensures write { TellsWrite result (W.failures writer.old) (W.failures writer.new) }
 {
     let _stopped = run_answers::<R, W, Lines, V>(
@@ -67,13 +65,11 @@ pub fn run_whole_csv<R: Intake, W: Outlet, V: Watch>(
     reads: u64,
     hasher: RandomState,
 ) -> Result<Vec<Stopped>, WholeFault>
-    ensures written { IfOk result (λ stopped. WritesRecords (data_of query) (R.remaining reader.old)
+    ensures written { IfOk result (λ stopped. WritesRecords (data_of query) (R.seen reader.old).remaining
         (W.contents writer.old) (W.contents writer.new) stopped.items) }
     ensures front { IfErr result
-        (LeavesRecords (data_of query) (R.remaining reader.old) (W.contents writer.old) (W.contents writer.new)) }
-    ensures reads { ReadsWithin reads (whole_told result)
-        (R.calls reader.old) (R.calls reader.new) (R.failures reader.old) (R.failures reader.new)
-        (R.ended reader.old) (R.ended reader.new) (R.remaining reader.old) (R.remaining reader.new) }
+        (LeavesRecords (data_of query) (R.seen reader.old).remaining (W.contents writer.old) (W.contents writer.new)) }
+    ensures reads { ReadsWithin reads (whole_told result) (R.seen reader.old) (R.seen reader.new) }
     ensures write { TellsWrite result (W.failures writer.old) (W.failures writer.new) }
 {
     run_answers::<R, W, RowRecords, V>(alloc, query, reader, writer, watch, reads, hasher)
@@ -89,15 +85,13 @@ fn run_answers<R: Intake, W: Outlet, G: Gathered, V: Watch>(
     reads: u64,
     hasher: RandomState,
 ) -> Result<Vec<Stopped>, WholeFault>
-    ensures written { IfOk result (λ stopped. WritesOf G.form (data_of query) (R.remaining reader.old)
+    ensures written { IfOk result (λ stopped. WritesOf G.form (data_of query) (R.seen reader.old).remaining
         (W.contents writer.old) (W.contents writer.new) stopped.items) }
     ensures front { IfErr result
-        (Leaves (data_of query) (R.remaining reader.old) (W.contents writer.old) (W.contents writer.new)
-        (WritesFrontOf G.form (data_of query) (R.remaining reader.old)
+        (Leaves (data_of query) (R.seen reader.old).remaining (W.contents writer.old) (W.contents writer.new)
+        (WritesFrontOf G.form (data_of query) (R.seen reader.old).remaining
         (W.contents writer.old) (W.contents writer.new))) }
-    ensures reads { ReadsWithin reads (whole_told result)
-        (R.calls reader.old) (R.calls reader.new) (R.failures reader.old) (R.failures reader.new)
-        (R.ended reader.old) (R.ended reader.new) (R.remaining reader.old) (R.remaining reader.new) }
+    ensures reads { ReadsWithin reads (whole_told result) (R.seen reader.old) (R.seen reader.new) }
     ensures write { TellsWrite result (W.failures writer.old) (W.failures writer.new) }
 {
     let rows = read_rows(alloc, reader, query.table(), reads)?;

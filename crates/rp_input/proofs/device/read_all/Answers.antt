@@ -16,51 +16,51 @@ loop-read-preserved g c =
     let size : length (take c.in-Ok.count c.read.new.buffer) ≡ c.in-Ok.count = length-take-le c.in-Ok.count c.read.new.buffer c.in-Ok.ensures.within in
     record {
       consumes = rw (c.in_ok-extend_from_slice.ensures.items, c.deref.ensures.value, same) (
-          Consumes-trans (g.R.Intake.remaining c.args.reader.now) (g.R.Intake.remaining c.loop-read.reader) (g.R.Intake.remaining c.read.new.self) c.loop-read.bytes.items (take c.in-Ok.count c.read.new.buffer) c.loop-read.invariant.consumes c.in-Ok.ensures.bytes.0
+          Consumes-trans (g.R.Intake.seen c.args.reader.now).remaining (g.R.Intake.seen c.loop-read.reader).remaining (g.R.Intake.seen c.read.new.self).remaining c.loop-read.bytes.items (take c.in-Ok.count c.read.new.buffer) c.loop-read.invariant.consumes c.in-Ok.ensures.bytes.0
           );
-      reads = reads_more _ _ _ _ _ _ _ _ _ _ c.loop-read.invariant.reads (c.args.reads - (c.loop-read._read + 1)) _ _ _ _
+      reads = reads_more _ _ _ _ c.loop-read.invariant.reads (c.args.reads - (c.loop-read._read + 1)) _
           (UsesCalls-one (c.args.reads - c.loop-read._read) (c.args.reads - (c.loop-read._read + 1)) _ _ (omega arith) c.in-Ok.ensures.calls)
           c.in-Ok.ensures.no_failure (c.in-Ok.ensures.more (omega arith))
-          (AsManyBytesAsReads-read (c.args.reads - c.loop-read._read) (c.args.reads - (c.loop-read._read + 1)) (g.R.Intake.remaining c.loop-read.reader) (g.R.Intake.remaining c.read.new.self) (take c.in-Ok.count c.read.new.buffer) (omega arith) c.in-Ok.ensures.bytes.0 (omega arith));
+          (AsManyBytesAsReads-read (c.args.reads - c.loop-read._read) (c.args.reads - (c.loop-read._read + 1)) (g.R.Intake.seen c.loop-read.reader).remaining (g.R.Intake.seen c.read.new.self).remaining (take c.in-Ok.count c.read.new.buffer) (omega arith) c.in-Ok.ensures.bytes.0 (omega arith));
       room = search rules;
     }
 
 pub loop-read-init : goal.loop-read-init
 loop-read-init g c = record {
   consumes = search rules;
-  reads = no_reads c.args.reads (c.args.reads - 0) _ _ _ _ (omega arith);
+  reads = no_reads c.args.reads (c.args.reads - 0) _ (omega arith);
   room = search rules;
 }
 
 pub returns-in_err-resize-clause-reads : goal.returns-in_err-resize-clause-reads
 returns-in_err-resize-clause-reads g c =
     let told : bytes_told c.from_residual.result ≡ Other = let is : c.from_residual.result ≡ Err OutOfMemory = search rules in ap bytes_told is in
-    rw told (reads_stop _ _ _ _ _ _ _ _ _ _ (no_reads c.args.reads c.args.reads _ _ _ _ refl))
+    rw told (reads_stop _ _ _ _ (no_reads c.args.reads c.args.reads _ refl))
 
 pub returns-in_default-clause-reads : goal.returns-in_default-clause-reads
 returns-in_default-clause-reads g c =
-    reads_fail _ _ _ _ _ _ _ _ _ _ c.loop-read.invariant.reads (c.args.reads - (c.loop-read._read + 1)) _ _ _ _
+    reads_fail _ _ _ _ c.loop-read.invariant.reads (c.args.reads - (c.loop-read._read + 1)) _
     (UsesCalls-one (c.args.reads - c.loop-read._read) (c.args.reads - (c.loop-read._read + 1)) _ _ (omega arith) c.in_default.ensures.calls)
     Read c.in_default.ensures.fails c.in_default.ensures.stays (λ is. cc) (λ is. cc)
 
 pub returns-then-count-eq0-clause-reads : goal.returns-then-count-eq0-clause-reads
 returns-then-count-eq0-clause-reads g c =
-    reads_end _ _ _ _ _ _ _ _ _ _ c.loop-read.invariant.reads (c.args.reads - (c.loop-read._read + 1)) _ _ _ _
+    reads_end _ _ _ _ c.loop-read.invariant.reads (c.args.reads - (c.loop-read._read + 1)) _
     (UsesCalls-one (c.args.reads - c.loop-read._read) (c.args.reads - (c.loop-read._read + 1)) _ _ (omega arith) c.in-Ok.ensures.calls)
     c.in-Ok.ensures.no_failure (search rules) (search rules)
 
 pub returns-in_err-extend_from_slice-clause-reads : goal.returns-in_err-extend_from_slice-clause-reads
 returns-in_err-extend_from_slice-clause-reads g c =
     let size : length (take c.in-Ok.count c.read.new.buffer) ≡ c.in-Ok.count = length-take-le c.in-Ok.count c.read.new.buffer c.in-Ok.ensures.within in
-    let more = reads_more _ _ _ _ _ _ _ _ _ _ c.loop-read.invariant.reads (c.args.reads - (c.loop-read._read + 1)) _ _ _ _
+    let more = reads_more _ _ _ _ c.loop-read.invariant.reads (c.args.reads - (c.loop-read._read + 1)) _
     (UsesCalls-one (c.args.reads - c.loop-read._read) (c.args.reads - (c.loop-read._read + 1)) _ _ (omega arith) c.in-Ok.ensures.calls)
     c.in-Ok.ensures.no_failure (c.in-Ok.ensures.more (omega arith))
-    (AsManyBytesAsReads-read (c.args.reads - c.loop-read._read) (c.args.reads - (c.loop-read._read + 1)) (g.R.Intake.remaining c.loop-read.reader) (g.R.Intake.remaining c.read.new.self) (take c.in-Ok.count c.read.new.buffer) (omega arith) c.in-Ok.ensures.bytes.0 (omega arith)) in
+    (AsManyBytesAsReads-read (c.args.reads - c.loop-read._read) (c.args.reads - (c.loop-read._read + 1)) (g.R.Intake.seen c.loop-read.reader).remaining (g.R.Intake.seen c.read.new.self).remaining (take c.in-Ok.count c.read.new.buffer) (omega arith) c.in-Ok.ensures.bytes.0 (omega arith)) in
     let told : bytes_told c.from_residual-in_err-extend_from_slice.result ≡ Other = let is : c.from_residual-in_err-extend_from_slice.result ≡ Err OutOfMemory = search rules in ap bytes_told is in
-    rw told (reads_stop _ _ _ _ _ _ _ _ _ _ more)
+    rw told (reads_stop _ _ _ _ more)
 
 pub returns-clause-reads : goal.returns-clause-reads
 returns-clause-reads g c =
     let left = c.args.reads - c.loop-read._read in
-    reads_fail _ _ _ _ _ _ _ _ _ _ c.loop-read.invariant.reads left _ _ _ _ (UsesCalls-none left left _ _ refl refl)
+    reads_fail _ _ _ _ c.loop-read.invariant.reads left _ (UsesCalls-none left left _ _ refl refl)
     TooManyReads refl refl (λ is. omega arith) (λ is. AsManyBytesAsReads-start left _)

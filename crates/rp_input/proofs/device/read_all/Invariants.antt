@@ -5,8 +5,7 @@ use Rattle.rp_input.proofs.device.read_all.Given as goal
 
 abbrev pub invariant-loop-read : goal.invariant-loop-read
 invariant-loop-read g l = record {
-  consumes : Consumes (g.R.Intake.remaining l.fn.reader) (g.R.Intake.remaining l.reader) l.bytes.items;
-  reads : ReadsSoFar l.reads (l.reads - l._read) (g.R.Intake.calls l.fn.reader) (g.R.Intake.calls l.reader) (g.R.Intake.failures l.fn.reader) (g.R.Intake.failures l.reader)
-      (g.R.Intake.ended l.fn.reader) (g.R.Intake.ended l.reader) (g.R.Intake.remaining l.fn.reader) (g.R.Intake.remaining l.reader);
+  consumes : Consumes (g.R.Intake.seen l.fn.reader).remaining (g.R.Intake.seen l.reader).remaining l.bytes.items;
+  reads : ReadsSoFar l.reads (l.reads - l._read) (g.R.Intake.seen l.fn.reader) (g.R.Intake.seen l.reader);
   room : length l.chunk.items ≡ 65536;
 }

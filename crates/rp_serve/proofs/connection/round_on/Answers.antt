@@ -9,38 +9,38 @@ pub kept_after-requires : goal.kept_after-requires
 kept_after-requires g c = λ current same.
     subst (λ x. IsSavedAs g.N.Keeps.is_saved x (kept_bytes c.args.saved))
     (sym (all_still c.serve_counted.new.node g.N.Answers.step g.N.Answers.cut_short (λ x. x.node) (λ x. x.has_changed)
-    (g.R.Intake.remaining c.args.reader.now) _ (g.W.Outlet.contents c.args.writer.now) (g.W.Outlet.contents c.serve_counted.new.writer) c.serve_counted.new.count
+    (g.R.Intake.seen c.args.reader.now).remaining _ (g.W.Outlet.contents c.args.writer.now) (g.W.Outlet.contents c.serve_counted.new.writer) c.serve_counted.new.count
     (λ old request reply new done same. g.met.N.Keeps.unchanged old request reply new done same) c.in-Ok.ensures.served same)) (c.requires.known current)
 
 pub kept_after-requires-in-Err-Read : goal.kept_after-requires-in-Err-Read
 kept_after-requires-in-Err-Read g c = λ current same.
     subst (λ x. IsSavedAs g.N.Keeps.is_saved x (kept_bytes c.args.saved))
     (sym (read_still c.serve_counted.new.node g.N.Answers.step g.N.Answers.cut_short (λ x. x.node) (λ x. x.has_changed)
-    (g.R.Intake.remaining c.args.reader.now) _ (g.W.Outlet.contents c.args.writer.now) (g.W.Outlet.contents c.serve_counted.new.writer) c.serve_counted.new.count
+    (g.R.Intake.seen c.args.reader.now).remaining _ (g.W.Outlet.contents c.args.writer.now) (g.W.Outlet.contents c.serve_counted.new.writer) c.serve_counted.new.count
     (λ old request reply new done same. g.met.N.Keeps.unchanged old request reply new done same) c.in-Err-Read.field-0 c.in-Err-Read.field-0-is c.in-Err-Read.ensures.stops same)) (c.requires.known current)
 
 pub kept_after-requires-in-Err-Turns : goal.kept_after-requires-in-Err-Turns
 kept_after-requires-in-Err-Turns g c = λ current same.
     subst (λ x. IsSavedAs g.N.Keeps.is_saved x (kept_bytes c.args.saved))
     (sym (turns_still c.serve_counted.new.node g.N.Answers.step g.N.Answers.cut_short (λ x. x.node) (λ x. x.has_changed)
-    (g.R.Intake.remaining c.args.reader.now) _ (g.W.Outlet.contents c.args.writer.now) (g.W.Outlet.contents c.serve_counted.new.writer) c.serve_counted.new.count
+    (g.R.Intake.seen c.args.reader.now).remaining _ (g.W.Outlet.contents c.args.writer.now) (g.W.Outlet.contents c.serve_counted.new.writer) c.serve_counted.new.count
     (λ old request reply new done same. g.met.N.Keeps.unchanged old request reply new done same) c.in-Err-Turns.field-0 c.in-Err-Turns.field-0-is c.in-Err-Turns.ensures.stops same)) (c.requires.known current)
 
 pub gone_back-requires : goal.gone_back-requires
 gone_back-requires g c = λ bytes is.
     stops_keep g.N.Answers.step g.N.Answers.cut_short (λ x. g.N.Keeps.can_go_back x bytes.items)
     (λ old request reply new done has. g.met.N.Keeps.keeps old request reply new bytes.items done has) (λ old request new cut has. g.met.N.Keeps.keeps_cut old request new bytes.items cut has)
-    c.in-Err-Write.field-0 (g.R.Intake.remaining c.args.reader.now) c.args.node c.serve_counted.new.node.node (g.W.Outlet.contents c.args.writer.now) (g.W.Outlet.contents c.serve_counted.new.writer) c.serve_counted.new.count
+    c.in-Err-Write.field-0 (g.R.Intake.seen c.args.reader.now).remaining c.args.node c.serve_counted.new.node.node (g.W.Outlet.contents c.args.writer.now) (g.W.Outlet.contents c.serve_counted.new.writer) c.serve_counted.new.count
     (stops_of_node c.serve_counted.new.node g.N.Answers.step g.N.Answers.cut_short (λ x. x.node) (λ x. x.has_changed)
-    (g.R.Intake.remaining c.args.reader.now) _ (g.W.Outlet.contents c.args.writer.now) (g.W.Outlet.contents c.serve_counted.new.writer) c.serve_counted.new.count c.in-Err-Write.field-0 c.in-Err-Write.ensures.stops) (c.requires.back bytes is)
+    (g.R.Intake.seen c.args.reader.now).remaining _ (g.W.Outlet.contents c.args.writer.now) (g.W.Outlet.contents c.serve_counted.new.writer) c.serve_counted.new.count c.in-Err-Write.field-0 c.in-Err-Write.ensures.stops) (c.requires.back bytes is)
 
 pub gone_back-requires-in-Err-OutOfMemory : goal.gone_back-requires-in-Err-OutOfMemory
 gone_back-requires-in-Err-OutOfMemory g c = λ bytes is.
     stops_keep g.N.Answers.step g.N.Answers.cut_short (λ x. g.N.Keeps.can_go_back x bytes.items)
     (λ old request reply new done has. g.met.N.Keeps.keeps old request reply new bytes.items done has) (λ old request new cut has. g.met.N.Keeps.keeps_cut old request new bytes.items cut has)
-    c.in-Err-OutOfMemory.field-0 (g.R.Intake.remaining c.args.reader.now) c.args.node c.serve_counted.new.node.node (g.W.Outlet.contents c.args.writer.now) (g.W.Outlet.contents c.serve_counted.new.writer) c.serve_counted.new.count
+    c.in-Err-OutOfMemory.field-0 (g.R.Intake.seen c.args.reader.now).remaining c.args.node c.serve_counted.new.node.node (g.W.Outlet.contents c.args.writer.now) (g.W.Outlet.contents c.serve_counted.new.writer) c.serve_counted.new.count
     (stops_of_node c.serve_counted.new.node g.N.Answers.step g.N.Answers.cut_short (λ x. x.node) (λ x. x.has_changed)
-    (g.R.Intake.remaining c.args.reader.now) _ (g.W.Outlet.contents c.args.writer.now) (g.W.Outlet.contents c.serve_counted.new.writer) c.serve_counted.new.count c.in-Err-OutOfMemory.field-0 c.in-Err-OutOfMemory.ensures.stops) (c.requires.back bytes is)
+    (g.R.Intake.seen c.args.reader.now).remaining _ (g.W.Outlet.contents c.args.writer.now) (g.W.Outlet.contents c.serve_counted.new.writer) c.serve_counted.new.count c.in-Err-OutOfMemory.field-0 c.in-Err-OutOfMemory.ensures.stops) (c.requires.back bytes is)
 
 -- three facts of a value that is there make a fourth
 of_all : {T E : Type 0} (r : Result T E) (P Q R S : T → Type 0) → ((x : T) → P x → Q x → R x → S x) → IfOk r P → IfOk r Q → IfOk r R → IfOk r S
@@ -53,7 +53,7 @@ returns-in-Ok-clause-round g c =
     (λ end node saved told. rw (told.0, told.1) (record {
       left = c.serve_counted.new.node.node;
       session = all_of_node c.serve_counted.new.node g.N.Answers.step g.N.Answers.cut_short (λ x. x.node) (λ x. x.has_changed)
-          (g.R.Intake.remaining c.args.reader.now) _ (g.W.Outlet.contents c.args.writer.now) (g.W.Outlet.contents c.serve_counted.new.writer) c.serve_counted.new.count c.in-Ok.ensures.served;
+          (g.R.Intake.seen c.args.reader.now).remaining _ (g.W.Outlet.contents c.args.writer.now) (g.W.Outlet.contents c.serve_counted.new.writer) c.serve_counted.new.count c.in-Ok.ensures.served;
       keeping = (node, saved);
     })) c.kept_after.ensures.node c.kept_after.ensures.saved c.kept_after.ensures.ended
 
@@ -62,9 +62,9 @@ returns-in-Err-Read-clause-round g c =
     of_all c.kept_after-in-Err-Read.result _ _ _ _
     (λ end node saved told. rw (told.0, told.1) (record {
       left = c.serve_counted.new.node.node;
-      session = subst (λ f. StopsAfter g.N.Answers.step g.N.Answers.cut_short f (g.R.Intake.remaining c.args.reader.now) c.args.node c.serve_counted.new.node.node (g.W.Outlet.contents c.args.writer.now) (g.W.Outlet.contents c.serve_counted.new.writer) c.serve_counted.new.count)
+      session = subst (λ f. StopsAfter g.N.Answers.step g.N.Answers.cut_short f (g.R.Intake.seen c.args.reader.now).remaining c.args.node c.serve_counted.new.node.node (g.W.Outlet.contents c.args.writer.now) (g.W.Outlet.contents c.serve_counted.new.writer) c.serve_counted.new.count)
           c.in-Err-Read.field-0-is (stops_of_node c.serve_counted.new.node g.N.Answers.step g.N.Answers.cut_short (λ x. x.node) (λ x. x.has_changed)
-          (g.R.Intake.remaining c.args.reader.now) _ (g.W.Outlet.contents c.args.writer.now) (g.W.Outlet.contents c.serve_counted.new.writer) c.serve_counted.new.count c.in-Err-Read.field-0 c.in-Err-Read.ensures.stops);
+          (g.R.Intake.seen c.args.reader.now).remaining _ (g.W.Outlet.contents c.args.writer.now) (g.W.Outlet.contents c.serve_counted.new.writer) c.serve_counted.new.count c.in-Err-Read.field-0 c.in-Err-Read.ensures.stops);
       keeping = (node, saved);
     })) c.kept_after-in-Err-Read.ensures.node c.kept_after-in-Err-Read.ensures.saved c.kept_after-in-Err-Read.ensures.ended
 
@@ -73,9 +73,9 @@ returns-in-Err-Turns-clause-round g c =
     of_all c.kept_after-in-Err-Turns.result _ _ _ _
     (λ end node saved told. rw (told.0, told.1) (record {
       left = c.serve_counted.new.node.node;
-      session = subst (λ f. StopsAfter g.N.Answers.step g.N.Answers.cut_short f (g.R.Intake.remaining c.args.reader.now) c.args.node c.serve_counted.new.node.node (g.W.Outlet.contents c.args.writer.now) (g.W.Outlet.contents c.serve_counted.new.writer) c.serve_counted.new.count)
+      session = subst (λ f. StopsAfter g.N.Answers.step g.N.Answers.cut_short f (g.R.Intake.seen c.args.reader.now).remaining c.args.node c.serve_counted.new.node.node (g.W.Outlet.contents c.args.writer.now) (g.W.Outlet.contents c.serve_counted.new.writer) c.serve_counted.new.count)
           c.in-Err-Turns.field-0-is (stops_of_node c.serve_counted.new.node g.N.Answers.step g.N.Answers.cut_short (λ x. x.node) (λ x. x.has_changed)
-          (g.R.Intake.remaining c.args.reader.now) _ (g.W.Outlet.contents c.args.writer.now) (g.W.Outlet.contents c.serve_counted.new.writer) c.serve_counted.new.count c.in-Err-Turns.field-0 c.in-Err-Turns.ensures.stops);
+          (g.R.Intake.seen c.args.reader.now).remaining _ (g.W.Outlet.contents c.args.writer.now) (g.W.Outlet.contents c.serve_counted.new.writer) c.serve_counted.new.count c.in-Err-Turns.field-0 c.in-Err-Turns.ensures.stops);
       keeping = (node, saved);
     })) c.kept_after-in-Err-Turns.ensures.node c.kept_after-in-Err-Turns.ensures.saved c.kept_after-in-Err-Turns.ensures.ended
 
@@ -84,9 +84,9 @@ returns-in-Err-Write-clause-round g c =
     of_all c.gone_back.result _ _ _ _
     (λ end node saved told. rw (told.0, told.1) (record {
       left = c.serve_counted.new.node.node;
-      session = subst (λ f. StopsAfter g.N.Answers.step g.N.Answers.cut_short f (g.R.Intake.remaining c.args.reader.now) c.args.node c.serve_counted.new.node.node (g.W.Outlet.contents c.args.writer.now) (g.W.Outlet.contents c.serve_counted.new.writer) c.serve_counted.new.count)
+      session = subst (λ f. StopsAfter g.N.Answers.step g.N.Answers.cut_short f (g.R.Intake.seen c.args.reader.now).remaining c.args.node c.serve_counted.new.node.node (g.W.Outlet.contents c.args.writer.now) (g.W.Outlet.contents c.serve_counted.new.writer) c.serve_counted.new.count)
           c.in-Err-Write.field-0-is (stops_of_node c.serve_counted.new.node g.N.Answers.step g.N.Answers.cut_short (λ x. x.node) (λ x. x.has_changed)
-          (g.R.Intake.remaining c.args.reader.now) _ (g.W.Outlet.contents c.args.writer.now) (g.W.Outlet.contents c.serve_counted.new.writer) c.serve_counted.new.count c.in-Err-Write.field-0 c.in-Err-Write.ensures.stops);
+          (g.R.Intake.seen c.args.reader.now).remaining _ (g.W.Outlet.contents c.args.writer.now) (g.W.Outlet.contents c.serve_counted.new.writer) c.serve_counted.new.count c.in-Err-Write.field-0 c.in-Err-Write.ensures.stops);
       keeping = (node, saved);
     })) c.gone_back.ensures.node c.gone_back.ensures.saved c.gone_back.ensures.ended
 
@@ -95,8 +95,8 @@ returns-in-Err-OutOfMemory-clause-round g c =
     of_all c.gone_back-in-Err-OutOfMemory.result _ _ _ _
     (λ end node saved told. rw (told.0, told.1) (record {
       left = c.serve_counted.new.node.node;
-      session = subst (λ f. StopsAfter g.N.Answers.step g.N.Answers.cut_short f (g.R.Intake.remaining c.args.reader.now) c.args.node c.serve_counted.new.node.node (g.W.Outlet.contents c.args.writer.now) (g.W.Outlet.contents c.serve_counted.new.writer) c.serve_counted.new.count)
+      session = subst (λ f. StopsAfter g.N.Answers.step g.N.Answers.cut_short f (g.R.Intake.seen c.args.reader.now).remaining c.args.node c.serve_counted.new.node.node (g.W.Outlet.contents c.args.writer.now) (g.W.Outlet.contents c.serve_counted.new.writer) c.serve_counted.new.count)
           c.in-Err-OutOfMemory.field-0-is (stops_of_node c.serve_counted.new.node g.N.Answers.step g.N.Answers.cut_short (λ x. x.node) (λ x. x.has_changed)
-          (g.R.Intake.remaining c.args.reader.now) _ (g.W.Outlet.contents c.args.writer.now) (g.W.Outlet.contents c.serve_counted.new.writer) c.serve_counted.new.count c.in-Err-OutOfMemory.field-0 c.in-Err-OutOfMemory.ensures.stops);
+          (g.R.Intake.seen c.args.reader.now).remaining _ (g.W.Outlet.contents c.args.writer.now) (g.W.Outlet.contents c.serve_counted.new.writer) c.serve_counted.new.count c.in-Err-OutOfMemory.field-0 c.in-Err-OutOfMemory.ensures.stops);
       keeping = (node, saved);
     })) c.gone_back-in-Err-OutOfMemory.ensures.node c.gone_back-in-Err-OutOfMemory.ensures.saved c.gone_back-in-Err-OutOfMemory.ensures.ended

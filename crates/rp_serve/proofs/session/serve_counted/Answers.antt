@@ -16,25 +16,25 @@ loop-text-init g c =
     let lines = none_pending c.new-lines.result c.new-lines.ensures.pending in
     record {
       serving = rw c.requires
-          (serving_start g.N.Answers.step (g.R.Intake.remaining c.args.reader.now) c.args.node.now (g.W.Outlet.contents c.args.writer.now) (pending_of c.new-lines.result) c.new-text.result.items
+          (serving_start g.N.Answers.step (g.R.Intake.seen c.args.reader.now).remaining c.args.node.now (g.W.Outlet.contents c.args.writer.now) (pending_of c.new-lines.result) c.new-text.result.items
           c.new-lines.ensures.pending c.new-text.ensures.items);
       kept = c.new-lines.ensures.kept;
       write = refl;
-      reads = no_reads c.args.turns c.new-lines.result.reads _ _ _ _ c.new-lines.ensures.reads;
+      reads = no_reads c.args.turns c.new-lines.result.reads _ c.new-lines.ensures.reads;
       bounded = omega (arith, lines, c.new-lines.ensures.reads);
     }
 
 pub returns-in_err-next_line-clause-stops : goal.returns-in_err-next_line-clause-stops
 returns-in_err-next_line-clause-stops g c =
     let step = g.N.Answers.step in
-    let input = g.R.Intake.remaining c.args.reader.now in
+    let input = (g.R.Intake.seen c.args.reader.now).remaining in
     let old = c.args.node.now in
     let now = c.loop-text.node in
     let w = g.W.Outlet.contents c.args.writer.now in
     let w1 = g.W.Outlet.contents c.loop-text.writer in
     let w2 = g.W.Outlet.contents c.next_line.new.writer in
-    let before = coming c.loop-text.lines (g.R.Intake.remaining c.loop-text.reader) in
-    let after = coming c.next_line.new.lines (g.R.Intake.remaining c.next_line.new.reader) in
+    let before = coming c.loop-text.lines (g.R.Intake.seen c.loop-text.reader) in
+    let after = coming c.next_line.new.lines (g.R.Intake.seen c.next_line.new.reader) in
     let line = c.next_line.new.line.items in
     let text1 = c.next_line.new.text.items in
     let so_far = c.loop-text.invariant.serving in
@@ -46,14 +46,14 @@ returns-in_err-next_line-clause-stops g c =
 pub returns-in_err-answer_line-clause-stops : goal.returns-in_err-answer_line-clause-stops
 returns-in_err-answer_line-clause-stops g c =
     let step = g.N.Answers.step in
-    let input = g.R.Intake.remaining c.args.reader.now in
+    let input = (g.R.Intake.seen c.args.reader.now).remaining in
     let old = c.args.node.now in
     let now = c.loop-text.node in
     let w = g.W.Outlet.contents c.args.writer.now in
     let w1 = g.W.Outlet.contents c.loop-text.writer in
     let w2 = g.W.Outlet.contents c.next_line.new.writer in
-    let before = coming c.loop-text.lines (g.R.Intake.remaining c.loop-text.reader) in
-    let after = coming c.next_line.new.lines (g.R.Intake.remaining c.next_line.new.reader) in
+    let before = coming c.loop-text.lines (g.R.Intake.seen c.loop-text.reader) in
+    let after = coming c.next_line.new.lines (g.R.Intake.seen c.next_line.new.reader) in
     let line = c.next_line.new.line.items in
     let text1 = c.next_line.new.text.items in
     let so_far = c.loop-text.invariant.serving in
@@ -68,14 +68,14 @@ returns-in_err-answer_line-clause-stops g c =
 pub returns-in_err-write_block-clause-stops : goal.returns-in_err-write_block-clause-stops
 returns-in_err-write_block-clause-stops g c =
     let step = g.N.Answers.step in
-    let input = g.R.Intake.remaining c.args.reader.now in
+    let input = (g.R.Intake.seen c.args.reader.now).remaining in
     let old = c.args.node.now in
     let now = c.loop-text.node in
     let w = g.W.Outlet.contents c.args.writer.now in
     let w1 = g.W.Outlet.contents c.loop-text.writer in
     let w2 = g.W.Outlet.contents c.next_line.new.writer in
-    let before = coming c.loop-text.lines (g.R.Intake.remaining c.loop-text.reader) in
-    let after = coming c.next_line.new.lines (g.R.Intake.remaining c.next_line.new.reader) in
+    let before = coming c.loop-text.lines (g.R.Intake.seen c.loop-text.reader) in
+    let after = coming c.next_line.new.lines (g.R.Intake.seen c.next_line.new.reader) in
     let line = c.next_line.new.line.items in
     let text1 = c.next_line.new.text.items in
     let so_far = c.loop-text.invariant.serving in
@@ -92,14 +92,14 @@ returns-in_err-write_block-clause-stops g c =
 pub loop-text-preserved : goal.loop-text-preserved
 loop-text-preserved g c =
     let step = g.N.Answers.step in
-    let input = g.R.Intake.remaining c.args.reader.now in
+    let input = (g.R.Intake.seen c.args.reader.now).remaining in
     let old = c.args.node.now in
     let now = c.loop-text.node in
     let w = g.W.Outlet.contents c.args.writer.now in
     let w1 = g.W.Outlet.contents c.loop-text.writer in
     let w2 = g.W.Outlet.contents c.next_line.new.writer in
-    let before = coming c.loop-text.lines (g.R.Intake.remaining c.loop-text.reader) in
-    let after = coming c.next_line.new.lines (g.R.Intake.remaining c.next_line.new.reader) in
+    let before = coming c.loop-text.lines (g.R.Intake.seen c.loop-text.reader) in
+    let after = coming c.next_line.new.lines (g.R.Intake.seen c.next_line.new.reader) in
     let line = c.next_line.new.line.items in
     let text1 = c.next_line.new.text.items in
     let so_far = c.loop-text.invariant.serving in
@@ -113,21 +113,21 @@ loop-text-preserved g c =
           c.in_ok-write_block.ensures.ok;
       kept = c.in_ok-next_line.ensures.kept;
       write = c.in_ok-write_block.ensures.no_failure ∙ c.in_ok-next_line.ensures.write ∙ c.loop-text.invariant.write;
-      reads = reads_both _ _ _ _ _ _ _ _ _ _ c.loop-text.invariant.reads _ _ _ _ _ (came_more _ _ _ _ _ _ _ _ _ _ _ (search rules) c.in_ok-next_line.ensures.reads);
+      reads = reads_both _ _ _ _ c.loop-text.invariant.reads _ _ (came_more _ _ _ _ _ (search rules) c.in_ok-next_line.ensures.reads);
       bounded = omega (arith, falls, c.loop-text.invariant.bounded);
     }
 
 pub returns-in_err-is_line-clause-stops : goal.returns-in_err-is_line-clause-stops
 returns-in_err-is_line-clause-stops g c =
     let step = g.N.Answers.step in
-    let input = g.R.Intake.remaining c.args.reader.now in
+    let input = (g.R.Intake.seen c.args.reader.now).remaining in
     let old = c.args.node.now in
     let now = c.loop-text.node in
     let w = g.W.Outlet.contents c.args.writer.now in
     let w1 = g.W.Outlet.contents c.loop-text.writer in
     let w2 = g.W.Outlet.contents c.next_line.new.writer in
-    let before = coming c.loop-text.lines (g.R.Intake.remaining c.loop-text.reader) in
-    let after = coming c.next_line.new.lines (g.R.Intake.remaining c.next_line.new.reader) in
+    let before = coming c.loop-text.lines (g.R.Intake.seen c.loop-text.reader) in
+    let after = coming c.next_line.new.lines (g.R.Intake.seen c.next_line.new.reader) in
     let line = c.next_line.new.line.items in
     let text1 = c.next_line.new.text.items in
     let so_far = c.loop-text.invariant.serving in
@@ -142,14 +142,14 @@ returns-in_err-is_line-clause-stops g c =
 pub returns-in_err-write_all-clause-stops : goal.returns-in_err-write_all-clause-stops
 returns-in_err-write_all-clause-stops g c =
     let step = g.N.Answers.step in
-    let input = g.R.Intake.remaining c.args.reader.now in
+    let input = (g.R.Intake.seen c.args.reader.now).remaining in
     let old = c.args.node.now in
     let now = c.loop-text.node in
     let w = g.W.Outlet.contents c.args.writer.now in
     let w1 = g.W.Outlet.contents c.loop-text.writer in
     let w2 = g.W.Outlet.contents c.next_line.new.writer in
-    let before = coming c.loop-text.lines (g.R.Intake.remaining c.loop-text.reader) in
-    let after = coming c.next_line.new.lines (g.R.Intake.remaining c.next_line.new.reader) in
+    let before = coming c.loop-text.lines (g.R.Intake.seen c.loop-text.reader) in
+    let after = coming c.next_line.new.lines (g.R.Intake.seen c.next_line.new.reader) in
     let line = c.next_line.new.line.items in
     let text1 = c.next_line.new.text.items in
     let so_far = c.loop-text.invariant.serving in
@@ -175,14 +175,14 @@ returns-in_err-write_all-clause-stops g c =
 pub returns-clause-served : goal.returns-clause-served
 returns-clause-served g c =
     let step = g.N.Answers.step in
-    let input = g.R.Intake.remaining c.args.reader.now in
+    let input = (g.R.Intake.seen c.args.reader.now).remaining in
     let old = c.args.node.now in
     let now = c.loop-text.node in
     let w = g.W.Outlet.contents c.args.writer.now in
     let w1 = g.W.Outlet.contents c.loop-text.writer in
     let w2 = g.W.Outlet.contents c.next_line.new.writer in
-    let before = coming c.loop-text.lines (g.R.Intake.remaining c.loop-text.reader) in
-    let after = coming c.next_line.new.lines (g.R.Intake.remaining c.next_line.new.reader) in
+    let before = coming c.loop-text.lines (g.R.Intake.seen c.loop-text.reader) in
+    let after = coming c.next_line.new.lines (g.R.Intake.seen c.next_line.new.reader) in
     let line = c.next_line.new.line.items in
     let text1 = c.next_line.new.text.items in
     let so_far = c.loop-text.invariant.serving in
@@ -209,33 +209,33 @@ pub returns-in_err-next_line-clause-reads : goal.returns-in_err-next_line-clause
 returns-in_err-next_line-clause-reads g c =
     let why = c.in_err-next_line.field-0.0 in
     let is : c.from_residual.result ≡ Err why = search rules in
-    rw is (reads_all _ _ _ _ _ _ _ _ _ _ _ (reads_then _ _ _ _ _ _ _ _ _ _ c.loop-text.invariant.reads _ _ _ _ _ _ c.in_err-next_line.ensures.reads))
+    rw is (reads_all _ _ _ _ _ (reads_then _ _ _ _ c.loop-text.invariant.reads _ _ _ c.in_err-next_line.ensures.reads))
 
 pub returns-in_err-answer_line-clause-reads : goal.returns-in_err-answer_line-clause-reads
 returns-in_err-answer_line-clause-reads g c =
     let is : c.from_residual-in_err-answer_line.result ≡ Err OutOfMemory = search rules in
-    rw is (reads_all _ _ _ _ _ _ _ _ _ _ _ (part_stops _ _ _ _ _ _ _ _ _ _
-    (reads_both _ _ _ _ _ _ _ _ _ _ c.loop-text.invariant.reads _ _ _ _ _ (came_more _ _ _ _ _ _ _ _ _ _ _ (search rules) c.in_ok-next_line.ensures.reads))))
+    rw is (reads_all _ _ _ _ _ (part_stops _ _ _ _
+    (reads_both _ _ _ _ c.loop-text.invariant.reads _ _ (came_more _ _ _ _ _ (search rules) c.in_ok-next_line.ensures.reads))))
 
 pub returns-in_err-write_block-clause-reads : goal.returns-in_err-write_block-clause-reads
 returns-in_err-write_block-clause-reads g c =
     let is : c.from_residual-in_err-write_block.result ≡ Err Write = search rules in
-    rw is (reads_all _ _ _ _ _ _ _ _ _ _ _ (part_stops _ _ _ _ _ _ _ _ _ _
-    (reads_both _ _ _ _ _ _ _ _ _ _ c.loop-text.invariant.reads _ _ _ _ _ (came_more _ _ _ _ _ _ _ _ _ _ _ (search rules) c.in_ok-next_line.ensures.reads))))
+    rw is (reads_all _ _ _ _ _ (part_stops _ _ _ _
+    (reads_both _ _ _ _ c.loop-text.invariant.reads _ _ (came_more _ _ _ _ _ (search rules) c.in_ok-next_line.ensures.reads))))
 
 pub returns-in_err-is_line-clause-reads : goal.returns-in_err-is_line-clause-reads
 returns-in_err-is_line-clause-reads g c =
     let is : c.from_residual-in_err-is_line.result ≡ Err OutOfMemory = search rules in
-    rw is (reads_all _ _ _ _ _ _ _ _ _ _ _ (end_stops _ _ _ _ _ _ _ _ _ _
-    (reads_then _ _ _ _ _ _ _ _ _ _ c.loop-text.invariant.reads _ _ _ _ _ _ (came_last _ _ _ _ _ _ _ _ _ _ _ (search rules) c.in_ok-next_line.ensures.reads))))
+    rw is (reads_all _ _ _ _ _ (end_stops _ _ _ _
+    (reads_then _ _ _ _ c.loop-text.invariant.reads _ _ _ (came_last _ _ _ _ _ (search rules) c.in_ok-next_line.ensures.reads))))
 
 pub returns-in_err-write_all-clause-reads : goal.returns-in_err-write_all-clause-reads
 returns-in_err-write_all-clause-reads g c =
     let is : c.from_residual-in_err-write_all.result ≡ Err Write = search rules in
-    rw is (reads_all _ _ _ _ _ _ _ _ _ _ _ (end_stops _ _ _ _ _ _ _ _ _ _
-    (reads_then _ _ _ _ _ _ _ _ _ _ c.loop-text.invariant.reads _ _ _ _ _ _ (came_last _ _ _ _ _ _ _ _ _ _ _ (search rules) c.in_ok-next_line.ensures.reads))))
+    rw is (reads_all _ _ _ _ _ (end_stops _ _ _ _
+    (reads_then _ _ _ _ c.loop-text.invariant.reads _ _ _ (came_last _ _ _ _ _ (search rules) c.in_ok-next_line.ensures.reads))))
 
 pub returns-clause-reads : goal.returns-clause-reads
 returns-clause-reads g c =
-    reads_all _ _ _ _ _ _ _ _ _ _ _
-    (reads_then _ _ _ _ _ _ _ _ _ _ c.loop-text.invariant.reads _ _ _ _ _ _ (came_last _ _ _ _ _ _ _ _ _ _ _ (search rules) c.in_ok-next_line.ensures.reads))
+    reads_all _ _ _ _ _
+    (reads_then _ _ _ _ c.loop-text.invariant.reads _ _ _ (came_last _ _ _ _ _ (search rules) c.in_ok-next_line.ensures.reads))

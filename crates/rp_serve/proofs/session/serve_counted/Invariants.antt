@@ -6,12 +6,11 @@ use Rattle.rp_serve.proofs.session.serve_counted.Given as goal
 
 abbrev pub invariant-loop-text : goal.invariant-loop-text
 invariant-loop-text g l = record {
-  serving : Serving g.N.Answers.step (g.R.Intake.remaining l.fn.reader) (coming l.lines (g.R.Intake.remaining l.reader)) l.fn.node l.node
+  serving : Serving g.N.Answers.step (g.R.Intake.seen l.fn.reader).remaining (coming l.lines (g.R.Intake.seen l.reader)) l.fn.node l.node
       (g.W.Outlet.contents l.fn.writer) (g.W.Outlet.contents l.writer) l.text.items l.count;
   kept : l.lines.kept ≡ 65537;
   write : g.W.Outlet.failures l.writer ≡ g.W.Outlet.failures l.fn.writer;
-  reads : ReadsSoFar l.turns l.lines.reads (g.R.Intake.calls l.fn.reader) (g.R.Intake.calls l.reader) (g.R.Intake.failures l.fn.reader) (g.R.Intake.failures l.reader)
-      (g.R.Intake.ended l.fn.reader) (g.R.Intake.ended l.reader) (g.R.Intake.remaining l.fn.reader) (g.R.Intake.remaining l.reader);
+  reads : ReadsSoFar l.turns l.lines.reads (g.R.Intake.seen l.fn.reader) (g.R.Intake.seen l.reader);
   bounded : l.count + most_lines_to_come l.lines ≤ l.turns * 65536;
 }
 

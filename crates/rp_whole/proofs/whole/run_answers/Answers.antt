@@ -11,7 +11,7 @@ pub returns-clause-written : goal.returns-clause-written
 returns-clause-written g c =
     let form = g.G.Gathered.form in
     let q = data_of c.args.query in
-    let input = g.R.Intake.remaining c.args.reader.now in
+    let input = (g.R.Intake.seen c.args.reader.now).remaining in
     let old = g.W.Outlet.contents c.args.writer.now in
     let new = g.W.Outlet.contents c.write_answers.new.writer in
     let rows = c.in_ok-rows.rows.items in
@@ -23,7 +23,7 @@ pub returns-in_err-ended-clause-front : goal.returns-in_err-ended-clause-front
 returns-in_err-ended-clause-front g c =
     let form = g.G.Gathered.form in
     let q = data_of c.args.query in
-    let input = g.R.Intake.remaining c.args.reader.now in
+    let input = (g.R.Intake.seen c.args.reader.now).remaining in
     let old = g.W.Outlet.contents c.args.writer.now in
     let new = g.W.Outlet.contents c.write_answers.new.writer in
     let rows = c.in_ok-rows.rows.items in
@@ -37,10 +37,10 @@ pub returns-in_err-rows-clause-reads : goal.returns-in_err-rows-clause-reads
 returns-in_err-rows-clause-reads g c =
     let why = c.in_err-rows.field-0.0 in
     let is : c.from_residual.result ≡ Err (told_csv why) = search rules in
-    rw is (input_told _ _ _ _ _ _ _ _ _ why c.in_err-rows.ensures.reads)
+    rw is (input_told _ _ _ why c.in_err-rows.ensures.reads)
 
 pub returns-in_err-ended-clause-reads : goal.returns-in_err-ended-clause-reads
 returns-in_err-ended-clause-reads g c =
     let why = c.in_err-ended.field-0.0 in
     let is : c.from_residual-in_err-ended.result ≡ Err why = search rules in
-    rw is (fault_after _ _ _ _ _ _ _ _ _ why c.in_err-ended.ensures.fault c.in_ok-rows.ensures.reads)
+    rw is (fault_after _ _ _ why c.in_err-ended.ensures.fault c.in_ok-rows.ensures.reads)

@@ -29,15 +29,15 @@ all_done = Ok tt
 
 pub loop-packet-init : goal.loop-packet-init
 loop-packet-init g c =
-    let input = g.R.Intake.remaining c.args.reader.now in
+    let input = (g.R.Intake.seen c.args.reader.now).remaining in
     record {
-      goes = goes_none (data_of c.args.self.now.query.now) c.args.self.now.budget c.args.self.now.node_number (Packets c.args.packets.now) (replies_within c.args.self.now.limit input) (replies_left c.new-replies.result input)
+      goes = goes_none (data_of c.args.self.now.query.now) c.args.self.now.budget c.args.self.now.node_number (Packets c.args.packets.now) (replies_within c.args.self.now.limit input) (replies_left c.new-replies.result (g.R.Intake.seen c.args.reader.now))
           (g.W.Outlet.contents c.args.writer.now) (g.O.Outlet.contents c.args.out.now)
           (left_start c.args.self.now.limit c.new-replies.result.limit c.new-replies.result.over (pending_of c.new-replies.result.lines) input c.new-replies.ensures.limit c.new-replies.ensures.over c.new-replies.ensures.pending);
       at = c.requires.place;
       write = refl;
       told = refl;
-      reads = rw (c.new-replies.ensures.over, c.new-replies.ensures.reads) (hears_none false c.args.self.now.reads _ _ _ _);
+      reads = rw (c.new-replies.ensures.over, c.new-replies.ensures.reads) (hears_none false c.args.self.now.reads _);
     }
 
 pub returns-in_err-hand_over-clause-stops : goal.returns-in_err-hand_over-clause-stops
@@ -45,8 +45,8 @@ returns-in_err-hand_over-clause-stops g c =
     let q = data_of c.args.self.now.query.now in
     let packets = c.args.packets.now in
     let i = c.loop-packet.packet-index in
-    let input = g.R.Intake.remaining c.args.reader.now in
-    let mid = replies_left c.loop-packet.replies (g.R.Intake.remaining c.loop-packet.reader) in
+    let input = (g.R.Intake.seen c.args.reader.now).remaining in
+    let mid = replies_left c.loop-packet.replies (g.R.Intake.seen c.loop-packet.reader) in
     let w = g.W.Outlet.contents c.args.writer.now in
     let w1 = g.W.Outlet.contents c.loop-packet.writer in
     let w2 = g.W.Outlet.contents c.hand_over.new.writer in
@@ -68,8 +68,8 @@ returns-in_err-hand_over-clause-front g c =
     let q = data_of c.args.self.now.query.now in
     let packets = c.args.packets.now in
     let i = c.loop-packet.packet-index in
-    let input = g.R.Intake.remaining c.args.reader.now in
-    let mid = replies_left c.loop-packet.replies (g.R.Intake.remaining c.loop-packet.reader) in
+    let input = (g.R.Intake.seen c.args.reader.now).remaining in
+    let mid = replies_left c.loop-packet.replies (g.R.Intake.seen c.loop-packet.reader) in
     let w = g.W.Outlet.contents c.args.writer.now in
     let w1 = g.W.Outlet.contents c.loop-packet.writer in
     let w2 = g.W.Outlet.contents c.hand_over.new.writer in
@@ -90,8 +90,8 @@ returns-in_err-hand_over-clause-at g c =
     let q = data_of c.args.self.now.query.now in
     let packets = c.args.packets.now in
     let i = c.loop-packet.packet-index in
-    let input = g.R.Intake.remaining c.args.reader.now in
-    let mid = replies_left c.loop-packet.replies (g.R.Intake.remaining c.loop-packet.reader) in
+    let input = (g.R.Intake.seen c.args.reader.now).remaining in
+    let mid = replies_left c.loop-packet.replies (g.R.Intake.seen c.loop-packet.reader) in
     let w = g.W.Outlet.contents c.args.writer.now in
     let w1 = g.W.Outlet.contents c.loop-packet.writer in
     let w2 = g.W.Outlet.contents c.hand_over.new.writer in
@@ -121,9 +121,9 @@ loop-packet-preserved g c =
     let q = data_of c.args.self.now.query.now in
     let packets = c.args.packets.now in
     let i = c.loop-packet.packet-index in
-    let input = g.R.Intake.remaining c.args.reader.now in
-    let mid = replies_left c.loop-packet.replies (g.R.Intake.remaining c.loop-packet.reader) in
-    let left = replies_left c.hand_over.new.replies (g.R.Intake.remaining c.hand_over.new.reader) in
+    let input = (g.R.Intake.seen c.args.reader.now).remaining in
+    let mid = replies_left c.loop-packet.replies (g.R.Intake.seen c.loop-packet.reader) in
+    let left = replies_left c.hand_over.new.replies (g.R.Intake.seen c.hand_over.new.reader) in
     let w = g.W.Outlet.contents c.args.writer.now in
     let w1 = g.W.Outlet.contents c.loop-packet.writer in
     let w2 = g.W.Outlet.contents c.hand_over.new.writer in
@@ -139,15 +139,15 @@ loop-packet-preserved g c =
       at = ap (λ n. n + 1) c.loop-packet.invariant.at;
       write = c.in_ok-hand_over.ensures.write.0 ∙ c.loop-packet.invariant.write;
       told = c.in_ok-hand_over.ensures.write.1 ∙ c.loop-packet.invariant.told;
-      reads = hears_both _ _ _ _ _ _ _ _ _ _ _ _ _ _ _ false None c.loop-packet.replies.over c.hand_over.new.replies.over c.loop-packet.invariant.reads c.in_ok-hand_over.ensures.reads;
+      reads = hears_both _ _ _ _ _ _ false None c.loop-packet.replies.over c.hand_over.new.replies.over c.loop-packet.invariant.reads c.in_ok-hand_over.ensures.reads;
     }
 
 pub returns-clause-done : goal.returns-clause-done
 returns-clause-done g c =
     let q = data_of c.args.self.now.query.now in
     let packets = c.args.packets.now in
-    let input = g.R.Intake.remaining c.args.reader.now in
-    let mid = replies_left c.loop-packet.replies (g.R.Intake.remaining c.loop-packet.reader) in
+    let input = (g.R.Intake.seen c.args.reader.now).remaining in
+    let mid = replies_left c.loop-packet.replies (g.R.Intake.seen c.loop-packet.reader) in
     let w = g.W.Outlet.contents c.args.writer.now in
     let w1 = g.W.Outlet.contents c.loop-packet.writer in
     let o = g.O.Outlet.contents c.args.out.now in
@@ -161,10 +161,9 @@ returns-in_err-hand_over-clause-reads g c =
     let why = c.in_err-hand_over.field-0.0 in
     let is : c.from_residual.result ≡ Err why = search rules in
     let heard : HearsBy (cut_by c.from_residual.result) false c.hand_over.new.replies.over c.args.self.now.reads c.hand_over.new.replies.lines.reads
-    (g.R.Intake.calls c.args.reader.now) (g.R.Intake.calls c.hand_over.new.reader) (g.R.Intake.failures c.args.reader.now) (g.R.Intake.failures c.hand_over.new.reader)
-    (g.R.Intake.ended c.args.reader.now) (g.R.Intake.ended c.hand_over.new.reader) (g.R.Intake.remaining c.args.reader.now) (g.R.Intake.remaining c.hand_over.new.reader) =
-    rw is (hears_both _ _ _ _ _ _ _ _ _ _ _ _ _ _ _ false (cut_by (as_unit why)) c.loop-packet.replies.over c.hand_over.new.replies.over c.loop-packet.invariant.reads c.in_err-hand_over.ensures.reads) in
-    hears_all false _ _ _ _ _ _ _ _ _ _ c.from_residual.result c.hand_over.new.replies.over heard
+    (g.R.Intake.seen c.args.reader.now) (g.R.Intake.seen c.hand_over.new.reader) =
+    rw is (hears_both _ _ _ _ _ _ false (cut_by (as_unit why)) c.loop-packet.replies.over c.hand_over.new.replies.over c.loop-packet.invariant.reads c.in_err-hand_over.ensures.reads) in
+    hears_all false _ _ _ _ c.from_residual.result c.hand_over.new.replies.over heard
 
 pub returns-clause-reads : goal.returns-clause-reads
-returns-clause-reads g c = hears_all false _ _ _ _ _ _ _ _ _ _ all_done c.loop-packet.replies.over c.loop-packet.invariant.reads
+returns-clause-reads g c = hears_all false _ _ _ _ all_done c.loop-packet.replies.over c.loop-packet.invariant.reads

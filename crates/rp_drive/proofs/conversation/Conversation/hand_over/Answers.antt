@@ -17,7 +17,7 @@ use Rattle.rp_drive.proofs.conversation.Conversation.hand_over.Goals as goal
 pub returns-in_err-key-clause-stops : goal.returns-in_err-key-clause-stops
 returns-in_err-key-clause-stops g c =
     let q = data_of c.args.self.now.query.now in
-    let all = replies_left c.args.replies.now (g.R.Intake.remaining c.args.reader.now) in
+    let all = replies_left c.args.replies.now (g.R.Intake.seen c.args.reader.now) in
     let is : c.from_residual.result ≡ Err OutOfMemory = search rules in
     if_err_is c.from_residual.result OutOfMemory _ is
     (λ rest. part_none q c.args.self.now.budget c.args.self.now.node_number (Packets (c.args.packet.now ∷ rest)) all (g.W.Outlet.contents c.args.writer.now) (g.O.Outlet.contents c.args.out.now))
@@ -25,7 +25,7 @@ returns-in_err-key-clause-stops g c =
 pub returns-in_err-line-clause-stops : goal.returns-in_err-line-clause-stops
 returns-in_err-line-clause-stops g c =
     let q = data_of c.args.self.now.query.now in
-    let all = replies_left c.args.replies.now (g.R.Intake.remaining c.args.reader.now) in
+    let all = replies_left c.args.replies.now (g.R.Intake.seen c.args.reader.now) in
     let is : c.from_residual-in_err-line.result ≡ Err OutOfMemory = search rules in
     if_err_is c.from_residual-in_err-line.result OutOfMemory _ is
     (λ rest. part_none q c.args.self.now.budget c.args.self.now.node_number (Packets (c.args.packet.now ∷ rest)) all (g.W.Outlet.contents c.args.writer.now) (g.O.Outlet.contents c.args.out.now))
@@ -33,7 +33,7 @@ returns-in_err-line-clause-stops g c =
 pub returns-in_err-sent-clause-stops : goal.returns-in_err-sent-clause-stops
 returns-in_err-sent-clause-stops g c =
     let q = data_of c.args.self.now.query.now in
-    let all = replies_left c.args.replies.now (g.R.Intake.remaining c.args.reader.now) in
+    let all = replies_left c.args.replies.now (g.R.Intake.seen c.args.reader.now) in
     let is : c.from_residual-in_err-sent.result ≡ Err OutOfMemory = search rules in
     if_err_is c.from_residual-in_err-sent.result OutOfMemory _ is
     (λ rest. part_none q c.args.self.now.budget c.args.self.now.node_number (Packets (c.args.packet.now ∷ rest)) all (g.W.Outlet.contents c.args.writer.now) (g.O.Outlet.contents c.args.out.now))
@@ -41,8 +41,8 @@ returns-in_err-sent-clause-stops g c =
 pub returns-in_err-reply-clause-stops : goal.returns-in_err-reply-clause-stops
 returns-in_err-reply-clause-stops g c =
     let q = data_of c.args.self.now.query.now in
-    let all = replies_left c.args.replies.now (g.R.Intake.remaining c.args.reader.now) in
-    let left = replies_left c.ask.new.replies (g.R.Intake.remaining c.ask.new.reader) in
+    let all = replies_left c.args.replies.now (g.R.Intake.seen c.args.reader.now) in
+    let left = replies_left c.ask.new.replies (g.R.Intake.seen c.ask.new.reader) in
     let w = g.W.Outlet.contents c.args.writer.now in
     let w' = g.W.Outlet.contents c.ask.new.writer in
     let o = g.O.Outlet.contents c.args.out.now in
@@ -56,8 +56,8 @@ returns-in_err-reply-clause-stops g c =
 pub returns-in_err-must_be_taken-clause-stops : goal.returns-in_err-must_be_taken-clause-stops
 returns-in_err-must_be_taken-clause-stops g c =
     let q = data_of c.args.self.now.query.now in
-    let all = replies_left c.args.replies.now (g.R.Intake.remaining c.args.reader.now) in
-    let left = replies_left c.ask.new.replies (g.R.Intake.remaining c.ask.new.reader) in
+    let all = replies_left c.args.replies.now (g.R.Intake.seen c.args.reader.now) in
+    let left = replies_left c.ask.new.replies (g.R.Intake.seen c.ask.new.reader) in
     let w = g.W.Outlet.contents c.args.writer.now in
     let w' = g.W.Outlet.contents c.ask.new.writer in
     let o = g.O.Outlet.contents c.args.out.now in
@@ -70,8 +70,8 @@ returns-in_err-must_be_taken-clause-stops g c =
 
 pub polls-init : goal.polls-init
 polls-init g c =
-    let all = replies_left c.args.replies.now (g.R.Intake.remaining c.args.reader.now) in
-    let left = replies_left c.ask.new.replies (g.R.Intake.remaining c.ask.new.reader) in
+    let all = replies_left c.args.replies.now (g.R.Intake.seen c.args.reader.now) in
+    let left = replies_left c.ask.new.replies (g.R.Intake.seen c.ask.new.reader) in
     let w = g.W.Outlet.contents c.args.writer.now in
     let w' = g.W.Outlet.contents c.ask.new.writer in
     let line : c.as_slice.result.now ≡ line_of (request.Packet c.args.packet.now) = c.as_slice.ensures.value ∙ c.in_ok-sent.ensures in
@@ -87,8 +87,8 @@ polls-init g c =
 pub returns-in_err-poll-clause-stops : goal.returns-in_err-poll-clause-stops
 returns-in_err-poll-clause-stops g c =
     let q = data_of c.args.self.now.query.now in
-    let all = replies_left c.args.replies.now (g.R.Intake.remaining c.args.reader.now) in
-    let mid = replies_left c.polls.replies (g.R.Intake.remaining c.polls.reader) in
+    let all = replies_left c.args.replies.now (g.R.Intake.seen c.args.reader.now) in
+    let mid = replies_left c.polls.replies (g.R.Intake.seen c.polls.reader) in
     let w = g.W.Outlet.contents c.args.writer.now in
     let w1 = g.W.Outlet.contents c.polls.writer in
     let w2 = g.W.Outlet.contents c.poll.new.writer in
@@ -106,9 +106,9 @@ returns-in_err-poll-clause-stops g c =
 pub polls-preserved : goal.polls-preserved
 polls-preserved g c =
     let q = data_of c.args.self.now.query.now in
-    let all = replies_left c.args.replies.now (g.R.Intake.remaining c.args.reader.now) in
-    let mid = replies_left c.polls.replies (g.R.Intake.remaining c.polls.reader) in
-    let left = replies_left c.poll.new.replies (g.R.Intake.remaining c.poll.new.reader) in
+    let all = replies_left c.args.replies.now (g.R.Intake.seen c.args.reader.now) in
+    let mid = replies_left c.polls.replies (g.R.Intake.seen c.polls.reader) in
+    let left = replies_left c.poll.new.replies (g.R.Intake.seen c.poll.new.reader) in
     let w = g.W.Outlet.contents c.args.writer.now in
     let w1 = g.W.Outlet.contents c.polls.writer in
     let w2 = g.W.Outlet.contents c.poll.new.writer in
@@ -122,15 +122,15 @@ polls-preserved g c =
           (subst (λ k. GoesOn q c.args.self.now.budget c.args.self.now.node_number (Poll k rest) (Poll k rest) mid left w1 w2 o1 o2) same (c.in_ok-poll.ensures.again (search rules) rest));
       write = c.in_ok-poll.ensures.write.0 ∙ c.polls.invariant.write;
       told = c.in_ok-poll.ensures.write.1 ∙ c.polls.invariant.told;
-      reads = hears_both _ _ _ _ _ _ _ _ _ _ _ _ _ _ _ c.args.replies.now.over None c.polls.replies.over c.poll.new.replies.over c.polls.invariant.reads c.in_ok-poll.ensures.reads;
+      reads = hears_both _ _ _ _ _ _ c.args.replies.now.over None c.polls.replies.over c.poll.new.replies.over c.polls.invariant.reads c.in_ok-poll.ensures.reads;
     }
 
 pub returns-clause-goes : goal.returns-clause-goes
 returns-clause-goes g c = λ rest.
     let q = data_of c.args.self.now.query.now in
-    let all = replies_left c.args.replies.now (g.R.Intake.remaining c.args.reader.now) in
-    let mid = replies_left c.polls.replies (g.R.Intake.remaining c.polls.reader) in
-    let left = replies_left c.poll.new.replies (g.R.Intake.remaining c.poll.new.reader) in
+    let all = replies_left c.args.replies.now (g.R.Intake.seen c.args.reader.now) in
+    let mid = replies_left c.polls.replies (g.R.Intake.seen c.polls.reader) in
+    let left = replies_left c.poll.new.replies (g.R.Intake.seen c.poll.new.reader) in
     let w = g.W.Outlet.contents c.args.writer.now in
     let w1 = g.W.Outlet.contents c.polls.writer in
     let w2 = g.W.Outlet.contents c.poll.new.writer in
@@ -147,23 +147,23 @@ returns-clause-goes g c = λ rest.
 pub returns-in_err-key-clause-reads : goal.returns-in_err-key-clause-reads
 returns-in_err-key-clause-reads g c =
     let is : c.from_residual.result ≡ Err OutOfMemory = search rules in
-    rw is (hears_cut c.args.replies.now.over _ _ _ _ _ _ _ _ _ _ c.args.replies.now.over (hears_none c.args.replies.now.over _ _ _ _ _))
+    rw is (hears_cut c.args.replies.now.over _ _ _ _ c.args.replies.now.over (hears_none c.args.replies.now.over _ _))
 
 pub returns-in_err-line-clause-reads : goal.returns-in_err-line-clause-reads
 returns-in_err-line-clause-reads g c =
     let is : c.from_residual-in_err-line.result ≡ Err OutOfMemory = search rules in
-    rw is (hears_cut c.args.replies.now.over _ _ _ _ _ _ _ _ _ _ c.args.replies.now.over (hears_none c.args.replies.now.over _ _ _ _ _))
+    rw is (hears_cut c.args.replies.now.over _ _ _ _ c.args.replies.now.over (hears_none c.args.replies.now.over _ _))
 
 pub returns-in_err-sent-clause-reads : goal.returns-in_err-sent-clause-reads
 returns-in_err-sent-clause-reads g c =
     let is : c.from_residual-in_err-sent.result ≡ Err OutOfMemory = search rules in
-    rw is (hears_cut c.args.replies.now.over _ _ _ _ _ _ _ _ _ _ c.args.replies.now.over (hears_none c.args.replies.now.over _ _ _ _ _))
+    rw is (hears_cut c.args.replies.now.over _ _ _ _ c.args.replies.now.over (hears_none c.args.replies.now.over _ _))
 
 pub returns-in_err-poll-clause-reads : goal.returns-in_err-poll-clause-reads
 returns-in_err-poll-clause-reads g c =
     let is : c.from_residual-in_err-poll.result ≡ Err c.in_err-poll.field-0.0 = search rules in
-    rw is (hears_both _ _ _ _ _ _ _ _ _ _ _ _ _ _ _ c.args.replies.now.over _ c.polls.replies.over c.poll.new.replies.over c.polls.invariant.reads c.in_err-poll.ensures.reads)
+    rw is (hears_both _ _ _ _ _ _ c.args.replies.now.over _ c.polls.replies.over c.poll.new.replies.over c.polls.invariant.reads c.in_err-poll.ensures.reads)
 
 pub returns-clause-reads : goal.returns-clause-reads
 returns-clause-reads g c =
-    hears_both _ _ _ _ _ _ _ _ _ _ _ _ _ _ _ c.args.replies.now.over None c.polls.replies.over c.poll.new.replies.over c.polls.invariant.reads c.in_ok-poll.ensures.reads
+    hears_both _ _ _ _ _ _ c.args.replies.now.over None c.polls.replies.over c.poll.new.replies.over c.polls.invariant.reads c.in_ok-poll.ensures.reads

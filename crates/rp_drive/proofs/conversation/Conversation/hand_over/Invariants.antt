@@ -10,12 +10,11 @@ use Rattle.rp_drive.proofs.conversation.Conversation.hand_over.Given as goal
 abbrev pub invariant-polls : goal.invariant-polls
 invariant-polls g l = record {
   goes : (rest : List Packet) → GoesOn (data_of l.self.query.now) l.self.budget l.self.node_number (Packets (l.packet ∷ rest)) (Poll (packet_key (data_of l.self.query.now) l.packet) rest)
-      (replies_left l.fn.replies (g.R.Intake.remaining l.fn.reader)) (replies_left l.replies (g.R.Intake.remaining l.reader))
+      (replies_left l.fn.replies (g.R.Intake.seen l.fn.reader)) (replies_left l.replies (g.R.Intake.seen l.reader))
       (g.W.Outlet.contents l.fn.writer) (g.W.Outlet.contents l.writer) (g.O.Outlet.contents l.fn.out) (g.O.Outlet.contents l.out);
   write : g.W.Outlet.failures l.writer ≡ g.W.Outlet.failures l.fn.writer;
   told : g.O.Outlet.failures l.out ≡ g.O.Outlet.failures l.fn.out;
-  reads : HearsBy None l.fn.replies.over l.replies.over l.fn.replies.lines.reads l.replies.lines.reads (g.R.Intake.calls l.fn.reader) (g.R.Intake.calls l.reader)
-      (g.R.Intake.failures l.fn.reader) (g.R.Intake.failures l.reader) (g.R.Intake.ended l.fn.reader) (g.R.Intake.ended l.reader) (g.R.Intake.remaining l.fn.reader) (g.R.Intake.remaining l.reader);
+  reads : HearsBy None l.fn.replies.over l.replies.over l.fn.replies.lines.reads l.replies.lines.reads (g.R.Intake.seen l.fn.reader) (g.R.Intake.seen l.reader);
 }
 
 abbrev pub decreases-polls : goal.decreases-polls

@@ -14,8 +14,8 @@ use Rattle.rp_drive.proofs.conversation.Conversation.poll.Goals as goal
 pub returns-in_err-key-clause-stops : goal.returns-in_err-key-clause-stops
 returns-in_err-key-clause-stops g c =
     let q = data_of c.args.self.now.query.now in
-    let all = replies_left c.args.replies.now (g.R.Intake.remaining c.args.reader.now) in
-    let left = replies_left c.ask.new.replies (g.R.Intake.remaining c.ask.new.reader) in
+    let all = replies_left c.args.replies.now (g.R.Intake.seen c.args.reader.now) in
+    let left = replies_left c.ask.new.replies (g.R.Intake.seen c.ask.new.reader) in
     let w = g.W.Outlet.contents c.args.writer.now in
     let w' = g.W.Outlet.contents c.ask.new.writer in
     let o = g.O.Outlet.contents c.args.out.now in
@@ -28,8 +28,8 @@ returns-in_err-key-clause-stops g c =
 pub returns-in_err-write_item-in-Some-Item-clause-stops : goal.returns-in_err-write_item-in-Some-Item-clause-stops
 returns-in_err-write_item-in-Some-Item-clause-stops g c =
     let q = data_of c.args.self.now.query.now in
-    let all = replies_left c.args.replies.now (g.R.Intake.remaining c.args.reader.now) in
-    let left = replies_left c.ask.new.replies (g.R.Intake.remaining c.ask.new.reader) in
+    let all = replies_left c.args.replies.now (g.R.Intake.seen c.args.reader.now) in
+    let left = replies_left c.ask.new.replies (g.R.Intake.seen c.ask.new.reader) in
     let w = g.W.Outlet.contents c.args.writer.now in
     let w' = g.W.Outlet.contents c.ask.new.writer in
     let o = g.O.Outlet.contents c.args.out.now in
@@ -45,8 +45,8 @@ returns-in_err-write_item-in-Some-Item-clause-stops g c =
 pub returns-in-Some-Item-clause-again : goal.returns-in-Some-Item-clause-again
 returns-in-Some-Item-clause-again g c = λ ok rest.
     let q = data_of c.args.self.now.query.now in
-    let all = replies_left c.args.replies.now (g.R.Intake.remaining c.args.reader.now) in
-    let left = replies_left c.ask.new.replies (g.R.Intake.remaining c.ask.new.reader) in
+    let all = replies_left c.args.replies.now (g.R.Intake.seen c.args.reader.now) in
+    let left = replies_left c.ask.new.replies (g.R.Intake.seen c.ask.new.reader) in
     let w = g.W.Outlet.contents c.args.writer.now in
     let w' = g.W.Outlet.contents c.ask.new.writer in
     let o = g.O.Outlet.contents c.args.out.now in
@@ -58,8 +58,8 @@ returns-in-Some-Item-clause-again g c = λ ok rest.
 
 pub returns-in-Some-Paused-clause-again : goal.returns-in-Some-Paused-clause-again
 returns-in-Some-Paused-clause-again g c = λ ok rest.
-    let all = replies_left c.args.replies.now (g.R.Intake.remaining c.args.reader.now) in
-    let left = replies_left c.ask.new.replies (g.R.Intake.remaining c.ask.new.reader) in
+    let all = replies_left c.args.replies.now (g.R.Intake.seen c.args.reader.now) in
+    let left = replies_left c.ask.new.replies (g.R.Intake.seen c.ask.new.reader) in
     let w = g.W.Outlet.contents c.args.writer.now in
     let w' = g.W.Outlet.contents c.ask.new.writer in
     let sent = subst (Appends w w') c.requires c.in_ok-key.ensures.asked in
@@ -69,8 +69,8 @@ returns-in-Some-Paused-clause-again g c = λ ok rest.
 
 pub returns-in-Some-Idle-clause-idle : goal.returns-in-Some-Idle-clause-idle
 returns-in-Some-Idle-clause-idle g c = λ ok rest.
-    let all = replies_left c.args.replies.now (g.R.Intake.remaining c.args.reader.now) in
-    let left = replies_left c.ask.new.replies (g.R.Intake.remaining c.ask.new.reader) in
+    let all = replies_left c.args.replies.now (g.R.Intake.seen c.args.reader.now) in
+    let left = replies_left c.ask.new.replies (g.R.Intake.seen c.ask.new.reader) in
     let w = g.W.Outlet.contents c.args.writer.now in
     let w' = g.W.Outlet.contents c.ask.new.writer in
     let sent = subst (Appends w w') c.requires c.in_ok-key.ensures.asked in
@@ -80,8 +80,8 @@ returns-in-Some-Idle-clause-idle g c = λ ok rest.
 
 pub returns-in-Some-Refused-clause-stops : goal.returns-in-Some-Refused-clause-stops
 returns-in-Some-Refused-clause-stops g c = λ rest.
-    let all = replies_left c.args.replies.now (g.R.Intake.remaining c.args.reader.now) in
-    let left = replies_left c.ask.new.replies (g.R.Intake.remaining c.ask.new.reader) in
+    let all = replies_left c.args.replies.now (g.R.Intake.seen c.args.reader.now) in
+    let left = replies_left c.ask.new.replies (g.R.Intake.seen c.ask.new.reader) in
     let w = g.W.Outlet.contents c.args.writer.now in
     let w' = g.W.Outlet.contents c.ask.new.writer in
     let sent = subst (Appends w w') c.requires c.in_ok-key.ensures.asked in
@@ -91,8 +91,8 @@ returns-in-Some-Refused-clause-stops g c = λ rest.
 
 pub returns-in-Some-Taken-clause-stops : goal.returns-in-Some-Taken-clause-stops
 returns-in-Some-Taken-clause-stops g c = λ rest.
-    let all = replies_left c.args.replies.now (g.R.Intake.remaining c.args.reader.now) in
-    let left = replies_left c.ask.new.replies (g.R.Intake.remaining c.ask.new.reader) in
+    let all = replies_left c.args.replies.now (g.R.Intake.seen c.args.reader.now) in
+    let left = replies_left c.ask.new.replies (g.R.Intake.seen c.ask.new.reader) in
     let w = g.W.Outlet.contents c.args.writer.now in
     let w' = g.W.Outlet.contents c.ask.new.writer in
     let sent = subst (Appends w w') c.requires c.in_ok-key.ensures.asked in
@@ -102,8 +102,8 @@ returns-in-Some-Taken-clause-stops g c = λ rest.
 
 pub returns-clause-stops : goal.returns-clause-stops
 returns-clause-stops g c = λ rest.
-    let all = replies_left c.args.replies.now (g.R.Intake.remaining c.args.reader.now) in
-    let left = replies_left c.ask.new.replies (g.R.Intake.remaining c.ask.new.reader) in
+    let all = replies_left c.args.replies.now (g.R.Intake.seen c.args.reader.now) in
+    let left = replies_left c.ask.new.replies (g.R.Intake.seen c.ask.new.reader) in
     let w = g.W.Outlet.contents c.args.writer.now in
     let w' = g.W.Outlet.contents c.ask.new.writer in
     let sent = subst (Appends w w') c.requires c.in_ok-key.ensures.asked in
