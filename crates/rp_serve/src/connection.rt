@@ -39,21 +39,21 @@ pub fn round<R: Intake, W: Outlet, N: Keeps + Drop>(
     saved: Option<Vec<u8>>,
     reader: &mut R,
     writer: &mut W,
-    turns: u64,
+    reads: u64,
 ) -> Result<RoundEnd<N>, AllocError>
     requires { ForSome saved (λ bytes. N.can_go_back node bytes.items) }
     ensures round { IfOk result (λ end. IsRound N.step N.cut_short N.is_saved N.goes_back end.fault end.lines
         (R.seen reader.old).remaining node end.node (W.contents writer.old) (W.contents writer.new)
         (kept_bytes saved) (kept_bytes end.saved)) }
     ensures again { IfOk result (λ end. ForSome end.saved (λ bytes. N.can_go_back end.node bytes.items)) }
-    ensures reads { IfOk result (λ end. ReadsWithin turns (reads_told end.fault)
+    ensures reads { IfOk result (λ end. ReadsWithin reads (reads_told end.fault)
         (R.seen reader.old) (R.seen reader.new)) }
     ensures write { IfOk result (λ end. TellsWrite end.fault (W.failures writer.old) (W.failures writer.new)) }
     ensures current { IfOk result (λ end.
         end.is_current ≡ true → IsSavedAs N.is_saved end.node (kept_bytes end.saved)) }
     ensures new { IfOk result (λ end. IsTrue end.is_new ↔ (kept_bytes end.saved ≢ kept_bytes saved)) }
 {
-    round_on(alloc, node, saved, false, reader, writer, turns)
+    round_on(alloc, node, saved, false, reader, writer, reads)
 }
 
 /// The same, after another connection: where what was saved last is what would be saved now, and no reply of this one says that
@@ -65,7 +65,7 @@ pub fn round_on<R: Intake, W: Outlet, N: Keeps + Drop>(
     is_current: bool,
     reader: &mut R,
     writer: &mut W,
-    turns: u64,
+    reads: u64,
 ) -> Result<RoundEnd<N>, AllocError>
     requires back { ForSome saved (λ bytes. N.can_go_back node bytes.items) }
     requires known { is_current ≡ true → IsSavedAs N.is_saved node (kept_bytes saved) }
@@ -73,7 +73,7 @@ pub fn round_on<R: Intake, W: Outlet, N: Keeps + Drop>(
         (R.seen reader.old).remaining node end.node (W.contents writer.old) (W.contents writer.new)
         (kept_bytes saved) (kept_bytes end.saved)) }
     ensures again { IfOk result (λ end. ForSome end.saved (λ bytes. N.can_go_back end.node bytes.items)) }
-    ensures reads { IfOk result (λ end. ReadsWithin turns (reads_told end.fault)
+    ensures reads { IfOk result (λ end. ReadsWithin reads (reads_told end.fault)
         (R.seen reader.old) (R.seen reader.new)) }
     ensures write { IfOk result (λ end. TellsWrite end.fault (W.failures writer.old) (W.failures writer.new)) }
     ensures current { IfOk result (λ end.
@@ -85,7 +85,7 @@ pub fn round_on<R: Intake, W: Outlet, N: Keeps + Drop>(
         has_changed: false,
     };
     let mut lines = 0u128;
-    match serve_counted(alloc, reader, writer, &mut watched, turns, &mut lines) {
+    match serve_counted(alloc, reader, writer, &mut watched, reads, &mut lines) {
         Ok(()) => kept_after(watched, saved, is_current, lines, None),
         Err(ServeFault::Read) => {
             kept_after(watched, saved, is_current, lines, Some(ServeFault::Read))

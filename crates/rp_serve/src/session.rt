@@ -22,24 +22,24 @@ const KEPT: usize = MAX_LINE_LEN + 1;
 /// Answers the lines that are read, one after another, until the input ends.
 ///
 /// A line of more than 65,536 bytes is read to its line feed and refused. What stands behind the last line feed is a line
-/// unless it is empty. The reader is called at most `turns` times, and only once all replies were written. After a fault of
+/// unless it is empty. The reader is called at most `reads` times, and only once all replies were written. After a fault of
 /// the writer or of memory some replies may be missing.
 pub fn serve<R: Intake, W: Outlet, N: Answers>(
     alloc: Global,
     reader: &mut R,
     writer: &mut W,
     node: &mut N,
-    turns: u64,
+    reads: u64,
 ) -> Result<Served, ServeFault>
     ensures served { IfOk result (λ served. ServesAll N.step (R.seen reader.old).remaining node.old node.new
         (W.contents writer.old) (W.contents writer.new) served.lines) }
     ensures stops { IfErr result (λ fault. StopsServing N.step N.cut_short fault (R.seen reader.old).remaining
         node.old node.new (W.contents writer.old) (W.contents writer.new)) }
-    ensures reads { ReadsWithin turns (reads_told (fault_of result)) (R.seen reader.old) (R.seen reader.new) }
+    ensures reads { ReadsWithin reads (reads_told (fault_of result)) (R.seen reader.old) (R.seen reader.new) }
     ensures write { TellsWrite (fault_of result) (W.failures writer.old) (W.failures writer.new) }
 {
     let mut count = 0u128;
-    match serve_counted(alloc, reader, writer, node, turns, &mut count) {
+    match serve_counted(alloc, reader, writer, node, reads, &mut count) {
         Ok(()) => Ok(Served { lines: count }),
         Err(fault) => Err(fault),
     }
@@ -51,7 +51,7 @@ pub(crate) fn serve_counted<R: Intake, W: Outlet, N: Answers>(
     reader: &mut R,
     writer: &mut W,
     node: &mut N,
-    turns: u64,
+    reads: u64,
     count: &mut u128,
 ) -> Result<(), ServeFault>
     requires { count.old ≡ 0 }
@@ -59,10 +59,10 @@ pub(crate) fn serve_counted<R: Intake, W: Outlet, N: Answers>(
         (W.contents writer.old) (W.contents writer.new) count.new) }
     ensures stops { IfErr result (λ fault. StopsAfter N.step N.cut_short fault (R.seen reader.old).remaining
         node.old node.new (W.contents writer.old) (W.contents writer.new) count.new) }
-    ensures reads { ReadsWithin turns (reads_told (fault_of result)) (R.seen reader.old) (R.seen reader.new) }
+    ensures reads { ReadsWithin reads (reads_told (fault_of result)) (R.seen reader.old) (R.seen reader.new) }
     ensures write { TellsWrite (fault_of result) (W.failures writer.old) (W.failures writer.new) }
 {
-    let mut lines = Lines::new(alloc, turns, KEPT);
+    let mut lines = Lines::new(alloc, reads, KEPT);
     let mut line = Vec::new(alloc);
     let mut text = Vec::new(alloc);
     while next_line(&mut lines, reader, writer, &mut line, &mut text)? {

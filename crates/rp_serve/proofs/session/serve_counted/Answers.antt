@@ -20,7 +20,7 @@ loop-text-init g c =
           c.new-lines.ensures.pending c.new-text.ensures.items);
       kept = c.new-lines.ensures.kept;
       write = refl;
-      reads = no_reads c.args.turns c.new-lines.result.reads _ c.new-lines.ensures.reads;
+      reads = no_reads c.args.reads c.new-lines.result.reads _ c.new-lines.ensures.reads;
       bounded = omega (arith, lines, c.new-lines.ensures.reads);
     }
 

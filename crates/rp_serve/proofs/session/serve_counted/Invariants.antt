@@ -10,8 +10,8 @@ invariant-loop-text g l = record {
       (g.W.Outlet.contents l.fn.writer) (g.W.Outlet.contents l.writer) l.text.items l.count;
   kept : l.lines.kept ≡ 65537;
   write : g.W.Outlet.failures l.writer ≡ g.W.Outlet.failures l.fn.writer;
-  reads : ReadsSoFar l.turns l.lines.reads (g.R.Intake.seen l.fn.reader) (g.R.Intake.seen l.reader);
-  bounded : l.count + most_lines_to_come l.lines ≤ l.turns * 65536;
+  reads : ReadsSoFar l.reads l.lines.reads (g.R.Intake.seen l.fn.reader) (g.R.Intake.seen l.reader);
+  bounded : l.count + most_lines_to_come l.lines ≤ l.reads * 65536;
 }
 
 abbrev pub decreases-loop-text : goal.decreases-loop-text
