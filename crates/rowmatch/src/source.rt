@@ -5,10 +5,9 @@ use crate::seed::seeded_hasher;
 use crate::shown::shown_key;
 use rp_check::compile;
 use rp_command::SourceJob;
-use rp_drive::{Counted, DriveFault, Stop, drive_within};
+use rp_drive::{Conversation, Counted, DriveFault, Stop, drive_within};
 use rp_input::number_rows;
 use rp_io::{Lines, Outlet, Port, READS};
-use rp_query::Query;
 use rp_wire::{MAX_LINE_LEN, Packet, Refusal, Reply, reply_line, saved_of};
 use std::alloc::{AllocError, Global};
 use std::io::{IsTerminal, Read};
@@ -40,22 +39,24 @@ pub fn run_source(rt: &HostRuntime, job: &SourceJob) -> Result<(), ProgramFault>
         prepare(job, &stream);
         let node = SourceNode {
             job,
-            query: &query,
-            packets: packets.as_slice(),
-            number,
+            conversation: Conversation {
+                query: &query,
+                packets: packets.as_slice(),
+                budget: job.budget,
+                reads: READS,
+                node_number: number,
+            },
         };
         converse(rt, &node, &stream, &mut out)?;
     }
     Ok(())
 }
 
-/// What a node is handed, and its number, from 1.
+/// What a node is handed, with its number, from 1.
 #[derive(Clone, Copy)]
 struct SourceNode<'a> {
     job: &'a SourceJob,
-    query: &'a Query,
-    packets: &'a [Packet],
-    number: u64,
+    conversation: Conversation<'a>,
 }
 
 /// Lines go out at once, and calls that wait longer than the job allows fail. Where the system doesn't take one of these, the
@@ -76,19 +77,20 @@ fn converse<O: Outlet>(
     stream: &TcpStream,
     out: &mut O,
 ) -> Result<(), ProgramFault> {
+    let number = node.conversation.node_number;
     let mut heard = Counted::new(Port::new(stream));
     let mut sent = Counted::new(Port::new(stream));
     hand_over(rt, node, &mut heard, &mut sent, out)?;
     if heard.lines > sent.lines {
-        return Err(ProgramFault::BadReply(node.number));
+        return Err(ProgramFault::BadReply(number));
     }
     if stream.shutdown(Shutdown::Write).is_err() {
         return Err(ProgramFault::Write);
     }
     if node.job.acknowledge {
-        wait_for_saved(rt, stream, sent.lines, node.number)
+        wait_for_saved(rt, stream, sent.lines, number)
     } else {
-        wait_for_end(stream, node.number)
+        wait_for_end(stream, number)
     }
 }
 
@@ -99,19 +101,8 @@ fn hand_over<O: Outlet>(
     sent: &mut Counter<'_>,
     out: &mut O,
 ) -> Result<(), ProgramFault> {
-    let driven = drive_within(
-        rt.alloc(),
-        node.query,
-        MAX_REPLY_LEN,
-        heard,
-        sent,
-        node.packets,
-        node.job.budget,
-        READS,
-        node.number,
-        out,
-    );
-    match driven {
+    let conversation = &node.conversation;
+    match drive_within(rt.alloc(), conversation, MAX_REPLY_LEN, heard, sent, out) {
         Ok(()) => Ok(()),
         Err(stop) => Err(node_fault(rt, node, &stop)?),
     }
@@ -155,11 +146,12 @@ fn node_fault(
     node: &SourceNode<'_>,
     stop: &Stop,
 ) -> Result<ProgramFault, AllocError> {
+    let number = node.conversation.node_number;
     Ok(match stop.fault {
         DriveFault::Read => ProgramFault::Read,
         DriveFault::Write => ProgramFault::Write,
-        DriveFault::BadReply => ProgramFault::BadReply(node.number),
-        DriveFault::Refused => ProgramFault::Refused(node.number, told_refusal(rt, node, stop)?),
+        DriveFault::BadReply => ProgramFault::BadReply(number),
+        DriveFault::Refused => ProgramFault::Refused(number, told_refusal(rt, node, stop)?),
         DriveFault::Turns => ProgramFault::Turns,
         DriveFault::OutOfMemory => ProgramFault::OutOfMemory,
     })
@@ -174,7 +166,7 @@ fn told_refusal(
     if !node.job.verbose && !rt.stderr().is_terminal() {
         return Ok(None);
     }
-    let Some(packet) = node.packets.get(stop.packet) else {
+    let Some(packet) = node.conversation.packets.get(stop.packet) else {
         return Ok(None);
     };
     let Some(refusal) = stop.refusal else {
@@ -190,11 +182,11 @@ fn refusal_text(
     packet: &Packet,
     refusal: Refusal,
 ) -> Result<String, AllocError> {
-    let number = node.number;
+    let number = node.conversation.node_number;
     let reply = reply_line(alloc, &Reply::Refused(refusal))?;
     match packet {
         Packet::Row { number: row, cells } => {
-            let key = shown_key(alloc, &node.query.key(alloc, cells)?)?;
+            let key = shown_key(alloc, &node.conversation.query.key(alloc, cells)?)?;
             format!(in alloc; "node {number}: {reply} at row {row} of {key}")
         }
         Packet::Close { key, count } => {

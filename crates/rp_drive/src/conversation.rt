@@ -23,49 +23,49 @@ use rp_value::Cells;
 use rp_wire::{MAX_LINE_LEN, Packet, Refusal, Reply};
 use std::alloc::Global;
 
+/// What is handed over to a node, and how: the same from the first packet to the last.
+#[derive(Clone, Copy)]
+pub struct Conversation<'a> {
+    /// Whose partitions are polled.
+    pub query: &'a Query,
+    /// What is sent, in this order.
+    pub packets: &'a [Packet],
+    /// How many turns a poll may take. A budget of 0 is of no use: each poll is paused, and made again until no read is left.
+    pub budget: u32,
+    /// How often the reader may be called: over a socket about once a reply.
+    pub reads: u64,
+    /// What comes before each item.
+    pub node_number: u64,
+}
+
 /// Hands packets over to a node, one after another, and writes the items that it gives.
 ///
-/// For each packet its line is written and the reply read. Then its partition is polled, with `budget` turns at most a
-/// poll, until the reply is that it is idle. The line of each item that comes goes to `out`, after the node's number and a
-/// space, before anything else is asked. The reader is called at most `reads` times, over a socket about once a reply. A
-/// budget of 0 is of no use: each poll is paused, and made again until no read is left.
+/// For each packet its line is written and the reply read. Then its partition is polled until the reply is that it is idle.
+/// The line of each item that comes goes to `out`, after the node's number and a space, before anything else is asked.
 pub fn drive<R: Intake, W: Outlet, O: Outlet>(
     alloc: Global,
-    query: &Query,
+    conversation: &Conversation<'_>,
     reader: &mut R,
     writer: &mut W,
-    packets: &[Packet],
-    budget: u32,
-    reads: u64,
-    node_number: u64,
     out: &mut O,
 ) -> Result<(), DriveFault>
-    ensures done { OnOk result (Ends (data_of query.now) budget node_number Finished
-        (Packets packets.now) (replies_in (R.seen reader.old).remaining)
+    ensures done { OnOk result (Ends
+        (data_of conversation.now.query.now) conversation.now.budget conversation.now.node_number Finished
+        (Packets conversation.now.packets.now) (replies_in (R.seen reader.old).remaining)
         (W.contents writer.old) (W.contents writer.new) (O.contents out.old) (O.contents out.new)) }
-    ensures stops { IfErr result (λ fault. Stops (data_of query.now) budget node_number fault
-        (Packets packets.now) (replies_in (R.seen reader.old).remaining)
+    ensures stops { IfErr result (λ fault. Stops
+        (data_of conversation.now.query.now) conversation.now.budget conversation.now.node_number fault
+        (Packets conversation.now.packets.now) (replies_in (R.seen reader.old).remaining)
         (W.contents writer.old) (W.contents writer.new) (O.contents out.old) (O.contents out.new)) }
-    ensures front { OnErr result (EndsInPart (data_of query.now) budget node_number
-        (Packets packets.now) (replies_in (R.seen reader.old).remaining)
+    ensures front { OnErr result (EndsInPart
+        (data_of conversation.now.query.now) conversation.now.budget conversation.now.node_number
+        (Packets conversation.now.packets.now) (replies_in (R.seen reader.old).remaining)
         (W.contents writer.old) (W.contents writer.new) (O.contents out.old) (O.contents out.new)) }
-    ensures reads { ReadsWithin reads (reads_told result) (R.seen reader.old) (R.seen reader.new) }
+    ensures reads { ReadsWithin conversation.now.reads (reads_told result) (R.seen reader.old) (R.seen reader.new) }
     ensures write { TellsWrites result (W.failures writer.old) (W.failures writer.new)
         (O.failures out.old) (O.failures out.new) }
 {
-    let driven = drive_within(
-        alloc,
-        query,
-        MAX_LINE_LEN,
-        reader,
-        writer,
-        packets,
-        budget,
-        reads,
-        node_number,
-        out,
-    );
-    match driven {
+    match drive_within(alloc, conversation, MAX_LINE_LEN, reader, writer, out) {
         Ok(()) => Ok(()),
         Err(stop) => Err(stop.fault),
     }
@@ -77,44 +77,39 @@ pub fn drive<R: Intake, W: Outlet, O: Outlet>(
 /// A node that replies has given the item, whoever can read it. So a source that must lose none reads all that a node may write.
 pub fn drive_within<R: Intake, W: Outlet, O: Outlet>(
     alloc: Global,
-    query: &Query,
+    conversation: &Conversation<'_>,
     limit: usize,
     reader: &mut R,
     writer: &mut W,
-    packets: &[Packet],
-    budget: u32,
-    reads: u64,
-    node_number: u64,
     out: &mut O,
 ) -> Result<(), Stop>
     requires { limit + 1 < 2 ^ 64 }
-    ensures done { OnOk result (Ends (data_of query.now) budget node_number Finished
-        (Packets packets.now) (replies_within limit (R.seen reader.old).remaining)
+    ensures done { OnOk result (Ends
+        (data_of conversation.now.query.now) conversation.now.budget conversation.now.node_number Finished
+        (Packets conversation.now.packets.now) (replies_within limit (R.seen reader.old).remaining)
         (W.contents writer.old) (W.contents writer.new) (O.contents out.old) (O.contents out.new)) }
-    ensures stops { IfErr result (λ stop. StopsBy (data_of query.now) budget node_number stop.refusal stop.fault
-        (Packets packets.now) (replies_within limit (R.seen reader.old).remaining)
+    ensures stops { IfErr result (λ stop. StopsBy
+        (data_of conversation.now.query.now) conversation.now.budget conversation.now.node_number
+        stop.refusal stop.fault (Packets conversation.now.packets.now)
+        (replies_within limit (R.seen reader.old).remaining)
         (W.contents writer.old) (W.contents writer.new) (O.contents out.old) (O.contents out.new)) }
-    ensures at { IfErr result (λ stop. StopsAt (data_of query.now) budget node_number
-        stop.packet stop.refusal stop.fault packets.now (replies_within limit (R.seen reader.old).remaining)
+    ensures at { IfErr result (λ stop. StopsAt
+        (data_of conversation.now.query.now) conversation.now.budget conversation.now.node_number
+        stop.packet stop.refusal stop.fault conversation.now.packets.now
+        (replies_within limit (R.seen reader.old).remaining)
         (W.contents writer.old) (W.contents writer.new) (O.contents out.old) (O.contents out.new)) }
-    ensures front { OnErr result (EndsInPart (data_of query.now) budget node_number
-        (Packets packets.now) (replies_within limit (R.seen reader.old).remaining)
+    ensures front { OnErr result (EndsInPart
+        (data_of conversation.now.query.now) conversation.now.budget conversation.now.node_number
+        (Packets conversation.now.packets.now) (replies_within limit (R.seen reader.old).remaining)
         (W.contents writer.old) (W.contents writer.new) (O.contents out.old) (O.contents out.new)) }
-    ensures reads { ReadsWithin reads (reads_told (by_fault result)) (R.seen reader.old) (R.seen reader.new) }
+    ensures reads { ReadsWithin conversation.now.reads (reads_told (by_fault result))
+        (R.seen reader.old) (R.seen reader.new) }
     ensures write { TellsWrites (by_fault result) (W.failures writer.old) (W.failures writer.new)
         (O.failures out.old) (O.failures out.new) }
 {
-    let conversation = Conversation {
-        alloc,
-        query,
-        limit,
-        budget,
-        reads,
-        node_number,
-    };
     let mut place = 0usize;
     let mut refusal = None;
-    match conversation.hand_all(reader, writer, packets, out, &mut place, &mut refusal) {
+    match conversation.hand_all(alloc, limit, reader, writer, out, &mut place, &mut refusal) {
         Ok(()) => Ok(()),
         Err(fault) => Err(Stop {
             fault,
@@ -124,54 +119,39 @@ pub fn drive_within<R: Intake, W: Outlet, O: Outlet>(
     }
 }
 
-/// What stays the same from the first packet to the last.
-#[derive(Clone, Copy)]
-struct Conversation<'a> {
-    alloc: Global,
-    /// Whose partitions are polled.
-    query: &'a Query,
-    /// How many bytes a reply may have.
-    limit: usize,
-    /// How many turns a poll may take.
-    budget: u32,
-    /// How often the reader may be called.
-    reads: u64,
-    /// What stands before each item.
-    node_number: u64,
-}
-
 impl Conversation<'_> {
     /// Hands over all packets, and says at which it stopped and what was refused, if it did.
     fn hand_all<R: Intake, W: Outlet, O: Outlet>(
         &self,
+        alloc: Global,
+        limit: usize,
         reader: &mut R,
         writer: &mut W,
-        packets: &[Packet],
         out: &mut O,
         place: &mut usize,
         refusal: &mut Option<Refusal>,
     ) -> Result<(), DriveFault>
-        requires limit { self.now.limit + 1 < 2 ^ 64 }
+        requires limit { limit + 1 < 2 ^ 64 }
         requires place { place.old ≡ 0 }
         ensures done { OnOk result (Ends (data_of self.now.query.now) self.now.budget self.now.node_number Finished
-            (Packets packets.now) (replies_within self.now.limit (R.seen reader.old).remaining)
+            (Packets self.now.packets.now) (replies_within limit (R.seen reader.old).remaining)
             (W.contents writer.old) (W.contents writer.new) (O.contents out.old) (O.contents out.new)) }
         ensures stops { IfErr result (λ fault.
             StopsBy (data_of self.now.query.now) self.now.budget self.now.node_number refusal.new fault
-            (Packets packets.now) (replies_within self.now.limit (R.seen reader.old).remaining)
+            (Packets self.now.packets.now) (replies_within limit (R.seen reader.old).remaining)
             (W.contents writer.old) (W.contents writer.new) (O.contents out.old) (O.contents out.new)) }
         ensures at { IfErr result (λ fault. StopsAt (data_of self.now.query.now) self.now.budget self.now.node_number
-            place.new refusal.new fault packets.now (replies_within self.now.limit (R.seen reader.old).remaining)
+            place.new refusal.new fault self.now.packets.now (replies_within limit (R.seen reader.old).remaining)
             (W.contents writer.old) (W.contents writer.new) (O.contents out.old) (O.contents out.new)) }
         ensures front { OnErr result (EndsInPart (data_of self.now.query.now) self.now.budget self.now.node_number
-            (Packets packets.now) (replies_within self.now.limit (R.seen reader.old).remaining)
+            (Packets self.now.packets.now) (replies_within limit (R.seen reader.old).remaining)
             (W.contents writer.old) (W.contents writer.new) (O.contents out.old) (O.contents out.new)) }
         ensures reads { ReadsWithin self.now.reads (reads_told result) (R.seen reader.old) (R.seen reader.new) }
         ensures write { TellsWrites result (W.failures writer.old) (W.failures writer.new)
             (O.failures out.old) (O.failures out.new) }
     {
-        let mut replies = Replies::new(self.alloc, self.limit, self.reads);
-        for packet in packets {
+        let mut replies = Replies::new(alloc, limit, self.reads);
+        for packet in self.packets {
             self.hand_over(&mut replies, reader, writer, packet, out, refusal)?;
             *place += 1;
         }
@@ -201,9 +181,9 @@ impl Conversation<'_> {
         ensures write { TellsWrites result (W.failures writer.old) (W.failures writer.new)
             (O.failures out.old) (O.failures out.new) }
     {
-        let key = packet_key(self.alloc, self.query, packet)?;
-        let line = poll_request(self.alloc, &key, self.budget)?;
-        let sent = packet_request(self.alloc, packet)?;
+        let key = packet_key(replies.alloc, self.query, packet)?;
+        let line = poll_request(replies.alloc, &key, self.budget)?;
+        let sent = packet_request(replies.alloc, packet)?;
         let reply = ask(replies, reader, writer, sent.as_slice())?;
         must_be_taken(&reply, refusal)?;
         'polls: while self.poll(replies, reader, writer, &key, line.as_slice(), out, refusal)? {}
@@ -243,7 +223,7 @@ impl Conversation<'_> {
     {
         match ask(replies, reader, writer, line)? {
             Some(Reply::Item { key, place, item }) => {
-                write_item(self.alloc, self.node_number, &key, place, &item, out)?;
+                write_item(replies.alloc, self.node_number, &key, place, &item, out)?;
                 Ok(true)
             }
             Some(Reply::Paused(_)) => Ok(true),

@@ -17,6 +17,6 @@ mod items;
 mod replies;
 mod requests;
 
-pub use conversation::{drive, drive_within};
+pub use conversation::{Conversation, drive, drive_within};
 pub use counted::Counted;
 pub use fault::{DriveFault, Stop};

@@ -10,7 +10,7 @@ use std::alloc::{AllocError, Global};
 /// The replies of a node, a line each.
 #[derive(Drop)]
 pub(crate) struct Replies {
-    alloc: Global,
+    pub(crate) alloc: Global,
     pub(crate) lines: Lines,
     line: Vec<u8>,
     /// How many bytes a reply may have.

@@ -1,7 +1,7 @@
 //! Conversations over devices in memory. What is expected is worked out by hand.
 use crate::support::text;
 use rp_check::compile;
-use rp_drive::{DriveFault, drive};
+use rp_drive::{Conversation, DriveFault, drive};
 use rp_io::{MemoryInput, MemoryOutput};
 use rp_query::Query;
 use rp_syntax::read_table;
@@ -100,17 +100,14 @@ fn driven(alloc: Global, replies: &str, limits: Limits) -> Result<Ended, Fail> {
     let mut reader = MemoryInput::new(replies.as_bytes(), limits.read_piece, limits.failing_read);
     let mut writer = MemoryOutput::new(alloc, 4_096, 1_000, limits.failing_write)?;
     let mut out = MemoryOutput::new(alloc, 4_096, 1_000, limits.failing_out)?;
-    let result = drive(
-        alloc,
-        &query,
-        &mut reader,
-        &mut writer,
-        packets.as_slice(),
-        50,
-        limits.reads,
-        1,
-        &mut out,
-    );
+    let conversation = Conversation {
+        query: &query,
+        packets: packets.as_slice(),
+        budget: 50,
+        reads: limits.reads,
+        node_number: 1,
+    };
+    let result = drive(alloc, &conversation, &mut reader, &mut writer, &mut out);
     let fault = result.err();
     if fault == Some(DriveFault::OutOfMemory) {
         return Err(Fail::from(DriveFault::OutOfMemory));

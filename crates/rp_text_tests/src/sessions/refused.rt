@@ -2,7 +2,7 @@
 use super::driving::{ITEMS, REPLIES, SENT, packets, query};
 use super::node::SmallNode;
 use crate::support::{at_last, refused_twice};
-use rp_drive::{DriveFault, drive};
+use rp_drive::{Conversation, DriveFault, drive};
 use rp_io::{MemoryInput, MemoryOutput};
 use rp_query::Query;
 use rp_serve::{ServeFault, round, serve};
@@ -88,17 +88,14 @@ fn driven(
     out: &mut MemoryOutput,
 ) -> Result<bool, Fail> {
     let mut reader = MemoryInput::new(REPLIES.as_bytes(), 20, 0);
-    match drive(
-        alloc,
+    let conversation = Conversation {
         query,
-        &mut reader,
-        writer,
         packets,
-        50,
-        1_000,
-        1,
-        out,
-    ) {
+        budget: 50,
+        reads: 1_000,
+        node_number: 1,
+    };
+    match drive(alloc, &conversation, &mut reader, writer, out) {
         Ok(()) => Ok(true),
         Err(DriveFault::OutOfMemory) => Ok(false),
         Err(fault) => Err(Fail::from(fault)),

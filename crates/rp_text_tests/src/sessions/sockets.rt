@@ -1,7 +1,7 @@
 //! Both sides over one connection on loopback.
 use super::driving::{ITEMS, REPLIES, packets, query};
 use super::node::SmallNode;
-use rp_drive::drive;
+use rp_drive::{Conversation, drive};
 use rp_io::{MemoryOutput, Port};
 use rp_serve::serve;
 use std::io::Write;
@@ -22,17 +22,14 @@ fn loopback(rt: HostRuntime) -> Result<(), Fail> {
     let mut reader = Port::new(&source);
     let mut writer = Port::new(&source);
     let mut out = MemoryOutput::new(alloc, 4_096, 1_000, 0)?;
-    drive(
-        alloc,
-        &query,
-        &mut reader,
-        &mut writer,
-        packets.as_slice(),
-        50,
-        1_000,
-        1,
-        &mut out,
-    )?;
+    let conversation = Conversation {
+        query: &query,
+        packets: packets.as_slice(),
+        budget: 50,
+        reads: 1_000,
+        node_number: 1,
+    };
+    drive(alloc, &conversation, &mut reader, &mut writer, &mut out)?;
     assert!(rt; out.bytes() == ITEMS.as_bytes());
     source.shutdown(Shutdown::Write)?;
     let mut lines = Port::new(&node);

@@ -31,9 +31,9 @@ pub loop-packet-init : goal.loop-packet-init
 loop-packet-init g c =
     let input = (g.R.Intake.seen c.args.reader.now).remaining in
     record {
-      goes = goes_none (data_of c.args.self.now.query.now) c.args.self.now.budget c.args.self.now.node_number (Packets c.args.packets.now) (replies_within c.args.self.now.limit input) (replies_left c.new-replies.result (g.R.Intake.seen c.args.reader.now))
+      goes = goes_none (data_of c.args.self.now.query.now) c.args.self.now.budget c.args.self.now.node_number (Packets c.args.self.now.packets.now) (replies_within c.args.limit input) (replies_left c.new-replies.result (g.R.Intake.seen c.args.reader.now))
           (g.W.Outlet.contents c.args.writer.now) (g.O.Outlet.contents c.args.out.now)
-          (left_start c.args.self.now.limit c.new-replies.result.limit c.new-replies.result.over (pending_of c.new-replies.result.lines) input c.new-replies.ensures.limit c.new-replies.ensures.over c.new-replies.ensures.pending);
+          (left_start c.args.limit c.new-replies.result.limit c.new-replies.result.over (pending_of c.new-replies.result.lines) input c.new-replies.ensures.limit c.new-replies.ensures.over c.new-replies.ensures.pending);
       at = c.requires.place;
       write = refl;
       told = refl;
@@ -43,7 +43,7 @@ loop-packet-init g c =
 pub returns-in_err-hand_over-clause-stops : goal.returns-in_err-hand_over-clause-stops
 returns-in_err-hand_over-clause-stops g c =
     let q = data_of c.args.self.now.query.now in
-    let packets = c.args.packets.now in
+    let packets = c.args.self.now.packets.now in
     let i = c.loop-packet.packet-index in
     let input = (g.R.Intake.seen c.args.reader.now).remaining in
     let mid = replies_left c.loop-packet.replies (g.R.Intake.seen c.loop-packet.reader) in
@@ -55,18 +55,18 @@ returns-in_err-hand_over-clause-stops g c =
     let o2 = g.O.Outlet.contents c.hand_over.new.out in
     let why = c.in_err-hand_over.field-0.0 in
     let first : drop i packets ≡ c.packet-item.result ∷ drop (i + 1) packets = cut packets i c.packet-item.result c.loop-packet-test.true c.packet-item.is in
-    let now : GoesOn q c.args.self.now.budget c.args.self.now.node_number (Packets packets) (Packets (c.packet-item.result ∷ drop (i + 1) packets)) (replies_within c.args.self.now.limit input) mid w w1 o o1 =
-    subst (λ ps. GoesOn q c.args.self.now.budget c.args.self.now.node_number (Packets packets) (Packets ps) (replies_within c.args.self.now.limit input) mid w w1 o o1) first c.loop-packet.invariant.goes in
-    let stopped : StopsBy q c.args.self.now.budget c.args.self.now.node_number c.hand_over.new.refusal why (Packets packets) (replies_within c.args.self.now.limit input) w w2 o o2 =
-    goes_stops q c.args.self.now.budget c.args.self.now.node_number (Packets packets) (Packets (c.packet-item.result ∷ drop (i + 1) packets)) (replies_within c.args.self.now.limit input) mid w w1 o o1 now c.hand_over.new.refusal why w2 o2
+    let now : GoesOn q c.args.self.now.budget c.args.self.now.node_number (Packets packets) (Packets (c.packet-item.result ∷ drop (i + 1) packets)) (replies_within c.args.limit input) mid w w1 o o1 =
+    subst (λ ps. GoesOn q c.args.self.now.budget c.args.self.now.node_number (Packets packets) (Packets ps) (replies_within c.args.limit input) mid w w1 o o1) first c.loop-packet.invariant.goes in
+    let stopped : StopsBy q c.args.self.now.budget c.args.self.now.node_number c.hand_over.new.refusal why (Packets packets) (replies_within c.args.limit input) w w2 o o2 =
+    goes_stops q c.args.self.now.budget c.args.self.now.node_number (Packets packets) (Packets (c.packet-item.result ∷ drop (i + 1) packets)) (replies_within c.args.limit input) mid w w1 o o1 now c.hand_over.new.refusal why w2 o2
     (c.in_err-hand_over.ensures.stops (drop (i + 1) packets)) in
     let same : c.from_residual.result ≡ Err why = search rules in
-    if_err_is c.from_residual.result why (λ fault. StopsBy q c.args.self.now.budget c.args.self.now.node_number c.hand_over.new.refusal fault (Packets packets) (replies_within c.args.self.now.limit input) w w2 o o2) same stopped
+    if_err_is c.from_residual.result why (λ fault. StopsBy q c.args.self.now.budget c.args.self.now.node_number c.hand_over.new.refusal fault (Packets packets) (replies_within c.args.limit input) w w2 o o2) same stopped
 
 pub returns-in_err-hand_over-clause-front : goal.returns-in_err-hand_over-clause-front
 returns-in_err-hand_over-clause-front g c =
     let q = data_of c.args.self.now.query.now in
-    let packets = c.args.packets.now in
+    let packets = c.args.self.now.packets.now in
     let i = c.loop-packet.packet-index in
     let input = (g.R.Intake.seen c.args.reader.now).remaining in
     let mid = replies_left c.loop-packet.replies (g.R.Intake.seen c.loop-packet.reader) in
@@ -78,17 +78,17 @@ returns-in_err-hand_over-clause-front g c =
     let o2 = g.O.Outlet.contents c.hand_over.new.out in
     let why = c.in_err-hand_over.field-0.0 in
     let first : drop i packets ≡ c.packet-item.result ∷ drop (i + 1) packets = cut packets i c.packet-item.result c.loop-packet-test.true c.packet-item.is in
-    let now : GoesOn q c.args.self.now.budget c.args.self.now.node_number (Packets packets) (Packets (c.packet-item.result ∷ drop (i + 1) packets)) (replies_within c.args.self.now.limit input) mid w w1 o o1 =
-    subst (λ ps. GoesOn q c.args.self.now.budget c.args.self.now.node_number (Packets packets) (Packets ps) (replies_within c.args.self.now.limit input) mid w w1 o o1) first c.loop-packet.invariant.goes in
-    let stopped : StopsBy q c.args.self.now.budget c.args.self.now.node_number c.hand_over.new.refusal why (Packets packets) (replies_within c.args.self.now.limit input) w w2 o o2 =
-    goes_stops q c.args.self.now.budget c.args.self.now.node_number (Packets packets) (Packets (c.packet-item.result ∷ drop (i + 1) packets)) (replies_within c.args.self.now.limit input) mid w w1 o o1 now c.hand_over.new.refusal why w2 o2
+    let now : GoesOn q c.args.self.now.budget c.args.self.now.node_number (Packets packets) (Packets (c.packet-item.result ∷ drop (i + 1) packets)) (replies_within c.args.limit input) mid w w1 o o1 =
+    subst (λ ps. GoesOn q c.args.self.now.budget c.args.self.now.node_number (Packets packets) (Packets ps) (replies_within c.args.limit input) mid w w1 o o1) first c.loop-packet.invariant.goes in
+    let stopped : StopsBy q c.args.self.now.budget c.args.self.now.node_number c.hand_over.new.refusal why (Packets packets) (replies_within c.args.limit input) w w2 o o2 =
+    goes_stops q c.args.self.now.budget c.args.self.now.node_number (Packets packets) (Packets (c.packet-item.result ∷ drop (i + 1) packets)) (replies_within c.args.limit input) mid w w1 o o1 now c.hand_over.new.refusal why w2 o2
     (c.in_err-hand_over.ensures.stops (drop (i + 1) packets)) in
-    on_err_from _ (stops_part q c.args.self.now.budget c.args.self.now.node_number (Packets packets) (replies_within c.args.self.now.limit input) w w2 o o2 c.hand_over.new.refusal why stopped)
+    on_err_from _ (stops_part q c.args.self.now.budget c.args.self.now.node_number (Packets packets) (replies_within c.args.limit input) w w2 o o2 c.hand_over.new.refusal why stopped)
 
 pub returns-in_err-hand_over-clause-at : goal.returns-in_err-hand_over-clause-at
 returns-in_err-hand_over-clause-at g c =
     let q = data_of c.args.self.now.query.now in
-    let packets = c.args.packets.now in
+    let packets = c.args.self.now.packets.now in
     let i = c.loop-packet.packet-index in
     let input = (g.R.Intake.seen c.args.reader.now).remaining in
     let mid = replies_left c.loop-packet.replies (g.R.Intake.seen c.loop-packet.reader) in
@@ -100,9 +100,9 @@ returns-in_err-hand_over-clause-at g c =
     let o2 = g.O.Outlet.contents c.hand_over.new.out in
     let why = c.in_err-hand_over.field-0.0 in
     let first : drop i packets ≡ c.packet-item.result ∷ drop (i + 1) packets = cut packets i c.packet-item.result c.loop-packet-test.true c.packet-item.is in
-    let now : GoesOn q c.args.self.now.budget c.args.self.now.node_number (Packets packets) (Packets (c.packet-item.result ∷ drop (i + 1) packets)) (replies_within c.args.self.now.limit input) mid w w1 o o1 =
-    subst (λ ps. GoesOn q c.args.self.now.budget c.args.self.now.node_number (Packets packets) (Packets ps) (replies_within c.args.self.now.limit input) mid w w1 o o1) first c.loop-packet.invariant.goes in
-    let stopped : StopsAt q c.args.self.now.budget c.args.self.now.node_number c.loop-packet.place c.hand_over.new.refusal why packets (replies_within c.args.self.now.limit input) w w2 o o2 =
+    let now : GoesOn q c.args.self.now.budget c.args.self.now.node_number (Packets packets) (Packets (c.packet-item.result ∷ drop (i + 1) packets)) (replies_within c.args.limit input) mid w w1 o o1 =
+    subst (λ ps. GoesOn q c.args.self.now.budget c.args.self.now.node_number (Packets packets) (Packets ps) (replies_within c.args.limit input) mid w w1 o o1) first c.loop-packet.invariant.goes in
+    let stopped : StopsAt q c.args.self.now.budget c.args.self.now.node_number c.loop-packet.place c.hand_over.new.refusal why packets (replies_within c.args.limit input) w w2 o o2 =
     record {
       packet = c.packet-item.result;
       later = drop (i + 1) packets;
@@ -114,12 +114,12 @@ returns-in_err-hand_over-clause-at g c =
       stops = c.in_err-hand_over.ensures.stops [];
     } in
     let same : c.from_residual.result ≡ Err why = search rules in
-    if_err_is c.from_residual.result why (λ fault. StopsAt q c.args.self.now.budget c.args.self.now.node_number c.loop-packet.place c.hand_over.new.refusal fault packets (replies_within c.args.self.now.limit input) w w2 o o2) same stopped
+    if_err_is c.from_residual.result why (λ fault. StopsAt q c.args.self.now.budget c.args.self.now.node_number c.loop-packet.place c.hand_over.new.refusal fault packets (replies_within c.args.limit input) w w2 o o2) same stopped
 
 pub loop-packet-preserved : goal.loop-packet-preserved
 loop-packet-preserved g c =
     let q = data_of c.args.self.now.query.now in
-    let packets = c.args.packets.now in
+    let packets = c.args.self.now.packets.now in
     let i = c.loop-packet.packet-index in
     let input = (g.R.Intake.seen c.args.reader.now).remaining in
     let mid = replies_left c.loop-packet.replies (g.R.Intake.seen c.loop-packet.reader) in
@@ -131,10 +131,10 @@ loop-packet-preserved g c =
     let o1 = g.O.Outlet.contents c.loop-packet.out in
     let o2 = g.O.Outlet.contents c.hand_over.new.out in
     let first : drop i packets ≡ c.packet-item.result ∷ drop (i + 1) packets = cut packets i c.packet-item.result c.loop-packet-test.true c.packet-item.is in
-    let now : GoesOn q c.args.self.now.budget c.args.self.now.node_number (Packets packets) (Packets (c.packet-item.result ∷ drop (i + 1) packets)) (replies_within c.args.self.now.limit input) mid w w1 o o1 =
-    subst (λ ps. GoesOn q c.args.self.now.budget c.args.self.now.node_number (Packets packets) (Packets ps) (replies_within c.args.self.now.limit input) mid w w1 o o1) first c.loop-packet.invariant.goes in
+    let now : GoesOn q c.args.self.now.budget c.args.self.now.node_number (Packets packets) (Packets (c.packet-item.result ∷ drop (i + 1) packets)) (replies_within c.args.limit input) mid w w1 o o1 =
+    subst (λ ps. GoesOn q c.args.self.now.budget c.args.self.now.node_number (Packets packets) (Packets ps) (replies_within c.args.limit input) mid w w1 o o1) first c.loop-packet.invariant.goes in
     record {
-      goes = goes_both q c.args.self.now.budget c.args.self.now.node_number (Packets packets) (Packets (c.packet-item.result ∷ drop (i + 1) packets)) (replies_within c.args.self.now.limit input) mid w w1 o o1 now
+      goes = goes_both q c.args.self.now.budget c.args.self.now.node_number (Packets packets) (Packets (c.packet-item.result ∷ drop (i + 1) packets)) (replies_within c.args.limit input) mid w w1 o o1 now
           (Packets (drop (i + 1) packets)) left w2 o2 (c.in_ok-hand_over.ensures.goes (drop (i + 1) packets));
       at = ap (λ n. n + 1) c.loop-packet.invariant.at;
       write = c.in_ok-hand_over.ensures.write.0 ∙ c.loop-packet.invariant.write;
@@ -145,7 +145,7 @@ loop-packet-preserved g c =
 pub returns-clause-done : goal.returns-clause-done
 returns-clause-done g c =
     let q = data_of c.args.self.now.query.now in
-    let packets = c.args.packets.now in
+    let packets = c.args.self.now.packets.now in
     let input = (g.R.Intake.seen c.args.reader.now).remaining in
     let mid = replies_left c.loop-packet.replies (g.R.Intake.seen c.loop-packet.reader) in
     let w = g.W.Outlet.contents c.args.writer.now in
@@ -153,8 +153,8 @@ returns-clause-done g c =
     let o = g.O.Outlet.contents c.args.out.now in
     let o1 = g.O.Outlet.contents c.loop-packet.out in
     let none : drop c.loop-packet.packet-index packets ≡ [] = drop_all c.loop-packet.packet-index packets (omega arith) in
-    let now = subst (λ ps. GoesOn q c.args.self.now.budget c.args.self.now.node_number (Packets packets) (Packets ps) (replies_within c.args.self.now.limit input) mid w w1 o o1) none c.loop-packet.invariant.goes in
-    goes_ends q c.args.self.now.budget c.args.self.now.node_number (Packets packets) (Packets []) (replies_within c.args.self.now.limit input) mid w w1 o o1 now Finished w1 o1 (ends_none q c.args.self.now.budget c.args.self.now.node_number mid w1 o1)
+    let now = subst (λ ps. GoesOn q c.args.self.now.budget c.args.self.now.node_number (Packets packets) (Packets ps) (replies_within c.args.limit input) mid w w1 o o1) none c.loop-packet.invariant.goes in
+    goes_ends q c.args.self.now.budget c.args.self.now.node_number (Packets packets) (Packets []) (replies_within c.args.limit input) mid w w1 o o1 now Finished w1 o1 (ends_none q c.args.self.now.budget c.args.self.now.node_number mid w1 o1)
 
 pub returns-in_err-hand_over-clause-reads : goal.returns-in_err-hand_over-clause-reads
 returns-in_err-hand_over-clause-reads g c =
