@@ -11,10 +11,10 @@ use Rattle.rp_feed.specs.Fed.{Fed, Numbered, fed_from, with_row, rows_from}
 use Rattle.rp_feed.specs.Answers.{Answer, after}
 use Rattle.rp_feed.specs.declared.packet.Packet.{Packet}
 use Rattle.rp_feed.specs.declared.packet.Packet.TheVariants.{Row as RowPacket, Close as ClosePacket}
-use Rattle.rp_node.specs.Joined.{RowsHaveKey, IsOfKey}
+use Rattle.rp_partition.specs.Polling.{OnlyDrops}
+use Rattle.rp_node.specs.Keyed.{RowsHaveKey, IsOfKey}
 use Rattle.rp_node.specs.Accepting.{fed_with, packet_fault, packet_key}
 use Rattle.rp_node.specs.Taking.{KeepsKey}
-use Rattle.rp_node.proofs.Dropping.{Forgets, kept, dropped}
 
 -- one row more, which has it
 have_put : (q : QueryData) (key : List Value) (n : ℕ) (row : List Value) (rows : List Numbered) → row_fault (kinds_of q.table) row ≡ None → key_of q row ≡ key → RowsHaveKey q key rows → RowsHaveKey q key (with_row n row rows)
@@ -34,9 +34,9 @@ have_from q key n ((m, row) ∷ rows) h = go (nat_le n m) (have_from q key n row
     go true i = (h.0, h.1, i)
     go false i = i
 
-pub dropped_keeps : (q : QueryData) (before : ℕ) (fed new : Fed) → Forgets before fed new → KeepsKey q fed.rows new.rows
-dropped_keeps q before fed new (kept h e) = λ key of. subst (λ (f : Fed). IsOfKey q key f.rows) (sym e) of
-dropped_keeps q before fed new (dropped h e) = λ key of. subst (λ (f : Fed). IsOfKey q key f.rows) (sym e) (record { kinds = of.kinds; have = have_from q key before fed.rows of.have })
+-- where rows alone are dropped, those that have the key are left with it
+pub dropped_keeps : (q : QueryData) (before later : Fed) → OnlyDrops before later → KeepsKey q before.rows later.rows
+dropped_keeps q before later drops = λ key of. record { kinds = of.kinds; have = subst (RowsHaveKey q key) (sym drops.rows) (have_from q key later.first before.rows of.have) }
 
 -- ---- a packet
 

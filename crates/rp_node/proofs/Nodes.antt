@@ -35,15 +35,17 @@ use Rattle.rp_walker.specs.LeftLaw.{LeftIsBounded}
 use Rattle.rp_walker.specs.Bound.{SearchSeen, SeenRises, SeenWorks}
 use Rattle.rp_walker.specs.Polls.{entered_by, PollLowers, PollTakes, TurnsAreCounted}
 use Rattle.rp_schedules.specs.Records.{Held, with_fed, or_fresh, fresh}
-use Rattle.rp_node.specs.declared.partition.Partition.{Partition}
-use Rattle.rp_node.specs.PartRows.{known_by, known_count, end_of}
-use Rattle.rp_node.specs.Joined.{Joined, IsOfKey, IsPartition, Work, held_of, work_of}
+use Rattle.rp_partition.specs.declared.partition.Partition.{Partition}
+use Rattle.rp_partition.specs.PartRows.{known_by, known_count, end_of}
+use Rattle.rp_partition.specs.Joined.{Joined, Work, held_of, work_of}
+use Rattle.rp_node.specs.Keyed.{IsOfKey, IsPartition}
 use Rattle.rp_node.specs.NodeSeen.{Map, AllJoined, IsBounded, AreBounded, entries_by, node_by, same_key, entry_at, with_entry, or_no_work, work_at}
 use Rattle.rp_node.specs.declared.fault.NodeFault.TheVariants as node
 use Rattle.rp_node.specs.Bound.{KeyWorks}
 use Rattle.rp_node.specs.Accepting.{rows_taken, feed_answer, fed_with, packet_fault, packet_key, packet_answer, record_for, told, Accepted}
-use Rattle.rp_node.specs.Polling.{told_poll, HoldsNoMore, HoldsNoMoreAt, PolledTo, PolledAt, IsUnknown, NodePolls}
-use Rattle.rp_node.specs.Taking.{TakenBy, TakenAt, IsAdded, AddedAs, MapTakes, PolledPlace, held_at, work_done}
+use Rattle.rp_partition.specs.Polling.{HoldsNoMore, PolledTo}
+use Rattle.rp_node.specs.Polling.{told_poll, HoldsNoMoreAt, PolledAt, IsUnknown, NodePolls}
+use Rattle.rp_node.specs.Taking.{TakesPacket, TakenAt, IsAdded, AddedAs, MapTakes, PolledPlace, held_at, work_done}
 use Rattle.rp_node.proofs.Keys.{packet_keeps, packet_begins}
 use Rattle.rp_node.proofs.Entries.{at_is, at_none, insert_is, set_is, set_same, entry_there}
 
@@ -206,10 +208,10 @@ module _ (q : QueryData) (packet : Packet) (es : Map) (key : Vec Value Global) (
   feed_is : p.feed ≡ fed_from 1
   feed_is = ap (λ (h : Held). h.feed) held
 
-  told_of : (r : Answer) → TakenBy q packet p p' r → memory_aside r ≡ feed_answer (fed_from 1) packet
+  told_of : (r : Answer) → TakesPacket q packet p p' r → memory_aside r ≡ feed_answer (fed_from 1) packet
   told_of r t = t.answer ∙ ap (λ f. feed_answer f packet) feed_is
 
-  held_taken : (r : Answer) → r ≡ Ok New → TakenBy q packet p p' r → held_of p' ≡ with_fed fresh (fed_with packet fresh.feed)
+  held_taken : (r : Answer) → r ≡ Ok New → TakesPacket q packet p p' r → held_of p' ≡ with_fed fresh (fed_with packet fresh.feed)
   held_taken r e t =
       let feed : p'.feed ≡ fed_with packet (fed_from 1) = t.feed ∙ ap (λ z. after z (fed_with packet p.feed) p.feed) e ∙ ap (fed_with packet) feed_is in
       let state : record_of p'.walker ≡ first_state = ap record_of t.walker ∙ ap (λ (h : Held). h.state) held in
@@ -218,7 +220,7 @@ module _ (q : QueryData) (packet : Packet) (es : Map) (key : Vec Value Global) (
   none_seen : (o o' : Option SearchSeen) (rows : ℕ) → o ≡ None → SeenRises rows o o' → o' ≡ None
   none_seen o o' rows none rises = subst (λ z. SeenRises rows z o') none rises
 
-  pub added_ok : (new : Map) (taken : Taken) → entered_by p.walker ≡ 0 → (work_of q p).search ≡ None → TakenBy q packet p p' (Ok taken) → new ≡ insert_entry (λ j k. same_key j.items k.items) es key p' → AddedAs q packet es key new (Ok taken)
+  pub added_ok : (new : Map) (taken : Taken) → entered_by p.walker ≡ 0 → (work_of q p).search ≡ None → TakesPacket q packet p p' (Ok taken) → new ≡ insert_entry (λ j k. same_key j.items k.items) es key p' → AddedAs q packet es key new (Ok taken)
   added_ok new taken entered none t now =
       let is : ◌≡◌ {A = Answer} (Ok taken) (Ok New) = ap (λ (z : Taken). as_answer z) (fresh_taken packet taken (sym (told_of (Ok taken) t))) in
       record {
@@ -227,7 +229,7 @@ module _ (q : QueryData) (packet : Packet) (es : Map) (key : Vec Value Global) (
         refused = tt;
       }
 
-  pub added_no_memory : (new : Map) (taken : Taken) → TakenBy q packet p p' (Ok taken) → new ≡ es → AddedAs q packet es key new (Err fault.OutOfMemory)
+  pub added_no_memory : (new : Map) (taken : Taken) → TakesPacket q packet p p' (Ok taken) → new ≡ es → AddedAs q packet es key new (Err fault.OutOfMemory)
   added_no_memory new taken t now =
       let is : ◌≡◌ {A = Answer} (Ok taken) (Ok New) = ap (λ (z : Taken). as_answer z) (fresh_taken packet taken (sym (told_of (Ok taken) t))) in
       record { answer = sym is ∙ told_of (Ok taken) t; added = tt; refused = now }

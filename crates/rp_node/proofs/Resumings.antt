@@ -15,15 +15,16 @@ use Rattle.rp_feed.specs.Fed.{Fed, AscendFrom, IsFeed, front_of}
 use Rattle.rp_feed.specs.Again.{AgainIsTheSame, fed_again}
 use Rattle.rp_known.specs.Known.{count}
 use Rattle.rp_known.specs.Plans.{first_read}
-use Rattle.rp_walker.specs.declared.record.MatcherState.{MatcherState}
-use Rattle.rp_walker.specs.declared.walker.Walker.{Walker}
-use Rattle.rp_walker.specs.Walking.{record_of, Stands, CanGoOn}
+use Rattle.rp_walker.specs.Walking.{CanGoOn}
 use Rattle.rp_checkpoint.specs.HeldRows.{is_above, ascend_above, ascend}
 use Rattle.rp_checkpoint.specs.declared.node_data.HeldRow.{HeldRow}
 use Rattle.rp_checkpoint.specs.declared.node_data.PartitionData.{PartitionData}
 use Rattle.rp_walker.specs.Records.{StandsInRows}
-use Rattle.rp_node.specs.PartRows.{known_by, known_count}
-use Rattle.rp_node.specs.Joined.{IsPartition, RowsHaveKey, held_of}
+use Rattle.rp_partition.specs.PartRows.{known_by, known_count}
+use Rattle.rp_schedules.specs.Records.{Held}
+use Rattle.rp_partition.specs.declared.partition.Partition.{Partition}
+use Rattle.rp_partition.specs.Joined.{CanResume, Joined, held_of}
+use Rattle.rp_node.specs.Keyed.{IsPartition, RowsHaveKey}
 use Rattle.rp_node.specs.NodeSeen.{same_key}
 use Rattle.rp_node.specs.Resuming.{numbered, state_in, fed_in, held_in, feed_in, has_kinds, fits_table, fits_all, has_place, restorable_over, is_restorable}
 use Rattle.rp_node.proofs.Nodes.{SameKeys}
@@ -105,23 +106,22 @@ stands_in q fed p one h =
         let x : p.at ≤ front_of fed + 1 = (let t = b.0 in grind (arith, nat_tests)) in
         omega (arith, x, n)
 
-pub resumed : AgainIsTheSame → SameKeys → (q : QueryData) (p : PartitionData) (fed : Fed) (w : Walker) → feed_in p ≡ Some fed → ascend p.rows ≡ true → has_kinds q p ≡ true → has_place q (front_of fed) p ≡ true → fits_all q p.key p.rows ≡ true
-    → IsFeed fed → record_of w ≡ state_in p → (CanGoOn q (state_in p) → Stands q (known_by fed) w)
-    → (is_restorable q p ≡ true) × (held_of (record { feed = fed; walker = w }) ≡ held_in p) × IsPartition q p.key (record { feed = fed; walker = w })
-resumed again exact q p fed w is up kinds place fits feed state stands =
+pub resumed : AgainIsTheSame → SameKeys → (q : QueryData) (p : PartitionData) (fed : Fed) (part : Partition) → feed_in p ≡ Some fed → ascend p.rows ≡ true → has_kinds q p ≡ true → has_place q (front_of fed) p ≡ true → fits_all q p.key p.rows ≡ true
+    → IsFeed fed → held_of part ≡ record { feed = fed; state = state_in p } → (CanResume q (held_of part) → Joined q part)
+    → (is_restorable q p ≡ true) × (held_of part ≡ held_in p) × IsPartition q p.key part
+resumed again exact q p fed part is up kinds place fits feed held joined =
     let same = fed_same again p fed up is in (
       ap (restorable_over q p) is ∙ rw (kinds, place, fits) refl,
-      λ i. record { feed = same i; state = state i },
+      held ∙ (λ i. record { feed = same i; state = state_in p }),
       record {
-        joined = record {
-          feed = feed;
-          stands = stands (can_go_on q (front_of fed) p place);
-          first = ap (λ (r : MatcherState). r.first) state ∙ ap (λ (f : Fed). f.first) (sym same);
-          in_rows = subst (StandsInRows (known_by fed)) (sym state) (stands_in q fed p feed.ordered.least place);
-        };
+        joined = joined (subst (λ (h : Held). CanResume q h) (sym held) (record {
+          first = ap (λ (f : Fed). f.first) (sym same);
+          can = can_go_on q (front_of fed) p place;
+          in_rows = stands_in q fed p feed.ordered.least place;
+        }));
         of_key = record {
           kinds = no_fault (row_fault (key_kinds q) p.key) kinds;
-          have = subst (λ (f : Fed). RowsHaveKey q p.key f.rows) (sym same) (rows_have_key exact q p.key p.rows fits);
+          have = subst (λ (f : Fed). RowsHaveKey q p.key f.rows) (sym (ap (λ (h : Held). h.feed) held ∙ same)) (rows_have_key exact q p.key p.rows fits);
         };
       },
     )

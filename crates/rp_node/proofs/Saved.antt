@@ -23,9 +23,10 @@ use Rattle.rp_walker.specs.Walking.{record_of, CanGoOn, StandsCanGoOn}
 use Rattle.rp_checkpoint.specs.declared.node_data.PartitionData.{PartitionData}
 use Rattle.rp_checkpoint.specs.Checkpoints.{restored}
 use Rattle.rp_schedules.specs.Records.{Held}
-use Rattle.rp_node.specs.declared.partition.Partition.{Partition}
-use Rattle.rp_node.specs.PartRows.{known_by, known_count}
-use Rattle.rp_node.specs.Joined.{IsPartition, RowsHaveKey, held_of}
+use Rattle.rp_partition.specs.declared.partition.Partition.{Partition}
+use Rattle.rp_partition.specs.PartRows.{known_by, known_count}
+use Rattle.rp_partition.specs.Joined.{held_of}
+use Rattle.rp_node.specs.Keyed.{IsPartition, RowsHaveKey}
 use Rattle.rp_node.specs.NodeSeen.{Entries, Map, AllJoined, entries_by, node_by, same_key, entry_at, with_entry}
 use Rattle.rp_node.specs.Keeping.{held_row, kept_of, partition_kept}
 use Rattle.rp_node.specs.Resuming.{numbered, held_in, feed_in, has_place, fits_all, restorable_over, is_restorable}

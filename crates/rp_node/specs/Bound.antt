@@ -5,7 +5,7 @@ use Rattle.rp_walker.specs.declared.poll.Poll.{Poll}
 use Rattle.rp_walker.specs.Bound.{SeenWorks}
 use Rattle.rp_schedules.specs.Records.{Held}
 use Rattle.rp_node.specs.NodeSeen.{NodeSeen, entry_at, work_at}
-use Rattle.rp_node.specs.PartRows.{known_by}
+use Rattle.rp_partition.specs.PartRows.{known_by}
 
 -- What a poll's turns take off what is seen to be left to the search of the key's partition: as rp_walker, specs/Bound, has it of a
 -- walker. Once the answer is over, no search is left.

@@ -15,7 +15,8 @@ use Rattle.rp_node.specs.declared.fault.RestartFault.{RestartFault}
 use Rattle.rp_node.specs.declared.fault.RestartFault.TheVariants.{OutOfMemory as NoMemory}
 use Rattle.rp_node.specs.NodeSeen.{NodeSeen, Entries, entry_at}
 use Rattle.rp_node.specs.Accepting.{packet_answer, Accepted}
-use Rattle.rp_node.specs.Polling.{act_by, PolledAt}
+use Rattle.rp_partition.specs.Polling.{act_by}
+use Rattle.rp_node.specs.Polling.{PolledAt}
 use Rattle.rp_node.specs.Restarting.{RestartsTo, IsRefused}
 
 -- the nodes of a world, whose keys are lists of values

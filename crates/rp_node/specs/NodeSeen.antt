@@ -16,9 +16,10 @@ use Rattle.rp_walker.specs.Bound.{SearchSeen}
 use Rattle.rp_walker.specs.declared.record.MatcherState.{MatcherState}
 use Rattle.rp_walker.specs.contracts.record.MatcherState.{the_row as state_row}
 use Rattle.rp_schedules.specs.Records.{Held}
-use Rattle.rp_node.specs.declared.partition.Partition.{Partition}
-use Rattle.rp_node.specs.PartRows.{end_of}
-use Rattle.rp_node.specs.Joined.{IsPartition, Work, held_of, work_of}
+use Rattle.rp_partition.specs.declared.partition.Partition.{Partition}
+use Rattle.rp_partition.specs.PartRows.{end_of}
+use Rattle.rp_partition.specs.Joined.{Work, held_of, work_of}
+use Rattle.rp_node.specs.Keyed.{IsPartition}
 
 -- something of each key, in order of first arrival
 abbrev pub Entries : Type 0 → Type 0

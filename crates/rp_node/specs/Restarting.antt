@@ -10,7 +10,7 @@ use Rattle.rp_schedules.specs.Records.{Held}
 use Rattle.rp_node.specs.declared.fault.RestartFault.{RestartFault}
 use Rattle.rp_node.specs.declared.fault.RestartFault.TheVariants.{Digest, NotJson, Version, BadField, ClauseDiffers, BadState, OutOfMemory}
 use Rattle.rp_node.specs.ClauseTexts.{AreOneClause}
-use Rattle.rp_node.specs.Joined.{held_of}
+use Rattle.rp_partition.specs.Joined.{held_of}
 use Rattle.rp_node.specs.NodeSeen.{Entries, Map, AllJoined, entries_by, entry_at, with_entry}
 use Rattle.rp_node.specs.Resuming.{held_in, is_restorable}
 

@@ -15,8 +15,9 @@ use Rattle.rp_walker.specs.declared.record.MatcherState.{MatcherState}
 use Rattle.rp_checkpoint.specs.declared.node_data.HeldRow.{HeldRow}
 use Rattle.rp_checkpoint.specs.declared.node_data.PartitionData.{PartitionData}
 use Rattle.rp_schedules.specs.Records.{Held}
-use Rattle.rp_node.specs.declared.partition.Partition.{Partition}
-use Rattle.rp_node.specs.Joined.{IsPartition, held_of}
+use Rattle.rp_partition.specs.declared.partition.Partition.{Partition}
+use Rattle.rp_partition.specs.Joined.{held_of}
+use Rattle.rp_node.specs.Keyed.{IsPartition}
 use Rattle.rp_node.specs.NodeSeen.{same_key}
 
 -- ---- the record in what was kept

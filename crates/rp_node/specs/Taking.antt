@@ -8,20 +8,22 @@ use Rattle.indexmap.specs.IndexMap.{insert_entry, set_value_at}
 use Rattle.rp_value.specs.declared.value.Value.{Value}
 use Rattle.rp_query.specs.declared.query.QueryData.{QueryData}
 use Rattle.rp_feed.specs.declared.answer.Taken.TheVariants.{New}
-use Rattle.rp_feed.specs.Fed.{Numbered, fed_from, front_of}
-use Rattle.rp_feed.specs.Answers.{Answer, after, memory_aside}
+use Rattle.rp_feed.specs.Fed.{Numbered, fed_from}
+use Rattle.rp_feed.specs.Answers.{Answer, memory_aside}
 use Rattle.rp_feed.specs.declared.packet.Packet.{Packet}
 use Rattle.rp_walker.specs.declared.poll.Poll.{Poll}
 use Rattle.rp_walker.specs.declared.poll.Poll.TheVariants.{Paused as PausedPoll}
 use Rattle.rp_walker.specs.Bound.{SearchSeen, SeenRises, SeenWorks}
-use Rattle.rp_walker.specs.Polls.{entered_by, PollLowers, PollTakes, TurnsAreCounted}
+use Rattle.rp_walker.specs.Polls.{PollLowers, PollTakes, TurnsAreCounted}
 use Rattle.rp_schedules.specs.Records.{Held, fresh, with_fed, or_fresh}
-use Rattle.rp_node.specs.declared.partition.Partition.{Partition}
-use Rattle.rp_node.specs.Joined.{Joined, IsOfKey, Work, held_of, work_of}
-use Rattle.rp_node.specs.PartRows.{known_by}
+use Rattle.rp_partition.specs.declared.partition.Partition.{Partition}
+use Rattle.rp_partition.specs.Joined.{Joined, Work, held_of, work_of}
+use Rattle.rp_node.specs.Keyed.{IsOfKey}
+use Rattle.rp_partition.specs.PartRows.{known_by}
+use Rattle.rp_partition.specs.Taking.{TakenBy}
 use Rattle.rp_node.specs.NodeSeen.{Map, AllJoined, entries_by, same_key, entry_at, with_entry, or_no_work}
 use Rattle.rp_node.specs.Accepting.{feed_answer, fed_with, packet_fault, packet_key, rows_taken}
-use Rattle.rp_node.specs.Polling.{HoldsNoMore, PolledTo}
+use Rattle.rp_partition.specs.Polling.{HoldsNoMore, PolledTo}
 
 -- the partition at a place is joined
 abbrev pub IsJoinedAt : QueryData → Map → ℕ → Type 0
@@ -32,12 +34,9 @@ abbrev pub KeepsKey : QueryData → List Numbered → List Numbered → Type 0
 KeepsKey q before later = (key : List Value) → IsOfKey q key before → IsOfKey q key later
 
 -- a partition takes a packet
-pub record TakenBy (q : QueryData) (packet : Packet) (before later : Partition) (result : Answer) : Type 0 where
-  pub joined : Joined q later
-  pub answer : memory_aside result ≡ feed_answer before.feed packet
-  pub feed : later.feed ≡ after result (fed_with packet before.feed) before.feed
-  pub walker : later.walker ≡ before.walker
-  pub search : SeenRises (front_of later.feed - front_of before.feed) (work_of q before).search (work_of q later).search
+abbrev pub TakesPacket : QueryData → Packet → Partition → Partition → Answer → Type 0
+TakesPacket q packet before later result =
+    TakenBy q (feed_answer (held_of before).feed packet) (fed_with packet (held_of before).feed) before later result
 
 -- the partition at a place takes it
 pub record TakenAt (q : QueryData) (packet : Packet) (es : Map) (place : ℕ) (new : Map)
@@ -46,7 +45,7 @@ pub record TakenAt (q : QueryData) (packet : Packet) (es : Map) (place : ℕ) (n
   pub later : Partition
   pub there : slice_get (values_of es) place ≡ Some before
   pub now : new ≡ set_value_at es place later
-  pub taken : TakenBy q packet before later result
+  pub taken : TakesPacket q packet before later result
 
 -- a partition that has taken it alone is added
 pub record IsAdded (q : QueryData) (packet : Packet) (es : Map) (key : Vec Value Global) (new : Map)
@@ -55,7 +54,7 @@ pub record IsAdded (q : QueryData) (packet : Packet) (es : Map) (key : Vec Value
   pub later : Partition
   pub joined : Joined q later
   pub held : held_of later ≡ with_fed fresh (fed_with packet fresh.feed)
-  pub entered : entered_by later.walker ≡ 0
+  pub entered : (work_of q later).entered ≡ 0
   pub search : (work_of q later).search ≡ None
   pub now : new ≡ insert_entry (λ j k. same_key j.items k.items) es key later
 
@@ -73,12 +72,12 @@ pub record PolledPlace (q : QueryData) (es : Map) (place : ℕ) (new : Map) (bud
   pub there : slice_get (values_of es) place ≡ Some before
   pub now : new ≡ set_value_at es place later
   pub joined : Joined q later
-  pub keeps : KeepsKey q before.feed.rows later.feed.rows
+  pub keeps : KeepsKey q (held_of before).feed.rows (held_of later).feed.rows
   pub polled : PolledTo q (held_of before) (held_of later) result
   pub lowers : IfOk result (PollLowers budget (work_of q before).left (work_of q later).left)
   pub turns : TurnsAreCounted budget steps steps' (work_of q before).entered (work_of q later).entered
   pub takes : IfOk result (PollTakes budget steps steps')
-  pub works : IfOk result (SeenWorks (steps' - steps) q (known_by before.feed) (work_of q before).search (work_of q later).search
+  pub works : IfOk result (SeenWorks (steps' - steps) q (known_by (held_of before).feed) (work_of q before).search (work_of q later).search
       (held_of before).state (held_of later).state)
   pub held : OnOk result (1 ≤ budget → HoldsNoMore q (held_of later))
   pub none : budget ≡ 0 → (result ≡ Ok PausedPoll) × (later ≡ before) × (steps' ≡ steps)

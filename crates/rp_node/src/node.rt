@@ -1,6 +1,7 @@
 //! Partitions by key.
-ghost use Rattle.std.specs.Prelude.{◌≡◌, ◌≢◌, ◌⊎◌, ◌+◌, ◌-◌, ◌<◌, ◌≤◌, [], Ok, Err, Some, IfErr, IfOk, OnOk};
+ghost use Rattle.std.specs.Prelude.{◌≡◌, ◌≢◌, ◌⊎◌, ◌+◌, ◌-◌, ◌<◌, ◌≤◌, List, [], Ok, Err, Some, IfErr, IfOk, OnOk};
 ghost use Rattle.indexmap.specs.IndexMap.{index_map_len};
+ghost use Rattle.rp_value.specs.declared.value.Value.{Value as Cell};
 ghost use Rattle.rp_query.specs.QueryView.{data_of};
 ghost use Rattle.rp_feed.specs.declared.answer.Taken.TheVariants.{New};
 ghost use Rattle.rp_feed.specs.declared.packet.Packet.TheVariants.{Row as RowPacket, Close as ClosePacket};
@@ -15,12 +16,13 @@ ghost use Rattle.rp_node.specs.Restarting.{IsRefused, RestartsTo};
 ghost use Rattle.rp_node.specs.Taking.{AddedAs, IsJoinedAt, MapTakes, PolledPlace, TakenAt};
 
 use crate::fault::{NodeFault, RestartRefused, told, told_poll};
-use crate::partition::{Partition, Partitions};
+use crate::partitions::Partitions;
 use crate::restart::restored;
 use crate::save::kept;
 use indexmap::IndexMap;
 use rp_checkpoint::checkpoint_of;
 use rp_feed::{FeedFault, Packet, Taken};
+use rp_partition::Partition;
 use rp_query::Query;
 use rp_search::Steps;
 use rp_value::{Cells, Row, Value};
@@ -350,7 +352,7 @@ fn take_close(
     rp_feed::law_same_rows();
     rp_query::law_keys();
     match partitions.get_index_of(key.as_slice()) {
-        Some(place) => take_close_at(query, partitions, place, key, count),
+        Some(place) => take_close_at(query, partitions, place, count),
         None => add_close(alloc, query, partitions, key, count),
     }
 }
@@ -360,16 +362,15 @@ fn take_close_at(
     query: &Query,
     partitions: &mut Partitions,
     place: usize,
-    key: Vec<Value>,
     count: u64,
 ) -> Result<Taken, FeedFault>
     requires within { place < index_map_len partitions.old }
     requires joined { IsJoinedAt (data_of query.now) partitions.old.entries place }
-    ensures takes { TakenAt (data_of query.now) (ClosePacket key.items count) partitions.old.entries place
-        partitions.new.entries result }
+    ensures takes { (key : List Cell) → TakenAt (data_of query.now) (ClosePacket key count)
+        partitions.old.entries place partitions.new.entries result }
 {
     match partitions.get_index_mut(place) {
-        Some(partition) => partition.close(query, key.as_slice(), count),
+        Some(partition) => partition.close(query, count),
         None => Err(FeedFault::OutOfMemory),
     }
 }
@@ -386,7 +387,7 @@ fn add_close(
         partitions.new.entries result }
 {
     let mut partition = Partition::new(alloc);
-    let taken = partition.close(query, key.as_slice(), count)?;
+    let taken = partition.close(query, count)?;
     match partitions.insert(key, partition) {
         Ok(_) => Ok(taken),
         Err(_) => Err(FeedFault::OutOfMemory),

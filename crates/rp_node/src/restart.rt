@@ -3,16 +3,17 @@ ghost use Rattle.std.specs.Prelude.{◌≡◌, ◌↔◌, Ok, IfErr, IfOk, IsTru
 ghost use Rattle.indexmap.specs.IndexMap.{insert_entry};
 ghost use Rattle.rp_query.specs.QueryView.{data_of};
 ghost use Rattle.rp_checkpoint.specs.Checkpoints.{restored};
-ghost use Rattle.rp_node.specs.Joined.{held_of};
+ghost use Rattle.rp_partition.specs.Joined.{held_of};
 ghost use Rattle.rp_node.specs.NodeSeen.{AllJoined, entries_by, same_key};
 ghost use Rattle.rp_node.specs.Restarting.{IsOfQuery, IsRefused, RestartsTo, RestoredAll, RestoredOne};
 
 use crate::clause_text::are_one_clause;
 use crate::fault::{RestartFault, bytes_fault};
-use crate::partition::{Partition, Partitions};
+use crate::partitions::Partitions;
 use crate::resume::resume;
 use indexmap::IndexMap;
 use rp_checkpoint::{NodeData, PartitionData, read_checkpoint};
+use rp_partition::Partition;
 use rp_query::Query;
 use rp_value::{Column, Value};
 use std::alloc::{AllocError, Global};

@@ -7,12 +7,12 @@ ghost use Rattle.rp_feed.specs.Answers.{row_answer};
 ghost use Rattle.rp_feed.specs.Again.{close_with, is_new, take_all};
 ghost use Rattle.rp_node.specs.Resuming.{Resumed, fits_table, feed_in, fits_all, has_kinds, has_place, numbered, state_in};
 
-use crate::partition::Partition;
 use rp_checkpoint::{HeldRow, PartitionData};
 use rp_feed::{Feed, FeedFault, MAX_NUMBER, Taken};
+use rp_partition::Partition;
 use rp_query::Query;
 use rp_value::Row;
-use rp_walker::{MatcherState, Walker};
+use rp_walker::MatcherState;
 use std::alloc::{AllocError, Global};
 
 /// The partition that goes on from what was kept of it. None where a node may not go on from that.
@@ -49,8 +49,7 @@ fn resume_over(
     if !fits_all(alloc, query, kept)? {
         return Ok(None);
     }
-    let walker = Walker::resume(alloc, state_of(kept));
-    Ok(Some(Partition { feed, walker }))
+    Ok(Some(Partition::resume(alloc, feed, state_of(kept))))
 }
 
 /// Whether the key has the kinds of the columns of PARTITION BY.

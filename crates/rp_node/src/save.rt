@@ -1,14 +1,14 @@
 //! From a node to what a checkpoint keeps of it.
 ghost use Rattle.std.specs.Prelude.{◌≡◌, IfOk, map};
 ghost use Rattle.rp_query.specs.QueryView.{data_of};
-ghost use Rattle.rp_node.specs.Joined.{Joined, held_of};
+ghost use Rattle.rp_partition.specs.Joined.{held_of};
 ghost use Rattle.rp_node.specs.NodeSeen.{AllJoined, node_by};
 ghost use Rattle.rp_node.specs.Keeping.{held_row, kept_of, partition_kept};
-ghost use Rattle.rp_query.specs.declared.query.QueryData.{QueryData};
 
-use crate::partition::{Partition, Partitions as Parts};
+use crate::partitions::Partitions as Parts;
 use rp_checkpoint::{Columns, HeldRow, HeldRows, NodeData, PartitionData, Partitions};
 use rp_feed::Feed;
+use rp_partition::Partition;
 use rp_query::Query;
 use rp_value::{Cells, Row, Value};
 use std::alloc::{AllocError, Global};
@@ -53,13 +53,14 @@ fn partition_kept(
     ensures { IfOk result (λ kept. kept ≡ partition_kept key.now (held_of partition.now)) }
 {
     let key = Cells::of(alloc, key)?;
-    let rows = rows(alloc, &partition.feed)?;
-    let state = partition.walker.state();
+    let feed = partition.feed();
+    let rows = rows(alloc, feed)?;
+    let state = partition.state();
     Ok(PartitionData {
         at: state.at,
-        close: partition.feed.closed(),
+        close: feed.closed(),
         covered: state.covered,
-        first: partition.feed.first(),
+        first: feed.first(),
         given: state.given,
         here: state.here,
         key,

@@ -1,16 +1,12 @@
-use Rattle.std.proofs.Common.{List, Ok, subst}
-use Rattle.rp_value.specs.declared.value.Value.{Value}
 use Rattle.rp_query.specs.QueryView.{data_of}
 use Rattle.rp_feed.specs.declared.packet.Packet.TheVariants.{Close as ClosePacket}
-use Rattle.rp_node.specs.PartRows.{known_by}
 use Rattle.rp_node.proofs.Nodes.{added_ok}
-use Rattle.rp_node.specs.Taking.{TakenBy}
 use Rattle.rp_node.proofs.node.add_close.Goals as goal
 
 pub returns-in-Ok : goal.returns-in-Ok
 returns-in-Ok c = record {
   added = added_ok (data_of c.args.query.now) (ClosePacket c.args.key.items c.args.count) c.args.partitions.now.entries c.args.key c.new-partition.result c.close.new.self c.new-partition.ensures.held
-      c.insert.new.self.entries c.in_ok-taken.taken c.new-partition.ensures.entered (c.new-partition.ensures.no_search (data_of c.args.query.now) (known_by c.new-partition.result.feed))
-      (subst (λ (k : List Value). TakenBy (data_of c.args.query.now) (ClosePacket k c.args.count) c.new-partition.result c.close.new.self (Ok c.in_ok-taken.taken)) c.as_slice.ensures.value c.in_ok-taken.ensures.taken)
+      c.insert.new.self.entries c.in_ok-taken.taken (c.new-partition.ensures.entered (data_of c.args.query.now)) (c.new-partition.ensures.no_search (data_of c.args.query.now))
+      c.in_ok-taken.ensures.taken
       c.in-Ok.ensures.entries;
 }

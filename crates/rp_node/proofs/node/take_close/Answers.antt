@@ -11,7 +11,7 @@ take_close_at-requires-clause-joined c = λ p h. joined_at (data_of c.args.query
 pub returns-in-Some : goal.returns-in-Some
 returns-in-Some c =
     let at = at_key c.as_slice.result.now c.args.key c.args.partitions.now.entries (Some c.in-Some.place) c.as_slice.ensures.value c.in-Some.ensures.index in
-    record { takes = taken_there c.law_same_rows.ensures c.law_keys.ensures (data_of c.args.query.now) (ClosePacket c.args.key.items c.args.count) c.args.key c.args.partitions.now.entries c.take_close_at.new.partitions.entries c.in-Some.place c.take_close_at.result c.requires.joined at c.take_close_at.ensures.takes }
+    record { takes = taken_there c.law_same_rows.ensures c.law_keys.ensures (data_of c.args.query.now) (ClosePacket c.args.key.items c.args.count) c.args.key c.args.partitions.now.entries c.take_close_at.new.partitions.entries c.in-Some.place c.take_close_at.result c.requires.joined at (c.take_close_at.ensures.takes c.args.key.items) }
 
 pub returns-in-None : goal.returns-in-None
 returns-in-None c =

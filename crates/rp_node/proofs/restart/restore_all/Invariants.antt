@@ -1,6 +1,6 @@
 use Rattle.std.proofs.Common.{◌≡◌, [], drop}
 use Rattle.rp_query.specs.QueryView.{data_of}
-use Rattle.rp_node.specs.Joined.{held_of}
+use Rattle.rp_partition.specs.Joined.{held_of}
 use Rattle.rp_node.specs.NodeSeen.{AllJoined, entries_by}
 use Rattle.rp_node.specs.Restarting.{records_from}
 use Rattle.rp_node.proofs.restart.restore_all.Given as goal

@@ -1,6 +1,6 @@
 use Rattle.std.proofs.Common.{Option, sym, ◌∙◌, subst}
 use Rattle.rp_query.specs.QueryView.{data_of}
-use Rattle.rp_node.specs.declared.partition.Partition.{Partition}
+use Rattle.rp_partition.specs.declared.partition.Partition.{Partition}
 use Rattle.rp_node.specs.Resuming.{Resumed}
 use Rattle.rp_node.proofs.Restarts.{not_next, one_restored}
 use Rattle.rp_node.proofs.restart.restore_one.Goals as goal

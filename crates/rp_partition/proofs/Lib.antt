@@ -1,0 +1,5 @@
+mod Rows
+mod Feeds
+mod Dropping
+mod Taking
+mod Bounds

@@ -1,0 +1,32 @@
+use Rattle.std.proofs.Common.{sym, ap, ◌∙◌, refl}
+use Rattle.rp_query.specs.QueryView.{data_of}
+use Rattle.rp_feed.specs.Answers.{memory_aside}
+use Rattle.rp_partition.proofs.Feeds.{Feeds}
+use Rattle.rp_partition.proofs.Taking.{close_later, joined_later, search_later, close_no_memory}
+use Rattle.rp_partition.proofs.partition.Partition.close.Goals as goal
+
+pub returns : goal.returns
+returns c =
+    let p = c.args.self.now in
+    let laws : Feeds = record {
+      added = c.law_rows.ensures.added;
+      dropped = c.law_rows.ensures.dropped;
+      stays = c.law_rows.ensures.stays_taken;
+      ordered = c.law_rows.ensures.ordered_after_row;
+      kept = c.law_rows.ensures.ordered_after_drop;
+      one = c.law_front.ensures.one;
+      grows = c.law_front.ensures.grows;
+      front_stays = c.law_front.ensures.stays;
+    } in
+    let later = close_later laws p.feed c.close-taken.new.self c.args.count c.close-taken.result c.requires.joined.feed.ordered
+    (λ e. c.law_new.ensures.close p.feed c.args.count (sym c.close-taken.ensures.answer ∙ e)) c.close-taken.ensures.changes in
+    record {
+      taken = record {
+        joined = joined_later c.law_walkers.ensures.stay c.law_walkers.ensures.can (data_of c.args.query.now) c.plan-plan.ensures.sound p c.close-taken.new.self c.requires.joined c.front-front.ensures.feed
+            later;
+        answer = ap memory_aside c.close-taken.ensures.answer ∙ close_no_memory p.feed c.args.count;
+        feed = c.close-taken.ensures.changes;
+        walker = refl;
+        search = search_later c.law_work.ensures.rises (data_of c.args.query.now) p c.close-taken.new.self c.requires.joined.feed.ordered c.front-front.ensures.feed.ordered later;
+      };
+    }

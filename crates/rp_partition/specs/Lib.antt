@@ -1,0 +1,4 @@
+pub mod PartRows
+pub mod Joined
+pub mod Polling
+pub mod Taking
