@@ -80,6 +80,7 @@ impl Node {
         rp_feed::law_again();
         rp_feed::law_same_rows();
         rp_walker::law_walkers();
+        // It brings in that no two partitions have one key.
         let _unique = self.partitions.len();
         let kept = kept(self.alloc, &self.query, &self.partitions)?;
         checkpoint_of(self.alloc, &kept)

@@ -49,6 +49,7 @@ fn restored_from(
         × AllJoined (data_of query.now) m.entries) }
     ensures err { IfErr result (IsRefused (data_of query.now) bytes.now) }
 {
+    // The contract speaks of the bytes, and the code doesn't.
     let _bytes = bytes;
     if !is_of(query, kept) {
         return Err(RestartFault::ClauseDiffers);

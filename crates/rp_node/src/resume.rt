@@ -41,6 +41,7 @@ fn resume_over(
 {
     rp_feed::law_again();
     rp_feed::law_same_rows();
+    // It brings in that the numbers of rows that are kept ascend.
     let _rows = kept.rows.as_slice();
     let front = feed.front();
     if !has_kinds(query, kept) || !has_place(query, kept, front) {

@@ -33,6 +33,7 @@ fn all_kept(alloc: Global, query: &Query, partitions: &Parts) -> Result<Partitio
     requires joined { AllJoined (data_of query.now) partitions.now.entries }
     ensures { IfOk result (λ kept. kept ≡ map (λ e. partition_kept e.0.items (held_of e.1)) partitions.now.entries) }
 {
+    // The contract speaks of the query, and the code doesn't.
     let _query = query;
     let mut list = Vec::with_capacity(alloc, partitions.len())?;
     for place in 0..partitions.len() {
@@ -74,6 +75,7 @@ fn partition_kept(
 fn rows(alloc: Global, feed: &Feed) -> Result<HeldRows, AllocError>
     ensures { IfOk result (λ rows. rows ≡ map held_row feed.now.rows) }
 {
+    // It brings in that what is held is a feed's.
     let _front = feed.front();
     let pairs = feed.rows(alloc)?;
     let held = held_rows(alloc, pairs)?;
