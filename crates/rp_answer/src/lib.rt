@@ -19,5 +19,3 @@ mod kept;
 mod matcher;
 
 pub use matcher::Matcher;
-pub use rp_known::{Item, SkipFault, law_earlier, law_known, law_legs};
-pub use rp_walker::{MatcherState, Poll, law_records};

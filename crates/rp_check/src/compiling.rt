@@ -10,9 +10,10 @@ ghost use Rattle.rp_query.specs.QueryView.{data_of};
 
 use crate::checking::check;
 use crate::fault::{CheckFault, Fault};
+use rp_grammar::ParseFault;
 use rp_lexer::{LexFault, Token, lex};
 use rp_query::Query;
-use rp_syntax::{Clause, ParseFault, parse};
+use rp_syntax::{Clause, parse};
 use rp_value::Table;
 use std::alloc::{AllocError, AllocFailed, Global};
 use thiserror::Error;

@@ -27,5 +27,3 @@ pub use object::push_object;
 pub use packets::{packet_line, poll_line};
 pub use refusal::{Field, Refusal};
 pub use reply::Reply;
-pub use rp_feed::{Packet, Taken};
-pub use rp_query::{Item, SkipFault};

@@ -7,8 +7,10 @@ ghost use Rattle.rp_codec.specs.Tokens.{item_tokens, key_tokens, list_tokens, nu
 ghost use Rattle.rp_codec.specs.Within.{AreCells, IsCell, IsCount, IsRefusal, IsWithin};
 
 use crate::refusal::refusal_text;
-use crate::{Item, Refusal, Reply, SkipFault, Taken};
+use crate::{Refusal, Reply};
 use json::Writer;
+use rp_feed::Taken;
+use rp_query::{Item, SkipFault};
 use rp_value::{Cells, Value};
 use std::alloc::{AllocError, Global};
 use std::mem;

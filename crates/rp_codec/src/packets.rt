@@ -3,9 +3,9 @@ ghost use Rattle.std.specs.Prelude.{◌≡◌, ◌++◌, IfOk, OnOk};
 ghost use Rattle.rp_codec.specs.PacketLines.{packet_text, poll_text};
 ghost use Rattle.rp_codec.specs.PacketTokens.{packet_tokens, poll_tokens};
 
-use crate::Packet;
 use crate::line::{ROOM, write_values};
 use json::Writer;
+use rp_feed::Packet;
 use rp_value::{Cells, Row};
 use std::alloc::{AllocError, Global};
 

@@ -1,7 +1,8 @@
 //! What is replied.
 
-use crate::{Item, Refusal};
+use crate::Refusal;
 use rp_feed::Taken;
+use rp_query::Item;
 use rp_value::Cells;
 
 /// What a node replies to a line.

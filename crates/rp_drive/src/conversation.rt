@@ -17,10 +17,12 @@ use crate::fault::{DriveFault, Stop};
 use crate::items::write_item;
 use crate::replies::Replies;
 use crate::requests::{packet_key, packet_request, poll_request};
+use rp_codec::{Refusal, Reply};
+use rp_feed::Packet;
 use rp_io::{Intake, Outlet, write_all};
 use rp_query::Query;
 use rp_value::Cells;
-use rp_wire::{MAX_LINE_LEN, Packet, Refusal, Reply};
+use rp_wire::MAX_LINE_LEN;
 use std::alloc::Global;
 
 /// What is handed over to a node, and how: the same from the first packet to the last.

@@ -9,8 +9,8 @@ ghost use Rattle.rp_drive.specs.Lines.{item_line};
 use crate::fault::DriveFault;
 use rp_codec::push_item_line;
 use rp_io::{Outlet, write_all};
+use rp_query::Item;
 use rp_value::Cells;
-use rp_wire::Item;
 use std::alloc::{AllocError, Global};
 
 /// Writes the line of an item, after the node's number and a space.

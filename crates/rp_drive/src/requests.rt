@@ -5,9 +5,10 @@ ghost use Rattle.rp_drive.specs.Keys.{packet_key};
 ghost use Rattle.rp_drive.specs.Lines.{line_of};
 ghost use Rattle.rp_wire.specs.declared.request.Request.TheVariants as request;
 
+use rp_codec::{packet_line, poll_line};
+use rp_feed::Packet;
 use rp_query::Query;
 use rp_value::Cells;
-use rp_wire::{Packet, packet_line, poll_line};
 use std::alloc::{AllocError, Global};
 
 /// The line of a packet, with its line feed.

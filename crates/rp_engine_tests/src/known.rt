@@ -2,8 +2,8 @@
 use crate::support::{label, refused_twice};
 use rp_check::compile;
 use rp_eval::AllRows;
-use rp_known::{Item, Place, SkipFault, next_start, unmatched_item};
-use rp_query::Query;
+use rp_known::{Place, next_start, unmatched_item};
+use rp_query::{Item, Query, SkipFault};
 use rp_syntax::read_table;
 use rp_value::{Cells, Text, Value};
 use rp_words::{End, Label};

@@ -3,9 +3,10 @@ ghost use Rattle.std.specs.Prelude.{◌≡◌, length};
 
 use crate::row;
 use anyhow::Result;
-use rp_answer::{Matcher, Poll};
+use rp_answer::Matcher;
 use rp_query::Query;
 use rp_value::Table;
+use rp_walker::Poll;
 
 /// The price in each row, in order.
 const PRICES: [i64; 5] = [10, 8, 6, 9, 7];

@@ -1,9 +1,11 @@
 //! A node: it takes the rows of many partitions in any order, and each of them as often as it comes.
 use crate::{row, text};
 use anyhow::Result;
-use rp_node::{Node, Packet, Poll};
+use rp_feed::Packet;
+use rp_node::Node;
 use rp_query::Query;
 use rp_value::{Cells, Table, Value};
+use rp_walker::Poll;
 use std::collections::hash_map::RandomState;
 
 /// The number and the price of each row, in the order in which they come: not in that of their numbers, and one of them twice.

@@ -8,9 +8,9 @@ use crate::report::Report;
 use crate::statement::{Statement, statement_of};
 use crate::words::{COLUMNS, ROUND};
 use rp_check::{CompileFault, compile};
+use rp_grammar::ParseFault;
 use rp_place::Span;
 use rp_query::Query;
-use rp_syntax::ParseFault;
 use rp_value::Table;
 use std::alloc::{AllocError, Global};
 

@@ -7,8 +7,8 @@ use crate::passed::{Passed, place_of};
 use crate::reading::{Part, Reading, part_of, tokens_of};
 use crate::words::FUNCTIONS;
 use rp_check::CompileFault;
+use rp_grammar::ParseFault;
 use rp_lexer::{Keyword, LexFault, TokenKind};
-use rp_syntax::ParseFault;
 use std::alloc::{AllocError, Global};
 
 /// Words that no condition goes on with behind a value.

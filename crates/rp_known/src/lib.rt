@@ -13,5 +13,4 @@ mod skips;
 pub use laws::{law_earlier, law_known, law_legs, law_named};
 pub use making::{match_item, unmatched_item};
 pub use place::Place;
-pub use rp_query::{Item, SkipFault};
 pub use skips::next_start;

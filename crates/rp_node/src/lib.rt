@@ -39,6 +39,3 @@ pub use difference::clause_difference;
 pub use fault::{NodeFault, RestartFault, RestartRefused};
 pub use laws::law_calls;
 pub use node::Node;
-pub use rp_feed::{Packet, Taken};
-pub use rp_schedules::law_schedules;
-pub use rp_walker::Poll;

@@ -5,10 +5,12 @@ ghost use Rattle.rp_wire.specs.declared.request.Request.TheVariants as request;
 
 use crate::fault::{NodeFault, RestartFault};
 use crate::node::Node;
+use rp_codec::{Refusal, Reply};
+use rp_feed::Packet;
 use rp_serve::{Answers, Keeps};
 use rp_value::{Cells, RowFault};
 use rp_walker::Poll;
-use rp_wire::{Packet, Refusal, Reply, Request};
+use rp_wire::Request;
 use std::alloc::AllocError;
 
 /// The turns of polls that lines ask for aren't counted.

@@ -28,8 +28,4 @@ pub use choices::{Choices, SplitPoint, Taken};
 pub use list::{ListFault, list_words};
 pub use outlook::{Outlook, Sight};
 pub use prepared::Prepared;
-pub use rp_words::{
-    End, Form, Label, MAX_BOUND, MAX_PARTS, Mark, Pattern, Seen, Word, law_labels, law_words,
-    permutations,
-};
 pub use stack::Stack;

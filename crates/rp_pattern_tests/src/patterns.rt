@@ -3,10 +3,8 @@ ghost use Rattle.std.specs.Prelude.{◌≡◌, ◌≤◌, ◌<◌, length, IfOk,
 ghost use Rattle.rp_words.specs.Words.{words};
 
 use crate::support::refused_twice;
-use rp_pattern::{
-    Choices, End, Form, ListFault, Outlook, Pattern, Sight, Taken, law_labels, law_words,
-    list_words, permutations,
-};
+use rp_pattern::{Choices, ListFault, Outlook, Sight, Taken, list_words};
+use rp_words::{End, Form, Pattern, law_labels, law_words, permutations};
 use std::alloc::{AllocError, Global};
 use std::process::Abort;
 use std::test::Fail;

@@ -1,9 +1,9 @@
 //! The names of output columns as a clause has them.
 
-use rp_grammar::Name;
+use rp_grammar::{Name, ParseFault};
 use rp_lexer::{LexFault, Token, lex};
 use rp_query::{OutputColumn, Source};
-use rp_syntax::{Clause, ParseFault, parse};
+use rp_syntax::{Clause, parse};
 use rp_value::Text;
 use std::alloc::{AllocError, Global};
 

@@ -17,10 +17,12 @@ use crate::hasher::fixed_hasher;
 use crate::line::{Line, budget, cells, no_words, number};
 use crate::refusals::Refusals;
 use crate::told::tell;
-use rp_node::{Node, NodeFault, Packet, Poll, RestartFault, RestartRefused, Taken};
+use rp_feed::{Packet, Taken};
+use rp_node::{Node, NodeFault, RestartFault, RestartRefused};
 use rp_query::Query;
 use rp_reference::item_text;
 use rp_value::{Cells, Row, Value};
+use rp_walker::Poll;
 use std::alloc::{AllocError, Global};
 use std::collections::hash_map::RandomState;
 

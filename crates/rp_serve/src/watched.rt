@@ -4,7 +4,9 @@ ghost use Rattle.rp_serve.specs.Changes.{may_change};
 
 use crate::answers::Answers;
 use crate::keeps::Keeps;
-use rp_wire::{Reply, Request, Taken};
+use rp_codec::Reply;
+use rp_feed::Taken;
+use rp_wire::Request;
 use std::alloc::AllocError;
 
 /// What answers, and whether it may be another than it was.

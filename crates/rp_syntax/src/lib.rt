@@ -17,7 +17,6 @@ mod table;
 mod tree;
 
 pub use clause::parse;
-pub use rp_grammar::ParseFault;
 pub use table::{TableTextFault, read_table};
 pub use tree::{
     Aggregate, AggregateFunction, Bound, Clause, Column, Counted, Definition, Expr, Measure,

@@ -2,9 +2,10 @@
 use crate::support::{compiled, prices, refused_twice};
 use rp_check::{CheckKind, CompileFault, Fault};
 use rp_explain::{describe, explain_clause, explain_csv, explain_table, propose_columns};
+use rp_grammar::ParseFault;
 use rp_input::CsvFault;
 use rp_lexer::LexFault;
-use rp_syntax::{ParseFault, TableTextFault};
+use rp_syntax::TableTextFault;
 use std::alloc::{AllocError, Global};
 use std::process::Abort;
 use std::test::Fail;

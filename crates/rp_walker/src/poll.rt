@@ -1,5 +1,5 @@
 //! What a poll comes to.
-use rp_known::Item;
+use rp_query::Item;
 
 /// What a poll came to.
 #[derive(Drop)]

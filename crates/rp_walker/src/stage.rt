@@ -4,7 +4,7 @@ ghost use Rattle.rp_walker.specs.Given.{run_of};
 
 use crate::ahead::Ahead;
 use crate::run::Run;
-use rp_known::Item;
+use rp_query::Item;
 
 /// What is done at the present start row.
 #[derive(Drop)]

@@ -14,7 +14,7 @@ ghost use Rattle.rp_wire.specs.Compact.{IsLineOf};
 
 use crate::Request;
 use itoa::Buffer;
-use rp_codec::Packet;
+use rp_feed::Packet;
 use rp_value::{Cells, Row, Text, Value};
 use std::alloc::{AllocError, Global};
 

@@ -28,7 +28,4 @@ pub use read_reply::{reply_of, reply_within};
 pub use read_request::request_of;
 pub use read_saved::saved_of;
 pub use request::Request;
-pub use rp_codec::{
-    Field, Item, Packet, Refusal, Reply, SkipFault, Taken, packet_line, poll_line, reply_line,
-};
 pub use write_request::request_line;

@@ -7,8 +7,10 @@ ghost use Rattle.rp_wire.specs.Replies.{answered, answered_within, fault_of, ite
 
 use crate::read_refusal::refusal_of;
 use crate::{LineFault, MAX_LINE_LEN};
-use rp_codec::{Field, Item, Reply, SkipFault, Taken};
+use rp_codec::{Field, Reply};
+use rp_feed::Taken;
 use rp_json::{cells, has, has_fields, object_of, optional, place_of};
+use rp_query::{Item, SkipFault};
 use serde_json::Value as Json;
 use std::alloc::{AllocError, Global};
 

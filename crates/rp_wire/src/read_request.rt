@@ -6,7 +6,8 @@ ghost use Rattle.rp_wire.specs.Requests.{asked, close_in, only_two, poll_in, req
 
 use crate::compact::compact_request;
 use crate::{LineFault, MAX_LINE_LEN, Request};
-use rp_codec::{Field, Packet};
+use rp_codec::Field;
+use rp_feed::Packet;
 use rp_json::{cells, has, has_fields, object_of, short_whole, whole};
 use rp_value::Row;
 use serde_json::Value as Json;

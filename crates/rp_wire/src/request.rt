@@ -1,6 +1,6 @@
 //! What a line asks.
 
-use rp_codec::Packet;
+use rp_feed::Packet;
 use rp_value::Cells;
 
 /// What a line asks of a node.

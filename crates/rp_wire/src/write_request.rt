@@ -5,7 +5,7 @@ ghost use Rattle.rp_wire.specs.Lines.{longest_line};
 ghost use Rattle.rp_wire.specs.Requests.{asked, request_data, request_in, request_text};
 
 use crate::Request;
-use rp_codec::Packet;
+use rp_feed::Packet;
 use rp_json::json_of_cells;
 use rp_value::{Cells, Row};
 use serde_json::{Map, Value as Json};

@@ -1,11 +1,13 @@
 //! A node of a schedule, and beside it what it took and gave.
 use super::partition::{MANY_ROWS, Partition};
 use crate::support::{fixed_hasher, key_of, row_of};
-use rp_node::{Node, NodeFault, Packet, Poll, Taken};
+use rp_feed::{Packet, Taken};
+use rp_node::{Node, NodeFault};
 use rp_query::{Item, Query};
 use rp_reference::{Dice, item_text};
 use rp_search::Steps;
 use rp_value::{Cells, Row, Value};
+use rp_walker::Poll;
 use std::alloc::Global;
 use std::sync::ledger::Ledger;
 use std::test::Fail;

@@ -2,11 +2,11 @@
 use crate::support::text;
 use rp_check::compile;
 use rp_drive::{Conversation, DriveFault, drive};
+use rp_feed::Packet;
 use rp_io::{MemoryInput, MemoryOutput};
 use rp_query::Query;
 use rp_syntax::read_table;
 use rp_value::{Cells, Row, Value};
-use rp_wire::Packet;
 use std::alloc::{AllocError, Global};
 use std::process::Abort;
 use std::test::Fail;

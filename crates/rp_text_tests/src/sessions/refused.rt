@@ -3,10 +3,10 @@ use super::driving::{ITEMS, REPLIES, SENT, packets, query};
 use super::node::SmallNode;
 use crate::support::{at_last, refused_twice};
 use rp_drive::{Conversation, DriveFault, drive};
+use rp_feed::Packet;
 use rp_io::{MemoryInput, MemoryOutput};
 use rp_query::Query;
 use rp_serve::{ServeFault, round, serve};
-use rp_wire::Packet;
 use std::alloc::{AllocError, Global};
 use std::test::Fail;
 
