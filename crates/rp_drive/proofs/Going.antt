@@ -3,10 +3,10 @@ use Rattle.std.proofs.Common.{◌≡◌, ◌∙◌, ℕ, List, [], ◌++◌, Opt
 use Rattle.std.proofs.lemmas.Grind.{flat_map-append}
 use Rattle.std.specs.Io.KnownBytes.{Appends}
 use Rattle.rp_query.specs.declared.query.QueryData.{QueryData}
-use Rattle.rp_codec.specs.declared.refusal.Refusal.{Refusal}
-use Rattle.rp_codec.specs.declared.reply.Reply.{Reply}
+use Rattle.rp_protocol.specs.declared.refusal.Refusal.{Refusal}
+use Rattle.rp_protocol.specs.declared.reply.Reply.{Reply}
 use Rattle.rp_io.specs.Devices.{AppendsFront}
-use Rattle.rp_wire.specs.declared.request.Request.{Request}
+use Rattle.rp_protocol.specs.declared.request.Request.{Request}
 use Rattle.rp_drive.specs.Exchanged.{ComeFirst, Ends, EndsInPart, EndsUnheard, GoesOn, KnownReplies, StopsBy}
 use Rattle.rp_drive.specs.Lines.{item_line, item_lines, line_of, request_lines}
 use Rattle.rp_drive.specs.Exchange.{Due, Ending, Exchange, WasRefused, onto, exchange}

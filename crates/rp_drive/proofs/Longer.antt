@@ -1,10 +1,10 @@
 -- What more replies add to an exchange.
 use Rattle.std.proofs.Common.{◌≡◌, ◌∙◌, ℕ, List, [], ◌∷◌, ◌++◌, Option, Some, None, refl, sym, ap, append_assoc, append-nil}
-use Rattle.rp_codec.specs.declared.reply.Reply.{Reply}
-use Rattle.rp_codec.specs.declared.reply.Reply.TheVariants.{Taken, Item, Idle, Paused, Refused as RefusedReply}
+use Rattle.rp_protocol.specs.declared.reply.Reply.{Reply}
+use Rattle.rp_protocol.specs.declared.reply.Reply.TheVariants.{Taken, Item, Idle, Paused, Refused as RefusedReply}
 use Rattle.rp_query.specs.declared.query.QueryData.{QueryData}
-use Rattle.rp_wire.specs.declared.request.Request.{Request}
-use Rattle.rp_wire.specs.declared.request.Request.TheVariants as request
+use Rattle.rp_protocol.specs.declared.request.Request.{Request}
+use Rattle.rp_protocol.specs.declared.request.Request.TheVariants as request
 use Rattle.rp_drive.specs.Exchange.{Due, Ending, Exchange, Finished, Packets, Poll, WasBad, WasRefused, after_packet, after_poll, ended, exchange, onto}
 use Rattle.rp_drive.specs.Keys.{packet_key}
 

@@ -4,14 +4,14 @@ use Rattle.std.specs.Io.KnownBytes.{Appends}
 use Rattle.rp_value.specs.declared.value.Value.{Value}
 use Rattle.rp_query.specs.declared.query.QueryData.{QueryData}
 use Rattle.rp_feed.specs.declared.packet.Packet.{Packet}
-use Rattle.rp_codec.specs.declared.refusal.Refusal.{Refusal}
-use Rattle.rp_codec.specs.declared.reply.Reply.{Reply}
-use Rattle.rp_codec.specs.declared.reply.Reply.TheVariants.{Taken, Item, Idle, Paused, Refused}
+use Rattle.rp_protocol.specs.declared.refusal.Refusal.{Refusal}
+use Rattle.rp_protocol.specs.declared.reply.Reply.{Reply}
+use Rattle.rp_protocol.specs.declared.reply.Reply.TheVariants.{Taken, Item, Idle, Paused, Refused}
 use Rattle.rp_feed.specs.declared.answer.Taken.{Taken as Became}
 use Rattle.rp_query.specs.declared.item.Item.{Item as Given}
 use Rattle.rp_io.specs.Devices.{AppendsFront}
-use Rattle.rp_wire.specs.declared.request.Request.{Request}
-use Rattle.rp_wire.specs.declared.request.Request.TheVariants as request
+use Rattle.rp_protocol.specs.declared.request.Request.{Request}
+use Rattle.rp_protocol.specs.declared.request.Request.TheVariants as request
 use Rattle.rp_drive.specs.Faults.{IsOfReading, IsOfWriting, packet_fault}
 use Rattle.rp_drive.specs.Exchanged.{ComeFirst, Ends, EndsInPart, EndsUnheard, GoesOn, KnownReplies, SendsLine, StopsBy}
 use Rattle.rp_drive.specs.Lines.{item_line, item_lines, line_of, request_lines}

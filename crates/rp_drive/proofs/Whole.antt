@@ -2,8 +2,8 @@
 use Rattle.std.proofs.Common.{◌≡◌, ℕ, Bool, false, List, [], ◌++◌, Option, Some, None, option_map, refl, sym, subst, if◌then◌else◌, Result, Err, IfErr, IfSome}
 use Rattle.std.specs.Io.KnownBytes.{prepend_known}
 use Rattle.rp_query.specs.declared.query.QueryData.{QueryData}
-use Rattle.rp_codec.specs.declared.refusal.Refusal.{Refusal}
-use Rattle.rp_codec.specs.declared.reply.Reply.{Reply}
+use Rattle.rp_protocol.specs.declared.refusal.Refusal.{Refusal}
+use Rattle.rp_protocol.specs.declared.reply.Reply.{Reply}
 use Rattle.rp_io.specs.Devices.{AppendsFront}
 use Rattle.rp_drive.specs.Exchanged.{Ends, EndsInPart, EndsUnheard, KnownReplies, StopsBy}
 use Rattle.rp_drive.specs.Lines.{item_line, item_lines, line_of, replies_within, request_lines}

@@ -3,12 +3,12 @@ use Rattle.std.specs.Prelude.{ℕ, List, [], ◌∷◌, ◌++◌, Option, Some}
 use Rattle.rp_value.specs.declared.value.Value.{Value}
 use Rattle.rp_query.specs.declared.query.QueryData.{QueryData}
 use Rattle.rp_feed.specs.declared.packet.Packet.{Packet}
-use Rattle.rp_codec.specs.declared.refusal.Refusal.{Refusal}
-use Rattle.rp_codec.specs.declared.reply.Reply.{Reply}
-use Rattle.rp_codec.specs.declared.reply.Reply.TheVariants.{Taken, Item, Idle, Paused, Refused}
+use Rattle.rp_protocol.specs.declared.refusal.Refusal.{Refusal}
+use Rattle.rp_protocol.specs.declared.reply.Reply.{Reply}
+use Rattle.rp_protocol.specs.declared.reply.Reply.TheVariants.{Taken, Item, Idle, Paused, Refused}
 use Rattle.rp_drive.specs.Keys.{packet_key}
-use Rattle.rp_wire.specs.declared.request.Request.{Request}
-use Rattle.rp_wire.specs.declared.request.Request.TheVariants as request
+use Rattle.rp_protocol.specs.declared.request.Request.{Request}
+use Rattle.rp_protocol.specs.declared.request.Request.TheVariants as request
 
 -- How it ends: all packets were taken and their partitions polled until idle; a reply is this refusal; or a reply can't stand where it
 -- stands, a line is none, or there is none.

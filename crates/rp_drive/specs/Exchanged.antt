@@ -3,11 +3,11 @@
 use Rattle.std.specs.Prelude.{◌≡◌, ⊤, ℕ, List, [], ◌∷◌, ◌++◌, drop, Option, Some, None, IfSome}
 use Rattle.std.specs.Io.KnownBytes.{Appends}
 use Rattle.rp_query.specs.declared.query.QueryData.{QueryData}
-use Rattle.rp_codec.specs.declared.refusal.Refusal.{Refusal}
-use Rattle.rp_codec.specs.declared.reply.Reply.{Reply}
+use Rattle.rp_protocol.specs.declared.refusal.Refusal.{Refusal}
+use Rattle.rp_protocol.specs.declared.reply.Reply.{Reply}
 use Rattle.rp_feed.specs.declared.packet.Packet.{Packet}
 use Rattle.rp_io.specs.Devices.{AppendsFront}
-use Rattle.rp_wire.specs.declared.request.Request.{Request}
+use Rattle.rp_protocol.specs.declared.request.Request.{Request}
 use Rattle.rp_drive.specs.Lines.{item_lines, request_lines}
 use Rattle.rp_drive.specs.Exchange.{Due, Ending, Packets, WasBad, WasRefused, onto, exchange}
 use Rattle.rp_drive.specs.declared.fault.DriveFault.{DriveFault}

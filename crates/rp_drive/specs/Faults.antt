@@ -1,7 +1,7 @@
 -- What a fault says of the devices.
 use Rattle.std.specs.Prelude.{◌≡◌, ◌⊎◌, ⊤, ℕ, Option, Some, None, Result, Ok, Err}
-use Rattle.rp_codec.specs.declared.reply.Reply.{Reply}
-use Rattle.rp_codec.specs.declared.reply.Reply.TheVariants.{Taken, Refused as RefusedReply}
+use Rattle.rp_protocol.specs.declared.reply.Reply.{Reply}
+use Rattle.rp_protocol.specs.declared.reply.Reply.TheVariants.{Taken, Refused as RefusedReply}
 use Rattle.rp_io.specs.Counts.{raised}
 use Rattle.rp_io.specs.Reading.{Told}
 use Rattle.rp_io.specs.Reading.Told.{NoReadsLeft, Other, ReadFailed}

@@ -2,13 +2,13 @@
 use Rattle.std.specs.Prelude.{ℕ, List, ◌++◌, map, codes, decimal, Option, Some, None, option_map, Result, Ok, Err}
 use Rattle.std.specs.List.{flat_map}
 use Rattle.rp_io.specs.Lines.{lines_of}
-use Rattle.rp_codec.specs.ReplyLines.{reply_text}
-use Rattle.rp_codec.specs.declared.reply.Reply.{Reply}
-use Rattle.rp_wire.specs.Lines.{longest_line}
-use Rattle.rp_wire.specs.Replies.{answered_within}
-use Rattle.rp_wire.specs.Requests.{request_text}
-use Rattle.rp_wire.specs.declared.fault.LineFault.{LineFault}
-use Rattle.rp_wire.specs.declared.request.Request.{Request}
+use Rattle.rp_protocol.specs.ReplyLines.{reply_text}
+use Rattle.rp_protocol.specs.declared.reply.Reply.{Reply}
+use Rattle.rp_protocol.specs.Lines.{longest_line}
+use Rattle.rp_protocol.specs.Replies.{answered_within}
+use Rattle.rp_protocol.specs.Requests.{request_text}
+use Rattle.rp_protocol.specs.declared.fault.LineFault.{LineFault}
+use Rattle.rp_protocol.specs.declared.request.Request.{Request}
 
 -- the line of a request, with its line feed
 abbrev pub line_of : Request → List ℕ

@@ -1,6 +1,6 @@
 -- The replies that are still to come of a reader, and what was read for those that came.
 use Rattle.std.specs.Prelude.{◌≡◌, ◌⊎◌, ⊤, ℕ, suc, Bool, true, false, List, [], ◌∷◌, Option, Some, None, option_map, if◌then◌else◌, Result, Err}
-use Rattle.rp_codec.specs.declared.reply.Reply.{Reply}
+use Rattle.rp_protocol.specs.declared.reply.Reply.{Reply}
 use Rattle.rp_io.specs.Pending.{coming, most_lines_to_come}
 use Rattle.rp_io.specs.Reading.{ReadsSoFar, ReadsStop, Told}
 use Rattle.rp_io.specs.Reading.Told.{NoReadsLeft, Other, ReadFailed}

@@ -1,8 +1,8 @@
 //! A conversation with a node, from the first packet to the last reply.
 ghost use Rattle.std.specs.Prelude.{◌≡◌, ◌+◌, ◌<◌, ◌^◌, ◌∷◌, List, Some, None, IfErr, IfOk, OnErr, OnOk, Ok, false, true};
 ghost use Rattle.std.specs.Io.KnownBytes.{Appends};
-ghost use Rattle.rp_codec.specs.declared.refusal.Refusal.{Refusal as Why};
-ghost use Rattle.rp_codec.specs.declared.reply.Reply.TheVariants as variant;
+ghost use Rattle.rp_protocol.specs.declared.refusal.Refusal.{Refusal as Why};
+ghost use Rattle.rp_protocol.specs.declared.reply.Reply.TheVariants as variant;
 ghost use Rattle.rp_feed.specs.declared.packet.Packet.{Packet as Sent};
 ghost use Rattle.rp_io.specs.Reading.{ReadsWithin};
 ghost use Rattle.rp_query.specs.QueryView.{data_of};
@@ -11,18 +11,17 @@ ghost use Rattle.rp_drive.specs.Exchanged.{Ends, EndsInPart, GoesOn, SendsLine, 
 ghost use Rattle.rp_drive.specs.Faults.{TellsWrite, TellsWrites, by_fault, packet_fault, reads_told};
 ghost use Rattle.rp_drive.specs.Lines.{line_of, replies_in, replies_within};
 ghost use Rattle.rp_drive.specs.Listening.{Comes, Hears, cut_by, lines_left, replies_left};
-ghost use Rattle.rp_wire.specs.declared.request.Request.TheVariants as request;
+ghost use Rattle.rp_protocol.specs.declared.request.Request.TheVariants as request;
 
 use crate::fault::{DriveFault, Stop};
 use crate::items::write_item;
 use crate::replies::Replies;
 use crate::requests::{packet_key, packet_request, poll_request};
-use rp_codec::{Refusal, Reply};
 use rp_feed::Packet;
 use rp_io::{Intake, Outlet, write_all};
+use rp_protocol::{MAX_LINE_LEN, Refusal, Reply};
 use rp_query::Query;
 use rp_value::Cells;
-use rp_wire::MAX_LINE_LEN;
 use std::alloc::Global;
 
 /// What is handed over to a node, and how: the same from the first packet to the last.

@@ -1,6 +1,6 @@
 //! How a conversation ends early.
-use rp_codec::Refusal;
 use rp_io::{LineFault, WriteFailed};
+use rp_protocol::Refusal;
 use std::alloc::{AllocError, AllocFailed};
 use thiserror::Error;
 

@@ -1,14 +1,14 @@
 //! The items that a node gives, each after its number.
 ghost use Rattle.std.specs.Prelude.{◌≡◌, IfErr, IfOk, OnErr, OnOk};
 ghost use Rattle.std.specs.Io.KnownBytes.{Appends};
-ghost use Rattle.rp_codec.specs.declared.reply.Reply.TheVariants as reply;
+ghost use Rattle.rp_protocol.specs.declared.reply.Reply.TheVariants as reply;
 ghost use Rattle.rp_io.specs.Devices.{AppendsFront};
 ghost use Rattle.rp_drive.specs.Faults.{IsOfWriting, TellsWrite};
 ghost use Rattle.rp_drive.specs.Lines.{item_line};
 
 use crate::fault::DriveFault;
-use rp_codec::push_item_line;
 use rp_io::{Outlet, write_all};
+use rp_protocol::push_item_line;
 use rp_query::Item;
 use rp_value::Cells;
 use std::alloc::{AllocError, Global};

@@ -3,9 +3,8 @@ ghost use Rattle.std.specs.Prelude.{◌≡◌, ◌+◌, IfOk};
 ghost use Rattle.rp_drive.specs.Lines.{reply_within};
 
 use crate::fault::DriveFault;
-use rp_codec::Reply;
 use rp_io::{Intake, Lines};
-use rp_wire::{LineFault, reply_within};
+use rp_protocol::{LineFault, Reply, reply_within};
 use std::alloc::{AllocError, Global};
 
 /// The replies of a node, a line each.

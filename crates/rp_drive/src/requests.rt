@@ -3,10 +3,10 @@ ghost use Rattle.std.specs.Prelude.{◌≡◌, IfOk};
 ghost use Rattle.rp_query.specs.QueryView.{data_of};
 ghost use Rattle.rp_drive.specs.Keys.{packet_key};
 ghost use Rattle.rp_drive.specs.Lines.{line_of};
-ghost use Rattle.rp_wire.specs.declared.request.Request.TheVariants as request;
+ghost use Rattle.rp_protocol.specs.declared.request.Request.TheVariants as request;
 
-use rp_codec::{packet_line, poll_line};
 use rp_feed::Packet;
+use rp_protocol::{packet_line, poll_line};
 use rp_query::Query;
 use rp_value::Cells;
 use std::alloc::{AllocError, Global};

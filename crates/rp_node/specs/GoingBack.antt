@@ -1,10 +1,10 @@
 -- What a node is saved as, what it goes back to, and where it begins.
 use Rattle.std.specs.Prelude.{◌≡◌, ◌≢◌, ℕ, List, [], Option, Some, None}
 use Rattle.rp_checkpoint.specs.Checkpoints.{checkpoint}
-use Rattle.rp_codec.specs.declared.reply.Reply.{Reply}
+use Rattle.rp_protocol.specs.declared.reply.Reply.{Reply}
 use Rattle.rp_query.specs.declared.query.QueryData.{QueryData}
 use Rattle.rp_schedules.specs.Records.{Held}
-use Rattle.rp_wire.specs.declared.request.Request.{Request}
+use Rattle.rp_protocol.specs.declared.request.Request.{Request}
 use Rattle.rp_node.specs.NodeSeen.{Entries, NodeSeen, AllBounded}
 use Rattle.rp_node.specs.Keeping.{kept_of}
 use Rattle.rp_node.specs.Restarting.{IsRefused, RestartsTo}

@@ -7,12 +7,12 @@ use Rattle.rp_feed.specs.declared.answer.Taken.TheVariants.{New}
 use Rattle.rp_feed.specs.declared.packet.Packet.{Packet}
 use Rattle.rp_walker.specs.declared.poll.Poll.{Poll}
 use Rattle.rp_walker.specs.declared.poll.Poll.TheVariants as poll
-use Rattle.rp_codec.specs.declared.refusal.Refusal.{Refusal}
-use Rattle.rp_codec.specs.declared.refusal.Refusal.TheVariants as refusal
-use Rattle.rp_codec.specs.declared.reply.Reply.{Reply}
-use Rattle.rp_codec.specs.declared.reply.Reply.TheVariants as reply
-use Rattle.rp_wire.specs.declared.request.Request.{Request}
-use Rattle.rp_wire.specs.declared.request.Request.TheVariants as request
+use Rattle.rp_protocol.specs.declared.refusal.Refusal.{Refusal}
+use Rattle.rp_protocol.specs.declared.refusal.Refusal.TheVariants as refusal
+use Rattle.rp_protocol.specs.declared.reply.Reply.{Reply}
+use Rattle.rp_protocol.specs.declared.reply.Reply.TheVariants as reply
+use Rattle.rp_protocol.specs.declared.request.Request.{Request}
+use Rattle.rp_protocol.specs.declared.request.Request.TheVariants as request
 use Rattle.rp_node.specs.declared.fault.NodeFault.{NodeFault}
 use Rattle.rp_node.specs.declared.fault.NodeFault.TheVariants as node
 use Rattle.rp_node.specs.NodeSeen.{NodeSeen, AllBounded}

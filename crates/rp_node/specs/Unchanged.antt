@@ -6,9 +6,9 @@ use Rattle.rp_feed.specs.declared.answer.Taken.TheVariants.{New, Repeat, Old}
 use Rattle.rp_feed.specs.declared.packet.Packet.{Packet}
 use Rattle.rp_walker.specs.declared.poll.Poll.{Poll}
 use Rattle.rp_walker.specs.declared.poll.Poll.TheVariants.{Item, Idle, Paused}
-use Rattle.rp_codec.specs.declared.reply.Reply.{Reply}
-use Rattle.rp_wire.specs.declared.request.Request.{Request}
-use Rattle.rp_wire.specs.declared.request.Request.TheVariants as request
+use Rattle.rp_protocol.specs.declared.reply.Reply.{Reply}
+use Rattle.rp_protocol.specs.declared.request.Request.{Request}
+use Rattle.rp_protocol.specs.declared.request.Request.TheVariants as request
 use Rattle.rp_serve.specs.Changes.{may_change}
 use Rattle.rp_node.specs.declared.fault.NodeFault.{NodeFault}
 use Rattle.rp_node.specs.declared.fault.NodeFault.TheVariants.{BadRow, NumberRange, PastClose, Conflict, TooFar, CloseDiffers, CloseBelow, UnknownPartition, OutOfMemory}

@@ -1,16 +1,15 @@
 //! A node behind connections: each request is a call of it, and the call's answer is the reply.
 ghost use Rattle.std.specs.Prelude.{◌≡◌, IfOk, OnErr, Some, None};
 ghost use Rattle.rp_node.specs.Replies.{Does, fault_reply};
-ghost use Rattle.rp_wire.specs.declared.request.Request.TheVariants as request;
+ghost use Rattle.rp_protocol.specs.declared.request.Request.TheVariants as request;
 
 use crate::fault::{NodeFault, RestartFault};
 use crate::node::Node;
-use rp_codec::{Refusal, Reply};
 use rp_feed::Packet;
+use rp_protocol::{Refusal, Reply, Request};
 use rp_serve::{Answers, Keeps};
 use rp_value::{Cells, RowFault};
 use rp_walker::Poll;
-use rp_wire::Request;
 use std::alloc::AllocError;
 
 /// The turns of polls that lines ask for aren't counted.

@@ -8,8 +8,7 @@ use crate::line::Line;
 use crate::refusals::Refusals;
 use crate::told::tell;
 use rp_checkpoint::{CheckpointFault, checkpoint_of, read_checkpoint};
-use rp_codec::reply_line;
-use rp_wire::{LineFault, reply_of, request_line, request_of};
+use rp_protocol::{LineFault, reply_line, reply_of, request_line, request_of};
 use std::alloc::{AllocError, Global};
 use thiserror::Error;
 

@@ -1,11 +1,11 @@
 -- Lines that are answered one after another, and what is kept of a long one.
 use Rattle.std.proofs.Common.{◌≡◌, ◌∙◌, ℕ, ◌<◌, true, List, [], ◌∷◌, ◌++◌, length, take, refl, sym, ap, subst, arith, ltb, Err, inl, inr, ◌⊎◌}
 use Rattle.std.proofs.lemmas.Bool.Decides.{nat_tests}
-use Rattle.rp_codec.specs.declared.reply.Reply.{Reply}
+use Rattle.rp_protocol.specs.declared.reply.Reply.{Reply}
 use Rattle.rp_io.proofs.Kept.{kept_or_long}
-use Rattle.rp_wire.specs.Requests.{asked}
-use Rattle.rp_wire.specs.declared.fault.LineFault.TheVariants.{TooLong}
-use Rattle.rp_wire.specs.declared.request.Request.{Request}
+use Rattle.rp_protocol.specs.Requests.{asked}
+use Rattle.rp_protocol.specs.declared.fault.LineFault.TheVariants.{TooLong}
+use Rattle.rp_protocol.specs.declared.request.Request.{Request}
 use Rattle.rp_serve.specs.Served.{AnswersLine, Serves}
 
 too_long : (line : List ℕ) → 65536 < length line → asked line ≡ Err TooLong

@@ -2,7 +2,7 @@
 use Rattle.std.proofs.Common.{◌≡◌, ◌∙◌, ℕ, ◌+◌, ◌*◌, ◌-◌, append-nil, List, [], ◌∷◌, ◌++◌, length, drop, vec_len, Bool, true, false, Option, refl, sym, ap, subst, length-append, inl, inr, arith, ◌⊎◌, if◌then◌else◌, add-zero, length-drop, Result, Ok, Err, IfErr}
 use Rattle.std.proofs.lemmas.Grind.{flat_map-append}
 use Rattle.std.specs.Io.KnownBytes.{Appends, prepend_known}
-use Rattle.rp_codec.specs.declared.reply.Reply.{Reply}
+use Rattle.rp_protocol.specs.declared.reply.Reply.{Reply}
 use Rattle.rp_io.proofs.Writes.{front_all, front_none, moves_both, moves_end, moves_longer, moves_none, moves_part}
 use Rattle.rp_io.specs.Devices.{AppendsFront, Moves}
 use Rattle.rp_io.specs.Lines.{TakesLast}
@@ -10,7 +10,7 @@ use Rattle.rp_io.specs.Pending.{most_lines_to_come, pending_of}
 use Rattle.rp_io.specs.declared.lines.LineFault.{LineFault}
 use Rattle.rp_io.specs.declared.lines.LineFault.TheVariants.{OutOfMemory as LineMemory}
 use Rattle.rp_io.specs.declared.lines.Lines.{Lines}
-use Rattle.rp_wire.specs.declared.request.Request.{Request}
+use Rattle.rp_protocol.specs.declared.request.Request.{Request}
 use Rattle.rp_serve.specs.Served.{AnswersAsked, LeavesLine, LineDone, Serves, line_of, reply_lines}
 use Rattle.rp_serve.specs.Sessions.{IsCutShort, IsWrittenBefore, ServesAll, ServesFirst, ServesInPart, StopsAfter}
 use Rattle.rp_serve.specs.declared.fault.ServeFault.{ServeFault}

@@ -4,7 +4,7 @@ use Rattle.std.specs.Io.KnownBytes.{prepend_known}
 use Rattle.rp_io.proofs.Cutting.{lines-front, lines-last}
 use Rattle.rp_io.proofs.Kept.{kept_none, kept_some}
 use Rattle.rp_io.specs.Lines.{TakesLast, TakesLine, lines_of}
-use Rattle.rp_wire.specs.Requests.{asked}
+use Rattle.rp_protocol.specs.Requests.{asked}
 use Rattle.rp_serve.specs.Sessions.{AreFirst}
 use Rattle.rp_serve.proofs.Answered.{asked_kept}
 

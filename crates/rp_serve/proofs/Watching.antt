@@ -1,9 +1,9 @@
 -- A session of what answers is that of the same, watched; where it hasn't changed, it is as it was.
 use Rattle.std.proofs.Common.{◌≡◌, ◌∙◌, ◌||◌, ℕ, Bool, true, false, List, [], ◌∷◌, Option, Result, Ok, Err, refl, sym, ap, subst, inl, inr, true≢false}
-use Rattle.rp_codec.specs.declared.reply.Reply.{Reply}
-use Rattle.rp_wire.specs.Requests.{asked}
-use Rattle.rp_wire.specs.declared.fault.LineFault.{LineFault}
-use Rattle.rp_wire.specs.declared.request.Request.{Request}
+use Rattle.rp_protocol.specs.declared.reply.Reply.{Reply}
+use Rattle.rp_protocol.specs.Requests.{asked}
+use Rattle.rp_protocol.specs.declared.fault.LineFault.{LineFault}
+use Rattle.rp_protocol.specs.declared.request.Request.{Request}
 use Rattle.rp_serve.specs.Changes.{may_change}
 use Rattle.rp_serve.specs.Served.{AnswersAsked, LeavesLine, Serves}
 use Rattle.rp_serve.specs.Sessions.{IsCutShort, ServesAll, ServesFirst, ServesInPart, StopsAfter}

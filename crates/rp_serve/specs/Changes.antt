@@ -1,8 +1,8 @@
 -- Which replies leave what answers as it was.
 use Rattle.std.specs.Prelude.{Bool, true, false}
 use Rattle.rp_feed.specs.declared.answer.Taken.TheVariants.{New, Repeat, Old}
-use Rattle.rp_codec.specs.declared.reply.Reply.{Reply}
-use Rattle.rp_codec.specs.declared.reply.Reply.TheVariants.{Taken, Item, Idle, Paused, Refused}
+use Rattle.rp_protocol.specs.declared.reply.Reply.{Reply}
+use Rattle.rp_protocol.specs.declared.reply.Reply.TheVariants.{Taken, Item, Idle, Paused, Refused}
 
 -- What answers may be another after this reply: not where a packet was taken before, or a line is refused.
 abbrev pub may_change : Reply → Bool

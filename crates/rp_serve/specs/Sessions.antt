@@ -1,10 +1,10 @@
 -- What a session did. Where the bytes of an input aren't known, some lines came; where those written aren't known, some were written.
 use Rattle.std.specs.Prelude.{◌≡◌, ◌⊎◌, ℕ, List, [], ◌∷◌, ◌++◌, length, Option, IfSome}
 use Rattle.std.specs.Io.KnownBytes.{Appends}
-use Rattle.rp_codec.specs.declared.reply.Reply.{Reply}
+use Rattle.rp_protocol.specs.declared.reply.Reply.{Reply}
 use Rattle.rp_io.specs.Devices.{AppendsFront}
 use Rattle.rp_io.specs.Lines.{lines_of}
-use Rattle.rp_wire.specs.declared.request.Request.{Request}
+use Rattle.rp_protocol.specs.declared.request.Request.{Request}
 use Rattle.rp_serve.specs.Served.{LeavesLine, Serves, reply_lines}
 use Rattle.rp_serve.specs.declared.fault.ServeFault.{ServeFault}
 use Rattle.rp_serve.specs.declared.fault.ServeFault.TheVariants.{Read, Write, Turns, OutOfMemory}

@@ -1,10 +1,10 @@
 //! What answers requests, and can be saved.
 ghost use Rattle.std.specs.Prelude.{◌≡◌, ℕ, List, Option, Some, IfOk, false};
 ghost use Rattle.std.specs.Option.{ForSome};
-ghost use Rattle.rp_codec.specs.declared.reply.Reply.{Reply as Told};
+ghost use Rattle.rp_protocol.specs.declared.reply.Reply.{Reply as Told};
 ghost use Rattle.rp_serve.specs.Changes.{may_change};
 ghost use Rattle.rp_serve.specs.Rounds.{kept_bytes};
-ghost use Rattle.rp_wire.specs.declared.request.Request.{Request as Asked};
+ghost use Rattle.rp_protocol.specs.declared.request.Request.{Request as Asked};
 
 use crate::answers::Answers;
 use std::alloc::AllocError;

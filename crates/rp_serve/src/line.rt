@@ -3,8 +3,7 @@ ghost use Rattle.std.specs.Prelude.{◌≡◌, IfOk, OnErr, OnOk, Some, None};
 ghost use Rattle.rp_serve.specs.Served.{AnswersLine, LeavesLine, LineDone, refusal_of};
 
 use crate::answers::Answers;
-use rp_codec::{Refusal, Reply, push_reply_line};
-use rp_wire::{LineFault, request_of};
+use rp_protocol::{LineFault, Refusal, Reply, push_reply_line, request_of};
 use std::alloc::{AllocError, Global};
 
 /// Answers a line, and adds the reply's line to the text. Where memory is refused, the reply may be missing, or its line feed.

@@ -13,7 +13,7 @@ use crate::answers::Answers;
 use crate::fault::{ServeFault, Served};
 use crate::line::answer_line;
 use rp_io::{Intake, Lines, Outlet, write_all, write_block};
-use rp_wire::MAX_LINE_LEN;
+use rp_protocol::MAX_LINE_LEN;
 use std::alloc::{AllocError, Global};
 
 /// How many bytes of a line are kept: one more than a request may have.

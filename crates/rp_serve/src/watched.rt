@@ -4,9 +4,8 @@ ghost use Rattle.rp_serve.specs.Changes.{may_change};
 
 use crate::answers::Answers;
 use crate::keeps::Keeps;
-use rp_codec::Reply;
 use rp_feed::Taken;
-use rp_wire::Request;
+use rp_protocol::{Reply, Request};
 use std::alloc::AllocError;
 
 /// What answers, and whether it may be another than it was.

@@ -1,9 +1,9 @@
 //! Lines of packets, of polls and of replies, against texts written by hand.
 use crate::support::{at_last, text};
-use rp_codec::{
+use rp_feed::{Packet, Taken};
+use rp_protocol::{
     Field, Refusal, Reply, packet_line, poll_line, push_item_line, push_reply_line, reply_line,
 };
-use rp_feed::{Packet, Taken};
 use rp_query::{Item, SkipFault};
 use rp_value::{Cells, Row, Value};
 use std::alloc::{AllocError, Global};

@@ -4,10 +4,11 @@ mod compact;
 mod long;
 
 use crate::support::{all_told, at_last};
-use rp_codec::{Field, Refusal, Reply, reply_line};
 use rp_feed::Packet;
+use rp_protocol::{
+    Field, LineFault, Refusal, Reply, Request, reply_line, reply_of, request_line, request_of,
+};
 use rp_value::Value;
-use rp_wire::{LineFault, Request, reply_of, request_line, request_of};
 use std::alloc::Global;
 use std::test::Fail;
 

@@ -18,7 +18,7 @@ use Rattle.rp_known.specs.Named.{IsNamed, KnownIsNamed}
 use Rattle.rp_known.specs.Plans.{setting_of, shown_in, shown_alone}
 use Rattle.rp_known.specs.Typed.{AreTyped, IsTyped, KnownIsTyped}
 use Rattle.rp_known.specs.Walk.{known}
-use Rattle.rp_codec.specs.ObjectsRead.{HasCells, ObjectsHaveCells, ObjectsReadBack}
+use Rattle.rp_protocol.specs.ObjectsRead.{HasCells, ObjectsHaveCells, ObjectsReadBack}
 use Rattle.rp_input.specs.Fitting.{PartsFit}
 use Rattle.rp_input.specs.Partitions.{Part}
 use Rattle.rp_table.specs.ReadBack.{Reads, ReadsBack, records_text}

@@ -2,7 +2,7 @@
 use Rattle.std.specs.Prelude.{ℕ, List, [], ◌∷◌, ◌++◌, Option}
 use Rattle.rp_value.specs.declared.value.Value.{Value}
 use Rattle.rp_query.specs.declared.query.QueryData.{QueryData}
-use Rattle.rp_codec.specs.ReplyLines.{item_text}
+use Rattle.rp_protocol.specs.ReplyLines.{item_text}
 use Rattle.rp_whole.specs.Answers.{AreAnswersOf, AreAnswersOver, Form, WritesFrontOf, WritesOf}
 
 -- a line for each item

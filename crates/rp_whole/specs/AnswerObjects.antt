@@ -2,7 +2,7 @@
 use Rattle.std.specs.Prelude.{ℕ, List, [], ◌∷◌, ◌++◌}
 use Rattle.rp_value.specs.declared.value.Value.{Value}
 use Rattle.rp_query.specs.declared.query.QueryData.{QueryData}
-use Rattle.rp_codec.specs.ObjectTexts.{object_text}
+use Rattle.rp_protocol.specs.ObjectTexts.{object_text}
 use Rattle.rp_whole.specs.Answers.{AreAnswersOver, Form}
 use Rattle.rp_whole.specs.AnswerRows.{row_form}
 use Rattle.rp_whole.specs.declared.stopped.Stopped.{Stopped}

@@ -6,8 +6,8 @@ use Rattle.rp_query.specs.declared.query.QueryData.{QueryData}
 use Rattle.rp_query.specs.declared.item.Item.TheVariants.{Row}
 use Rattle.rp_query.specs.Keys.{AreRowsOver}
 use Rattle.rp_query.specs.Sound.{IsSound}
-use Rattle.rp_codec.specs.ObjectsRead.{AreNamedApart, HasCells, IsReadBack}
-use Rattle.rp_codec.specs.Within.{AreCells}
+use Rattle.rp_protocol.specs.ObjectsRead.{AreNamedApart, HasCells, IsReadBack}
+use Rattle.rp_protocol.specs.Within.{AreCells}
 use Rattle.rp_known.specs.Named.{IsNamed}
 use Rattle.rp_known.specs.Typed.{AreTyped}
 use Rattle.rp_input.specs.Partitions.{Part}

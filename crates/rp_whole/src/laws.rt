@@ -13,7 +13,7 @@ pub fn law_header()
     rp_known::law_named();
     rp_input::law_fitting();
     rp_table::law_reads_back();
-    rp_codec::law_objects();
+    rp_protocol::law_objects();
 }
 
 /// Where no answer is told as given up, all are whole, and without a limit none is given up.

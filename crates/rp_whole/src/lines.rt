@@ -4,7 +4,7 @@ ghost use Rattle.std.specs.Prelude.{◌≡◌, []};
 use crate::blocks::LineBlock;
 use crate::gathered::Gathered;
 use crate::stopped::Stopped;
-use rp_codec::push_item_line;
+use rp_protocol::push_item_line;
 use rp_query::{Item, Query};
 use rp_value::Cells;
 use std::alloc::{AllocError, Global};

@@ -2,11 +2,10 @@
 ghost use Rattle.std.specs.Prelude.{◌≡◌, ⊤, false};
 ghost use Rattle.rp_serve.specs.Changes.{may_change};
 
-use rp_codec::{Refusal, Reply};
 use rp_feed::{Packet, Taken};
+use rp_protocol::{Refusal, Reply, Request};
 use rp_query::Item;
 use rp_serve::{Answers, Keeps};
-use rp_wire::Request;
 use std::alloc::{AllocError, Global};
 
 /// What it has taken and given.

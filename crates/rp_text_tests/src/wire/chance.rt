@@ -1,10 +1,9 @@
 //! Requests and replies that look random, each written and read.
 use crate::support::Chance;
-use rp_codec::{Refusal, Reply, reply_line};
 use rp_feed::{Packet, Taken};
+use rp_protocol::{Refusal, Reply, Request, reply_line, reply_of, request_line, request_of};
 use rp_query::{Item, SkipFault};
 use rp_value::{Cells, Row};
-use rp_wire::{Request, reply_of, request_line, request_of};
 use std::alloc::{AllocError, Global};
 use std::test::Fail;
 

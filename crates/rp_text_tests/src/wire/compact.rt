@@ -1,7 +1,7 @@
 //! Compact lines beside what the tree of JSON gives of them.
 use super::chance::random_request;
 use crate::support::{Chance, at_last};
-use rp_wire::{LineFault, compact_request, request_line, request_of};
+use rp_protocol::{LineFault, compact_request, request_line, request_of};
 use std::alloc::Global;
 use std::process::Abort;
 use std::test::Fail;

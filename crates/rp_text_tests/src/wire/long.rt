@@ -1,10 +1,9 @@
 //! Lines about as long as a line may be.
 use super::{fault_of, reply_fault_of};
-use rp_codec::{Reply, reply_line};
 use rp_feed::Packet;
+use rp_protocol::{LineFault, Reply, Request, reply_line, reply_of, request_line, request_of};
 use rp_query::Item;
 use rp_value::{Cells, Row, Text, Value};
-use rp_wire::{LineFault, Request, reply_of, request_line, request_of};
 use std::alloc::{AllocError, Global};
 use std::test::Fail;
 

@@ -1,4 +1,4 @@
-use Rattle.rp_codec.specs.declared.reply.Reply.TheVariants as reply
+use Rattle.rp_protocol.specs.declared.reply.Reply.TheVariants as reply
 use Rattle.rp_drive.specs.Lines.{item_line}
 use Rattle.rp_io.proofs.Cutting.{on_err_from}
 use Rattle.rp_io.proofs.Writes.{front_none}

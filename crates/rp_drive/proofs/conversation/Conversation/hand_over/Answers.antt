@@ -1,7 +1,7 @@
 use Rattle.std.proofs.Common.{rules, ◌≡◌, ◌∙◌, ◌∷◌, subst, refl, Err, None}
 use Rattle.std.specs.Io.KnownBytes.{Appends}
 use Rattle.rp_query.specs.QueryView.{data_of}
-use Rattle.rp_wire.specs.declared.request.Request.TheVariants as request
+use Rattle.rp_protocol.specs.declared.request.Request.TheVariants as request
 use Rattle.rp_drive.specs.Exchange.{Packets, Poll}
 use Rattle.rp_drive.specs.Exchanged.{GoesOn, SendsLine, StopsBy}
 use Rattle.rp_drive.specs.Keys.{packet_key}

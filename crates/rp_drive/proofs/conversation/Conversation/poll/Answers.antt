@@ -2,7 +2,7 @@ use Rattle.std.proofs.Common.{rules, ◌≡◌, subst, refl, Some, None, IfErr, 
 use Rattle.std.proofs.lemmas.Result.{IfErr-weaker}
 use Rattle.std.specs.Io.KnownBytes.{Appends}
 use Rattle.rp_query.specs.QueryView.{data_of}
-use Rattle.rp_codec.specs.declared.reply.Reply.TheVariants as reply
+use Rattle.rp_protocol.specs.declared.reply.Reply.TheVariants as reply
 use Rattle.rp_drive.specs.Faults.{IsOfWriting}
 use Rattle.rp_drive.specs.Exchanged.{SendsLine}
 use Rattle.rp_drive.specs.Listening.{Comes, replies_left}

@@ -1,0 +1,7 @@
+use Rattle.std.proofs.Common.{refl}
+use Rattle.rp_protocol.specs.ReplyLines.{reply_text}
+use Rattle.rp_protocol.proofs.Back.{answered_text}
+use Rattle.rp_protocol.proofs.laws.law_replies_within.Goals as goal
+
+pub returns : goal.returns
+returns c = λ limit reply within named utf8 short. answered_text limit (reply_text reply) reply utf8 refl within short named
