@@ -10,7 +10,7 @@ use std::collections::VecDeque;
 
 /// The rows from one on.
 #[derive(Drop)]
-pub struct Kept {
+pub(crate) struct Kept {
     first: u64,
     rows: VecDeque<Row>,
     end: End,

@@ -5,14 +5,14 @@ use rp_value::Text;
 
 /// What a reading takes behind the name of the header.
 #[derive(Debug, Drop)]
-pub enum Argument {
+pub(crate) enum Argument {
     Number(u64),
     Text(Text),
 }
 
 /// Which field of the header a reading is called with.
 #[derive(Debug, Drop)]
-pub enum Source {
+pub(crate) enum Source {
     /// Nothing is written, so it is the field of the column's own name.
     Own,
     /// The brackets are empty: none.
@@ -23,7 +23,7 @@ pub enum Source {
 
 /// `reading(source, arguments)`, `reading()`, or `reading` alone.
 #[derive(Debug, Drop)]
-pub struct Called {
+pub(crate) struct Called {
     pub reading: Name,
     pub source: Source,
     pub arguments: Vec<Argument>,
@@ -31,7 +31,7 @@ pub struct Called {
 
 /// `name = reading(source, arguments)`, `name = reading()`, or `name reading`, whose source is the name.
 #[derive(Debug, Drop)]
-pub struct Written {
+pub(crate) struct Written {
     pub name: Name,
     pub called: Called,
 }

@@ -19,7 +19,7 @@ use rp_value::{Judged, Tri};
 
 /// A look at the row that is judged from a first row, whatever is mapped between.
 #[derive(Clone, Copy)]
-pub struct Ends<'a, R: Rows> {
+pub(crate) struct Ends<'a, R: Rows> {
     rows: &'a R,
     totals: &'a [Total],
     variable: usize,

@@ -13,7 +13,7 @@ use std::marker::Model;
 
 /// What one total keeps of a list of labels: the places of its labels where it lists rows, and else a tally for each depth.
 #[derive(Drop)]
-pub struct Series {
+pub(crate) struct Series {
     /// That of the first label, that of the first two, and so on.
     tallies: Vec<Tally>,
     /// How many labels stand before each label of the total's variables, ascending: its row lies as far after the start row.

@@ -18,7 +18,7 @@ use std::alloc::AllocError;
 
 /// The tests are cut back to the labels of the choices.
 #[inline(always)]
-pub fn cut_back<T: Tests>(choices: &Choices, tests: &mut T)
+pub(crate) fn cut_back<T: Tests>(choices: &Choices, tests: &mut T)
     requires { AreCutBack (T.entered tests.old (start_of choices.now)) (entered choices.now) }
     ensures subject { T.subject tests.new ≡ T.subject tests.old }
     ensures entries { T.entries tests.new ≡ T.entries tests.old }
@@ -29,7 +29,7 @@ pub fn cut_back<T: Tests>(choices: &Choices, tests: &mut T)
 
 /// The tests are cut back to the labels before the last, and that one is entered.
 #[inline(always)]
-pub fn enter_row<T: Tests>(choices: &Choices, tests: &mut T) -> Result<(), AllocError>
+pub(crate) fn enter_row<T: Tests>(choices: &Choices, tests: &mut T) -> Result<(), AllocError>
     requires from_one { 1 ≤ start_of choices.now }
     requires known { start_of choices.now + length (entered choices.now) ≤ (T.asked (T.subject tests.old)).known + 1 }
     requires below { AreBelow (T.asked (T.subject tests.old)).variables (entered choices.now) }
@@ -43,7 +43,7 @@ pub fn enter_row<T: Tests>(choices: &Choices, tests: &mut T) -> Result<(), Alloc
 }
 
 /// Whether the last label is of a variable that is tested.
-pub fn is_tested<T: Tests>(choices: &Choices, tests: &T) -> bool
+pub(crate) fn is_tested<T: Tests>(choices: &Choices, tests: &T) -> bool
     requires { 0 < length (entered choices.now) }
     ensures { (before : List Label) (last : Label) → entered choices.now ≡ before ++ last ∷ [] →
         (IsTrue result ↔ (last.var < (T.asked (T.subject tests.now)).variables)) }
@@ -76,7 +76,7 @@ fn lasts<T: Tests>(choices: &Choices, tests: &T, most: u64) -> u64
 /// Asks the test of the row that the preferred choice maps, and admits the row or gives the choice up where that is
 /// decided. It also tells below which start row what was given up fails. So many start rows are looked at, at most, as it is given.
 #[inline(always)]
-pub fn settle<T: Tests>(
+pub(crate) fn settle<T: Tests>(
     choices: &mut Choices,
     tests: &mut T,
     until: &mut u64,

@@ -9,7 +9,7 @@ use std::alloc::AllocError;
 
 /// A closed partition with a row for each letter of a line. Variable Z admits every row, any other its own letter.
 #[derive(Drop)]
-pub struct Letters<'a> {
+pub(crate) struct Letters<'a> {
     line: &'a [u8],
     /// How many calls of `enter` were made, up to 2^64 - 1, where the count stays.
     entries: u64,
@@ -17,10 +17,10 @@ pub struct Letters<'a> {
 }
 
 /// The longest line whose match is looked for, in bytes, as `specs/Limits` has it.
-pub const MAX_LINE: usize = 4096;
+pub(crate) const MAX_LINE: usize = 4096;
 
 /// The variables of a pattern are the letters A to Z, as `specs/Limits` has it.
-pub const VARIABLES: usize = 26;
+pub(crate) const VARIABLES: usize = 26;
 
 /// The variable that admits every row.
 const ANY: usize = 25;

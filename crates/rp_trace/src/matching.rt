@@ -12,7 +12,7 @@ use std::sync::ledger::Ledger;
 pub const BUDGET: u32 = 100_000;
 
 /// Whether there is a match, whose labels the search then has.
-pub fn find<T: Tests, L: Ledger>(
+pub(crate) fn find<T: Tests, L: Ledger>(
     search: &mut Search,
     tests: &mut T,
     steps: &mut Steps<L>,

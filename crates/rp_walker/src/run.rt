@@ -20,7 +20,7 @@ use std::sync::ledger::Ledger;
 
 /// A search, with the totals of the rows that it has mapped. The search stays where it is when the run is handed on.
 #[derive(Drop)]
-pub struct Run {
+pub(crate) struct Run {
     pub(crate) search: Box<Search>,
     pub(crate) totals: Totals,
 }

@@ -8,7 +8,7 @@ use rp_query::Item;
 
 /// What is done at the present start row.
 #[derive(Drop)]
-pub enum Stage {
+pub(crate) enum Stage {
     /// Nothing is searched yet. A run of an earlier start row is begun again.
     Begin(Option<Run>),
     /// The search goes on.
@@ -19,7 +19,7 @@ pub enum Stage {
 
 /// A search that has ended.
 #[derive(Drop)]
-pub enum Ended {
+pub(crate) enum Ended {
     /// With a match.
     Match(Run),
     /// Without one.
@@ -40,7 +40,7 @@ impl Ended {
 
 /// What some turns came to.
 #[derive(Drop)]
-pub enum Step {
+pub(crate) enum Step {
     /// There is more to do.
     Went,
     /// An item.
