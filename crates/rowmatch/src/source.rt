@@ -10,6 +10,7 @@ use rp_feed::Packet;
 use rp_input::number_rows;
 use rp_io::{Lines, Outlet, Port, READS};
 use rp_protocol::{MAX_LINE_LEN, Refusal, Reply, reply_line, saved_of};
+use rp_query::Query;
 use std::alloc::{AllocError, Global};
 use std::io::{IsTerminal, Read};
 use std::net::{Shutdown, TcpStream};
@@ -40,24 +41,22 @@ pub fn run_source(rt: &HostRuntime, job: &SourceJob) -> Result<(), ProgramFault>
         prepare(job, &stream);
         let node = SourceNode {
             job,
-            conversation: Conversation {
-                query: &query,
-                packets: packets.as_slice(),
-                budget: job.budget,
-                reads: READS,
-                node_number: number,
-            },
+            query: &query,
+            packets: packets.as_slice(),
+            number,
         };
         converse(rt, &node, &stream, &mut out)?;
     }
     Ok(())
 }
 
-/// What a node is handed, with its number, from 1.
+/// What a node is handed, and its number, from 1.
 #[derive(Clone, Copy)]
 struct SourceNode<'a> {
     job: &'a SourceJob,
-    conversation: Conversation<'a>,
+    query: &'a Query,
+    packets: &'a [Packet],
+    number: u64,
 }
 
 /// Lines go out at once, and calls that wait longer than the job allows fail. Where the system doesn't take one of these, the
@@ -78,20 +77,19 @@ fn converse<O: Outlet>(
     stream: &TcpStream,
     out: &mut O,
 ) -> Result<(), ProgramFault> {
-    let number = node.conversation.node_number;
     let mut heard = Counted::new(Port::new(stream));
     let mut sent = Counted::new(Port::new(stream));
     hand_over(rt, node, &mut heard, &mut sent, out)?;
     if heard.lines > sent.lines {
-        return Err(ProgramFault::BadReply(number));
+        return Err(ProgramFault::BadReply(node.number));
     }
     if stream.shutdown(Shutdown::Write).is_err() {
         return Err(ProgramFault::Write);
     }
     if node.job.acknowledge {
-        wait_for_saved(rt, stream, sent.lines, number)
+        wait_for_saved(rt, stream, sent.lines, node.number)
     } else {
-        wait_for_end(stream, number)
+        wait_for_end(stream, node.number)
     }
 }
 
@@ -102,8 +100,14 @@ fn hand_over<O: Outlet>(
     sent: &mut Counter<'_>,
     out: &mut O,
 ) -> Result<(), ProgramFault> {
-    let conversation = &node.conversation;
-    match drive_within(rt.alloc(), conversation, MAX_REPLY_LEN, heard, sent, out) {
+    let conversation = Conversation {
+        query: node.query,
+        packets: node.packets,
+        budget: node.job.budget,
+        reads: READS,
+        node_number: node.number,
+    };
+    match drive_within(rt.alloc(), &conversation, MAX_REPLY_LEN, heard, sent, out) {
         Ok(()) => Ok(()),
         Err(stop) => Err(node_fault(rt, node, &stop)?),
     }
@@ -147,12 +151,11 @@ fn node_fault(
     node: &SourceNode<'_>,
     stop: &Stop,
 ) -> Result<ProgramFault, AllocError> {
-    let number = node.conversation.node_number;
     Ok(match stop.fault {
         DriveFault::Read => ProgramFault::Read,
         DriveFault::Write => ProgramFault::Write,
-        DriveFault::BadReply => ProgramFault::BadReply(number),
-        DriveFault::Refused => ProgramFault::Refused(number, told_refusal(rt, node, stop)?),
+        DriveFault::BadReply => ProgramFault::BadReply(node.number),
+        DriveFault::Refused => ProgramFault::Refused(node.number, told_refusal(rt, node, stop)?),
         DriveFault::Turns => ProgramFault::Turns,
         DriveFault::OutOfMemory => ProgramFault::OutOfMemory,
     })
@@ -167,7 +170,7 @@ fn told_refusal(
     if !node.job.verbose && !rt.stderr().is_terminal() {
         return Ok(None);
     }
-    let Some(packet) = node.conversation.packets.get(stop.packet) else {
+    let Some(packet) = node.packets.get(stop.packet) else {
         return Ok(None);
     };
     let Some(refusal) = stop.refusal else {
@@ -183,11 +186,11 @@ fn refusal_text(
     packet: &Packet,
     refusal: Refusal,
 ) -> Result<String, AllocError> {
-    let number = node.conversation.node_number;
+    let number = node.number;
     let reply = reply_line(alloc, &Reply::Refused(refusal))?;
     match packet {
         Packet::Row { number: row, cells } => {
-            let key = shown_key(alloc, &node.conversation.query.key(alloc, cells)?)?;
+            let key = shown_key(alloc, &node.query.key(alloc, cells)?)?;
             format!(in alloc; "node {number}: {reply} at row {row} of {key}")
         }
         Packet::Close { key, count } => {
