@@ -2,9 +2,9 @@
 use crate::fault::ProgramFault;
 use crate::input::{InputForm, InputShape, bytes_of, rows_of_bytes, rows_of_files};
 use crate::progress::Progress;
-use rp_check::compile;
 use rp_columns::read_columns;
 use rp_command::{InputFormat, InputOptions};
+use rp_compile::compile;
 use rp_explain::{propose_columns, shown_text};
 use rp_filter::{Filter, read_filter};
 use rp_query::Query;

@@ -5,9 +5,9 @@ use Rattle.std.specs.List.{AllByRecursion}
 use Rattle.std.proofs.lemmas.Option.{slice_get-map}
 use Rattle.rp_value.specs.declared.table.Column.{Column}
 use Rattle.rp_value.specs.declared.value.Kind.{Kind}
-use Rattle.rp_syntax.specs.declared.tree.RowsPerMatch.{RowsPerMatch}
-use Rattle.rp_syntax.specs.declared.tree.RowsPerMatch.TheVariants.{One, AllShowEmpty, AllOmitEmpty, AllWithUnmatched}
-use Rattle.rp_syntax.specs.Clauses.{MeasureTree}
+use Rattle.rp_tree.specs.declared.tree.RowsPerMatch.{RowsPerMatch}
+use Rattle.rp_tree.specs.declared.tree.RowsPerMatch.TheVariants.{One, AllShowEmpty, AllOmitEmpty, AllWithUnmatched}
+use Rattle.rp_tree.specs.Clauses.{MeasureTree}
 use Rattle.rp_query.specs.declared.plan.Expr.{Expr}
 use Rattle.rp_query.specs.declared.query.OutputColumn.{OutputColumn}
 use Rattle.rp_query.specs.declared.query.QueryData.{QueryData}

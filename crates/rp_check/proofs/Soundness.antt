@@ -9,8 +9,8 @@ use Rattle.rp_value.specs.declared.table.Column.{Column}
 use Rattle.rp_words.specs.Bounds.{is_allowed}
 use Rattle.rp_words.specs.Variables.{are_below}
 use Rattle.rp_words.specs.PatternForm.{form_of}
-use Rattle.rp_syntax.specs.Terms.{Term}
-use Rattle.rp_syntax.specs.Clauses.{ClauseTree, DefinitionTree}
+use Rattle.rp_tree.specs.Terms.{Term}
+use Rattle.rp_tree.specs.Clauses.{ClauseTree, DefinitionTree}
 use Rattle.rp_query.specs.declared.plan.Condition.{Condition}
 use Rattle.rp_query.specs.declared.query.OutputColumn.{OutputColumn}
 use Rattle.rp_query.specs.declared.query.QueryData.{QueryData}

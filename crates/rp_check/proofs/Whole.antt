@@ -7,7 +7,7 @@ use Rattle.rp_value.specs.declared.value.Value.TheVariants as value
 use Rattle.rp_value.specs.declared.table.Column.{Column}
 use Rattle.rp_words.specs.Bounds.{is_allowed}
 use Rattle.rp_words.specs.PatternForm.{form_of}
-use Rattle.rp_syntax.specs.Clauses.{ClauseTree}
+use Rattle.rp_tree.specs.Clauses.{ClauseTree}
 use Rattle.rp_check.specs.declared.checking.Named.{Named}
 use Rattle.rp_check.specs.declared.checking.Places.{Places}
 use Rattle.rp_check.specs.declared.checking.Planned.{Planned}

@@ -4,9 +4,9 @@ use Rattle.rp_value.specs.declared.table.Column.{Column}
 use Rattle.rp_value.specs.declared.value.Kind.{Kind}
 use Rattle.rp_value.specs.declared.value.Kind.TheVariants.{Text}
 use Rattle.rp_grammar.specs.declared.written.Name.{Name}
-use Rattle.rp_syntax.specs.declared.tree.RowsPerMatch.{RowsPerMatch}
-use Rattle.rp_syntax.specs.declared.tree.RowsPerMatch.TheVariants.{One, AllShowEmpty, AllOmitEmpty, AllWithUnmatched}
-use Rattle.rp_syntax.specs.Clauses.{ClauseTree, MeasureTree}
+use Rattle.rp_tree.specs.declared.tree.RowsPerMatch.{RowsPerMatch}
+use Rattle.rp_tree.specs.declared.tree.RowsPerMatch.TheVariants.{One, AllShowEmpty, AllOmitEmpty, AllWithUnmatched}
+use Rattle.rp_tree.specs.Clauses.{ClauseTree, MeasureTree}
 use Rattle.rp_query.specs.declared.query.OutputColumn.{OutputColumn}
 use Rattle.rp_query.specs.declared.query.Source.TheVariants as source
 use Rattle.rp_check.specs.Context.{Context, column_named}

@@ -2,7 +2,7 @@
 use Rattle.std.specs.Prelude.{◌≡◌, ℕ, max, List, [], ◌++◌, map, true, false}
 use Rattle.rp_value.specs.declared.table.Column.{Column}
 use Rattle.rp_words.specs.PatternForm.{form_of}
-use Rattle.rp_syntax.specs.Clauses.{ClauseTree}
+use Rattle.rp_tree.specs.Clauses.{ClauseTree}
 use Rattle.rp_query.specs.declared.query.QueryData.{QueryData}
 use Rattle.rp_check.specs.Context.{Context, column_named}
 use Rattle.rp_query.specs.Formulas.{PlainTotal, value_formula, condition_formula, plain_total}

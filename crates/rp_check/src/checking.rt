@@ -2,14 +2,14 @@
 
 ghost use Rattle.std.specs.Prelude.{◌≡◌, [], true, false, IfOk, IfErr};
 ghost use Rattle.rp_query.specs.Sound.{IsSound};
-ghost use Rattle.rp_syntax.specs.Clauses.{clause_tree};
+ghost use Rattle.rp_tree.specs.Clauses.{clause_tree};
 ghost use Rattle.rp_check.specs.Checked.{FirstFaultOr, Tells};
 ghost use Rattle.rp_check.specs.ClauseFaults.{faults, name_faults, listing_faults, expression_faults, shown_faults, unmatched_faults};
 ghost use Rattle.rp_check.specs.QueryOf.{IsQueryOf};
 ghost use Rattle.rp_query.specs.QueryView.{data_of};
 ghost use Rattle.rp_check.specs.Queries.{rows_shown};
 ghost use Rattle.rp_check.specs.Checking.{IsNamed, ArePlaces, IsPlanned, IsMadeOf, spoken};
-ghost use Rattle.rp_syntax.specs.Tree.{tree_of};
+ghost use Rattle.rp_tree.specs.Tree.{tree_of};
 
 use crate::expressions::{conditions, measures, skip_to};
 use crate::fault::{CheckFault, CheckKind};
@@ -25,7 +25,7 @@ use rp_query::{
     Condition, Expr, OrderColumn, OutputColumn, Plan, Query, QueryData, RowsPerMatch as RowsShown,
     SkipTo, Total,
 };
-use rp_syntax::{Clause, Pattern as Written, RowsPerMatch};
+use rp_tree::{Clause, Pattern as Written, RowsPerMatch};
 use rp_value::{Column, Table, Text, Value};
 use rp_words::Pattern;
 use std::alloc::{AllocError, Global};

@@ -2,8 +2,8 @@
 
 ghost use Rattle.std.specs.Prelude.{◌≡◌, true, Some, map, pos, List};
 ghost use Rattle.rp_value.specs.Arithmetic.{fitted};
-ghost use Rattle.rp_syntax.specs.Paths.{path_of};
-ghost use Rattle.rp_syntax.specs.Terms.{Term, Number, Literal, Navigation, Aggregated, MatchNumber, Classifier, Negative, Not, IsNull, Operate, term_of, from_left, from_right, operand_of};
+ghost use Rattle.rp_tree.specs.Paths.{path_of};
+ghost use Rattle.rp_tree.specs.Terms.{Term, Number, Literal, Navigation, Aggregated, MatchNumber, Classifier, Negative, Not, IsNull, Operate, term_of, from_left, from_right, operand_of};
 ghost use Rattle.rp_query.specs.Formulas.{PlainTotal, plain_total, value_formula};
 ghost use Rattle.rp_query.specs.Formulas as formula;
 ghost use Rattle.rp_check.specs.Context.{Context, context_of};
@@ -16,7 +16,7 @@ use crate::operand::{inverted, negative, null_test, operated, valued};
 use crate::place::{allow_scope, is_final, navigation, require, totalled};
 use crate::resolved::Resolved;
 use rp_query::{Expr, Total};
-use rp_syntax::{Aggregate as Computed, Expr as Written, Navigation as Path, Operation};
+use rp_tree::{Aggregate as Computed, Expr as Written, Navigation as Path, Operation};
 use rp_value::{Kind, Text, Value};
 use std::alloc::Global;
 

@@ -1,8 +1,8 @@
 //! The expressions of MEASURES and DEFINE, and the skip's variable.
 
 ghost use Rattle.std.specs.Prelude.{◌≡◌, ◌++◌, map, IfOk};
-ghost use Rattle.rp_syntax.specs.Terms.{term_of};
-ghost use Rattle.rp_syntax.specs.Clauses.{measure_tree, definition_tree};
+ghost use Rattle.rp_tree.specs.Terms.{term_of};
+ghost use Rattle.rp_tree.specs.Clauses.{measure_tree, definition_tree};
 ghost use Rattle.rp_query.specs.Formulas.{plain_total, value_formula, condition_formula};
 ghost use Rattle.rp_check.specs.Context.{context_of};
 ghost use Rattle.rp_check.specs.ClauseFaults.{each, value_faults, condition_faults, measure_faults, definition_faults, skip_faults};
@@ -21,7 +21,7 @@ use crate::place::{fault, variables};
 use crate::resolved::Resolved;
 use rp_grammar::Name;
 use rp_query::{Condition, Expr, OutputColumn, SkipTo, Source, Total};
-use rp_syntax::{Definition, Expr as Written, Measure, Skip};
+use rp_tree::{Definition, Expr as Written, Measure, Skip};
 use rp_value::Kind;
 use std::alloc::{AllocError, Global};
 

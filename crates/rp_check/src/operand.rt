@@ -16,7 +16,7 @@ use crate::fault::{CheckFault, CheckKind};
 use crate::place::{fault, require};
 use crate::resolved::Resolved;
 use rp_query::{Condition, Expr, Operation};
-use rp_syntax::{Operation as Sign, Operator};
+use rp_tree::{Operation as Sign, Operator};
 use rp_value::{Comparison, Kind, Value};
 use std::alloc::{AllocError, Global};
 

@@ -2,14 +2,14 @@
 
 ghost use Rattle.std.specs.Prelude.{◌≡◌, ◌+◌, ◌++◌, map, IfOk, OnOk};
 ghost use Rattle.rp_query.specs.declared.query.Source.TheVariants as source;
-ghost use Rattle.rp_syntax.specs.Clauses.{clause_tree};
+ghost use Rattle.rp_tree.specs.Clauses.{clause_tree};
 ghost use Rattle.rp_check.specs.Output.{texts, key_column, key_columns, other_column, other_columns, output_with};
 
 use crate::lists::is_taken;
 use crate::names::column_named;
 use rp_grammar::Name;
 use rp_query::{OutputColumn, Source};
-use rp_syntax::{Clause, Order, RowsPerMatch};
+use rp_tree::{Clause, Order, RowsPerMatch};
 use rp_value::{Column, Kind, Text};
 use std::alloc::{AllocError, Global};
 

@@ -1,6 +1,6 @@
 //! Where the next search starts, and the item of a row in no match. Expected values are worked out by hand.
 use crate::support::{label, refused_twice};
-use rp_check::compile;
+use rp_compile::compile;
 use rp_eval::AllRows;
 use rp_known::{Place, next_start, unmatched_item};
 use rp_query::{Item, Query, SkipFault};

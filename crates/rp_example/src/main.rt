@@ -6,7 +6,7 @@ mod matching;
 mod node;
 
 use anyhow::Result;
-use rp_check::compile;
+use rp_compile::compile;
 use rp_syntax::read_table;
 use rp_value::{Row, Table, Text, Value};
 use std::alloc::Global;

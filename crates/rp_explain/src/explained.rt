@@ -7,7 +7,7 @@ use crate::passed::{pass_over, place_of};
 use crate::report::Report;
 use crate::statement::{Statement, statement_of};
 use crate::words::{COLUMNS, ROUND};
-use rp_check::{CompileFault, compile};
+use rp_compile::{CompileFault, compile};
 use rp_grammar::ParseFault;
 use rp_place::Span;
 use rp_query::Query;

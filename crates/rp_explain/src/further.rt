@@ -6,7 +6,7 @@ use crate::parts::ends_value;
 use crate::passed::{Passed, place_of};
 use crate::reading::{Part, Reading, part_of, tokens_of};
 use crate::words::FUNCTIONS;
-use rp_check::CompileFault;
+use rp_compile::CompileFault;
 use rp_grammar::ParseFault;
 use rp_lexer::{Keyword, LexFault, TokenKind};
 use std::alloc::{AllocError, Global};

@@ -3,7 +3,7 @@
 use crate::operands::closing;
 use crate::passed::{Passed, pass_over, place_of, push_blanks};
 use crate::reading::{Reading, tokens_of};
-use rp_check::CompileFault;
+use rp_compile::CompileFault;
 use rp_grammar::ParseFault;
 use rp_lexer::{Keyword, LexFault, TokenKind};
 use rp_place::{Place, Span};

@@ -2,7 +2,7 @@
 ghost use Rattle.std.specs.Prelude.{◌≡◌};
 ghost use Rattle.rp_filter.specs.declared.fault.FilterFault.TheVariants.{OutOfMemory};
 
-use rp_check::CompileFault;
+use rp_compile::CompileFault;
 use std::alloc::{AllocError, AllocFailed};
 use thiserror::Error;
 

@@ -4,12 +4,13 @@ ghost use Rattle.rp_query.specs.QueryView.{data_of};
 ghost use Rattle.rp_query.specs.Locality.{ConditionsAreLocal};
 ghost use Rattle.rp_query.specs.LooksBack.{ConditionsLookBack};
 ghost use Rattle.rp_query.specs.declared.locality.Locality.TheVariants.{Row};
-ghost use Rattle.rp_check.specs.Compiled.{IsCompiled};
+ghost use Rattle.rp_compile.specs.Compiled.{IsCompiled};
 ghost use Rattle.rp_filter.specs.Meets.{clause_of};
 
 use crate::fault::FilterFault;
 use crate::filter::Filter;
-use rp_check::{CompileFault, Fault, compile};
+use rp_check::Fault;
+use rp_compile::{CompileFault, compile};
 use rp_grammar::ParseFault;
 use rp_lexer::LexFault;
 use rp_value::Table;

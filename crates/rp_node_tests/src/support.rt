@@ -1,5 +1,5 @@
 //! Tables, queries and rows for the tests, and how a test ends that is refused memory twice.
-use rp_check::compile;
+use rp_compile::compile;
 use rp_query::Query;
 use rp_syntax::read_table;
 use rp_value::{Row, Table, Text, Value};

@@ -5,7 +5,7 @@ use Rattle.rp_value.specs.declared.table.Column.{Column}
 use Rattle.rp_words.specs.declared.word.End.TheVariants.{Closed}
 use Rattle.rp_query.specs.declared.query.QueryData.{QueryData}
 use Rattle.rp_query.specs.declared.item.Item.{Item}
-use Rattle.rp_check.specs.OneQuery.{OneQuery}
+use Rattle.rp_compile.specs.OneQuery.{OneQuery}
 use Rattle.rp_schedules.specs.Schedules.{Event, Done, Gives, IsAtPlace}
 use Rattle.rp_schedules.specs.Records.{Row, Nodes, CallsBySame, Runs, none as no_call, more as one_more, RunGivesFront, answer_on}
 use Rattle.rp_schedules.specs.Laws.{RunsGiveFronts}

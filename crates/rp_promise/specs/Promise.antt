@@ -4,7 +4,7 @@ use Rattle.rp_value.specs.declared.table.Column.{Column}
 use Rattle.rp_query.specs.declared.query.QueryData.{QueryData}
 use Rattle.rp_query.specs.declared.item.Item.{Item}
 use Rattle.rp_query.specs.Sound.{IsSound}
-use Rattle.rp_check.specs.Compiled.{IsCompiled}
+use Rattle.rp_compile.specs.Compiled.{IsCompiled}
 use Rattle.rp_schedules.specs.Schedules.{Event, Done, Gives, Idles, IsAtPlace}
 use Rattle.rp_schedules.specs.Records.{Row, Nodes, Calls, CallsBySame, HoldsWhole, answer_on, record_at}
 

@@ -8,7 +8,7 @@ ghost use Rattle.std.specs.Prelude.{List};
 ghost use Rattle.rp_value.specs.declared.value.Value.{Value};
 ghost use Rattle.rp_promise.specs.Promise.{AnswersAreOne, BothGiveFronts, CallsAreByText};
 
-use rp_check::law_compiled;
+use rp_compile::law_compiled;
 use rp_schedules::{law_same_query, law_schedules};
 
 /// The text of a clause has one answer on a whole partition. In whatever order rows come in, what is lost, repeated or refused, and

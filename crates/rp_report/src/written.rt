@@ -3,7 +3,8 @@
 use rp_grammar::{Name, ParseFault};
 use rp_lexer::{LexFault, Token, lex};
 use rp_query::{OutputColumn, Source};
-use rp_syntax::{Clause, parse};
+use rp_syntax::parse;
+use rp_tree::Clause;
 use rp_value::Text;
 use std::alloc::{AllocError, Global};
 

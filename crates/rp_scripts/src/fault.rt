@@ -1,5 +1,5 @@
 //! Why a script can't be played to its end.
-use rp_check::CompileFault;
+use rp_compile::CompileFault;
 use rp_reference::PlainFault;
 use rp_syntax::TableTextFault;
 use rp_value::RowFault;

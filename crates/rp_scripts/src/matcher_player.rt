@@ -20,7 +20,7 @@ use crate::line::{
     Line, budget, cell, cells, first_word, large_number, no_words, number, text_cell,
 };
 use crate::told::tell;
-use rp_check::compile;
+use rp_compile::compile;
 use rp_eval::AllRows;
 use rp_query::{Item, Query};
 use rp_reference::{item_text, known_items, write_cell};

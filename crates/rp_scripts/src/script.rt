@@ -4,7 +4,7 @@ use crate::fault::{EventFault, Stopped};
 use crate::line::{Line, line_of, no_words, split_at_mark};
 use crate::lines_player::LinesPlayer;
 use crate::subject::Subject;
-use rp_check::compile;
+use rp_compile::compile;
 use rp_query::Query;
 use rp_syntax::read_table;
 use std::alloc::Global;

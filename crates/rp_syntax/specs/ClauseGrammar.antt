@@ -7,19 +7,19 @@ use Rattle.rp_lexer.specs.declared.kind.Mark.TheVariants as mark
 use Rattle.rp_lexer.specs.declared.kind.Keyword.{Keyword}
 use Rattle.rp_lexer.specs.declared.kind.Keyword.TheVariants as keyword
 use Rattle.rp_grammar.specs.declared.written.Name.{Name}
-use Rattle.rp_syntax.specs.declared.tree.Order.{Order}
-use Rattle.rp_syntax.specs.declared.tree.RowsPerMatch.{RowsPerMatch}
-use Rattle.rp_syntax.specs.declared.tree.RowsPerMatch.TheVariants as rows_as
-use Rattle.rp_syntax.specs.declared.tree.Skip.{Skip}
-use Rattle.rp_syntax.specs.declared.tree.Skip.TheVariants as skip_as
+use Rattle.rp_tree.specs.declared.tree.Order.{Order}
+use Rattle.rp_tree.specs.declared.tree.RowsPerMatch.{RowsPerMatch}
+use Rattle.rp_tree.specs.declared.tree.RowsPerMatch.TheVariants as rows_as
+use Rattle.rp_tree.specs.declared.tree.Skip.{Skip}
+use Rattle.rp_tree.specs.declared.tree.Skip.TheVariants as skip_as
 use Rattle.rp_grammar.specs.Grammar.{Grammar, word, nothing, here, ◌then◌, ◌or◌, gives, optional, opening, second, listed}
-use Rattle.rp_syntax.specs.Tree.{Tree}
-use Rattle.rp_syntax.specs.Terms.{Term}
-use Rattle.rp_syntax.specs.Clauses.{MeasureTree, UnionTree, DefinitionTree, ClauseTree}
+use Rattle.rp_tree.specs.Tree.{Tree}
+use Rattle.rp_tree.specs.Terms.{Term}
+use Rattle.rp_tree.specs.Clauses.{MeasureTree, UnionTree, DefinitionTree, ClauseTree}
 use Rattle.rp_grammar.specs.Names.{name}
-use Rattle.rp_syntax.specs.PatternGrammar.{inside}
-use Rattle.rp_syntax.specs.NavigationGrammar.{key}
-use Rattle.rp_syntax.specs.ExprGrammar.{as_expr, expr, inside_expr, open_mark, close_mark}
+use Rattle.rp_patterns.specs.PatternGrammar.{inside}
+use Rattle.rp_expressions.specs.NavigationGrammar.{key}
+use Rattle.rp_expressions.specs.ExprGrammar.{as_expr, expr, inside_expr, open_mark, close_mark}
 
 -- an expression in which so many brackets may be open
 abbrev pub whole_expr : ℕ → Grammar Term

@@ -3,18 +3,18 @@
 ghost use Rattle.std.specs.Prelude.{◌≡◌, ◌≢◌, ◌<◌, ◌≤◌, length, map, All, IfOk, IfErr, List, []};
 ghost use Rattle.rp_lexer.specs.Lexes.{IsToken, Lexes};
 ghost use Rattle.rp_grammar.specs.Reading.{Gives, IsFaultIn};
-ghost use Rattle.rp_syntax.specs.Tree.{tree_of};
+ghost use Rattle.rp_tree.specs.Tree.{tree_of};
 ghost use Rattle.rp_grammar.specs.Grammar.{gives, listed, second, word, ◌then◌};
 ghost use Rattle.rp_grammar.specs.Names.{name};
-ghost use Rattle.rp_syntax.specs.Clauses.{clause_tree, definition_tree, later_trees, measure_tree, union_tree};
+ghost use Rattle.rp_tree.specs.Clauses.{clause_tree, definition_tree, later_trees, measure_tree, union_tree};
 ghost use Rattle.rp_syntax.specs.Derived.{DerivesNone, DerivesOnly};
 ghost use Rattle.rp_syntax.specs.ClauseGrammar.{Derives, all_rows, body, clause, define_part, definition, later_parts, measure, measures_part, one_row, order, order_part, partition_part, pattern_part, rows, rows_part, shown, skip, skip_part, subset_part, target, three_words, union};
 
-use crate::expr::expr;
-use crate::pattern::inner as inner_pattern;
-use crate::tree::{Clause, Definition, Measure, Order, Pattern, RowsPerMatch, Skip, Union};
+use rp_expressions::expr;
 use rp_grammar::{Name, ParseFault, begins, name, opening, place, word};
 use rp_lexer::{Keyword, Mark, Token, TokenKind};
+use rp_patterns::inner as inner_pattern;
+use rp_tree::{Clause, Definition, Measure, Order, Pattern, RowsPerMatch, Skip, Union};
 use rp_value::Text;
 use std::alloc::{AllocError, Global};
 

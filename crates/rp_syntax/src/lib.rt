@@ -5,21 +5,12 @@
 //! let clause = parse(alloc, text, tokens.as_slice())?;
 //! ```
 //!
-//! The grammar is `specs/ClauseGrammar`, `PatternGrammar`, `NavigationGrammar` and `ExprGrammar`, a rule a line in the
-//! order of the written one. `read_table` reads the names and kinds of a table's columns.
+//! The grammar is `specs/ClauseGrammar`, a rule a line in the order of the written one, over those of rp_patterns and
+//! rp_expressions. `read_table` reads the names and kinds of a table's columns.
 #![tactic(auto)]
 
 mod clause;
-mod expr;
-mod navigation;
-mod pattern;
 mod table;
-mod tree;
 
 pub use clause::parse;
 pub use table::{TableTextFault, read_table};
-pub use tree::{
-    Aggregate, AggregateFunction, Bound, Clause, Column, Counted, Definition, Expr, Measure,
-    Movement, Navigation, Offset, Operation, Operator, Order, Pattern, Quantifier, RowsPerMatch,
-    Scope, Skip, Union,
-};

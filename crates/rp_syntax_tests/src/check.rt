@@ -1,6 +1,7 @@
 //! The query of a clause.
 use crate::support::{compiled, prices, refused_twice};
-use rp_check::{CheckKind, CompileFault, Fault};
+use rp_check::{CheckKind, Fault};
+use rp_compile::CompileFault;
 use rp_query::{Condition, Query};
 use std::alloc::Global;
 use std::test::*;

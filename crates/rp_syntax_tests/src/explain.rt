@@ -1,6 +1,7 @@
 //! What is told of a clause, a table and an input, where memory is refused in between too.
 use crate::support::{compiled, prices, refused_twice};
-use rp_check::{CheckKind, CompileFault, Fault};
+use rp_check::{CheckKind, Fault};
+use rp_compile::CompileFault;
 use rp_explain::{describe, explain_clause, explain_csv, explain_table, propose_columns};
 use rp_grammar::ParseFault;
 use rp_input::CsvFault;

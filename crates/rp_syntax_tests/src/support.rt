@@ -3,7 +3,7 @@
 ghost use Rattle.std.specs.Prelude.{All, IfOk};
 ghost use Rattle.rp_lexer.specs.Lexes.{IsToken};
 
-use rp_check::{CompileFault, compile};
+use rp_compile::{CompileFault, compile};
 use rp_lexer::{LexFault, Token, lex};
 use rp_query::Query;
 use rp_syntax::{TableTextFault, read_table};

@@ -5,7 +5,8 @@ mod second;
 
 use crate::support::{read, refused_twice, tokens_of};
 use rp_grammar::ParseFault;
-use rp_syntax::{Clause, parse};
+use rp_syntax::parse;
+use rp_tree::Clause;
 use rp_value::Kind;
 use second::first_fault;
 use std::alloc::Global;

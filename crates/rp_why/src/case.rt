@@ -5,7 +5,7 @@ ghost use Rattle.rp_words.specs.declared.word.End.TheVariants.{Closed};
 use crate::edit::{Edit, edited};
 use crate::seeking::{Sought, Wanted, seek};
 use crate::tokens::Tokens;
-use rp_check::{CompileFault, compile};
+use rp_compile::{CompileFault, compile};
 use rp_eval::AllRows;
 use rp_query::Query;
 use std::alloc::{AllocError, Global};

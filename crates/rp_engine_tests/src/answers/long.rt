@@ -3,7 +3,7 @@
 ghost use Rattle.std.specs.Prelude.{◌≡◌, ◌<◌};
 
 use super::driven::Driven;
-use rp_check::compile;
+use rp_compile::compile;
 use rp_query::Query;
 use rp_search::Steps;
 use rp_syntax::read_table;

@@ -2,7 +2,7 @@
 ghost use Rattle.std.specs.Prelude.{◌≡◌, ◌<◌};
 
 use super::driven::Driven;
-use rp_check::compile;
+use rp_compile::compile;
 use rp_eval::AllRows;
 use rp_query::{Item, Query};
 use rp_reference::{item_text, known_items};

@@ -6,7 +6,7 @@ ghost use Rattle.rp_eval.specs.Partition.{Rows as Known};
 ghost use Rattle.rp_engine_tests.specs.Searched.{StandsOver};
 
 use super::growing::{close, push};
-use rp_check::compile;
+use rp_compile::compile;
 use rp_conditions::{Entries, Tester, law_tests};
 use rp_eval::{AllRows, Rows, Totals, law_totals};
 use rp_query::Query;

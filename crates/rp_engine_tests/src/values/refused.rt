@@ -5,7 +5,7 @@ ghost use Rattle.rp_eval.specs.Partition.{Rows as Known};
 
 use super::plans::{Of, plan, rows_of_cells, shown};
 use crate::support::{label, refused_twice};
-use rp_check::compile;
+use rp_compile::compile;
 use rp_eval::{Rows, Totals, View};
 use rp_query::{Edge, Expr, Function, Navigation, Query, RowsOf, Step, Total};
 use rp_syntax::read_table;

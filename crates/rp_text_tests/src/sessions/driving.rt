@@ -1,6 +1,6 @@
 //! Conversations over devices in memory. What is expected is worked out by hand.
 use crate::support::text;
-use rp_check::compile;
+use rp_compile::compile;
 use rp_drive::{Conversation, DriveFault, drive};
 use rp_feed::Packet;
 use rp_io::{MemoryInput, MemoryOutput};

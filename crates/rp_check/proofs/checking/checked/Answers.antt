@@ -1,5 +1,5 @@
 use Rattle.std.proofs.Common.{rules, ◌≡◌, [], false, true}
-use Rattle.rp_syntax.specs.Clauses.{clause_tree}
+use Rattle.rp_tree.specs.Clauses.{clause_tree}
 use Rattle.rp_check.specs.QueryOf.{IsQueryOf}
 use Rattle.rp_check.specs.Checked.{Tells}
 use Rattle.rp_check.specs.Checking.{ArePlaces, IsPlanned, spoken}

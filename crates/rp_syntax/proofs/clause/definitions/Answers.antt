@@ -1,6 +1,6 @@
 use Rattle.std.proofs.Common.{rules, ◌∙◌, sym}
 use Rattle.rp_grammar.proofs.Loops.{list_begins, list_ends, list_refused, seen_list_goes_on}
-use Rattle.rp_syntax.specs.Clauses.{definition_tree}
+use Rattle.rp_tree.specs.Clauses.{definition_tree}
 use Rattle.rp_syntax.specs.ClauseGrammar.{definition}
 use Rattle.rp_syntax.proofs.clause.definitions.Goals as goal
 

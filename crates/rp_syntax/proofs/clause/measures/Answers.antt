@@ -1,6 +1,6 @@
 use Rattle.std.proofs.Common.{rules, ◌∙◌, sym}
 use Rattle.rp_grammar.proofs.Loops.{list_begins, list_ends, list_refused, seen_list_goes_on}
-use Rattle.rp_syntax.specs.Clauses.{measure_tree}
+use Rattle.rp_tree.specs.Clauses.{measure_tree}
 use Rattle.rp_syntax.specs.ClauseGrammar.{measure}
 use Rattle.rp_syntax.proofs.clause.measures.Goals as goal
 

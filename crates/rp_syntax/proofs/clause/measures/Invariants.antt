@@ -2,7 +2,7 @@ use Rattle.std.proofs.Common.{◌<◌, length, All, map}
 use Rattle.rp_lexer.specs.Lexes.{IsToken}
 use Rattle.rp_grammar.specs.Grammar.{listed}
 use Rattle.rp_grammar.proofs.Loops.{ListGoesOn}
-use Rattle.rp_syntax.specs.Clauses.{measure_tree}
+use Rattle.rp_tree.specs.Clauses.{measure_tree}
 use Rattle.rp_syntax.specs.ClauseGrammar.{measure}
 use Rattle.rp_syntax.proofs.clause.measures.Given as goal
 

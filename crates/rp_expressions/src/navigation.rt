@@ -1,0 +1,251 @@
+//! Columns and navigations.
+
+ghost use Rattle.std.specs.Prelude.{◌≡◌, ◌<◌, ◌≤◌, length, All, IfOk};
+ghost use Rattle.rp_lexer.specs.Lexes.{IsToken};
+ghost use Rattle.rp_grammar.specs.Reading.{Gives, starts};
+ghost use Rattle.rp_grammar.specs.Grammar.{gives, optional};
+ghost use Rattle.rp_tree.specs.Paths.{Move, path_of};
+ghost use Rattle.rp_expressions.specs.NavigationGrammar.{argument, column, deeper_path, edge, ending, inside_path, offset, path, plain, plain_kinds, scope};
+
+use rp_grammar::{ParseFault, begins, begins_name, name, opening, place, word};
+use rp_lexer::{Keyword, Mark, Token, TokenKind, number_of};
+use rp_tree::{Column, Movement, Navigation, Offset, Scope};
+use std::alloc::{AllocError, Global};
+
+/// A column, and what follows it.
+#[tactic(auto, unfolding(crate::specs::NavigationGrammar::column))]
+pub(crate) fn column<'a>(
+    alloc: Global,
+    text: &str,
+    tokens: &'a [Token],
+) -> Result<(Column, &'a [Token]), ParseFault>
+    requires stands { All (IsToken text.now) tokens.now }
+    ensures exact { Gives (λ x. (x.0, x.1.now)) result (column.read text.now tokens.now) }
+    ensures stands { IfOk result (λ x. All (IsToken text.now) x.1.now) }
+    ensures shorter { IfOk result (λ x. length x.1.now < length tokens.now) }
+{
+    let (first, rest) = name(alloc, text, tokens)?;
+    if !begins(rest, TokenKind::Mark(Mark::Period)) {
+        let column = Column {
+            qualifier: None,
+            name: first,
+        };
+        return Ok((column, rest));
+    }
+    let (_, rest) = word(text, rest, TokenKind::Mark(Mark::Period))?;
+    let (second, rest) = name(alloc, text, rest)?;
+    let column = Column {
+        qualifier: Some(first),
+        name: second,
+    };
+    Ok((column, rest))
+}
+
+/// A number of rows, and what follows it.
+#[tactic(auto, unfolding(crate::specs::NavigationGrammar::offset))]
+fn offset<'a>(text: &str, tokens: &'a [Token]) -> Result<(Offset, &'a [Token]), ParseFault>
+    requires stands { All (IsToken text.now) tokens.now }
+    ensures exact { Gives (λ x. (x.0, x.1.now)) result (offset.read text.now tokens.now) }
+    ensures stands { IfOk result (λ x. All (IsToken text.now) x.1.now) }
+    ensures shorter { IfOk result (λ x. length x.1.now < length tokens.now) }
+{
+    match tokens.split_first() {
+        Some((first, rest)) if first.kind == TokenKind::Number => {
+            let offset = Offset {
+                at: first.start,
+                rows: number_of(text, *first),
+            };
+            Ok((offset, rest))
+        }
+        _ => Err(ParseFault::Expected(place(text, tokens))),
+    }
+}
+
+/// Perhaps RUNNING or FINAL, and what follows.
+#[tactic(auto, unfolding(crate::specs::NavigationGrammar::scope))]
+pub(crate) fn scope<'a>(
+    text: &str,
+    tokens: &'a [Token],
+) -> Result<(Option<Scope>, &'a [Token]), ParseFault>
+    requires stands { All (IsToken text.now) tokens.now }
+    ensures exact { Gives (λ x. (x.0, x.1.now)) result ((optional scope).read text.now tokens.now) }
+    ensures stands { IfOk result (λ x. All (IsToken text.now) x.1.now) }
+    ensures no_longer { IfOk result (λ x. length x.1.now ≤ length tokens.now) }
+{
+    if begins(tokens, TokenKind::Keyword(Keyword::Running)) {
+        let (at, rest) = word(text, tokens, TokenKind::Keyword(Keyword::Running))?;
+        return Ok((
+            Some(Scope {
+                at,
+                is_final: false,
+            }),
+            rest,
+        ));
+    }
+    if begins(tokens, TokenKind::Keyword(Keyword::Final)) {
+        let (at, rest) = word(text, tokens, TokenKind::Keyword(Keyword::Final))?;
+        return Ok((Some(Scope { at, is_final: true }), rest));
+    }
+    Ok((None, tokens))
+}
+
+/// Perhaps a comma and by how many rows, `)`, and what follows.
+#[tactic(auto, unfolding(crate::specs::NavigationGrammar::ending))]
+fn ending<'a>(text: &str, tokens: &'a [Token]) -> Result<(Option<Offset>, &'a [Token]), ParseFault>
+    requires stands { All (IsToken text.now) tokens.now }
+    ensures exact { Gives (λ x. (x.0, x.1.now)) result (ending.read text.now tokens.now) }
+    ensures stands { IfOk result (λ x. All (IsToken text.now) x.1.now) }
+    ensures shorter { IfOk result (λ x. length x.1.now < length tokens.now) }
+{
+    if !begins(tokens, TokenKind::Mark(Mark::Comma)) {
+        let (_, rest) = word(text, tokens, TokenKind::Mark(Mark::RightParenthesis))?;
+        return Ok((None, rest));
+    }
+    let (_, rest) = word(text, tokens, TokenKind::Mark(Mark::Comma))?;
+    let (rows, rest) = offset(text, rest)?;
+    let (_, rest) = word(text, rest, TokenKind::Mark(Mark::RightParenthesis))?;
+    Ok((Some(rows), rest))
+}
+
+/// The argument of a navigation in its brackets, and what follows.
+#[cycle(navigation)]
+#[tactic(auto, unfolding(crate::specs::NavigationGrammar::argument))]
+fn argument<'a>(
+    alloc: Global,
+    text: &str,
+    tokens: &'a [Token],
+    room: usize,
+) -> Result<(Navigation, Option<Offset>, &'a [Token]), ParseFault>
+    requires stands { All (IsToken text.now) tokens.now }
+    ensures exact { Gives (λ x. ((path_of x.0, x.1), x.2.now)) result
+        ((argument room (inside_path room)).read text.now tokens.now) }
+    ensures stands { IfOk result (λ x. All (IsToken text.now) x.2.now) }
+    ensures shorter { IfOk result (λ x. length x.2.now < length tokens.now) }
+{
+    let (_, rest) = opening(text, tokens, TokenKind::Mark(Mark::LeftParenthesis), room)?;
+    let (path, rest) = inner_path(alloc, text, rest, room)?;
+    let (rows, rest) = ending(text, rest)?;
+    Ok((path, rows, rest))
+}
+
+/// A column or a navigation inside a bracket for which there was room, and what follows.
+#[cycle(navigation)]
+#[tactic(auto, using(crate::proofs::Paths::deeper_path_is))]
+fn inner_path<'a>(
+    alloc: Global,
+    text: &str,
+    tokens: &'a [Token],
+    room: usize,
+) -> Result<(Navigation, &'a [Token]), ParseFault>
+    requires room { 1 ≤ room }
+    requires stands { All (IsToken text.now) tokens.now }
+    ensures exact { Gives (λ x. (path_of x.0, x.1.now)) result ((deeper_path room).read text.now tokens.now) }
+    ensures stands { IfOk result (λ x. All (IsToken text.now) x.1.now) }
+    ensures shorter { IfOk result (λ x. length x.1.now < length tokens.now) }
+{
+    path(alloc, text, tokens, room - 1)
+}
+
+/// A column or a navigation, and what follows.
+#[cycle(navigation)]
+#[tactic(auto, unfolding(crate::specs::NavigationGrammar::path, crate::specs::NavigationGrammar::plain, crate::specs::NavigationGrammar::column))]
+fn path<'a>(
+    alloc: Global,
+    text: &str,
+    tokens: &'a [Token],
+    room: usize,
+) -> Result<(Navigation, &'a [Token]), ParseFault>
+    requires stands { All (IsToken text.now) tokens.now }
+    ensures exact { Gives (λ x. (path_of x.0, x.1.now)) result
+        ((path room (inside_path room)).read text.now tokens.now) }
+    ensures stands { IfOk result (λ x. All (IsToken text.now) x.1.now) }
+    ensures shorter { IfOk result (λ x. length x.1.now < length tokens.now) }
+{
+    if begins_plain(tokens) {
+        return plain(alloc, text, tokens, room);
+    }
+    let (scope, rest) = scope(text, tokens)?;
+    edge(alloc, text, rest, room, scope)
+}
+
+/// Whether the tokens begin with a name, PREV or NEXT.
+#[tactic(auto, unfolding(crate::specs::NavigationGrammar::plain, crate::specs::NavigationGrammar::column))]
+pub(crate) fn begins_plain(tokens: &[Token]) -> bool
+    ensures { result ≡ starts plain_kinds tokens.now }
+{
+    begins_name(tokens)
+        || begins(tokens, TokenKind::Keyword(Keyword::Prev))
+        || begins(tokens, TokenKind::Keyword(Keyword::Next))
+}
+
+/// A column, or a navigation by PREV or NEXT, and what follows.
+#[cycle(navigation)]
+#[tactic(auto, unfolding(crate::specs::NavigationGrammar::plain, crate::specs::NavigationGrammar::column))]
+pub(crate) fn plain<'a>(
+    alloc: Global,
+    text: &str,
+    tokens: &'a [Token],
+    room: usize,
+) -> Result<(Navigation, &'a [Token]), ParseFault>
+    requires stands { All (IsToken text.now) tokens.now }
+    ensures exact { Gives (λ x. (path_of x.0, x.1.now)) result
+        ((plain room (inside_path room)).read text.now tokens.now) }
+    ensures stands { IfOk result (λ x. All (IsToken text.now) x.1.now) }
+    ensures shorter { IfOk result (λ x. length x.1.now < length tokens.now) }
+{
+    if begins_name(tokens) {
+        let (column, rest) = column(alloc, text, tokens)?;
+        return Ok((Navigation::Column(column), rest));
+    }
+    if begins(tokens, TokenKind::Keyword(Keyword::Prev)) {
+        let (at, rest) = word(text, tokens, TokenKind::Keyword(Keyword::Prev))?;
+        let (path, rows, rest) = argument(alloc, text, rest, room)?;
+        return Ok((moved(alloc, Movement::Prev, at, path, rows)?, rest));
+    }
+    let (at, rest) = word(text, tokens, TokenKind::Keyword(Keyword::Next))?;
+    let (path, rows, rest) = argument(alloc, text, rest, room)?;
+    Ok((moved(alloc, Movement::Next, at, path, rows)?, rest))
+}
+
+/// A navigation by FIRST or LAST under this scope, and what follows.
+#[cycle(navigation)]
+#[tactic(auto, unfolding(crate::specs::NavigationGrammar::edge))]
+pub(crate) fn edge<'a>(
+    alloc: Global,
+    text: &str,
+    tokens: &'a [Token],
+    room: usize,
+    scope: Option<Scope>,
+) -> Result<(Navigation, &'a [Token]), ParseFault>
+    requires stands { All (IsToken text.now) tokens.now }
+    ensures exact { Gives (λ x. (path_of x.0, x.1.now)) result
+        ((gives (λ f. f scope) (edge room (inside_path room))).read text.now tokens.now) }
+    ensures stands { IfOk result (λ x. All (IsToken text.now) x.1.now) }
+    ensures shorter { IfOk result (λ x. length x.1.now < length tokens.now) }
+{
+    if begins(tokens, TokenKind::Keyword(Keyword::First)) {
+        let (at, rest) = word(text, tokens, TokenKind::Keyword(Keyword::First))?;
+        let (path, rows, rest) = argument(alloc, text, rest, room)?;
+        return Ok((moved(alloc, Movement::First(scope), at, path, rows)?, rest));
+    }
+    let (at, rest) = word(text, tokens, TokenKind::Keyword(Keyword::Last))?;
+    let (path, rows, rest) = argument(alloc, text, rest, room)?;
+    Ok((moved(alloc, Movement::Last(scope), at, path, rows)?, rest))
+}
+
+fn moved(
+    alloc: Global,
+    movement: Movement,
+    at: usize,
+    argument: Navigation,
+    offset: Option<Offset>,
+) -> Result<Navigation, AllocError>
+    ensures { IfOk result (λ path. path_of path ≡ Move movement at (path_of argument) offset) }
+{
+    Ok(Navigation::Move {
+        movement,
+        at,
+        argument: Box::new(alloc, argument)?,
+        offset,
+    })
+}

@@ -1,0 +1,418 @@
+//! Row patterns.
+
+ghost use Rattle.std.specs.Prelude.{◌≡◌, ◌<◌, ◌≤◌, length, map, All, IfOk};
+ghost use Rattle.rp_lexer.specs.Lexes.{IsToken};
+ghost use Rattle.rp_grammar.specs.Reading.{Gives, starts};
+ghost use Rattle.rp_tree.specs.Tree.{tree_of, joined_all, Concatenation, Alternation, Permute, Beside, Quantified, Exclusion};
+ghost use Rattle.rp_grammar.specs.Grammar.{gives, listed};
+ghost use Rattle.rp_patterns.specs.PatternGrammar.{bound, bounds, lazily, quantifier, repeated, repetition, unwritten, group, permute, exclusion, primary, factor, sequence, alternatives, inside, deeper, pattern_kinds, quantifier_kinds};
+
+use rp_grammar::{ParseFault, begins, begins_name, name, opening, place, word};
+use rp_lexer::{Keyword, Mark, Token, TokenKind, number_of};
+use rp_tree::{Bound, Pattern, Quantifier};
+use std::alloc::{AllocError, Global};
+
+/// A quantifier, greedy as yet, and what follows it.
+#[tactic(auto, unfolding(crate::specs::PatternGrammar::quantifier))]
+fn quantifier<'a>(text: &str, tokens: &'a [Token]) -> Result<(Quantifier, &'a [Token]), ParseFault>
+    requires stands { All (IsToken text.now) tokens.now }
+    ensures exact { Gives (λ x. (x.0, x.1.now)) result (quantifier.read text.now tokens.now) }
+    ensures stands { IfOk result (λ x. All (IsToken text.now) x.1.now) }
+    ensures shorter { IfOk result (λ x. length x.1.now < length tokens.now) }
+{
+    if begins(tokens, TokenKind::Mark(Mark::Asterisk)) {
+        let (at, rest) = word(text, tokens, TokenKind::Mark(Mark::Asterisk))?;
+        return Ok((repeated(at, unwritten(at, 0), None), rest));
+    }
+    if begins(tokens, TokenKind::Mark(Mark::Plus)) {
+        let (at, rest) = word(text, tokens, TokenKind::Mark(Mark::Plus))?;
+        return Ok((repeated(at, unwritten(at, 1), None), rest));
+    }
+    if begins(tokens, TokenKind::Mark(Mark::QuestionMark)) {
+        let (at, rest) = word(text, tokens, TokenKind::Mark(Mark::QuestionMark))?;
+        return Ok((repeated(at, unwritten(at, 0), Some(unwritten(at, 1))), rest));
+    }
+    let (at, rest) = word(text, tokens, TokenKind::Mark(Mark::LeftBrace))?;
+    bounds(text, rest, at)
+}
+
+/// A bound that isn't written stands at the quantifier.
+fn unwritten(at: usize, count: u64) -> Bound
+    ensures { result ≡ unwritten at count }
+{
+    Bound { at, count }
+}
+
+/// A bound, and what follows it.
+#[tactic(auto, unfolding(crate::specs::PatternGrammar::bound))]
+fn bound<'a>(text: &str, tokens: &'a [Token]) -> Result<(Bound, &'a [Token]), ParseFault>
+    requires stands { All (IsToken text.now) tokens.now }
+    ensures exact { Gives (λ x. (x.0, x.1.now)) result (bound.read text.now tokens.now) }
+    ensures stands { IfOk result (λ x. All (IsToken text.now) x.1.now) }
+    ensures shorter { IfOk result (λ x. length x.1.now < length tokens.now) }
+{
+    match tokens.split_first() {
+        Some((first, rest)) if first.kind == TokenKind::Number => {
+            let bound = Bound {
+                at: first.start,
+                count: number_of(text, *first),
+            };
+            Ok((bound, rest))
+        }
+        _ => Err(ParseFault::Expected(place(text, tokens))),
+    }
+}
+
+/// A greedy quantifier.
+fn repeated(at: usize, lower: Bound, upper: Option<Bound>) -> Quantifier
+    ensures { result ≡ repeated at lower upper }
+{
+    Quantifier {
+        at,
+        lower,
+        upper,
+        reluctant: false,
+    }
+}
+
+/// The bounds of a quantifier whose `{` stands at the offset, its `}`, and what follows it.
+#[tactic(auto, unfolding(crate::specs::PatternGrammar::bounds, crate::specs::PatternGrammar::bound))]
+fn bounds<'a>(
+    text: &str,
+    tokens: &'a [Token],
+    at: usize,
+) -> Result<(Quantifier, &'a [Token]), ParseFault>
+    requires stands { All (IsToken text.now) tokens.now }
+    ensures exact { Gives (λ x. (x.0, x.1.now)) result ((gives (λ f. f at) bounds).read text.now tokens.now) }
+    ensures stands { IfOk result (λ x. All (IsToken text.now) x.1.now) }
+    ensures shorter { IfOk result (λ x. length x.1.now < length tokens.now) }
+{
+    if !begins(tokens, TokenKind::Number) {
+        let (_, rest) = word(text, tokens, TokenKind::Mark(Mark::Comma))?;
+        let (upper, rest) = bound(text, rest)?;
+        let (_, rest) = word(text, rest, TokenKind::Mark(Mark::RightBrace))?;
+        return Ok((repeated(at, unwritten(at, 0), Some(upper)), rest));
+    }
+    let (lower, rest) = bound(text, tokens)?;
+    if !begins(rest, TokenKind::Mark(Mark::Comma)) {
+        let (_, rest) = word(text, rest, TokenKind::Mark(Mark::RightBrace))?;
+        return Ok((repeated(at, lower, Some(lower)), rest));
+    }
+    let (_, rest) = word(text, rest, TokenKind::Mark(Mark::Comma))?;
+    if !begins(rest, TokenKind::Number) {
+        let (_, rest) = word(text, rest, TokenKind::Mark(Mark::RightBrace))?;
+        return Ok((repeated(at, lower, None), rest));
+    }
+    let (upper, rest) = bound(text, rest)?;
+    let (_, rest) = word(text, rest, TokenKind::Mark(Mark::RightBrace))?;
+    Ok((repeated(at, lower, Some(upper)), rest))
+}
+
+/// The quantifier with a `?` behind it.
+fn lazily(greedy: Quantifier) -> Quantifier
+    ensures { result ≡ lazily greedy }
+{
+    Quantifier {
+        reluctant: true,
+        ..greedy
+    }
+}
+
+/// A quantifier, perhaps with `?`, and what follows.
+#[tactic(auto, unfolding(crate::specs::PatternGrammar::quantifier))]
+fn repetition<'a>(text: &str, tokens: &'a [Token]) -> Result<(Quantifier, &'a [Token]), ParseFault>
+    requires stands { All (IsToken text.now) tokens.now }
+    ensures exact { Gives (λ x. (x.0, x.1.now)) result (repetition.read text.now tokens.now) }
+    ensures stands { IfOk result (λ x. All (IsToken text.now) x.1.now) }
+    ensures shorter { IfOk result (λ x. length x.1.now < length tokens.now) }
+{
+    let (greedy, rest) = quantifier(text, tokens)?;
+    if !begins(rest, TokenKind::Mark(Mark::QuestionMark)) {
+        return Ok((greedy, rest));
+    }
+    let (_, rest) = word(text, rest, TokenKind::Mark(Mark::QuestionMark))?;
+    Ok((lazily(greedy), rest))
+}
+
+/// Whether the tokens begin with a primary, and so with a pattern.
+fn begins_pattern(tokens: &[Token]) -> bool
+    ensures { result ≡ starts pattern_kinds tokens.now }
+{
+    begins_name(tokens)
+        || begins(tokens, TokenKind::Mark(Mark::Circumflex))
+        || begins(tokens, TokenKind::Mark(Mark::DollarSign))
+        || begins(tokens, TokenKind::Mark(Mark::LeftParenthesis))
+        || begins(tokens, TokenKind::Keyword(Keyword::Permute))
+        || begins(tokens, TokenKind::Mark(Mark::LeftBraceMinus))
+}
+
+/// A pattern inside a bracket for which there was room, and what follows.
+#[cycle(grammar)]
+#[tactic(auto, using(crate::proofs::Patterns::deeper_is))]
+pub fn inner<'a>(
+    alloc: Global,
+    text: &str,
+    tokens: &'a [Token],
+    room: usize,
+) -> Result<(Pattern, &'a [Token]), ParseFault>
+    requires room { 1 ≤ room }
+    requires stands { All (IsToken text.now) tokens.now }
+    ensures exact { Gives (λ x. (tree_of x.0, x.1.now)) result ((deeper room).read text.now tokens.now) }
+    ensures stands { IfOk result (λ x. All (IsToken text.now) x.1.now) }
+    ensures shorter { IfOk result (λ x. length x.1.now < length tokens.now) }
+{
+    alternatives(alloc, text, tokens, room - 1)
+}
+
+/// Sequences with `|` between them, and what follows.
+#[cycle(grammar)]
+#[tactic(auto, unfolding(crate::specs::PatternGrammar::alternatives))]
+fn alternatives<'a>(
+    alloc: Global,
+    text: &str,
+    tokens: &'a [Token],
+    room: usize,
+) -> Result<(Pattern, &'a [Token]), ParseFault>
+    requires stands { All (IsToken text.now) tokens.now }
+    ensures exact { Gives (λ x. (tree_of x.0, x.1.now)) result
+        ((alternatives room (inside room)).read text.now tokens.now) }
+    ensures stands { IfOk result (λ x. All (IsToken text.now) x.1.now) }
+    ensures shorter { IfOk result (λ x. length x.1.now < length tokens.now) }
+{
+    let (first, mut rest) = sequence(alloc, text, tokens, room)?;
+    if !begins(rest, TokenKind::Mark(Mark::VerticalBar)) {
+        return Ok((first, rest));
+    }
+    let mut parts = Vec::new(alloc);
+    parts.push(first)?;
+    while begins(rest, TokenKind::Mark(Mark::VerticalBar)) {
+        let (_, behind) = word(text, rest, TokenKind::Mark(Mark::VerticalBar))?;
+        let (part, behind) = sequence(alloc, text, behind, room)?;
+        parts.push(part)?;
+        rest = behind;
+    }
+    Ok((alternation(parts), rest))
+}
+
+/// One or more factors, and what follows.
+#[cycle(grammar)]
+#[tactic(auto, unfolding(crate::specs::PatternGrammar::sequence))]
+fn sequence<'a>(
+    alloc: Global,
+    text: &str,
+    tokens: &'a [Token],
+    room: usize,
+) -> Result<(Pattern, &'a [Token]), ParseFault>
+    requires stands { All (IsToken text.now) tokens.now }
+    ensures exact { Gives (λ x. (tree_of x.0, x.1.now)) result
+        ((sequence room (inside room)).read text.now tokens.now) }
+    ensures stands { IfOk result (λ x. All (IsToken text.now) x.1.now) }
+    ensures shorter { IfOk result (λ x. length x.1.now < length tokens.now) }
+{
+    let (first, mut rest) = factor(alloc, text, tokens, room)?;
+    if !begins_pattern(rest) {
+        return Ok((first, rest));
+    }
+    let mut parts = Vec::new(alloc);
+    parts.push(first)?;
+    while begins_pattern(rest) {
+        let (part, behind) = factor(alloc, text, rest, room)?;
+        parts.push(part)?;
+        rest = behind;
+    }
+    Ok((concatenation(parts), rest))
+}
+
+/// A primary, perhaps with a quantifier, and what follows.
+#[cycle(grammar)]
+#[tactic(auto, unfolding(crate::specs::PatternGrammar::factor, crate::specs::PatternGrammar::quantifier))]
+fn factor<'a>(
+    alloc: Global,
+    text: &str,
+    tokens: &'a [Token],
+    room: usize,
+) -> Result<(Pattern, &'a [Token]), ParseFault>
+    requires stands { All (IsToken text.now) tokens.now }
+    ensures exact { Gives (λ x. (tree_of x.0, x.1.now)) result ((factor room (inside room)).read text.now tokens.now) }
+    ensures stands { IfOk result (λ x. All (IsToken text.now) x.1.now) }
+    ensures shorter { IfOk result (λ x. length x.1.now < length tokens.now) }
+{
+    let (body, rest) = primary(alloc, text, tokens, room)?;
+    if !begins_quantifier(rest) {
+        return Ok((body, rest));
+    }
+    let body = Box::new(alloc, body)?;
+    let (quantifier, rest) = repetition(text, rest)?;
+    Ok((quantified(body, quantifier), rest))
+}
+
+/// Whether the tokens begin with a quantifier.
+fn begins_quantifier(tokens: &[Token]) -> bool
+    ensures { result ≡ starts quantifier_kinds tokens.now }
+{
+    begins(tokens, TokenKind::Mark(Mark::Asterisk))
+        || begins(tokens, TokenKind::Mark(Mark::Plus))
+        || begins(tokens, TokenKind::Mark(Mark::QuestionMark))
+        || begins(tokens, TokenKind::Mark(Mark::LeftBrace))
+}
+
+fn quantified(body: Box<Pattern>, quantifier: Quantifier) -> Pattern
+    ensures { tree_of result ≡ Quantified quantifier (tree_of body.value) }
+{
+    Pattern::Quantified { body, quantifier }
+}
+
+/// A variable, an anchor or a bracket, and what follows.
+#[cycle(grammar)]
+#[tactic(auto, unfolding(crate::specs::PatternGrammar::primary, crate::specs::PatternGrammar::group, crate::specs::PatternGrammar::permute, crate::specs::PatternGrammar::exclusion))]
+fn primary<'a>(
+    alloc: Global,
+    text: &str,
+    tokens: &'a [Token],
+    room: usize,
+) -> Result<(Pattern, &'a [Token]), ParseFault>
+    requires stands { All (IsToken text.now) tokens.now }
+    ensures exact { Gives (λ x. (tree_of x.0, x.1.now)) result ((primary room (inside room)).read text.now tokens.now) }
+    ensures stands { IfOk result (λ x. All (IsToken text.now) x.1.now) }
+    ensures shorter { IfOk result (λ x. length x.1.now < length tokens.now) }
+{
+    if begins_name(tokens) {
+        let (name, rest) = name(alloc, text, tokens)?;
+        return Ok((Pattern::Variable(name), rest));
+    }
+    if begins(tokens, TokenKind::Mark(Mark::Circumflex)) {
+        let (_, rest) = word(text, tokens, TokenKind::Mark(Mark::Circumflex))?;
+        return Ok((Pattern::PartitionStart, rest));
+    }
+    if begins(tokens, TokenKind::Mark(Mark::DollarSign)) {
+        let (_, rest) = word(text, tokens, TokenKind::Mark(Mark::DollarSign))?;
+        return Ok((Pattern::PartitionEnd, rest));
+    }
+    if begins(tokens, TokenKind::Mark(Mark::LeftParenthesis)) {
+        return group(alloc, text, tokens, room);
+    }
+    if begins(tokens, TokenKind::Keyword(Keyword::Permute)) {
+        return permute(alloc, text, tokens, room);
+    }
+    exclusion(alloc, text, tokens, room)
+}
+
+/// `(`, perhaps a pattern, `)`, and what follows.
+#[cycle(grammar)]
+#[tactic(auto, unfolding(crate::specs::PatternGrammar::group))]
+fn group<'a>(
+    alloc: Global,
+    text: &str,
+    tokens: &'a [Token],
+    room: usize,
+) -> Result<(Pattern, &'a [Token]), ParseFault>
+    requires stands { All (IsToken text.now) tokens.now }
+    ensures exact { Gives (λ x. (tree_of x.0, x.1.now)) result ((group room (inside room)).read text.now tokens.now) }
+    ensures stands { IfOk result (λ x. All (IsToken text.now) x.1.now) }
+    ensures shorter { IfOk result (λ x. length x.1.now < length tokens.now) }
+{
+    let (_, rest) = opening(text, tokens, TokenKind::Mark(Mark::LeftParenthesis), room)?;
+    if !begins_pattern(rest) {
+        let (_, rest) = word(text, rest, TokenKind::Mark(Mark::RightParenthesis))?;
+        return Ok((Pattern::Empty, rest));
+    }
+    let (form, rest) = inner(alloc, text, rest, room)?;
+    let (_, rest) = word(text, rest, TokenKind::Mark(Mark::RightParenthesis))?;
+    Ok((form, rest))
+}
+
+/// PERMUTE with its parts, and what follows.
+#[cycle(grammar)]
+#[tactic(auto, unfolding(crate::specs::PatternGrammar::permute))]
+fn permute<'a>(
+    alloc: Global,
+    text: &str,
+    tokens: &'a [Token],
+    room: usize,
+) -> Result<(Pattern, &'a [Token]), ParseFault>
+    requires stands { All (IsToken text.now) tokens.now }
+    ensures exact { Gives (λ x. (tree_of x.0, x.1.now)) result ((permute room (inside room)).read text.now tokens.now) }
+    ensures stands { IfOk result (λ x. All (IsToken text.now) x.1.now) }
+    ensures shorter { IfOk result (λ x. length x.1.now < length tokens.now) }
+{
+    let (at, rest) = word(text, tokens, TokenKind::Keyword(Keyword::Permute))?;
+    let (_, rest) = opening(text, rest, TokenKind::Mark(Mark::LeftParenthesis), room)?;
+    let (parts, rest) = patterns(alloc, text, rest, room)?;
+    let (_, rest) = word(text, rest, TokenKind::Mark(Mark::RightParenthesis))?;
+    Ok((permuted(at, parts), rest))
+}
+
+/// Patterns inside a bracket for which there was room, with commas between, and what follows.
+#[cycle(grammar)]
+fn patterns<'a>(
+    alloc: Global,
+    text: &str,
+    tokens: &'a [Token],
+    room: usize,
+) -> Result<(Vec<Pattern>, &'a [Token]), ParseFault>
+    requires room { 1 ≤ room }
+    requires stands { All (IsToken text.now) tokens.now }
+    ensures exact { Gives (λ x. (map tree_of x.0.items, x.1.now)) result
+        ((listed (inside room)).read text.now tokens.now) }
+    ensures stands { IfOk result (λ x. All (IsToken text.now) x.1.now) }
+    ensures shorter { IfOk result (λ x. length x.1.now < length tokens.now) }
+{
+    let (first, mut rest) = inner(alloc, text, tokens, room)?;
+    let mut parts = Vec::new(alloc);
+    parts.push(first)?;
+    while begins(rest, TokenKind::Mark(Mark::Comma)) {
+        let (_, behind) = word(text, rest, TokenKind::Mark(Mark::Comma))?;
+        let (part, behind) = inner(alloc, text, behind, room)?;
+        parts.push(part)?;
+        rest = behind;
+    }
+    Ok((parts, rest))
+}
+
+/// `{-`, a pattern, `-}`, and what follows.
+#[cycle(grammar)]
+#[tactic(auto, unfolding(crate::specs::PatternGrammar::exclusion))]
+fn exclusion<'a>(
+    alloc: Global,
+    text: &str,
+    tokens: &'a [Token],
+    room: usize,
+) -> Result<(Pattern, &'a [Token]), ParseFault>
+    requires stands { All (IsToken text.now) tokens.now }
+    ensures exact { Gives (λ x. (tree_of x.0, x.1.now)) result
+        ((exclusion room (inside room)).read text.now tokens.now) }
+    ensures stands { IfOk result (λ x. All (IsToken text.now) x.1.now) }
+    ensures shorter { IfOk result (λ x. length x.1.now < length tokens.now) }
+{
+    let (at, rest) = opening(text, tokens, TokenKind::Mark(Mark::LeftBraceMinus), room)?;
+    let (body, rest) = inner(alloc, text, rest, room)?;
+    let (_, rest) = word(text, rest, TokenKind::Mark(Mark::RightBraceMinus))?;
+    Ok((excluded(alloc, at, body)?, rest))
+}
+
+fn excluded(alloc: Global, at: usize, body: Pattern) -> Result<Pattern, AllocError>
+    ensures { IfOk result (λ pattern. tree_of pattern ≡ Exclusion at (tree_of body)) }
+{
+    Ok(Pattern::Exclusion {
+        at,
+        body: Box::new(alloc, body)?,
+    })
+}
+
+fn concatenation(parts: Vec<Pattern>) -> Pattern
+    ensures { tree_of result ≡ joined_all Concatenation (map tree_of parts.items) }
+{
+    Pattern::Concatenation(parts)
+}
+
+fn alternation(parts: Vec<Pattern>) -> Pattern
+    ensures { tree_of result ≡ joined_all Alternation (map tree_of parts.items) }
+{
+    Pattern::Alternation(parts)
+}
+
+fn permuted(at: usize, parts: Vec<Pattern>) -> Pattern
+    ensures { tree_of result ≡ Permute at (joined_all Beside (map tree_of parts.items)) }
+{
+    Pattern::Permute { at, parts }
+}

@@ -1,0 +1,4 @@
+pub mod Tree
+pub mod Paths
+pub mod Terms
+pub mod Clauses
