@@ -45,13 +45,25 @@ over_column room w = gives (λ x. (x.0, x.1.1.0)) (word w then opening room open
 abbrev pub aggregated : AggregateFunction → ℕ → Option Scope → Aggregate
 aggregated f at s = record { scope = s; at = at; function = f }
 
--- COUNT "(" counted ")" | (SUM | MIN | MAX) "(" column ")", to which RUNNING or FINAL belongs
+-- COUNT "(" counted ")", to which RUNNING or FINAL belongs
+abbrev pub counting : ℕ → Grammar (Option Scope → Aggregate)
+counting room = gives (λ x. aggregated (function_as.Count x.1.1.0) x.0) (word (key keyword.Count) then opening room open_mark then counted then word close_mark)
+
+-- SUM "(" column ")"
+abbrev pub summing : ℕ → Grammar (Option Scope → Aggregate)
+summing room = gives (λ x. aggregated (function_as.Sum x.1) x.0) (over_column room (key keyword.Sum))
+
+-- MIN "(" column ")"
+abbrev pub least : ℕ → Grammar (Option Scope → Aggregate)
+least room = gives (λ x. aggregated (function_as.Min x.1) x.0) (over_column room (key keyword.Min))
+
+-- MAX "(" column ")"
+abbrev pub greatest : ℕ → Grammar (Option Scope → Aggregate)
+greatest room = gives (λ x. aggregated (function_as.Max x.1) x.0) (over_column room (key keyword.Max))
+
+-- COUNT, SUM, MIN or MAX
 unfoldable pub aggregate : ℕ → Grammar (Option Scope → Aggregate)
-aggregate room =
-    gives (λ x. aggregated (function_as.Count x.1.1.0) x.0) (word (key keyword.Count) then opening room open_mark then counted then word close_mark)
-    or gives (λ x. aggregated (function_as.Sum x.1) x.0) (over_column room (key keyword.Sum))
-    or gives (λ x. aggregated (function_as.Min x.1) x.0) (over_column room (key keyword.Min))
-    or gives (λ x. aggregated (function_as.Max x.1) x.0) (over_column room (key keyword.Max))
+aggregate room = counting room or summing room or least room or greatest room
 
 -- FIRST, LAST or an aggregate, to which RUNNING or FINAL belongs
 unfoldable pub under_scope : ℕ → Grammar (Option Scope → Term)
@@ -67,6 +79,14 @@ scoped room = gives (λ x. x.1 x.0) (optional scope then under_scope room)
 abbrev pub bracketed : ℕ → Grammar Term → Grammar Term
 bracketed room inner = gives (λ x. x.1.0) (opening room open_mark then inner then word close_mark)
 
+-- MATCH_NUMBER "(" ")"
+abbrev pub match_number : ℕ → Grammar Term
+match_number room = gives (λ x. MatchNumber x.0) (word (key keyword.MatchNumber) then opening room open_mark then word close_mark)
+
+-- CLASSIFIER "(" ")"
+abbrev pub classifier : ℕ → Grammar Term
+classifier room = gives (λ x. Classifier x.0) (word (key keyword.Classifier) then opening room open_mark then word close_mark)
+
 -- number | text | "(" expr ")" | column | navigation | aggregate | MATCH_NUMBER "(" ")" | CLASSIFIER "(" ")"
 unfoldable pub value : ℕ → Grammar Term → Grammar Term
 value room inner =
@@ -74,8 +94,8 @@ value room inner =
     or one_of (kind.Text ∷ []) (λ text t. Literal t.start (text_in text t))
     or bracketed room inner
     or gives Navigation (plain room (inside_path room))
-    or gives (λ x. MatchNumber x.0) (word (key keyword.MatchNumber) then opening room open_mark then word close_mark)
-    or gives (λ x. Classifier x.0) (word (key keyword.Classifier) then opening room open_mark then word close_mark)
+    or match_number room
+    or classifier room
     or scoped room
 
 abbrev pub is_some : {A : Type 0} → Option A → Bool

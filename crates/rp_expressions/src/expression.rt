@@ -7,7 +7,7 @@ ghost use Rattle.rp_grammar.specs.Reading.{Gives, starts};
 ghost use Rattle.rp_grammar.specs.Grammar.{gives, many, one_of};
 ghost use Rattle.rp_grammar.specs.Names.{text_in};
 ghost use Rattle.rp_tree.specs.Terms.{IsNull, Negative, Not, Literal, Number, Operate, from_left, from_right, operand_of, term_of};
-ghost use Rattle.rp_expressions.specs.ExprGrammar.{addend, aggregate, aggregated, bracketed, comparison, comparison_kinds, conjunct, conjunction, counted, deeper_expr, disjunct, expr, factor, inside_expr, negation, nullness, operation, over_column, predicate, product, scoped, sign, sign_kinds, signed, sum, value};
+ghost use Rattle.rp_expressions.specs.ExprGrammar.{addend, aggregate, aggregated, bracketed, classifier, comparison, comparison_kinds, conjunct, conjunction, counted, counting, deeper_expr, disjunct, expr, factor, greatest, inside_expr, least, match_number, negation, nullness, operation, over_column, predicate, product, scoped, sign, sign_kinds, signed, sum, summing, value};
 
 use crate::navigation::{begins_plain, column, edge, plain, scope};
 use rp_grammar::{ParseFault, begins, name, opening, place, text_at, word};
@@ -130,8 +130,86 @@ fn under(scope: Option<Scope>, at: usize, function: AggregateFunction) -> Aggreg
     }
 }
 
+/// COUNT under this scope, and what follows.
+fn counting<'a>(
+    alloc: Global,
+    text: &str,
+    tokens: &'a [Token],
+    room: usize,
+    scope: Option<Scope>,
+) -> Result<(Aggregate, &'a [Token]), ParseFault>
+    requires stands { All (IsToken text.now) tokens.now }
+    ensures exact { Gives (λ x. (x.0, x.1.now)) result
+        ((gives (λ f. f scope) (counting room)).read text.now tokens.now) }
+    ensures stands { IfOk result (λ x. All (IsToken text.now) x.1.now) }
+    ensures shorter { IfOk result (λ x. length x.1.now < length tokens.now) }
+{
+    let (at, rest) = word(text, tokens, TokenKind::Keyword(Keyword::Count))?;
+    let (_, rest) = opening(text, rest, TokenKind::Mark(Mark::LeftParenthesis), room)?;
+    let (argument, rest) = counted(alloc, text, rest)?;
+    let (_, rest) = word(text, rest, TokenKind::Mark(Mark::RightParenthesis))?;
+    Ok((under(scope, at, AggregateFunction::Count(argument)), rest))
+}
+
+/// SUM under this scope, and what follows.
+fn summing<'a>(
+    alloc: Global,
+    text: &str,
+    tokens: &'a [Token],
+    room: usize,
+    scope: Option<Scope>,
+) -> Result<(Aggregate, &'a [Token]), ParseFault>
+    requires stands { All (IsToken text.now) tokens.now }
+    ensures exact { Gives (λ x. (x.0, x.1.now)) result
+        ((gives (λ f. f scope) (summing room)).read text.now tokens.now) }
+    ensures stands { IfOk result (λ x. All (IsToken text.now) x.1.now) }
+    ensures shorter { IfOk result (λ x. length x.1.now < length tokens.now) }
+{
+    let kind = TokenKind::Keyword(Keyword::Sum);
+    let (at, column, rest) = over_column(alloc, text, tokens, room, kind)?;
+    Ok((under(scope, at, AggregateFunction::Sum(column)), rest))
+}
+
+/// MIN under this scope, and what follows.
+fn least<'a>(
+    alloc: Global,
+    text: &str,
+    tokens: &'a [Token],
+    room: usize,
+    scope: Option<Scope>,
+) -> Result<(Aggregate, &'a [Token]), ParseFault>
+    requires stands { All (IsToken text.now) tokens.now }
+    ensures exact { Gives (λ x. (x.0, x.1.now)) result
+        ((gives (λ f. f scope) (least room)).read text.now tokens.now) }
+    ensures stands { IfOk result (λ x. All (IsToken text.now) x.1.now) }
+    ensures shorter { IfOk result (λ x. length x.1.now < length tokens.now) }
+{
+    let kind = TokenKind::Keyword(Keyword::Min);
+    let (at, column, rest) = over_column(alloc, text, tokens, room, kind)?;
+    Ok((under(scope, at, AggregateFunction::Min(column)), rest))
+}
+
+/// MAX under this scope, and what follows.
+fn greatest<'a>(
+    alloc: Global,
+    text: &str,
+    tokens: &'a [Token],
+    room: usize,
+    scope: Option<Scope>,
+) -> Result<(Aggregate, &'a [Token]), ParseFault>
+    requires stands { All (IsToken text.now) tokens.now }
+    ensures exact { Gives (λ x. (x.0, x.1.now)) result
+        ((gives (λ f. f scope) (greatest room)).read text.now tokens.now) }
+    ensures stands { IfOk result (λ x. All (IsToken text.now) x.1.now) }
+    ensures shorter { IfOk result (λ x. length x.1.now < length tokens.now) }
+{
+    let kind = TokenKind::Keyword(Keyword::Max);
+    let (at, column, rest) = over_column(alloc, text, tokens, room, kind)?;
+    Ok((under(scope, at, AggregateFunction::Max(column)), rest))
+}
+
 /// An aggregate under this scope, and what follows.
-#[tactic(auto, unfolding(crate::specs::ExprGrammar::aggregate))]
+#[tactic(auto, unfolding(crate::specs::ExprGrammar::aggregate, crate::specs::ExprGrammar::counted))]
 fn aggregate<'a>(
     alloc: Global,
     text: &str,
@@ -146,29 +224,15 @@ fn aggregate<'a>(
     ensures shorter { IfOk result (λ x. length x.1.now < length tokens.now) }
 {
     if begins(tokens, TokenKind::Keyword(Keyword::Count)) {
-        let (at, rest) = word(text, tokens, TokenKind::Keyword(Keyword::Count))?;
-        let (_, rest) = opening(text, rest, TokenKind::Mark(Mark::LeftParenthesis), room)?;
-        let (argument, rest) = counted(alloc, text, rest)?;
-        let (_, rest) = word(text, rest, TokenKind::Mark(Mark::RightParenthesis))?;
-        let function = AggregateFunction::Count(argument);
-        return Ok((under(scope, at, function), rest));
+        return counting(alloc, text, tokens, room, scope);
     }
-    let sum = TokenKind::Keyword(Keyword::Sum);
-    if begins(tokens, sum) {
-        let (at, column, rest) = over_column(alloc, text, tokens, room, sum)?;
-        let function = AggregateFunction::Sum(column);
-        return Ok((under(scope, at, function), rest));
+    if begins(tokens, TokenKind::Keyword(Keyword::Sum)) {
+        return summing(alloc, text, tokens, room, scope);
     }
-    let min = TokenKind::Keyword(Keyword::Min);
-    if begins(tokens, min) {
-        let (at, column, rest) = over_column(alloc, text, tokens, room, min)?;
-        let function = AggregateFunction::Min(column);
-        return Ok((under(scope, at, function), rest));
+    if begins(tokens, TokenKind::Keyword(Keyword::Min)) {
+        return least(alloc, text, tokens, room, scope);
     }
-    let max = TokenKind::Keyword(Keyword::Max);
-    let (at, column, rest) = over_column(alloc, text, tokens, room, max)?;
-    let function = AggregateFunction::Max(column);
-    Ok((under(scope, at, function), rest))
+    greatest(alloc, text, tokens, room, scope)
 }
 
 /// A navigation or an aggregate that may have a scope, and what follows.
@@ -291,6 +355,40 @@ fn begins_sign(tokens: &[Token]) -> bool
     ensures { result ≡ starts sign_kinds tokens.now }
 {
     begins(tokens, TokenKind::Mark(Mark::Plus)) || begins(tokens, TokenKind::Mark(Mark::Minus))
+}
+
+/// `MATCH_NUMBER ( )`, and what follows.
+fn match_number<'a>(
+    text: &str,
+    tokens: &'a [Token],
+    room: usize,
+) -> Result<(Expr, &'a [Token]), ParseFault>
+    requires stands { All (IsToken text.now) tokens.now }
+    ensures exact { Gives (λ x. (term_of x.0, x.1.now)) result ((match_number room).read text.now tokens.now) }
+    ensures stands { IfOk result (λ x. All (IsToken text.now) x.1.now) }
+    ensures shorter { IfOk result (λ x. length x.1.now < length tokens.now) }
+{
+    let (at, rest) = word(text, tokens, TokenKind::Keyword(Keyword::MatchNumber))?;
+    let (_, rest) = opening(text, rest, TokenKind::Mark(Mark::LeftParenthesis), room)?;
+    let (_, rest) = word(text, rest, TokenKind::Mark(Mark::RightParenthesis))?;
+    Ok((Expr::MatchNumber(at), rest))
+}
+
+/// `CLASSIFIER ( )`, and what follows.
+fn classifier<'a>(
+    text: &str,
+    tokens: &'a [Token],
+    room: usize,
+) -> Result<(Expr, &'a [Token]), ParseFault>
+    requires stands { All (IsToken text.now) tokens.now }
+    ensures exact { Gives (λ x. (term_of x.0, x.1.now)) result ((classifier room).read text.now tokens.now) }
+    ensures stands { IfOk result (λ x. All (IsToken text.now) x.1.now) }
+    ensures shorter { IfOk result (λ x. length x.1.now < length tokens.now) }
+{
+    let (at, rest) = word(text, tokens, TokenKind::Keyword(Keyword::Classifier))?;
+    let (_, rest) = opening(text, rest, TokenKind::Mark(Mark::LeftParenthesis), room)?;
+    let (_, rest) = word(text, rest, TokenKind::Mark(Mark::RightParenthesis))?;
+    Ok((Expr::Classifier(at), rest))
 }
 
 /// Conjunctions with OR between them, and what follows.
@@ -677,16 +775,10 @@ fn value<'a>(
         return Ok((Expr::Navigation(path), rest));
     }
     if begins(tokens, TokenKind::Keyword(Keyword::MatchNumber)) {
-        let (at, rest) = word(text, tokens, TokenKind::Keyword(Keyword::MatchNumber))?;
-        let (_, rest) = opening(text, rest, TokenKind::Mark(Mark::LeftParenthesis), room)?;
-        let (_, rest) = word(text, rest, TokenKind::Mark(Mark::RightParenthesis))?;
-        return Ok((Expr::MatchNumber(at), rest));
+        return match_number(text, tokens, room);
     }
     if begins(tokens, TokenKind::Keyword(Keyword::Classifier)) {
-        let (at, rest) = word(text, tokens, TokenKind::Keyword(Keyword::Classifier))?;
-        let (_, rest) = opening(text, rest, TokenKind::Mark(Mark::LeftParenthesis), room)?;
-        let (_, rest) = word(text, rest, TokenKind::Mark(Mark::RightParenthesis))?;
-        return Ok((Expr::Classifier(at), rest));
+        return classifier(text, tokens, room);
     }
     scoped(alloc, text, tokens, room)
 }

@@ -28,11 +28,21 @@ abbrev pub from_lower : Bound → Option (ℕ × Option Bound) → ℕ → Quant
 from_lower lower None at = repeated at lower (Some lower)
 from_lower lower (Some (comma, upper)) at = repeated at lower upper
 
+-- ["," [number]]
+abbrev pub above : Grammar (Option (ℕ × Option Bound))
+above = optional (word (kind.Mark mark.Comma) then optional bound)
+
+-- number above "}"
+abbrev pub from_bound : Grammar (ℕ → Quantifier)
+from_bound = gives (λ x. from_lower x.0 x.1.0) (bound then above then word (kind.Mark mark.RightBrace))
+
+-- "," number "}"
+abbrev pub upper_alone : Grammar (ℕ → Quantifier)
+upper_alone = gives (λ x at. repeated at (unwritten at 0) (Some x.1.0)) (word (kind.Mark mark.Comma) then bound then word (kind.Mark mark.RightBrace))
+
 -- number "}" | number "," "}" | number "," number "}" | "," number "}"
 unfoldable pub bounds : Grammar (ℕ → Quantifier)
-bounds =
-    gives (λ x. from_lower x.0 x.1.0) (bound then optional (word (kind.Mark mark.Comma) then optional bound) then word (kind.Mark mark.RightBrace))
-    or gives (λ x at. repeated at (unwritten at 0) (Some x.1.0)) (word (kind.Mark mark.Comma) then bound then word (kind.Mark mark.RightBrace))
+bounds = from_bound or upper_alone
 
 -- "*" | "+" | "?" | "{" bounds
 unfoldable pub quantifier : Grammar Quantifier

@@ -5,7 +5,7 @@ ghost use Rattle.rp_lexer.specs.Lexes.{IsToken};
 ghost use Rattle.rp_grammar.specs.Reading.{Gives, starts};
 ghost use Rattle.rp_tree.specs.Tree.{tree_of, joined_all, Concatenation, Alternation, Permute, Beside, Quantified, Exclusion};
 ghost use Rattle.rp_grammar.specs.Grammar.{gives, listed};
-ghost use Rattle.rp_patterns.specs.PatternGrammar.{bound, bounds, lazily, quantifier, repeated, repetition, unwritten, group, permute, exclusion, primary, factor, sequence, alternatives, inside, deeper, pattern_kinds, quantifier_kinds};
+ghost use Rattle.rp_patterns.specs.PatternGrammar.{above, bound, bounds, from_bound, from_lower, upper_alone, lazily, quantifier, repeated, repetition, unwritten, group, permute, exclusion, primary, factor, sequence, alternatives, inside, deeper, pattern_kinds, quantifier_kinds};
 
 use rp_grammar::{ParseFault, begins, begins_name, name, opening, place, word};
 use rp_lexer::{Keyword, Mark, Token, TokenKind, number_of};
@@ -75,6 +75,72 @@ fn repeated(at: usize, lower: Bound, upper: Option<Bound>) -> Quantifier
     }
 }
 
+/// A comma, perhaps with a bound behind it, or nothing, and what follows.
+#[tactic(auto, unfolding(crate::specs::PatternGrammar::bound))]
+fn above<'a>(
+    text: &str,
+    tokens: &'a [Token],
+) -> Result<(Option<(usize, Option<Bound>)>, &'a [Token]), ParseFault>
+    requires stands { All (IsToken text.now) tokens.now }
+    ensures exact { Gives (λ x. (x.0, x.1.now)) result (above.read text.now tokens.now) }
+    ensures stands { IfOk result (λ x. All (IsToken text.now) x.1.now) }
+    ensures no_longer { IfOk result (λ x. length x.1.now ≤ length tokens.now) }
+{
+    if !begins(tokens, TokenKind::Mark(Mark::Comma)) {
+        return Ok((None, tokens));
+    }
+    let (comma, rest) = word(text, tokens, TokenKind::Mark(Mark::Comma))?;
+    if !begins(rest, TokenKind::Number) {
+        return Ok((Some((comma, None)), rest));
+    }
+    let (upper, rest) = bound(text, rest)?;
+    Ok((Some((comma, Some(upper))), rest))
+}
+
+/// The quantifier at the offset from a lower bound, and what stands between it and the `}`.
+fn from_lower(at: usize, lower: Bound, above: Option<(usize, Option<Bound>)>) -> Quantifier
+    ensures { result ≡ from_lower lower above at }
+{
+    match above {
+        None => repeated(at, lower, Some(lower)),
+        Some((_comma, upper)) => repeated(at, lower, upper),
+    }
+}
+
+/// A lower bound, perhaps an upper one, `}`, and what follows it.
+fn from_bound<'a>(
+    text: &str,
+    tokens: &'a [Token],
+    at: usize,
+) -> Result<(Quantifier, &'a [Token]), ParseFault>
+    requires stands { All (IsToken text.now) tokens.now }
+    ensures exact { Gives (λ x. (x.0, x.1.now)) result ((gives (λ f. f at) from_bound).read text.now tokens.now) }
+    ensures stands { IfOk result (λ x. All (IsToken text.now) x.1.now) }
+    ensures shorter { IfOk result (λ x. length x.1.now < length tokens.now) }
+{
+    let (lower, rest) = bound(text, tokens)?;
+    let (above, rest) = above(text, rest)?;
+    let (_, rest) = word(text, rest, TokenKind::Mark(Mark::RightBrace))?;
+    Ok((from_lower(at, lower, above), rest))
+}
+
+/// An upper bound behind a comma, `}`, and what follows it.
+fn upper_alone<'a>(
+    text: &str,
+    tokens: &'a [Token],
+    at: usize,
+) -> Result<(Quantifier, &'a [Token]), ParseFault>
+    requires stands { All (IsToken text.now) tokens.now }
+    ensures exact { Gives (λ x. (x.0, x.1.now)) result ((gives (λ f. f at) upper_alone).read text.now tokens.now) }
+    ensures stands { IfOk result (λ x. All (IsToken text.now) x.1.now) }
+    ensures shorter { IfOk result (λ x. length x.1.now < length tokens.now) }
+{
+    let (_, rest) = word(text, tokens, TokenKind::Mark(Mark::Comma))?;
+    let (upper, rest) = bound(text, rest)?;
+    let (_, rest) = word(text, rest, TokenKind::Mark(Mark::RightBrace))?;
+    Ok((repeated(at, unwritten(at, 0), Some(upper)), rest))
+}
+
 /// The bounds of a quantifier whose `{` stands at the offset, its `}`, and what follows it.
 #[tactic(auto, unfolding(crate::specs::PatternGrammar::bounds, crate::specs::PatternGrammar::bound))]
 fn bounds<'a>(
@@ -87,25 +153,10 @@ fn bounds<'a>(
     ensures stands { IfOk result (λ x. All (IsToken text.now) x.1.now) }
     ensures shorter { IfOk result (λ x. length x.1.now < length tokens.now) }
 {
-    if !begins(tokens, TokenKind::Number) {
-        let (_, rest) = word(text, tokens, TokenKind::Mark(Mark::Comma))?;
-        let (upper, rest) = bound(text, rest)?;
-        let (_, rest) = word(text, rest, TokenKind::Mark(Mark::RightBrace))?;
-        return Ok((repeated(at, unwritten(at, 0), Some(upper)), rest));
+    if begins(tokens, TokenKind::Number) {
+        return from_bound(text, tokens, at);
     }
-    let (lower, rest) = bound(text, tokens)?;
-    if !begins(rest, TokenKind::Mark(Mark::Comma)) {
-        let (_, rest) = word(text, rest, TokenKind::Mark(Mark::RightBrace))?;
-        return Ok((repeated(at, lower, Some(lower)), rest));
-    }
-    let (_, rest) = word(text, rest, TokenKind::Mark(Mark::Comma))?;
-    if !begins(rest, TokenKind::Number) {
-        let (_, rest) = word(text, rest, TokenKind::Mark(Mark::RightBrace))?;
-        return Ok((repeated(at, lower, None), rest));
-    }
-    let (upper, rest) = bound(text, rest)?;
-    let (_, rest) = word(text, rest, TokenKind::Mark(Mark::RightBrace))?;
-    Ok((repeated(at, lower, Some(upper)), rest))
+    upper_alone(text, tokens, at)
 }
 
 /// The quantifier with a `?` behind it.
