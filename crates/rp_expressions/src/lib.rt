@@ -2,6 +2,7 @@
 //! first fault. Its rules are `specs/ExprGrammar` and `NavigationGrammar`, a rule a line.
 #![tactic(auto)]
 
+mod aggregates;
 mod expression;
 mod navigation;
 
