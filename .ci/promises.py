@@ -9,7 +9,7 @@ import re
 # The clauses that carry each promise: a file, a function or an `impl` in it, and which of its clauses.
 TEXTS = [
     ("rp_syntax/src/table.rt", "fn read_table", ["table"]),
-    ("rp_check/src/compiling.rt", "fn compile", ["query"]),
+    ("rp_compile/src/compiling.rt", "fn compile", ["query"]),
 ]
 NODE = [
     *TEXTS,

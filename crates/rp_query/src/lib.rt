@@ -1,6 +1,6 @@
 //! Queries: what a matcher is given of a clause, its names resolved, and the items of which an answer is made.
 //!
-//! A [`Query`] stands between the crates that read clauses and those that match rows: `compile` of the crate rp_check
+//! A [`Query`] stands between the crates that read clauses and those that match rows: `compile` of rp_compile
 //! makes it of a clause's text, and the matcher asks it for its pattern, its table, its columns and its [`Plan`].
 //! Pattern variables are numbered from 0 by first appearance, columns of the table from 1.
 //!

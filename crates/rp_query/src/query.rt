@@ -158,7 +158,7 @@ impl Query {
 
     /// The query of this data. The error says that no memory was left.
     ///
-    /// It asks that the data is sound, so that nobody above looks again: `specs/Sound`. `compile` of rp_check makes
+    /// It asks that the data is sound, so that nobody above looks again: `specs/Sound`. `compile` of rp_compile makes
     /// such data of a text; data that is put together by hand must be proved to be so.
     pub fn new(alloc: Global, parts: QueryData) -> Result<Query, AllocError>
         requires { IsSound parts }
