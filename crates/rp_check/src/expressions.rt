@@ -1,16 +1,15 @@
 //! The expressions of MEASURES and DEFINE, and the skip's variable.
 
-ghost use Rattle.std.specs.Prelude.{◌≡◌, ◌++◌, map, IfOk};
+ghost use Rattle.std.specs.Prelude.{◌≡◌, map, IfOk};
 ghost use Rattle.rp_tree.specs.Terms.{term_of};
 ghost use Rattle.rp_tree.specs.Clauses.{measure_tree, definition_tree};
-ghost use Rattle.rp_query.specs.Formulas.{plain_total, value_formula, condition_formula};
+ghost use Rattle.rp_query.specs.Formulas.{value_formula, condition_formula};
 ghost use Rattle.rp_check.specs.Context.{context_of};
 ghost use Rattle.rp_check.specs.ClauseFaults.{each, value_faults, condition_faults, measure_faults, definition_faults, skip_faults};
-ghost use Rattle.rp_check.specs.Queries.{IsResolved, AreResolved, terms_of_measures, terms_of_definitions, rule_meant};
+ghost use Rattle.rp_check.specs.Queries.{AreFound, AreMeasured, IsFound, IsMeasured, terms_of_definitions, rule_meant};
 ghost use Rattle.rp_query.specs.SkipRules.{rule_of};
 ghost use Rattle.rp_check.specs.Checked.{FirstFaultOr, sort_known};
-ghost use Rattle.rp_check.specs.Output.{value_kind, measure_columns};
-ghost use Rattle.rp_check.specs.Sorts.{sort_of};
+ghost use Rattle.rp_check.specs.Output.{value_kind};
 ghost use Rattle.rp_query.specs.declared.query.Source.TheVariants as source;
 
 use crate::expr::resolve;
@@ -51,9 +50,8 @@ fn measured(
     expr: &Written,
 ) -> Result<TypedExpr, CheckFault>
     ensures { FirstFaultOr (value_faults (context_of names.now) (term_of expr.now) at)
-        (λ e. IsResolved (context_of names.now) (map plain_total totals.old.items) (term_of expr.now)
-        (value_formula e.expr) (map plain_total totals.new.items)
-        × (e.kind ≡ value_kind (sort_of (context_of names.now) (term_of expr.now)))) result }
+        (λ e. IsMeasured (context_of names.now) totals.old.items totals.new.items (term_of expr.now)
+        (value_formula e.expr) e.kind) result }
 {
     let found = resolve(alloc, names, totals, expr)?;
     let kind = kind_in(&found);
@@ -75,8 +73,8 @@ fn defined(
     expr: &Written,
 ) -> Result<Condition, CheckFault>
     ensures { FirstFaultOr (condition_faults (context_of names.now) (term_of expr.now) at)
-        (λ c. IsResolved (context_of names.now) (map plain_total totals.old.items) (term_of expr.now)
-        (condition_formula c) (map plain_total totals.new.items)) result }
+        (λ c. IsFound (context_of names.now) totals.old.items totals.new.items (term_of expr.now)
+        (condition_formula c)) result }
 {
     let found = resolve(alloc, names, totals, expr)?;
     match condition(found) {
@@ -94,11 +92,8 @@ pub(crate) fn measures(
     written: &[Measure],
 ) -> Result<Vec<Expr>, CheckFault>
     ensures { FirstFaultOr (each (measure_faults (context_of names.now)) (map measure_tree written.now))
-        (λ es. AreResolved (context_of names.now) (map plain_total totals.old.items)
-        (terms_of_measures (map measure_tree written.now)) (map value_formula es.items)
-        (map plain_total totals.new.items)
-        × (shown.new.items
-        ≡ shown.old.items ++ measure_columns (context_of names.now) 0 (map measure_tree written.now))) result }
+        (λ es. AreMeasured (context_of names.now) totals.old.items totals.new.items (map measure_tree written.now)
+        (map value_formula es.items) shown.old.items shown.new.items) result }
 {
     let mut exprs = Vec::new(alloc);
     for i in 0..written.len() {
@@ -128,9 +123,8 @@ pub(crate) fn conditions(
     written: &[Definition],
 ) -> Result<Vec<Condition>, CheckFault>
     ensures { FirstFaultOr (each (definition_faults (context_of names.now)) (map definition_tree written.now))
-        (λ cs. AreResolved (context_of names.now) (map plain_total totals.old.items)
-        (terms_of_definitions (map definition_tree written.now)) (map condition_formula cs.items)
-        (map plain_total totals.new.items)) result }
+        (λ cs. AreFound (context_of names.now) totals.old.items totals.new.items
+        (terms_of_definitions (map definition_tree written.now)) (map condition_formula cs.items)) result }
 {
     let mut conditions = Vec::new(alloc);
     for i in 0..written.len() {
