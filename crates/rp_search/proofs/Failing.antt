@@ -9,7 +9,7 @@ use Rattle.rp_words.specs.declared.word.Seen.TheVariants.{True, NotTrue, Open as
 use Rattle.rp_words.specs.Mapping.{Mapping, Full, labels_of, preceded}
 use Rattle.rp_search.specs.Found.{Test, first_not_true, tested}
 use Rattle.rp_search.specs.SeenStays.{SeenStays}
-use Rattle.rp_search.specs.Asked.{Asked, AskedExtend, rows_from}
+use Rattle.rp_search.specs.Asked.{Asked, AskedExtend, StayFromEach, rows_from}
 use Rattle.rp_search.specs.Refused.{IsRefusedWithin}
 use Rattle.rp_search.specs.Lasting.{Says, RefusalLasts, IsDecided, AreDecided, OpensAlike, LastsUntil, Fails, AreDead, WordsOver, FailsUpTo, IsMarked, IsPassed}
 use Rattle.rp_search.proofs.Tested.{All-mapped, labels_of-preceded}
@@ -120,11 +120,11 @@ refused_stays True y s e = cc
 refused_stays NotTrue y s e = s
 refused_stays OpenTest y s e = cc
 
-module _ (Meant : ℕ → ℕ → End → Mapping → Type 0) (old new : Asked) (from until : ℕ) (x : AskedExtend from old new) where
+module _ (Meant : ℕ → ℕ → End → Mapping → Type 0) (old new : Asked) (from until : ℕ) (stay : StayFromEach from old new) where
   still : (Such : Seen → Type 0) (row : ℕ) (label : Label) → row ≤ old.known → ((a b : Seen) → SeenStays a b → Such a → Such b) → Says Meant old Such from until row label → Says Meant new Such from until row label
   still Such row label known keeps s start n e w before after le lt at meant is =
       keeps (old.outcome start (before ++ label ∷ [])) (new.outcome start (before ++ label ∷ []))
-      (x.stay start le (before ++ label ∷ []) (omega (arith, known, at, length-append before (label ∷ []))))
+      (stay start le (before ++ label ∷ []) (omega (arith, known, at, length-append before (label ∷ []))))
       (s start n e w before after le lt at meant is)
 
   still_decided : (row : ℕ) (ls : List Label) → row + length ls ≤ suc old.known → AreDecided Meant old from until row ls → AreDecided Meant new from until row ls
@@ -133,16 +133,16 @@ module _ (Meant : ℕ → ℕ → End → Mapping → Type 0) (old new : Asked) 
       (still (λ seen. seen ≢ OpenTest) row l (omega (arith, known)) decided_stays d.0, still_decided (suc row) ls (omega (arith, known)) d.1)
 
 -- What fails, fails whatever comes later.
-pub fails_still : (Meant : ℕ → ℕ → End → Mapping → Type 0) (old new : Asked) (from until row : ℕ) (w : Mapping) → AskedExtend from old new → Fails Meant old from until row w → Fails Meant new from until row w
-fails_still Meant old new from until row w x f =
+pub fails_still : (Meant : ℕ → ℕ → End → Mapping → Type 0) (old new : Asked) (from until row : ℕ) (w : Mapping) → AskedExtend from old new → StayFromEach from old new → Fails Meant old from until row w → Fails Meant new from until row w
+fails_still Meant old new from until row w x stay f =
     record {
       front = f.front;
       label = f.label;
       rest = f.rest;
       is = f.is;
       known = omega (arith, f.known, x.later.0);
-      refused = still Meant old new from until x (λ seen. seen ≡ NotTrue) (row + length f.front) f.label f.known refused_stays f.refused;
-      decided = still_decided Meant old new from until x row f.front (omega (arith, f.known)) f.decided;
+      refused = still Meant old new from until stay (λ seen. seen ≡ NotTrue) (row + length f.front) f.label f.known refused_stays f.refused;
+      decided = still_decided Meant old new from until stay row f.front (omega (arith, f.known)) f.decided;
     }
 
 -- ---- what was passed over
@@ -308,9 +308,9 @@ passed_less Meant asked start until until' w le p =
     record { before = p.before; rest = p.rest; is = p.is; admitted = p.admitted; fails = fails_less Meant asked start start until until' (start + length p.before) p.rest (omega arith) le p.fails }
 
 -- what is dead stays so over whatever comes later
-pub dead_stay : (Meant : ℕ → ℕ → End → Mapping → Type 0) (ws : WordsOver) (old new : Asked) (from until row : ℕ) → AskedExtend from old new → AreDead Meant ws old from until row → AreDead Meant ws new from until row
-dead_stay Meant ws old new from until row x d n e h =
-    All-mapped (Fails Meant old from until row) (Fails Meant new from until row) (λ w f. fails_still Meant old new from until row w x f) (ws n e)
+pub dead_stay : (Meant : ℕ → ℕ → End → Mapping → Type 0) (ws : WordsOver) (old new : Asked) (from until row : ℕ) → AskedExtend from old new → StayFromEach from old new → AreDead Meant ws old from until row → AreDead Meant ws new from until row
+dead_stay Meant ws old new from until row x stay d n e h =
+    All-mapped (Fails Meant old from until row) (Fails Meant new from until row) (λ w f. fails_still Meant old new from until row w x stay f) (ws n e)
     (d n e (later_still old.known new.known n old.end new.end e x.later h))
 
 pub dead_less : (Meant : ℕ → ℕ → End → Mapping → Type 0) (ws : WordsOver) (asked : Asked) (from from' until row : ℕ) → from ≤ from' → AreDead Meant ws asked from until row → AreDead Meant ws asked from' until row
@@ -318,10 +318,10 @@ dead_less Meant ws asked from from' until row le d n e h =
     All-mapped (Fails Meant asked from until row) (Fails Meant asked from' until row) (λ w f. fails_less Meant asked from from' until until row w le (omega arith) f) (ws n e) (d n e h)
 
 -- a mark stays over whatever comes later
-pub marks_stay_later : (Meant : ℕ → ℕ → End → Mapping → Type 0) (ws over : WordsOver) (old new : Asked) (start until : ℕ) (before : List Label) → AskedExtend start old new → IsMarked Meant ws over old start until before → IsMarked Meant ws over new start until before
-marks_stay_later Meant ws over old new start until before x m =
+pub marks_stay_later : (Meant : ℕ → ℕ → End → Mapping → Type 0) (ws over : WordsOver) (old new : Asked) (start until : ℕ) (before : List Label) → AskedExtend start old new → StayFromEach start old new → IsMarked Meant ws over old start until before → IsMarked Meant ws over new start until before
+marks_stay_later Meant ws over old new start until before x stay m =
     record {
-      admitted = true_later old.known new.known old.end new.end (old.outcome start) (new.outcome start) x.later before (rows_from start old.known) (x.stay start (omega arith)) m.known m.admitted;
+      admitted = true_later old.known new.known old.end new.end (old.outcome start) (new.outcome start) x.later before (rows_from start old.known) x.stay m.known m.admitted;
       known = omega (arith, m.known, x.later.0);
       from_one = m.from_one;
       words = λ n e h.
@@ -331,7 +331,7 @@ marks_stay_later Meant ws over old new start until before x m =
             rest = u.rest;
             is = u.is;
             over_is = u.over_is;
-            fail = All-mapped (Fails Meant old start until (start + length before)) (Fails Meant new start until (start + length before)) (λ w f. fails_still Meant old new start until (start + length before) w x f) u.front u.fail;
+            fail = All-mapped (Fails Meant old start until (start + length before)) (Fails Meant new start until (start + length before)) (λ w f. fails_still Meant old new start until (start + length before) w x stay f) u.front u.fail;
           };
     }
 

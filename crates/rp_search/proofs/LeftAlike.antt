@@ -41,4 +41,4 @@ left_alike s old new on back short =
     let still : length labels ≤ rows_from (start_of s.choices) new.known = omega (arith, short, known) in
     same_left s.outlook s.choices old.known new.known old.end new.end (old.outcome (start_of s.choices)) (new.outcome (start_of s.choices)) known
     (same_end old.end new.end (λ h. (on.later.1 h).1) (λ h. (back.later.1 h).1))
-    (same_seen (old.outcome (start_of s.choices) labels) (new.outcome (start_of s.choices) labels) (on.stay (start_of s.choices) (omega arith) labels short) (back.stay (start_of s.choices) (omega arith) labels still))
+    (same_seen (old.outcome (start_of s.choices) labels) (new.outcome (start_of s.choices) labels) (on.stay labels short) (back.stay labels still))

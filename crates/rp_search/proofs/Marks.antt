@@ -1,7 +1,7 @@
 -- What a turn does to what is remembered: each mark stays below the choices that it stood under, and what has failed stays so.
 use Rattle.std.specs.List.{AllByRecursion}
-use Rattle.std.proofs.Common.{map, ◌≡◌, ℕ, suc, ◌+◌, ◌<◌, ◌≤◌, List, [], ◌∷◌, ◌++◌, length, take, Option, Some, None, ◌⊎◌, inl, inr, refl, sym, ap, ◌∙◌, subst, arith, append_assoc, min}
-use Rattle.std.specs.Prelude.{IfSome, OnErr, OnOk, Result}
+use Rattle.std.proofs.Common.{map, ◌≡◌, ℕ, zero, suc, ◌+◌, ◌<◌, ◌≤◌, List, [], ◌∷◌, ◌++◌, length, take, Option, Some, None, ◌⊎◌, inl, inr, refl, sym, ap, ◌∙◌, subst, arith, append_assoc, min}
+use Rattle.std.specs.Prelude.{IfSome, IsSome, OnSome, OnErr, OnOk, Result}
 use Rattle.std.proofs.Common.{Ok, Err}
 use Rattle.std.proofs.lemmas.List.{length-take}
 use Rattle.std.proofs.Common.{length-append}
@@ -20,7 +20,7 @@ use Rattle.rp_search.specs.declared.memo.Memo.{Memo}
 use Rattle.rp_search.specs.declared.search.Search.{Search}
 use Rattle.rp_search.specs.declared.table.Table.{Table}
 use Rattle.rp_search.specs.Found.{tested}
-use Rattle.rp_search.specs.Asked.{Asked, AskedExtend, rows_from}
+use Rattle.rp_search.specs.Asked.{Asked, AskedExtend, StayFromEach, rows_from}
 use Rattle.rp_search.specs.Locality.{IsAmong}
 use Rattle.rp_search.specs.Refused.{IsRefusedWithin}
 use Rattle.rp_pattern.specs.declared.outlook.Outlook.{Outlook}
@@ -30,7 +30,7 @@ use Rattle.rp_search.specs.Search.{IsSearchFor, words_from}
 use Rattle.rp_search.specs.Turned.{GoesOn, PassesNothing, PassesUntil, Settled, SettledUntil}
 use Rattle.rp_search.specs.Lasting.{AreDead, FailsUpTo, Fails, IsMarked, IsPassed, LastsUntil, OfPattern, OpensAlike, WordsOver}
 use Rattle.rp_search.specs.Table.{until_of}
-use Rattle.rp_search.specs.Memo.{Above, AreFailures, AreMarksUnder, AreOfPattern, IsBlank, IsDeadTop, IsMarkIn, IsMarkOfTop, IsOf, MeantBy, Remembers, RemembersUpTo, StillRemembers, UpTo, failed_until, lessened, marked_on}
+use Rattle.rp_search.specs.Memo.{Above, AreFailures, AreMarksUnder, AreOfPattern, IsBlank, IsDeadTop, IsMarkIn, IsMarkOfTop, IsOf, MeantBy, Remembers, RemembersUnder, RemembersUpTo, StillRemembers, UpTo, failed_until, lessened, marked_on}
 use Rattle.rp_search.proofs.ChoiceSteps.{GivesUp, later_still, no_words}
 use Rattle.rp_search.proofs.Tested.{All-mapped, tested_take, labels_of-preceded}
 use Rattle.rp_search.proofs.Failing.{alike_less, dead_less, dead_of_less, dead_stay, failing_is_refused, fails_again, fails_of_less, lasts_less, marked_is_dead, marks_stay_later, passed_less, refused_row_fails}
@@ -77,11 +77,21 @@ lessened_marks most bound c asked (mark ∷ marks) h = (
       (λ u such. ((such.0, omega (arith, such.1)), omega (arith, such.1))) h.2,
 )
 
+-- a pattern is named, or none
+none_named : (o : Option Form) → IsSome o → o ≡ None → ⊥
+none_named None some none = cc
+none_named (Some f) some none = cc
+
+-- what is blank stays so
+blank_again : (memo memo' : Memo) → memo'.marks ≡ [] → memo'.failed ≡ memo.failed → IsBlank memo → IsBlank memo'
+blank_again memo memo' marks failed b = record { marks = marks; failures = λ place row. ap (λ t. until_of t place row) failed ∙ b.failures place row }
+
 pub remembers_lessened : (most : ℕ) (memo memo' : Memo) (c : Choices) (asked : Asked) → memo'.marks ≡ lessened most memo.marks → memo'.failed ≡ memo.failed → RemembersUpTo most memo c asked → StillRemembers memo' c asked
 remembers_lessened most memo memo' c asked marks failed r =
     record {
       marks = subst (λ ms. AreMarksUnder (suc (height c)) c asked (Above c) ms) (sym marks) (lessened_marks most (suc (height c)) c asked memo.marks r.marks);
       failures = subst (λ t. AreFailures t c asked) (sym failed) r.failures;
+      unnamed = λ none. let b = r.unnamed none in blank_again memo memo' (marks ∙ ap (lessened most) b.marks) failed b;
     }
 
 pub remembers_same : (memo memo' : Memo) (c : Choices) (asked : Asked) → memo'.marks ≡ memo.marks → memo'.failed ≡ memo.failed → Remembers memo c asked → Remembers memo' c asked
@@ -89,6 +99,7 @@ remembers_same memo memo' c asked marks failed r =
     record {
       marks = subst (λ ms. AreMarksUnder (height c) c asked (Above c) ms) (sym marks) r.marks;
       failures = subst (λ t. AreFailures t c asked) (sym failed) r.failures;
+      unnamed = λ none. let b = r.unnamed none in blank_again memo memo' (marks ∙ b.marks) failed b;
     }
 
 -- a turn that passes over words that fail
@@ -170,6 +181,7 @@ module _ (old new : Choices) (asked : Asked) (keeps : IsSameWhole old new) where
         marks = marks_such (Above old) (Above new) (suc (height new)) new asked memo.marks (λ u lt. subst (λ s. s < u) keeps.start lt)
             (marks_at (Above old) (suc (height new)) memo.marks (λ u mark lt high k. mark_kept u mark lt (p mark.height high) k) (λ h lt. omega (arith, falls h lt)) r.marks);
         failures = failures_same memo.failed old new asked keeps r.failures;
+        unnamed = r.unnamed;
       }
 
   -- where words were passed over
@@ -180,6 +192,7 @@ module _ (old new : Choices) (asked : Asked) (keeps : IsSameWhole old new) where
             (marks_at (UpTo old most) (suc (height new)) memo.marks (λ u mark lt high k. mark_passed most u mark lt.0 lt.1 (p (omega (arith, lt.0, lt.1))) high k) (λ h lt. omega (arith, falls h lt))
             (marks_such (Above old) (UpTo old most) (height old) old asked memo.marks (λ u lt. lt.0) r.marks));
         failures = failures_same memo.failed old new asked keeps r.failures;
+        unnamed = r.unnamed;
       }
 
   -- they are still above them
@@ -189,11 +202,12 @@ module _ (old new : Choices) (asked : Asked) (keeps : IsSameWhole old new) where
         marks = marks_such (Above old) (Above new) (height new) new asked memo.marks (λ u lt. subst (λ s. s < u) keeps.start lt)
             (marks_at (Above old) (height new) memo.marks (λ u mark lt high k. mark_kept u mark lt (λ n e later. (kept mark.height high).1 n e later) k) (λ h lt. (kept h lt).0) r.marks);
         failures = failures_same memo.failed old new asked keeps r.failures;
+        unnamed = r.unnamed;
       }
 
 pub up_to_any : (most : ℕ) (memo : Memo) (c : Choices) (asked : Asked) → StillRemembers memo c asked → RemembersUpTo most memo c asked
 up_to_any most memo c asked r =
-    record { marks = marks_such (Above c) (UpTo c most) (suc (height c)) c asked memo.marks (λ u lt. lt.0) r.marks; failures = r.failures }
+    record { marks = marks_such (Above c) (UpTo c most) (suc (height c)) c asked memo.marks (λ u lt. lt.0) r.marks; failures = r.failures; unnamed = r.unnamed }
 
 -- where nothing falls
 pub still_above : (memo : Memo) (old new : Choices) (asked : Asked) → IsSameWhole old new → KeepsAbove old new asked.known asked.end → Remembers memo old asked → Remembers memo new asked
@@ -337,21 +351,27 @@ module _ (old new : Choices) (asked : Asked) (same : IsSameWhole old new) (split
       )
 
   -- the mark was set, or memory for it was refused
-  pub sets : {T E : Type 0} (mark : Option Mark) (memo memo' : Memo) (result : Result T E) → IfSome mark (IsMarkOfTop old) → OnOk result (memo'.marks ≡ marked_on mark memo.marks) → OnErr result (memo'.marks ≡ memo.marks) → memo'.failed ≡ memo.failed →
+  pub sets : {T E : Type 0} (mark : Option Mark) (memo memo' : Memo) (result : Result T E) → IfSome mark (IsMarkOfTop old) → OnSome mark (IsSome asked.pattern) → OnOk result (memo'.marks ≡ marked_on mark memo.marks) → OnErr result (memo'.marks ≡ memo.marks) → memo'.failed ≡ memo.failed →
       Remembers memo old asked → StillRemembers memo' new asked
-  sets mark memo memo' result m set refused failed r =
+  sets mark memo memo' result m named set refused failed r =
       record {
         marks = marks_such (Above old) (Above new) (suc (height new)) new asked memo'.marks (λ u lt. subst (λ z. z < u) same.start lt) (go result set refused);
         failures = subst (λ t. AreFailures t new asked) (sym failed) (failures_same memo.failed old new asked same r.failures);
+        unnamed = λ none. let b = r.unnamed none in blank_again memo memo' (unmarked mark result named set refused none ∙ b.marks) failed b;
       }
     where
+      unmarked : {T E : Type 0} (mark : Option Mark) (result : Result T E) → OnSome mark (IsSome asked.pattern) → OnOk result (memo'.marks ≡ marked_on mark memo.marks) → OnErr result (memo'.marks ≡ memo.marks) → asked.pattern ≡ None → memo'.marks ≡ memo.marks
+      unmarked None (Ok u) n e f none = e
+      unmarked None (Err u) n e f none = f
+      unmarked (Some m') result n e f none = absurd (none_named asked.pattern n none)
+
       go : {T E : Type 0} (result : Result T E) → OnOk result (memo'.marks ≡ marked_on mark memo.marks) → OnErr result (memo'.marks ≡ memo.marks) → AreMarksUnder (suc (height new)) new asked (Above old) memo'.marks
       go (Ok u) e f = subst (λ ms. AreMarksUnder (suc (height new)) new asked (Above old) ms) (sym e) (set_on mark memo.marks m r.marks)
       go (Err u) e f = subst (λ ms. AreMarksUnder (suc (height new)) new asked (Above old) ms) (sym f) (set_on None memo.marks tt r.marks)
 
 -- no mark is set, so none is left behind
 pub none_marked : (c : Choices) (asked : Asked) (memo : Memo) (until : ℕ) → length memo.marks ≡ 0 → RemembersUpTo until memo c asked → Remembers memo c asked
-none_marked c asked memo until none r = record { marks = go memo.marks none; failures = r.failures }
+none_marked c asked memo until none r = record { marks = go memo.marks none; failures = r.failures; unnamed = r.unnamed }
   where
     go : (marks : List Mark) → length marks ≡ 0 → AreMarksUnder (height c) c asked (Above c) marks
     go [] none = tt
@@ -420,12 +440,17 @@ length-lessened until (mark ∷ marks) = refl
 
 -- the last mark was taken away, and its failure noted
 pub noted : (c : Choices) (asked : Asked) (mark : Mark) (marks : List Mark) (failed : Table) (memo : Memo) → memo.marks ≡ lessened mark.until marks → memo.failed ≡ failed →
-    AreMarksUnder (suc (height c)) c asked (Above c) (mark ∷ marks) → AreFailures failed c asked → StillRemembers memo c asked
-noted c asked mark marks failed memo is same h f =
+    AreMarksUnder (suc (height c)) c asked (Above c) (mark ∷ marks) → AreFailures failed c asked → (asked.pattern ≡ None → ⊥) → StillRemembers memo c asked
+noted c asked mark marks failed memo is same h f named =
     record {
       marks = subst (λ ms. AreMarksUnder (suc (height c)) c asked (Above c) ms) (sym is) (lessened_marks mark.until (suc (height c)) c asked marks (marks_left c asked mark marks h));
       failures = subst (λ t. AreFailures t c asked) (sym same) f;
+      unnamed = λ none. absurd (named none);
     }
+
+-- where there is a mark, a pattern is named
+pub marked_named : (bound : ℕ) (Such : ℕ → Type 0) (c : Choices) (asked : Asked) (mark : Mark) (marks : List Mark) (memo : Memo) → memo.marks ≡ mark ∷ marks → RemembersUnder bound Such memo c asked → asked.pattern ≡ None → ⊥
+marked_named bound Such c asked mark marks memo is r none = let blank : mark ∷ marks ≡ [] = sym is ∙ (r.unnamed none).marks in cc
 
 -- what was marked is dead
 pub left_dead : (c : Choices) (asked : Asked) (until : ℕ) (mark : Mark) → IsMarkIn c asked until mark → ((n : ℕ) (e : End) → above c mark.height n e ≡ []) → AreDead (MeantBy c) (λ n e. place_words c mark.place n e mark.row) asked (start_of c) until mark.row
@@ -471,7 +496,12 @@ blank_remembers memo c asked b =
     record {
       marks = subst (λ ms. AreMarksUnder (height c) c asked (Above c) ms) (sym b.marks) tt;
       failures = λ place row le lt. absurd (omega (arith, b.failures place row, lt));
+      unnamed = λ none. b;
     }
+
+none_new : (new old : ℕ) → old ≡ 0 → (0 < new → new ≡ old) → new ≡ 0
+none_new zero old none same = refl
+none_new (suc k) old none same = same (omega arith) ∙ none
 
 pub moved_remembers : (memo memo' : Memo) (old new : Choices) (asked : Asked) → IsOf (start_of old) (start_of new) memo memo' → ((n : ℕ) (e : End) (row : ℕ) → whole_from new n e row ≡ whole_from old n e row) → ((place n : ℕ) (e : End) (row : ℕ) → place_words new place n e row ≡ place_words old place n e row) →
     Remembers memo old asked → Remembers memo' new asked
@@ -484,9 +514,18 @@ moved_remembers memo memo' old new asked m words same r =
           (dead_less (MeantBy new) (λ n e. place_words new place n e row) asked (start_of old) (start_of new) (until_of memo.failed place row) row h.0
           (dead_of_less (MeantBy old) (MeantBy new) (λ s n e w. subst (IsAmong w) (words n e s)) asked (λ n e. place_words old place n e row) (λ n e. place_words new place n e row) (start_of old) (until_of memo.failed place row) row
           (λ n e. same place n e row) (r.failures place row (omega (arith, h.0, le)) (omega (arith, h.0, h.1, lt)))));
+      unnamed = λ none. record {
+        marks = m.marks;
+        failures = λ place row. none_new (until_of memo'.failed place row) (until_of memo.failed place row) ((r.unnamed none).failures place row) (λ some. (m.failures place row some).1);
+      };
     }
 
-module _ (c : Choices) (old new : Asked) (x : AskedExtend (start_of c) old new) where
+-- Where a pattern is named, more is told.
+told_more : (o : Option Form) (P : Type 0) → OnSome o P → (o ≡ None) ⊎ P
+told_more None P h = inl refl
+told_more (Some f) P h = inr h
+
+module _ (c : Choices) (old new : Asked) (x : AskedExtend (start_of c) old new) (stay : StayFromEach (start_of c) old new) where
   marks_later : (bound : ℕ) (Such : ℕ → Type 0) (marks : List Mark) → AreMarksUnder bound c old Such marks → AreMarksUnder bound c new Such marks
   marks_later bound Such [] h = tt
   marks_later bound Such (mark ∷ marks) h = (
@@ -496,15 +535,24 @@ module _ (c : Choices) (old new : Asked) (x : AskedExtend (start_of c) old new) 
         record {
           before = k.before;
           row = k.row;
-          marked = marks_stay_later (MeantBy c) (λ n e. place_words c mark.place n e mark.row) (above c mark.height) old new (start_of c) u k.before x k.marked;
+          marked = marks_stay_later (MeantBy c) (λ n e. place_words c mark.place n e mark.row) (above c mark.height) old new (start_of c) u k.before x stay k.marked;
           among = λ n e later. k.among n e (later_still old.known new.known n old.end new.end e x.later later);
         },
     marks_later (suc mark.height) (λ u. Such u × (u ≤ mark.until)) marks h.2,
   )
 
-  pub remembers_later : (memo : Memo) → Remembers memo c old → Remembers memo c new
-  remembers_later memo r =
+  named_later : (memo : Memo) → IsSome new.pattern → Remembers memo c old → Remembers memo c new
+  named_later memo named r =
       record {
         marks = marks_later (height c) (Above c) memo.marks r.marks;
-        failures = λ place row le lt. dead_stay (MeantBy c) (λ n e. place_words c place n e row) old new (start_of c) (until_of memo.failed place row) row x (r.failures place row le lt);
+        failures = λ place row le lt. dead_stay (MeantBy c) (λ n e. place_words c place n e row) old new (start_of c) (until_of memo.failed place row) row x stay (r.failures place row le lt);
+        unnamed = λ none. absurd (none_named new.pattern named none);
       }
+
+-- What is remembered stays so: where no pattern is named, nothing is remembered.
+pub remembers_later : (c : Choices) (old new : Asked) → AskedExtend (start_of c) old new → (memo : Memo) → Remembers memo c old → Remembers memo c new
+remembers_later c old new x memo r = go (told_more old.pattern (IsSome new.pattern × StayFromEach (start_of c) old new) x.remembered)
+  where
+    go : (old.pattern ≡ None) ⊎ (IsSome new.pattern × StayFromEach (start_of c) old new) → Remembers memo c new
+    go (inl none) = blank_remembers memo c new (r.unnamed none)
+    go (inr more) = named_later c old new x more.1 memo more.0 r

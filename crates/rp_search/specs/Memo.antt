@@ -53,10 +53,16 @@ abbrev pub AreFailures : Table → Choices → Asked → Type 0
 AreFailures table c asked = (place row : ℕ) → start_of c ≤ row → start_of c < until_of table place row →
     AreDead (MeantBy c) (λ n e. place_words c place n e row) asked (start_of c) (until_of table place row) row
 
--- what is remembered is so, with marks below that height, as to start rows that are such
+-- nothing is remembered
+pub record IsBlank (memo : Memo) : Type 0 where
+  pub marks : memo.marks ≡ []
+  pub failures : (place row : ℕ) → until_of memo.failed place row ≡ 0
+
+-- What is remembered is so, with marks below that height, as to start rows that are such. Where no pattern is named, nothing is.
 pub record RemembersUnder (bound : ℕ) (Such : ℕ → Type 0) (memo : Memo) (c : Choices) (asked : Asked) : Type 0 where
   pub marks : AreMarksUnder bound c asked Such memo.marks
   pub failures : AreFailures memo.failed c asked
+  pub unnamed : asked.pattern ≡ None → IsBlank memo
 
 -- the start rows above the present one
 abbrev pub Above : Choices → ℕ → Type 0
@@ -70,7 +76,8 @@ UpTo c most until = (start_of c < until) × (until ≤ most)
 abbrev pub AreOfPattern : Option Form → Choices → Type 0
 AreOfPattern pattern c = IfSome pattern (λ f. (n : ℕ) (e : End) (row : ℕ) → whole_from c n e row ≡ words n e f row)
 
--- What is remembered is so: above each mark there is a choice, and what has failed is dead.
+-- What is remembered is so: above each mark there is a choice, and what has failed is dead. Only of tests that name their
+-- pattern anything is remembered.
 abbrev pub Remembers : Memo → Choices → Asked → Type 0
 Remembers memo c asked = RemembersUnder (height c) (Above c) memo c asked
 
@@ -81,11 +88,6 @@ StillRemembers memo c asked = RemembersUnder (suc (height c)) (Above c) memo c a
 -- the same, as to start rows no higher than that one: what was given up fails from those below it
 abbrev pub RemembersUpTo : ℕ → Memo → Choices → Asked → Type 0
 RemembersUpTo most memo c asked = RemembersUnder (suc (height c)) (UpTo c most) memo c asked
-
--- nothing is remembered
-pub record IsBlank (memo : Memo) : Type 0 where
-  pub marks : memo.marks ≡ []
-  pub failures : (place row : ℕ) → until_of memo.failed place row ≡ 0
 
 -- nothing but failures is remembered, and none that was not: none at all where the rows go back
 pub record IsOf (from to : ℕ) (old new : Memo) : Type 0 where

@@ -1,5 +1,5 @@
 //! What a search asks of the rows of a partition.
-ghost use Rattle.std.specs.Prelude.{◌≡◌, ◌≢◌, ℕ, ◌+◌, ◌<◌, ◌≤◌, List, [], ◌∷◌, ◌++◌, length, take, min, IsTrue, OnOk, OnErr};
+ghost use Rattle.std.specs.Prelude.{◌≡◌, ◌≢◌, ℕ, ◌+◌, ◌<◌, ◌≤◌, List, [], ◌∷◌, ◌++◌, length, take, min, IsSome, IsTrue, OnOk, OnErr};
 ghost use Rattle.rp_words.specs.declared.word.Label.{Label};
 ghost use Rattle.rp_words.specs.declared.word.End.TheVariants.{Closed};
 ghost use Rattle.rp_words.specs.declared.word.Seen.TheVariants.{NotTrue, Open};
@@ -31,7 +31,7 @@ pub trait Tests {
     /// How many calls of `enter` were made. It stays at 2^64 - 1.
     ghost entries: { Self → ℕ };
 
-    /// Whether each refusal lasts for ever, as where each row is judged alone: then they tell so.
+    /// Whether each refusal lasts for ever, as where each row is judged alone: then they tell so, and name their pattern.
     ghost always: { Self.Subject → Type 0 };
 
     /// How many rows are known, from row 1 on.
@@ -47,8 +47,10 @@ pub trait Tests {
         ensures { result ≡ (asked (subject self.now)).variables };
 
     /// Whether it depends on its row and label alone that the test of a known row is open: a search over such tests remembers where
-    /// it failed, and asks how long its refusals last.
+    /// it failed, and asks how long its refusals last. Only tests that name their pattern may say so; of others nothing is
+    /// remembered.
     fn is_lasting(&self) -> bool
+        ensures named { IsTrue result → IsSome (asked (subject self.now)).pattern }
         ensures alike { IsTrue result → OpensAlike (OfPattern (asked (subject self.now)).pattern) (asked (subject self.now)) }
         ensures for_ever { always (subject self.now) → IsTrue result };
 

@@ -7,10 +7,12 @@
 //! test judges its row alone, the next ones as long as a bound on the first row's value is passed, this one alone, or not even
 //! that. So a mark keeps the least of what was told above it, and the table keeps it with the place and the row.
 //!
+//! Only of tests that name their pattern anything is remembered, since what was noted is used from later start rows too.
+//!
 //! To remember is no duty: where memory is refused, a search goes on without. And it pays only where a search goes back, so nothing is
 //! remembered of its first turns: a thousand, and some for each known row that it may go forward to. The choices that were split in
 //! them have no mark.
-ghost use Rattle.std.specs.Prelude.{◌≡◌, ℕ, suc, [], ◌+◌, ◌-◌, ◌<◌, ◌≤◌, ◌⊎◌, true, min, nat_le, length, None, IfSome, MatchBool, OnErr, OnOk};
+ghost use Rattle.std.specs.Prelude.{◌≡◌, ℕ, suc, [], ◌+◌, ◌-◌, ◌<◌, ◌≤◌, ◌⊎◌, true, min, nat_le, length, None, IfSome, IsSome, MatchBool, OnErr, OnOk, OnSome};
 ghost use Rattle.rp_words.specs.Numbers.{most_u64};
 ghost use Rattle.rp_pattern.specs.Choices.{height, kept, start_of, top_weight};
 ghost use Rattle.rp_pattern.specs.Ways.{IsNumbered};
@@ -78,6 +80,7 @@ pub(crate) fn is_awake(asleep: u64, turns: u32) -> bool
 pub(crate) fn mark_of<T: Tests>(remembers: bool, choices: &Choices, tests: &T) -> Option<Mark>
     ensures mark { IfSome result (λ mark. OpensAlike (OfPattern (T.asked (T.subject tests.now)).pattern) (T.asked (T.subject tests.now))
         × IsMarkOfTop choices.now mark) }
+    ensures named { OnSome result (IsSome (T.asked (T.subject tests.now)).pattern) }
     ensures none { T.always (T.subject tests.now) → remembers ≡ true → IsNumbered (kept choices.now) →
         result ≡ None → top_weight choices.now ≡ 0 }
     ensures ever { IfSome result (λ mark. most_u64 ≤ mark.until) }

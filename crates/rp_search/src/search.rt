@@ -4,7 +4,7 @@
 //! While the test of the last label's row is open, the labels before it are tested true, and the search keeps an outlook
 //! over what would follow that row: only if a word does is there anything to wait for. What is explored then counts as
 //! left in place of the choice itself. A later run asks the open test again first.
-ghost use Rattle.std.specs.Prelude.{◌≡◌, ◌-◌, ◌+◌, ◌<◌, ◌≤◌, [], None, IfOk, IfSome, OnOk, OnErr};
+ghost use Rattle.std.specs.Prelude.{◌≡◌, ◌-◌, ◌+◌, ◌<◌, ◌≤◌, [], None, IfOk, IfSome, IsSome, OnOk, OnErr, OnSome};
 ghost use Rattle.rp_words.specs.PatternForm.{form_of};
 
 mod explore;
@@ -41,7 +41,7 @@ pub struct Search {
     /// Where the test of the row that the preferred choice maps is open: what would follow that row. Only if there is
     /// such a word is the search undecided.
     outlook: Option<Outlook>,
-    /// Where it failed, as far as the tests don't look back.
+    /// Where it failed, of tests that name their pattern.
     memo: Memo,
     /// The turns of the last run that had a budget and met no want of memory.
     taken: u32,
@@ -385,6 +385,7 @@ impl Search {
         requires covers { Covers (T.asked (T.subject tests.old)) self.old }
         requires none { self.old.outlook ≡ None }
         requires marked { IfSome mark (IsMarkOfTop self.old.choices) }
+        requires named { OnSome mark (IsSome (T.asked (T.subject tests.old)).pattern) }
         requires searches { IsWithinRun self.old (T.asked (T.subject tests.old)) }
         requires memo { MemoStands self.old (T.asked (T.subject tests.old)) }
         requires entered { T.entered tests.old (start_of_search self.old) (labels_of_search self.old) }

@@ -20,14 +20,14 @@ use Rattle.rp_search.proofs.Moving.{work_grows}
 use Rattle.rp_search.proofs.laws.law_search.Goals as goal
 
 admitted_later : (outlook : Option Outlook) (c : Choices) (old new : Asked) → AskedExtend (start_of c) old new → ChoicesFit c old.known old.end (old.outcome (start_of c)) → AreAdmitted outlook c old.known old.end (old.outcome (start_of c)) → AreAdmitted outlook c new.known new.end (new.outcome (start_of c))
-admitted_later None c old new x s a = true_later old.known new.known old.end new.end (old.outcome (start_of c)) (new.outcome (start_of c)) x.later (entered c) (rows_from (start_of c) old.known) (x.stay (start_of c) (omega arith)) s.known a
-admitted_later (Some outlook) c old new x s a = explores_later old.known new.known old.end new.end (old.outcome (start_of c)) (new.outcome (start_of c)) x.later c outlook (x.stay (start_of c) (omega arith)) s.known a
+admitted_later None c old new x s a = true_later old.known new.known old.end new.end (old.outcome (start_of c)) (new.outcome (start_of c)) x.later (entered c) (rows_from (start_of c) old.known) x.stay s.known a
+admitted_later (Some outlook) c old new x s a = explores_later old.known new.known old.end new.end (old.outcome (start_of c)) (new.outcome (start_of c)) x.later c outlook x.stay s.known a
 
 pub returns-clause-stays : goal.returns-clause-stays
 unfolding start_of_search ChoicesStand LabelsStand LabelsBelow MemoStands MarksStand
 returns-clause-stays c = λ s old new x f.
     record {
-      stands = stands_later old.known new.known old.end new.end (old.outcome (start_of s.choices)) (new.outcome (start_of s.choices)) x.later s.choices (x.stay (start_of s.choices) (omega arith)) f.stands;
+      stands = stands_later old.known new.known old.end new.end (old.outcome (start_of s.choices)) (new.outcome (start_of s.choices)) x.later s.choices x.stay f.stands;
       labels = admitted_later s.outlook s.choices old new x f.stands f.labels;
       below = subst (λ k. AreBelow k (entered s.choices)) (sym x.variables) f.below;
       memo = remembers_later s.choices old new x s.memo f.memo;

@@ -3,7 +3,7 @@ use Rattle.rp_pattern.specs.Choices.{start_of, height, kept}
 use Rattle.rp_search.specs.declared.memo.Mark.{Mark}
 use Rattle.rp_search.specs.Asked.{Asked}
 use Rattle.rp_search.specs.Memo.{Above, AreMarksUnder, lessened}
-use Rattle.rp_search.proofs.Marks.{left_dead, length-lessened, failures_more, noted}
+use Rattle.rp_search.proofs.Marks.{left_dead, length-lessened, failures_more, marked_named, noted}
 use Rattle.rp_words.specs.Numbers.{most_u64}
 use Rattle.rp_search.specs.Table.{until_of}
 use Rattle.rp_search.proofs.Fresh.{fresh_left}
@@ -17,9 +17,10 @@ returns-then-mark-start-clause-remembers g c =
     let old = c.args.self.now in
     let mark : Mark = c.in-Some.mark.now in
     let marks : AreMarksUnder (suc (height choices)) choices asked (Above choices) (mark ∷ drop 1 old.marks) = subst (λ ms. AreMarksUnder (suc (height choices)) choices asked (Above choices) ms) c.in-Some.ensures c.requires.marks in
+    let named = marked_named (suc (height choices)) (Above choices) choices asked mark (drop 1 old.marks) old c.in-Some.ensures c.requires in
     let is = c.lessen.ensures in (
       noted choices asked mark (drop 1 old.marks) old.failed c.lessen.new.self
-          (is.marks ∙ ap (lessened mark.until) c.drop_top.ensures) is.failed marks c.requires.failures,
+          (is.marks ∙ ap (lessened mark.until) c.drop_top.ensures) is.failed marks c.requires.failures named,
       omega (arith, ap length is.marks, length-lessened mark.until c.drop_top.new.self, ap length c.drop_top.ensures, ap length c.in-Some.ensures),
     )
 
@@ -32,10 +33,11 @@ returns-clause-remembers g c =
     let low : c.height.result ≤ mark.height = search rules in
     let high : start_of choices < mark.until = search rules in
     let marks : AreMarksUnder (suc (height choices)) choices asked (Above choices) (mark ∷ drop 1 old.marks) = subst (λ ms. AreMarksUnder (suc (height choices)) choices asked (Above choices) ms) c.in-Some.ensures c.requires.marks in
+    let named = marked_named (suc (height choices)) (Above choices) choices asked mark (drop 1 old.marks) old c.in-Some.ensures c.requires in
     let is = c.lessen-2.ensures in (
       noted choices asked mark (drop 1 old.marks) c.note.new.self.failed c.lessen-2.new.self (is.marks ∙ ap (lessened mark.until) (c.note.ensures.marks ∙ c.drop_top.ensures)) is.failed marks
           (failures_more old.failed c.note.new.self.failed choices asked mark c.note.ensures.only
-          (left_dead choices asked mark.until mark (marks.1 mark.until high (omega arith)) (λ n e. c.height.ensures.none mark.height n e low)) c.requires.failures),
+          (left_dead choices asked mark.until mark (marks.1 mark.until high (omega arith)) (λ n e. c.height.ensures.none mark.height n e low)) c.requires.failures) named,
       omega (arith, ap length is.marks, length-lessened mark.until c.note.new.self.marks, ap length c.note.ensures.marks, ap length c.drop_top.ensures, ap length c.in-Some.ensures),
     )
 

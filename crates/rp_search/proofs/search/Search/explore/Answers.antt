@@ -1,4 +1,5 @@
-use Rattle.std.proofs.Common.{ap, arith, refl, subst, sym}
+use Rattle.std.proofs.Common.{◌<◌, ap, arith, inr, refl, subst, sym}
+use Rattle.rp_words.specs.Numbers.{most_u64}
 use Rattle.rp_pattern.specs.declared.outlook.Sight.TheVariants.{Word, Nothing}
 use Rattle.rp_pattern.specs.Choices.{start_of, entered, height, whole, whole_from}
 use Rattle.rp_pattern.specs.Outlooks.{SeenAs}
@@ -7,11 +8,11 @@ use Rattle.rp_search.specs.Asked.{Asked}
 use Rattle.rp_search.specs.Search.{start_of_search, labels_of_search, words_from}
 use Rattle.rp_search.specs.Fits.{left_by, ChoicesStand, LabelsStand, LabelsBelow, MarksStand, MemoStands}
 use Rattle.rp_search.specs.Memo.{Above, RemembersUpTo}
-use Rattle.rp_search.specs.Work.{TakeLess}
+use Rattle.rp_search.specs.Work.{LastsAll, TakeLess}
 use Rattle.rp_search.specs.Turned.{Goes, IsWithinRun}
 use Rattle.rp_search.proofs.Marks.{explored_passes, nothing_remembers, up_to_any}
 use Rattle.rp_search.proofs.TurnEnds.{at_known, below_front, open_end, searches_plainly, left_exploring, explored_word, explored_nothing}
-use Rattle.rp_search.proofs.Spending.{any_ok, gave_sinks, noted_less, remembered_high, row_fewer}
+use Rattle.rp_search.proofs.Spending.{any_ok, each_ok, gave_sinks, noted_less, remembered_high, row_fewer}
 use Rattle.rp_search.proofs.search.Search.explore.Goals as goal
 
 pub returns-in-Word-clause-turned : goal.returns-in-Word-clause-turned
@@ -87,3 +88,16 @@ take_up-requires-in-Nothing-clause-marks g c =
     (noted_less old new asked _ marks marks _ same refl
     (gave_sinks old new asked.known asked.end gave.keeps gave.under gave.left (row_fewer old asked.known asked.end c.requires.before.fits.labels.row.divides))
     (remembered_high (height old) (Above old) c.args.self.now.memo old asked c.requires.memo) c.note_failures.ensures.less c.requires.marks)
+
+pub returns-in-Nothing-clause-lasts : goal.returns-in-Nothing-clause-lasts
+unfolding start_of_search
+returns-in-Nothing-clause-lasts g c =
+    let old = c.args.self.now.memo in
+    let noted = c.note_failures.new.self in
+    let taken = c.take_up-in-Nothing.new.self.memo in
+    let before = g.T.Tests.subject c.args.tests.now in
+    let now = g.T.Tests.subject c.cut_back.new.tests in
+    let low : start_of c.give_up.new.self < most_u64 = omega (arith, c.give_up.ensures.whole.start, c.requires.covers.known, g.met.T.Tests.few c.args.tests.now) in
+    each_ok (λ o. g.T.Tests.always now → LastsAll noted → LastsAll taken) (λ o. g.T.Tests.always before → LastsAll old → LastsAll taken) c.take_up-in-Nothing.result
+    (λ o lasts always all. lasts (subst g.T.Tests.always (sym c.cut_back.ensures.subject) always) (c.note_failures.ensures.lasts low (inr (omega arith)) all))
+    c.take_up-in-Nothing.ensures.lasts

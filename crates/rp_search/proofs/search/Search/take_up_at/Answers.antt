@@ -180,7 +180,7 @@ note_failures-requires g c =
     let admitted = admitted_plainly old c.args.self.now.outlook _ _ _ c.requires.none fits.labels in
     subst (λ s. RemembersUpTo 18446744073709551615 c.set.new.self new (g.T.Tests.asked s)) (sym c.cut_back.ensures.subject)
     (up_to_any 18446744073709551615 c.set.new.self new asked
-    (sets old new asked c.in_ok-take_up.ensures.whole taken fits.stands admitted c.args.mark c.args.self.now.memo c.set.new.self c.set.result c.requires.marked c.set.ensures.set c.set.ensures.refused c.set.ensures.failed c.requires.memo))
+    (sets old new asked c.in_ok-take_up.ensures.whole taken fits.stands admitted c.args.mark c.args.self.now.memo c.set.new.self c.set.result c.requires.marked c.requires.named c.set.ensures.set c.set.ensures.refused c.set.ensures.failed c.requires.memo))
 
 pub returns-in-Full-clause-marks : goal.returns-in-Full-clause-marks
 unfolding MarksStand MemoStands

@@ -1,4 +1,0 @@
-use Rattle.rp_pattern_tests.proofs.searches.random.+some_form.Given as goal
-
-abbrev pub decreases-some_form : goal.decreases-some_form
-decreases-some_form l = l.levels
