@@ -4,7 +4,6 @@ use Rattle.std.specs.List.{flat_map}
 use Rattle.rp_io.specs.Lines.{lines_of}
 use Rattle.rp_protocol.specs.ReplyLines.{reply_text}
 use Rattle.rp_protocol.specs.declared.reply.Reply.{Reply}
-use Rattle.rp_protocol.specs.Lines.{longest_line}
 use Rattle.rp_protocol.specs.Replies.{answered_within}
 use Rattle.rp_protocol.specs.Requests.{request_text}
 use Rattle.rp_protocol.specs.declared.fault.LineFault.{LineFault}
@@ -35,7 +34,3 @@ reply_within limit line = if_ok (answered_within limit line)
 -- the replies of an input, a line of at most `limit` bytes each, where its bytes are known
 abbrev pub replies_within : ℕ → Option (List ℕ) → Option (List (Option Reply))
 replies_within limit input = option_map (λ bytes. map (reply_within limit) (lines_of bytes)) input
-
--- the replies of an input, a line each, where its bytes are known
-abbrev pub replies_in : Option (List ℕ) → Option (List (Option Reply))
-replies_in input = replies_within longest_line input

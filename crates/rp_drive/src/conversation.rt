@@ -1,15 +1,16 @@
 //! A conversation with a node, from the first packet to the last reply.
-ghost use Rattle.std.specs.Prelude.{◌≡◌, ◌+◌, ◌<◌, ◌^◌, ◌∷◌, List, Some, None, IfErr, IfOk, OnErr, OnOk, Ok, false, true};
+ghost use Rattle.std.specs.Prelude.{◌≡◌, ◌+◌, ◌<◌, ◌^◌, Some, None, IfErr, IfOk, OnErr, OnOk, Ok, false, true};
 ghost use Rattle.std.specs.Io.KnownBytes.{Appends};
 ghost use Rattle.rp_protocol.specs.declared.refusal.Refusal.{Refusal as Why};
 ghost use Rattle.rp_protocol.specs.declared.reply.Reply.TheVariants as variant;
-ghost use Rattle.rp_feed.specs.declared.packet.Packet.{Packet as Sent};
 ghost use Rattle.rp_io.specs.Reading.{ReadsWithin};
-ghost use Rattle.rp_query.specs.QueryView.{data_of};
-ghost use Rattle.rp_drive.specs.Exchange.{Packets, Poll, Finished};
-ghost use Rattle.rp_drive.specs.Exchanged.{Ends, EndsInPart, GoesOn, SendsLine, Stops, StopsAt, StopsBy};
+ghost use Rattle.rp_drive.specs.Conversations.{HandsAll, HandsInPart, Halts, IsStopped, IsStoppedAt, IsStoppedBy};
+ghost use Rattle.rp_drive.specs.Conversations.{Passes, with_packet};
+ghost use Rattle.rp_drive.specs.Exchange.{Packets, Poll};
+ghost use Rattle.rp_drive.specs.Exchanged.{SendsLine};
 ghost use Rattle.rp_drive.specs.Faults.{TellsWrite, TellsWrites, by_fault, packet_fault, reads_told};
-ghost use Rattle.rp_drive.specs.Lines.{line_of, replies_in, replies_within};
+ghost use Rattle.rp_drive.specs.Lines.{line_of};
+ghost use Rattle.rp_protocol.specs.Lines.{longest_line};
 ghost use Rattle.rp_drive.specs.Listening.{Comes, Hears, cut_by, lines_left, replies_left};
 ghost use Rattle.rp_protocol.specs.declared.request.Request.TheVariants as request;
 
@@ -50,17 +51,11 @@ pub fn drive<R: Intake, W: Outlet, O: Outlet>(
     writer: &mut W,
     out: &mut O,
 ) -> Result<(), DriveFault>
-    ensures done { OnOk result (Ends
-        (data_of conversation.now.query.now) conversation.now.budget conversation.now.node_number Finished
-        (Packets conversation.now.packets.now) (replies_in (R.seen reader.old).remaining)
+    ensures done { OnOk result (HandsAll conversation.now longest_line (R.seen reader.old)
         (W.contents writer.old) (W.contents writer.new) (O.contents out.old) (O.contents out.new)) }
-    ensures stops { IfErr result (λ fault. Stops
-        (data_of conversation.now.query.now) conversation.now.budget conversation.now.node_number fault
-        (Packets conversation.now.packets.now) (replies_in (R.seen reader.old).remaining)
+    ensures stops { IfErr result (λ fault. IsStopped conversation.now fault longest_line (R.seen reader.old)
         (W.contents writer.old) (W.contents writer.new) (O.contents out.old) (O.contents out.new)) }
-    ensures front { OnErr result (EndsInPart
-        (data_of conversation.now.query.now) conversation.now.budget conversation.now.node_number
-        (Packets conversation.now.packets.now) (replies_in (R.seen reader.old).remaining)
+    ensures front { OnErr result (HandsInPart conversation.now longest_line (R.seen reader.old)
         (W.contents writer.old) (W.contents writer.new) (O.contents out.old) (O.contents out.new)) }
     ensures reads { ReadsWithin conversation.now.reads (reads_told result) (R.seen reader.old) (R.seen reader.new) }
     ensures write { TellsWrites result (W.failures writer.old) (W.failures writer.new)
@@ -85,23 +80,14 @@ pub fn drive_within<R: Intake, W: Outlet, O: Outlet>(
     out: &mut O,
 ) -> Result<(), Stop>
     requires { limit + 1 < 2 ^ 64 }
-    ensures done { OnOk result (Ends
-        (data_of conversation.now.query.now) conversation.now.budget conversation.now.node_number Finished
-        (Packets conversation.now.packets.now) (replies_within limit (R.seen reader.old).remaining)
+    ensures done { OnOk result (HandsAll conversation.now limit (R.seen reader.old)
         (W.contents writer.old) (W.contents writer.new) (O.contents out.old) (O.contents out.new)) }
-    ensures stops { IfErr result (λ stop. StopsBy
-        (data_of conversation.now.query.now) conversation.now.budget conversation.now.node_number
-        stop.refusal stop.fault (Packets conversation.now.packets.now)
-        (replies_within limit (R.seen reader.old).remaining)
+    ensures stops { IfErr result (λ stop. IsStoppedBy conversation.now stop.refusal stop.fault limit (R.seen reader.old)
         (W.contents writer.old) (W.contents writer.new) (O.contents out.old) (O.contents out.new)) }
-    ensures at { IfErr result (λ stop. StopsAt
-        (data_of conversation.now.query.now) conversation.now.budget conversation.now.node_number
-        stop.packet stop.refusal stop.fault conversation.now.packets.now
-        (replies_within limit (R.seen reader.old).remaining)
+    ensures at { IfErr result (λ stop. IsStoppedAt conversation.now stop.packet stop.refusal stop.fault
+        limit (R.seen reader.old)
         (W.contents writer.old) (W.contents writer.new) (O.contents out.old) (O.contents out.new)) }
-    ensures front { OnErr result (EndsInPart
-        (data_of conversation.now.query.now) conversation.now.budget conversation.now.node_number
-        (Packets conversation.now.packets.now) (replies_within limit (R.seen reader.old).remaining)
+    ensures front { OnErr result (HandsInPart conversation.now limit (R.seen reader.old)
         (W.contents writer.old) (W.contents writer.new) (O.contents out.old) (O.contents out.new)) }
     ensures reads { ReadsWithin conversation.now.reads (reads_told (by_fault result))
         (R.seen reader.old) (R.seen reader.new) }
@@ -134,18 +120,13 @@ impl Conversation<'_> {
     ) -> Result<(), DriveFault>
         requires limit { limit + 1 < 2 ^ 64 }
         requires place { place.old ≡ 0 }
-        ensures done { OnOk result (Ends (data_of self.now.query.now) self.now.budget self.now.node_number Finished
-            (Packets self.now.packets.now) (replies_within limit (R.seen reader.old).remaining)
+        ensures done { OnOk result (HandsAll self.now limit (R.seen reader.old)
             (W.contents writer.old) (W.contents writer.new) (O.contents out.old) (O.contents out.new)) }
-        ensures stops { IfErr result (λ fault.
-            StopsBy (data_of self.now.query.now) self.now.budget self.now.node_number refusal.new fault
-            (Packets self.now.packets.now) (replies_within limit (R.seen reader.old).remaining)
+        ensures stops { IfErr result (λ fault. IsStoppedBy self.now refusal.new fault limit (R.seen reader.old)
             (W.contents writer.old) (W.contents writer.new) (O.contents out.old) (O.contents out.new)) }
-        ensures at { IfErr result (λ fault. StopsAt (data_of self.now.query.now) self.now.budget self.now.node_number
-            place.new refusal.new fault self.now.packets.now (replies_within limit (R.seen reader.old).remaining)
+        ensures at { IfErr result (λ fault. IsStoppedAt self.now place.new refusal.new fault limit (R.seen reader.old)
             (W.contents writer.old) (W.contents writer.new) (O.contents out.old) (O.contents out.new)) }
-        ensures front { OnErr result (EndsInPart (data_of self.now.query.now) self.now.budget self.now.node_number
-            (Packets self.now.packets.now) (replies_within limit (R.seen reader.old).remaining)
+        ensures front { OnErr result (HandsInPart self.now limit (R.seen reader.old)
             (W.contents writer.old) (W.contents writer.new) (O.contents out.old) (O.contents out.new)) }
         ensures reads { ReadsWithin self.now.reads (reads_told result) (R.seen reader.old) (R.seen reader.new) }
         ensures write { TellsWrites result (W.failures writer.old) (W.failures writer.new)
@@ -169,14 +150,11 @@ impl Conversation<'_> {
         out: &mut O,
         refusal: &mut Option<Refusal>,
     ) -> Result<(), DriveFault>
-        ensures goes { OnOk result ((rest : List Sent) →
-            GoesOn (data_of self.now.query.now) self.now.budget self.now.node_number
-            (Packets (packet.now ∷ rest)) (Packets rest)
-            (replies_left replies.old (R.seen reader.old)) (replies_left replies.new (R.seen reader.new))
+        ensures goes { OnOk result (Passes self.now (with_packet packet.now) Packets
+            replies.old (R.seen reader.old) replies.new (R.seen reader.new)
             (W.contents writer.old) (W.contents writer.new) (O.contents out.old) (O.contents out.new)) }
-        ensures stops { IfErr result (λ fault. (rest : List Sent) →
-            StopsBy (data_of self.now.query.now) self.now.budget self.now.node_number refusal.new fault
-            (Packets (packet.now ∷ rest)) (replies_left replies.old (R.seen reader.old))
+        ensures stops { IfErr result (λ fault. Halts self.now (with_packet packet.now) refusal.new fault
+            replies.old (R.seen reader.old)
             (W.contents writer.old) (W.contents writer.new) (O.contents out.old) (O.contents out.new)) }
         ensures reads { Hears (cut_by result) replies.old replies.new (R.seen reader.old) (R.seen reader.new) }
         ensures write { TellsWrites result (W.failures writer.old) (W.failures writer.new)
@@ -203,19 +181,14 @@ impl Conversation<'_> {
         refusal: &mut Option<Refusal>,
     ) -> Result<bool, DriveFault>
         requires { line.now ≡ line_of (request.Poll key.now self.now.budget) }
-        ensures again { result ≡ Ok true → (rest : List Sent) →
-            GoesOn (data_of self.now.query.now) self.now.budget self.now.node_number
-            (Poll key.now rest) (Poll key.now rest)
-            (replies_left replies.old (R.seen reader.old)) (replies_left replies.new (R.seen reader.new))
+        ensures again { result ≡ Ok true → Passes self.now (Poll key.now) (Poll key.now)
+            replies.old (R.seen reader.old) replies.new (R.seen reader.new)
             (W.contents writer.old) (W.contents writer.new) (O.contents out.old) (O.contents out.new) }
-        ensures idle { result ≡ Ok false → (rest : List Sent) →
-            GoesOn (data_of self.now.query.now) self.now.budget self.now.node_number
-            (Poll key.now rest) (Packets rest)
-            (replies_left replies.old (R.seen reader.old)) (replies_left replies.new (R.seen reader.new))
+        ensures idle { result ≡ Ok false → Passes self.now (Poll key.now) Packets
+            replies.old (R.seen reader.old) replies.new (R.seen reader.new)
             (W.contents writer.old) (W.contents writer.new) (O.contents out.old) (O.contents out.new) }
-        ensures stops { IfErr result (λ fault. (rest : List Sent) →
-            StopsBy (data_of self.now.query.now) self.now.budget self.now.node_number refusal.new fault
-            (Poll key.now rest) (replies_left replies.old (R.seen reader.old))
+        ensures stops { IfErr result (λ fault. Halts self.now (Poll key.now) refusal.new fault
+            replies.old (R.seen reader.old)
             (W.contents writer.old) (W.contents writer.new) (O.contents out.old) (O.contents out.new)) }
         ensures falls { result ≡ Ok true → lines_left replies.new < lines_left replies.old }
         ensures reads { Hears (cut_by result) replies.old replies.new (R.seen reader.old) (R.seen reader.new) }
