@@ -5,6 +5,7 @@ use Rattle.std.specs.declared.alloc.Global.{Global}
 use Rattle.rp_protocol.specs.declared.reply.Reply.{Reply}
 use Rattle.rp_protocol.specs.declared.request.Request.{Request}
 use Rattle.rp_serve.specs.Sessions.{ServesAll, StopsAfter}
+use Rattle.rp_serve.specs.declared.connection.RoundEnd.{RoundEnd}
 use Rattle.rp_serve.specs.declared.fault.ServeFault.{ServeFault}
 use Rattle.rp_serve.specs.declared.fault.ServeFault.TheVariants.{Read, Write, Turns, OutOfMemory}
 
@@ -37,3 +38,9 @@ pub record IsRound {X : Type 0} (step : X → Request → Reply → X → Type 0
   pub left : X
   pub session : Session step cut_short fault count input old left w w'
   pub keeping : Keeping is_saved goes_back fault left new saved saved'
+
+-- One connection from what answered and was saved before: how it ended.
+abbrev pub EndsRound : {X : Type 0} → (X → Request → Reply → X → Type 0) → (X → Request → X → Type 0) → (X → List ℕ → Type 0)
+    → (X → Option (List ℕ) → X → Type 0) → Option (List ℕ) → X → Option (Vec ℕ Global) → (w w' : Option (List ℕ)) → RoundEnd X → Type 0
+EndsRound step cut_short is_saved goes_back input old saved w w' end =
+    IsRound step cut_short is_saved goes_back end.fault end.lines input old end.node w w' (kept_bytes saved) (kept_bytes end.saved)

@@ -3,7 +3,7 @@ ghost use Rattle.std.specs.Prelude.{◌≡◌, ◌≢◌, ◌↔◌, Option, Som
 ghost use Rattle.std.specs.Option.{ForSome};
 ghost use Rattle.rp_io.specs.Reading.{ReadsWithin};
 ghost use Rattle.rp_serve.specs.Faults.{TellsWrite, reads_told};
-ghost use Rattle.rp_serve.specs.Rounds.{IsRound, IsSavedAs, kept_bytes};
+ghost use Rattle.rp_serve.specs.Rounds.{EndsRound, IsSavedAs, kept_bytes};
 
 use crate::fault::ServeFault;
 use crate::keeps::Keeps;
@@ -42,9 +42,8 @@ pub fn round<R: Intake, W: Outlet, N: Keeps + Drop>(
     reads: u64,
 ) -> Result<RoundEnd<N>, AllocError>
     requires { ForSome saved (λ bytes. N.can_go_back node bytes.items) }
-    ensures round { IfOk result (λ end. IsRound N.step N.cut_short N.is_saved N.goes_back end.fault end.lines
-        (R.seen reader.old).remaining node end.node (W.contents writer.old) (W.contents writer.new)
-        (kept_bytes saved) (kept_bytes end.saved)) }
+    ensures round { IfOk result (EndsRound N.step N.cut_short N.is_saved N.goes_back (R.seen reader.old).remaining
+        node saved (W.contents writer.old) (W.contents writer.new)) }
     ensures again { IfOk result (λ end. ForSome end.saved (λ bytes. N.can_go_back end.node bytes.items)) }
     ensures reads { IfOk result (λ end. ReadsWithin reads (reads_told end.fault)
         (R.seen reader.old) (R.seen reader.new)) }
@@ -69,9 +68,8 @@ pub fn round_on<R: Intake, W: Outlet, N: Keeps + Drop>(
 ) -> Result<RoundEnd<N>, AllocError>
     requires back { ForSome saved (λ bytes. N.can_go_back node bytes.items) }
     requires known { is_current ≡ true → IsSavedAs N.is_saved node (kept_bytes saved) }
-    ensures round { IfOk result (λ end. IsRound N.step N.cut_short N.is_saved N.goes_back end.fault end.lines
-        (R.seen reader.old).remaining node end.node (W.contents writer.old) (W.contents writer.new)
-        (kept_bytes saved) (kept_bytes end.saved)) }
+    ensures round { IfOk result (EndsRound N.step N.cut_short N.is_saved N.goes_back (R.seen reader.old).remaining
+        node saved (W.contents writer.old) (W.contents writer.new)) }
     ensures again { IfOk result (λ end. ForSome end.saved (λ bytes. N.can_go_back end.node bytes.items)) }
     ensures reads { IfOk result (λ end. ReadsWithin reads (reads_told end.fault)
         (R.seen reader.old) (R.seen reader.new)) }

@@ -20,6 +20,13 @@ pub trait Keeps: Answers {
     /// What it is after it went back to these bytes, or to its beginning where there are none.
     ghost goes_back: { Self → Option (List ℕ) → Self → Type 0 };
 
+    /// It can go back to what it is saved as.
+    ghost saved_stays: { (node : Self) (bytes : List ℕ) → is_saved node bytes → can_go_back node bytes };
+
+    /// And it can go back again.
+    ghost back_again: { (old new : Self) (bytes : List ℕ) →
+        can_go_back old bytes → goes_back old (Some bytes) new → can_go_back new bytes };
+
     /// The bytes that it can go back to.
     fn save(&self) -> Result<Vec<u8>, AllocError>
         ensures { IfOk result (λ bytes. is_saved self.now bytes.items) };
@@ -28,13 +35,6 @@ pub trait Keeps: Answers {
     fn go_back(self, saved: &Option<Vec<u8>>) -> Result<Self, AllocError>
         requires { ForSome saved.now (λ bytes. can_go_back self bytes.items) }
         ensures { IfOk result (λ node. goes_back self (kept_bytes saved.now) node) };
-
-    /// It can go back to what it is saved as.
-    ghost saved_stays: { (node : Self) (bytes : List ℕ) → is_saved node bytes → can_go_back node bytes };
-
-    /// And it can go back again.
-    ghost back_again: { (old new : Self) (bytes : List ℕ) →
-        can_go_back old bytes → goes_back old (Some bytes) new → can_go_back new bytes };
 
     /// A request leaves what it can go back to.
     ghost keeps: { (old : Self) (request : Asked) (reply : Told) (new : Self) (bytes : List ℕ) →
