@@ -1,5 +1,5 @@
 -- Where a reader of csv is among the records of a text.
-use Rattle.std.specs.Prelude.{◌≡◌, ℕ, List, Some}
+use Rattle.std.specs.Prelude.{◌≡◌, ℕ, Bool, List, [], ◌∷◌, ◌++◌, Some, MatchBool}
 use Rattle.std.specs.Borrow.{Bor}
 use Rattle.csv.specs.Reading.{AreRecords, Reached, Ready, source_of, strip_bom}
 use Rattle.csv.specs.Reading.{reader_config, reader_state, reader_trim}
@@ -20,3 +20,9 @@ pub record Stands (delimiter : ℕ) (text : List ℕ) (records : List (List (Lis
   pub rest : List ℕ
   pub source : source_of (λ s. Some s.now) r ≡ Some rest
   pub reached : Reached (config_with delimiter) st.StartRecord (strip_bom text) records (reader_state r) rest
+
+-- From behind any first records of any text: one more was found, which has these fields, and the reader goes on after it; or
+-- none was, and those before are all.
+abbrev pub TakesNext : Bool → List (List ℕ) → (old new : Reader (Bor (List ℕ))) → Type 0
+TakesNext found fields old new = (delimiter : ℕ) (text : List ℕ) (before : List (List (List ℕ))) → Stands delimiter text before old
+    → MatchBool found (Stands delimiter text (before ++ fields ∷ []) new) (AreAll delimiter text before)

@@ -1,7 +1,7 @@
 //! The records of a text, one after the other.
-ghost use Rattle.std.specs.Prelude.{List, ℕ, [], ◌∷◌, ◌++◌, IfOk, MatchBool};
+ghost use Rattle.std.specs.Prelude.{[], IfOk};
 ghost use Rattle.csv.specs.Records.{fields_of};
-ghost use Rattle.rp_input.specs.Standing.{AreAll, Stands};
+ghost use Rattle.rp_input.specs.Standing.{Stands, TakesNext};
 
 use csv::{ByteRecord, Reader, ReaderBuilder};
 use std::alloc::{AllocError, Global};
@@ -20,10 +20,7 @@ pub fn reader_of<'a>(alloc: Global, text: &'a [u8], delimiter: u8) -> Reader<&'a
 
 /// Takes the next record, and says whether there was one.
 pub fn take_record(reader: &mut Reader<&[u8]>, fields: &mut ByteRecord) -> Result<bool, AllocError>
-    ensures { IfOk result (λ found. (delimiter : ℕ) (text : List ℕ) (before : List (List (List ℕ)))
-        → Stands delimiter text before reader.old
-        → MatchBool found (Stands delimiter text (before ++ fields_of fields.new ∷ []) reader.new)
-        (AreAll delimiter text before)) }
+    ensures { IfOk result (λ found. TakesNext found (fields_of fields.new) reader.old reader.new) }
 {
     let Ok(found) = reader.read_byte_record(fields) else {
         return Err(AllocError);
