@@ -5,7 +5,8 @@ use Rattle.rp_feed.specs.Fed.{IsFeed}
 use Rattle.rp_walker.specs.Walking.{record_of, CanGoOn, Stands}
 use Rattle.rp_walker.specs.Records.{StandsInRows}
 use Rattle.rp_walker.specs.Polls.{left_in, entered_by}
-use Rattle.rp_walker.specs.Bound.{SearchSeen, search_seen}
+use Rattle.rp_walker.specs.Bound.{SearchSeen, SeenWorks, search_seen}
+use Rattle.rp_walker.specs.declared.poll.Poll.{Poll}
 use Rattle.rp_schedules.specs.Records.{Held}
 use Rattle.rp_partition.specs.declared.partition.Partition.{Partition}
 use Rattle.rp_partition.specs.PartRows.{known_by}
@@ -40,3 +41,9 @@ work_of q p =
       entered = entered_by p.walker;
       search = search_seen q (known_by p.feed) p.walker;
     }
+
+-- What so many turns and this answer make of its search and its walk, over the rows that its feed held before.
+abbrev pub WorksBy : QueryData → ℕ → (old new : Partition) → Poll → Type 0
+WorksBy q turns old new answer =
+    SeenWorks turns q (known_by (held_of old).feed) (work_of q old).search (work_of q new).search
+    (held_of old).state (held_of new).state answer

@@ -6,11 +6,9 @@ ghost use Rattle.rp_query.specs.declared.query.QueryData.{QueryData};
 ghost use Rattle.rp_feed.specs.Answers.{close_answer, row_answer};
 ghost use Rattle.rp_feed.specs.Fed.{with_close, with_taken};
 ghost use Rattle.rp_walker.specs.Walking.{record_of};
-ghost use Rattle.rp_walker.specs.Bound.{SeenWorks};
 ghost use Rattle.rp_walker.specs.Polls.{entered_by, PollLowers, PollTakes, TurnsAreCounted};
 ghost use Rattle.rp_schedules.specs.Records.{fresh, Fits};
-ghost use Rattle.rp_partition.specs.Joined.{CanResume, Joined, held_of, work_of};
-ghost use Rattle.rp_partition.specs.PartRows.{known_by};
+ghost use Rattle.rp_partition.specs.Joined.{CanResume, Joined, WorksBy, held_of, work_of};
 ghost use Rattle.rp_partition.specs.Polling.{HoldsNoMore, OnlyDrops, PolledTo};
 ghost use Rattle.rp_partition.specs.Taking.{TakenBy};
 
@@ -127,10 +125,7 @@ impl Partition {
         ensures turns { TurnsAreCounted budget steps.old steps.new (work_of (data_of query.now) self.old).entered
             (work_of (data_of query.now) self.new).entered }
         ensures takes { IfOk result (PollTakes budget steps.old steps.new) }
-        ensures works { IfOk result (SeenWorks (steps.new - steps.old)
-            (data_of query.now) (known_by (held_of self.old).feed)
-            (work_of (data_of query.now) self.old).search (work_of (data_of query.now) self.new).search
-            (held_of self.old).state (held_of self.new).state) }
+        ensures works { IfOk result (WorksBy (data_of query.now) (steps.new - steps.old) self.old self.new) }
         ensures held { OnOk result (1 ≤ budget → HoldsNoMore (data_of query.now) (held_of self.new)) }
         ensures nothing { budget ≡ 0 → (result ≡ Ok Poll.Paused) × (self.new ≡ self.old) × (steps.new ≡ steps.old) }
     {
