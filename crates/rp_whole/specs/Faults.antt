@@ -7,6 +7,7 @@ use Rattle.rp_io.specs.Reading.Told.{Ended, Other}
 use Rattle.rp_input.specs.Devices.{IsInputFault, fault_told as csv_told}
 use Rattle.rp_input.specs.declared.rows.CsvFault.{CsvFault}
 use Rattle.rp_input.specs.declared.rows.CsvFault.TheVariants.{Header, Record, Field, Read, Turns, OutOfMemory}
+use Rattle.rp_whole.specs.Answers.{Form, WritesFrontOf}
 use Rattle.rp_whole.specs.AnswerLines.{WritesFront}
 use Rattle.rp_whole.specs.AnswerRecords.{WritesRecordsFront}
 use Rattle.rp_whole.specs.declared.fault.WholeFault.{WholeFault}
@@ -27,6 +28,10 @@ abbrev pub Leaves : QueryData → Option (List ℕ) → Option (List ℕ) → Op
 Leaves q input old new front (Csv why) = (why ≢ OutOfMemory) × (new ≡ old) × IfSome input (λ text. IsInputFault q.table text why)
 Leaves q input old new front Write = front
 Leaves q input old new front WholeOutOfMemory = (new ≡ old) ⊎ front
+
+-- what a run that writes answers in a form leaves after a fault
+abbrev pub LeavesOf : Form → QueryData → Option (List ℕ) → Option (List ℕ) → Option (List ℕ) → WholeFault → Type 0
+LeavesOf form q input old new = Leaves q input old new (WritesFrontOf form q input old new)
 
 -- what a run that writes lines leaves after a fault
 abbrev pub LeavesFront : QueryData → Option (List ℕ) → Option (List ℕ) → Option (List ℕ) → WholeFault → Type 0

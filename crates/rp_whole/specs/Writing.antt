@@ -1,5 +1,5 @@
 -- Inside: how items are written: those of partitions one after another, those of a partition one at a time.
-use Rattle.std.specs.Prelude.{◌≡◌, ℕ, ◌+◌, Bool, List, ◌++◌, map, drop, All, Option}
+use Rattle.std.specs.Prelude.{◌≡◌, ℕ, ◌+◌, Bool, List, [], ◌++◌, map, drop, All, Option}
 use Rattle.std.specs.Io.KnownBytes.{Appends}
 use Rattle.std.specs.List.{flat_map}
 use Rattle.rp_query.specs.declared.query.QueryData.{QueryData}
@@ -27,6 +27,12 @@ WritesPartsFront limited form q parts old gathered new =
     (shown : List Shown) × AreOrdered q.order.items parts (map (λ s. s.part) shown) × All (IsShown limited q) shown
     × AppendsFront old new (gathered ++ flat_map (shown_bytes form q) shown)
 
+-- The same by what is gathered in a form, before and after.
+abbrev pub PartsAreWritten : {G : Type 0} → Form → (G → List ℕ) → (G → List Stopped) → Bool → QueryData → List Part
+    → Option (List ℕ) → G → Option (List ℕ) → G → List Halted → Type 0
+PartsAreWritten form bytes stopped limited q parts w gathered w' gathered' halted =
+    WritesParts limited form q parts w (bytes gathered) w' (stopped gathered) (stopped gathered') halted
+
 -- so many first items are shown of a partition's answer, which is given up at a row or isn't
 abbrev pub shown_of : Part → ℕ → Option ℕ → Shown
 shown_of part count given_up = record { part = part; count = count; given_up = given_up }
@@ -40,6 +46,12 @@ pub record WritesPart (limited : Bool) (form : Form) (q : QueryData) (part : Par
   pub moves : Moves before (gathered ++ shown_bytes form q (shown_of part count given_up)) after rest
   pub told : stopped' ≡ stopped ++ shown_stops form q (shown_of part count given_up)
 
+-- The same by what is gathered in a form, before and after.
+abbrev pub PartIsWritten : {G : Type 0} → Form → (G → List ℕ) → (G → List Stopped) → Bool → QueryData → Part → Option ℕ
+    → Option (List ℕ) → G → Option (List ℕ) → G → Type 0
+PartIsWritten form bytes stopped limited q part given_up w gathered w' gathered' =
+    WritesPart limited form q part given_up w (bytes gathered) w' (bytes gathered') (stopped gathered) (stopped gathered')
+
 -- the key of a partition, and its rows
 abbrev pub part_of : Closed → Part
 part_of part = (part.key, part.rows.items)
@@ -52,6 +64,10 @@ bytes_to_come form q part r = bytes_from form q part.0 (r.given + 1) (drop r.giv
 abbrev pub stops_to_come : Form → QueryData → Part → MatcherState → List Stopped
 stops_to_come form q part r = flat_map (form.stops part.0) (drop r.given (known q (closed part.1)))
 
+-- No item is still to be given.
+abbrev pub NoneToCome : Form → QueryData → Part → MatcherState → Type 0
+NoneToCome form q part r = (bytes_to_come form q part r ≡ []) × (stops_to_come form q part r ≡ [])
+
 -- The bytes to come of one record begin with some, and then those of another come: the former are behind what was gathered,
 -- of which a front was written and the rest is still gathered. What is told is added likewise.
 pub record WritesOn (form : Form) (q : QueryData) (part : Part) (old new : MatcherState) (before : Option (List ℕ))
@@ -62,3 +78,9 @@ pub record WritesOn (form : Form) (q : QueryData) (part : Part) (old new : Match
   pub stops : List Stopped
   pub tell : stops_to_come form q part old ≡ stops ++ stops_to_come form q part new
   pub told : stopped' ≡ stopped ++ stops
+
+-- The same by what is gathered in a form, before and after.
+abbrev pub NextIsWritten : {G : Type 0} → Form → (G → List ℕ) → (G → List Stopped) → QueryData → Part → (old new : MatcherState)
+    → Option (List ℕ) → G → Option (List ℕ) → G → Type 0
+NextIsWritten form bytes stopped q part old new w gathered w' gathered' =
+    WritesOn form q part old new w (bytes gathered) w' (bytes gathered') (stopped gathered) (stopped gathered')

@@ -1,14 +1,14 @@
 //! The items of one partition's answer.
-ghost use Rattle.std.specs.Prelude.{◌≡◌, ◌<◌, ◌++◌, [], is_some, IfErr, IfOk, OnErr, OnOk};
+ghost use Rattle.std.specs.Prelude.{◌≡◌, ◌<◌, ◌++◌, is_some, IfErr, IfOk, OnErr, OnOk};
 ghost use Rattle.rp_query.specs.QueryView.{data_of};
-ghost use Rattle.rp_io.specs.Devices.{AppendsFront, Moves};
+ghost use Rattle.rp_io.specs.Devices.{AppendsFront};
 ghost use Rattle.rp_walker.specs.Polls.{left_in};
 ghost use Rattle.rp_walker.specs.Records.{Fits};
 ghost use Rattle.rp_walker.specs.Walking.{Stands, record_of};
 ghost use Rattle.rp_whole.specs.Answers.{closed, part_bytes};
 ghost use Rattle.rp_whole.specs.Faults.{IsOfOutput, TellsWrite};
 ghost use Rattle.rp_whole.specs.Pauses.{IsByLimit};
-ghost use Rattle.rp_whole.specs.Writing.{WritesOn, WritesPart, bytes_to_come, stops_to_come, part_of};
+ghost use Rattle.rp_whole.specs.Writing.{NextIsWritten, NoneToCome, PartIsWritten, bytes_to_come, part_of};
 
 use crate::closed::Part;
 use crate::fault::WholeFault;
@@ -33,9 +33,9 @@ pub(crate) fn write_part<W: Outlet, G: Gathered, V: Watch, L: Ledger>(
     watch: &mut V,
     turns: &mut Turns<L>,
 ) -> Result<Option<u64>, WholeFault>
-    ensures written { IfOk result (λ given_up. WritesPart (is_some turns.old.limit) G.form (data_of query.now)
-        (part_of part.now) given_up (W.contents writer.old) (G.bytes gathered.old)
-        (W.contents writer.new) (G.bytes gathered.new) (G.stopped gathered.old) (G.stopped gathered.new)) }
+    ensures written { IfOk result (λ given_up. PartIsWritten G.form G.bytes G.stopped (is_some turns.old.limit)
+        (data_of query.now) (part_of part.now) given_up (W.contents writer.old) gathered.old
+        (W.contents writer.new) gathered.new) }
     ensures front { OnErr result (AppendsFront (W.contents writer.old) (W.contents writer.new)
         (G.bytes gathered.old ++ part_bytes G.form (data_of query.now) (part_of part.now))) }
     ensures limit { turns.new.limit ≡ turns.old.limit }
@@ -70,18 +70,15 @@ fn write_next<W: Outlet, G: Gathered, V: Watch, L: Ledger>(
     requires fits { Fits (data_of query.now) (record_of walker.old) (closed part.now.rows.items) }
     ensures stands { Stands (data_of query.now) (closed part.now.rows.items) walker.new }
     ensures fits { OnOk result (Fits (data_of query.now) (record_of walker.new) (closed part.now.rows.items)) }
-    ensures written { OnOk result (WritesOn G.form (data_of query.now) (part_of part.now)
-        (record_of walker.old) (record_of walker.new)
-        (W.contents writer.old) (G.bytes gathered.old) (W.contents writer.new) (G.bytes gathered.new)
-        (G.stopped gathered.old) (G.stopped gathered.new)) }
+    ensures written { OnOk result (NextIsWritten G.form G.bytes G.stopped (data_of query.now) (part_of part.now)
+        (record_of walker.old) (record_of walker.new) (W.contents writer.old) gathered.old
+        (W.contents writer.new) gathered.new) }
     ensures front { OnErr result (AppendsFront (W.contents writer.old) (W.contents writer.new)
         (G.bytes gathered.old ++ bytes_to_come G.form (data_of query.now) (part_of part.now) (record_of walker.old))) }
     ensures falls { result ≡ Ok Next.More → left_in (data_of query.now) (closed part.now.rows.items) walker.new
         < left_in (data_of query.now) (closed part.now.rows.items) walker.old }
     ensures all { result ≡ Ok Next.All →
-        bytes_to_come G.form (data_of query.now) (part_of part.now) (record_of walker.new) ≡ [] }
-    ensures all_stops { result ≡ Ok Next.All →
-        stops_to_come G.form (data_of query.now) (part_of part.now) (record_of walker.new) ≡ [] }
+        NoneToCome G.form (data_of query.now) (part_of part.now) (record_of walker.new) }
     ensures by_limit { IfOk result (IsByLimit (is_some turns.old.limit)) }
     ensures limit { turns.new.limit ≡ turns.old.limit }
     ensures fault { IfErr result IsOfOutput }

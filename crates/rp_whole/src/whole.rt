@@ -2,10 +2,10 @@
 ghost use Rattle.std.specs.Prelude.{◌≡◌, IfErr, IfOk, OnOk};
 ghost use Rattle.rp_query.specs.QueryView.{data_of};
 ghost use Rattle.rp_io.specs.Reading.{ReadsWithin};
-ghost use Rattle.rp_whole.specs.Answers.{WritesFrontOf, WritesOf};
+ghost use Rattle.rp_whole.specs.Answers.{WritesOf};
 ghost use Rattle.rp_whole.specs.AnswerLines.{WritesLines};
 ghost use Rattle.rp_whole.specs.AnswerRecords.{WritesRecords};
-ghost use Rattle.rp_whole.specs.Faults.{Leaves, LeavesFront, LeavesRecords, TellsWrite, whole_told};
+ghost use Rattle.rp_whole.specs.Faults.{LeavesFront, LeavesOf, LeavesRecords, TellsWrite, whole_told};
 
 use crate::answers::write_answers;
 use crate::fault::WholeFault;
@@ -87,10 +87,8 @@ fn run_answers<R: Intake, W: Outlet, G: Gathered, V: Watch>(
 ) -> Result<Vec<Stopped>, WholeFault>
     ensures written { IfOk result (λ stopped. WritesOf G.form (data_of query) (R.seen reader.old).remaining
         (W.contents writer.old) (W.contents writer.new) stopped.items) }
-    ensures front { IfErr result
-        (Leaves (data_of query) (R.seen reader.old).remaining (W.contents writer.old) (W.contents writer.new)
-        (WritesFrontOf G.form (data_of query) (R.seen reader.old).remaining
-        (W.contents writer.old) (W.contents writer.new))) }
+    ensures front { IfErr result (LeavesOf G.form (data_of query) (R.seen reader.old).remaining
+        (W.contents writer.old) (W.contents writer.new)) }
     ensures reads { ReadsWithin reads (whole_told result) (R.seen reader.old) (R.seen reader.new) }
     ensures write { TellsWrite result (W.failures writer.old) (W.failures writer.new) }
 {

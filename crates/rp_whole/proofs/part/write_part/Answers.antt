@@ -57,7 +57,7 @@ returns-in-All-clause-written g c =
     part_written (is_some c.args.turns.now.limit) g.G.Gathered.form q (part_of c.args.part.now) last (g.W.Outlet.contents c.args.writer.now) (g.W.Outlet.contents c.write_next.new.writer)
     (g.G.Gathered.bytes c.args.gathered.now) (g.G.Gathered.bytes c.write_next.new.gathered)
     (g.G.Gathered.stopped c.args.gathered.now) (g.G.Gathered.stopped c.write_next.new.gathered) all
-    (c.in_ok-write_next.ensures.all (search rules)) (c.in_ok-write_next.ensures.all_stops (search rules))
+    (c.in_ok-write_next.ensures.all (search rules)).0 (c.in_ok-write_next.ensures.all (search rules)).1
 
 pub returns-in-GivenUp-clause-written : goal.returns-in-GivenUp-clause-written
 returns-in-GivenUp-clause-written g c =
