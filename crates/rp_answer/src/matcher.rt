@@ -210,12 +210,9 @@ impl Matcher {
 
     /// Polls over a count of its own, which nobody reads.
     fn uncounted<L: Ledger>(&mut self, budget: u32, blank: Blank) -> Result<Poll, AllocError>
-        requires name { blank.name ≡ L.name }
-        requires parts { blank.parts ≡ L.parts }
-        requires some { 0 < blank.parts }
+        requires fresh { (blank.name ≡ L.name) × (blank.parts ≡ L.parts) × (0 < blank.parts) }
         ensures query { self.new.query ≡ self.old.query }
-        ensures count { count self.new.known ≡ count self.old.known }
-        ensures end { self.new.known.end ≡ self.old.known.end }
+        ensures known { (count self.new.known ≡ count self.old.known) × (self.new.known.end ≡ self.old.known.end) }
         ensures answers { IfOk result (PollComesTo self.old.query self.old.known self.old.state self.new.state) }
         ensures moves { GoesAlong self.old.query self.old.known self.old.state self.new.state }
         ensures out_of_memory { OnErr result (StartsAgain self.old.query self.old.known
