@@ -1,4 +1,5 @@
 mod Lists
+mod Misfits
 mod Headers
 mod CsvRecords
 mod Takes

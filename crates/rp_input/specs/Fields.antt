@@ -1,5 +1,5 @@
 -- The values of a record's fields.
-use Rattle.std.specs.Prelude.{◌≡◌, ◌≢◌, ◌⊎◌, ⊤, ℕ, ℤ, List, [], ◌∷◌, IsUtf8}
+use Rattle.std.specs.Prelude.{◌≡◌, ◌≢◌, ◌⊎◌, ⊤, ℕ, zero, suc, ℤ, List, [], ◌∷◌, IsUtf8}
 use Rattle.std.specs.Str.Parse.{IsNumeral, signed_digits_value, without_leading_sign}
 use mir.Val.{SFits as FitsSigned}
 use Rattle.std.specs.Int.{w64}
@@ -40,3 +40,9 @@ IsRow _ _ _ = ⊥
 abbrev pub HasNoField : List Kind → List (List ℕ) → Type 0
 HasNoField (k ∷ ks) (f ∷ fs) = IsNoField k f ⊎ HasNoField ks fs
 HasNoField _ _ = ⊥
+
+-- the field at this place is the first that is no value of its column
+abbrev pub IsFirstMisfit : List Kind → List (List ℕ) → ℕ → Type 0
+IsFirstMisfit (k ∷ ks) (f ∷ fs) zero = IsNoField k f
+IsFirstMisfit (k ∷ ks) (f ∷ fs) (suc place) = (IsNoField k f → ⊥) × IsFirstMisfit ks fs place
+IsFirstMisfit _ _ place = ⊥

@@ -2,7 +2,7 @@
 ghost use Rattle.std.specs.Prelude.{◌≡◌, ◌<◌, ◌+◌, ◌∷◌, IfOk, IsUtf8, MatchBool, MatchOption, drop, length};
 ghost use Rattle.csv.specs.Records.{fields_of};
 ghost use Rattle.rp_value.specs.Tables.{kinds_of};
-ghost use Rattle.rp_input.specs.Fields.{HasNoField, IsField, IsNoField, IsRow};
+ghost use Rattle.rp_input.specs.Fields.{HasNoField, IsField, IsFirstMisfit, IsNoField, IsRow};
 
 use csv::{ByteRecord, StringRecord};
 use rp_columns::Texts;
@@ -27,6 +27,22 @@ pub fn is_value(kind: Kind, field: &[u8]) -> bool
             Err(_) => false,
         },
     }
+}
+
+/// The place of the first field that is no value of its column, from 0. None where each field that has a column is one.
+pub fn first_misfit(columns: &[Column], fields: &ByteRecord) -> Option<usize>
+    ensures { MatchOption result (HasNoField (kinds_of columns.now) (fields_of fields.now) → ⊥)
+        (IsFirstMisfit (kinds_of columns.now) (fields_of fields.now)) }
+{
+    for (index, column) in columns.iter().enumerate() {
+        let Some(field) = fields.get(index) else {
+            return None;
+        };
+        if !is_value(column.kind, field) {
+            return Some(index);
+        }
+    }
+    None
 }
 
 /// The value of a field of a column of this kind. None where it has none.

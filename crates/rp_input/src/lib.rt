@@ -29,7 +29,7 @@ mod taking;
 
 pub use by_columns::rows_by;
 pub use columns_fault::ColumnsCsvFault;
-pub use fields::is_value;
+pub use fields::{first_misfit, is_value};
 pub use header::names_column;
 pub use input::{read_rows, read_rows_by};
 pub use laws::{law_fitting, law_fitting_columns, law_same_fields, law_same_rows};
