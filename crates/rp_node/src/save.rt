@@ -38,6 +38,7 @@ fn all_kept(alloc: Global, query: &Query, partitions: &Parts) -> Result<Partitio
     let mut list = Vec::with_capacity(alloc, partitions.len())?;
     for place in 0..partitions.len() {
         let Some((key, partition)) = partitions.get_index(place) else {
+            // It can't come: each place below the count of partitions has one.
             return Err(AllocError);
         };
         list.push(partition_kept(alloc, key.as_slice(), partition)?)?;
