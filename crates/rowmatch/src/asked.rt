@@ -5,10 +5,11 @@ use crate::progress::Progress;
 use rp_columns::read_columns;
 use rp_command::{InputFormat, InputOptions};
 use rp_compile::compile;
-use rp_explain::{propose_columns, shown_text};
+use rp_explain_inputs::propose_columns;
 use rp_filter::{Filter, read_filter};
 use rp_query::Query;
 use rp_value::{Row, Table};
+use rp_wording::shown_text;
 use std::alloc::{AllocError, Global};
 
 /// What is asked, and of which rows.

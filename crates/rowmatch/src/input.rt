@@ -4,7 +4,6 @@ use crate::progress::Progress;
 use crate::zones::with_zones;
 use rp_columns::{Columns, InputColumn, read_columns};
 use rp_command::{InputFormat, InputOptions};
-use rp_explain::shown_text;
 use rp_input::{
     ColumnsCsvFault, CsvLayout, is_delimiter, read_rows, read_rows_by, rows_by, rows_of,
 };
@@ -12,6 +11,7 @@ use rp_io::{Intake, Port, READS};
 use rp_objects::{ObjectsFault, rows_by_objects};
 use rp_syntax::read_table;
 use rp_value::{Row, Table, Text};
+use rp_wording::shown_text;
 use std::alloc::{AllocError, Global};
 use std::fs::File;
 use std::io::{self, Read};

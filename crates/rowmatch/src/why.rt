@@ -5,13 +5,13 @@ use crate::fault::ProgramFault;
 use crate::seed::seeded_hasher;
 use crate::shown::shown_key;
 use rp_command::{ReportFormat, WhyJob};
-use rp_explain::shown_text;
 use rp_input::{order_rows, partitions};
 use rp_io::{Port, write_all};
 use rp_json::cells_of;
 use rp_query::Query;
 use rp_value::{Cells, Row};
 use rp_why::{Finding, Wanted, object_line, told, why};
+use rp_wording::shown_text;
 use serde_json::Value as Json;
 use std::alloc::{AllocError, Global};
 

@@ -1,7 +1,7 @@
 //! Faults.
 
 use json::Writer;
-use rp_explain::{Mark, Report};
+use rp_wording::{Mark, Report};
 use std::alloc::AllocError;
 
 /// Writes faults, each with the text in which it is.

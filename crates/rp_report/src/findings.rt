@@ -4,9 +4,9 @@ use crate::clause::write_clause;
 use crate::columns::write_columns;
 use crate::fault::write_faults;
 use json::Writer;
-use rp_explain::Report;
 use rp_query::Query;
 use rp_value::Table;
+use rp_wording::Report;
 use std::alloc::{AllocError, Global};
 
 /// What was found of the texts and of an input.

@@ -2,7 +2,9 @@
 use crate::support::{compiled, prices, refused_twice};
 use rp_check::{CheckKind, Fault};
 use rp_compile::CompileFault;
-use rp_explain::{describe, explain_clause, explain_csv, explain_table, propose_columns};
+use rp_explain_clauses::{explain_clause, explain_table};
+use rp_explain_inputs::{explain_csv, propose_columns};
+use rp_explain_queries::describe;
 use rp_grammar::ParseFault;
 use rp_input::CsvFault;
 use rp_lexer::LexFault;

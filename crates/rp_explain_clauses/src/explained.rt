@@ -1,0 +1,186 @@
+//! All that is said of a clause that is refused.
+
+use crate::clause::explain;
+use crate::further::further;
+use crate::passed::{pass_over, place_of};
+use crate::statement::{Statement, statement_of};
+use rp_compile::{CompileFault, compile};
+use rp_grammar::ParseFault;
+use rp_hints::sql_around;
+use rp_place::Span;
+use rp_query::Query;
+use rp_value::Table;
+use rp_wording::{Advice, Report, Source};
+use std::alloc::{AllocError, Global};
+
+/// So many faults of a clause are told, at most.
+const MOST: u32 = 5;
+
+/// What is said of a text that is no clause.
+#[derive(Drop)]
+pub struct Explained {
+    /// What is wrong: the fault for which it is refused, and others that are certain. There are five at most.
+    pub reports: Vec<Report>,
+    /// The query of what stands in MATCH_RECOGNIZE ( .. ), where that alone would be a clause without a fault.
+    pub query: Option<Query>,
+}
+
+/// Explains why `compile` refuses a text over a table, by the fault that it gave, and what else can't stand in it. Of a
+/// statement round MATCH_RECOGNIZE ( .. ) it is said once that it isn't read; the rest is of what stands in the
+/// brackets.
+///
+/// The only error is that memory is out.
+pub fn explain_text(
+    alloc: Global,
+    table: &Table,
+    text: &str,
+    fault: &CompileFault,
+) -> Result<Explained, AllocError> {
+    if let Some(statement) = statement_of(alloc, text)? {
+        return of_statement(alloc, table, text, &statement, fault);
+    }
+    let mut reports = Vec::new(alloc);
+    push_faults(alloc, &mut reports, table, Source::whole(text), fault, MOST)?;
+    Ok(Explained {
+        reports,
+        query: None,
+    })
+}
+
+/// Explains a statement round a clause, and what is wrong in the clause.
+fn of_statement(
+    alloc: Global,
+    table: &Table,
+    text: &str,
+    statement: &Statement,
+    fault: &CompileFault,
+) -> Result<Explained, AllocError> {
+    let mut reports = Vec::new(alloc);
+    match compile(alloc, statement.inside.as_str(), table) {
+        Ok(query) => {
+            push_outer(alloc, &mut reports, table, text, statement)?;
+            Ok(Explained {
+                reports,
+                query: Some(query),
+            })
+        }
+        Err(CompileFault::OutOfMemory) => Err(AllocError),
+        Err(inner) => {
+            let outer_first = statement.front.is_some() || statement.is_outside(fault);
+            push_both(
+                alloc,
+                &mut reports,
+                table,
+                text,
+                statement,
+                &inner,
+                outer_first,
+            )?;
+            Ok(Explained {
+                reports,
+                query: None,
+            })
+        }
+    }
+}
+
+/// Explains both what stands outside and the faults inside.
+fn push_both(
+    alloc: Global,
+    reports: &mut Vec<Report>,
+    table: &Table,
+    text: &str,
+    statement: &Statement,
+    inner: &CompileFault,
+    outer_first: bool,
+) -> Result<(), AllocError> {
+    let source = Source {
+        shown: text,
+        read: statement.inside.as_str(),
+    };
+    if outer_first {
+        push_outer(alloc, reports, table, text, statement)?;
+        return push_faults(alloc, reports, table, source, inner, MOST - 1);
+    }
+    push_faults(alloc, reports, table, source, inner, MOST - 1)?;
+    push_outer(alloc, reports, table, text, statement)
+}
+
+/// Explains what stands outside.
+fn push_outer(
+    alloc: Global,
+    reports: &mut Vec<Report>,
+    table: &Table,
+    text: &str,
+    statement: &Statement,
+) -> Result<(), AllocError> {
+    let source = Source {
+        shown: text,
+        read: statement.read.as_str(),
+    };
+    if let Some(fault) = statement.front {
+        reports.push(front_report(alloc, text, statement, fault)?)?;
+        return Ok(());
+    }
+    if let Some(fault) = statement.behind {
+        reports.push(explain(alloc, table, source, &fault)?)?;
+    }
+    Ok(())
+}
+
+/// Explains what stands before MATCH_RECOGNIZE.
+fn front_report(
+    alloc: Global,
+    text: &str,
+    statement: &Statement,
+    fault: CompileFault,
+) -> Result<Report, AllocError> {
+    let mut report = Report::new(alloc, "clause", &fault)?;
+    let around = sql_around();
+    let mut help = statement.help(alloc, text)?;
+    help.push('\n')?;
+    help.push_str(around.help)?;
+    let advice = Advice::new(alloc, around.what, help.as_str())?;
+    let start = match fault {
+        CompileFault::Parse(ParseFault::Expected(at)) => at,
+        CompileFault::Lex(why) => place_of(why),
+        _ => 0,
+    };
+    report.point("clause", text, word_at(text, start), &advice)?;
+    Ok(report)
+}
+
+/// The letters, digits and `_` from an offset on, or the character there.
+fn word_at(text: &str, start: usize) -> Span {
+    let rest = text.get(start..).unwrap_or("");
+    let letters = rest
+        .bytes()
+        .take_while(|byte| byte.is_ascii_alphanumeric() || *byte == b'_');
+    let length = letters.count().max(1);
+    Span {
+        start,
+        end: start.saturating_add(length),
+    }
+}
+
+/// Explains a fault, and further ones behind it: so many at most.
+fn push_faults(
+    alloc: Global,
+    reports: &mut Vec<Report>,
+    table: &Table,
+    source: Source<'_>,
+    fault: &CompileFault,
+    most: u32,
+) -> Result<(), AllocError> {
+    reports.push(explain(alloc, table, source, fault)?)?;
+    let passed = pass_over(alloc, source.read, MOST)?;
+    let others = further(alloc, &passed, fault, most.saturating_sub(1))?;
+    let source = Source {
+        read: passed.read.as_str(),
+        ..source
+    };
+    for other in others.as_slice() {
+        reports.push(explain(alloc, table, source, other)?)?;
+    }
+    Ok(())
+}

@@ -1,0 +1,28 @@
+//! What is wrong with a clause or with the text of a table, where it stands, and what to write in its place.
+//!
+//! Every text is the line that the program prints, then the place with its line and a mark under it, then what is wrong there and
+//! what to write:
+//!
+//!     clause: UnknownColumn at byte 129
+//!       clause, line 7, column 22
+//!        7 |        B AS p < PREV(prise)
+//!          |                      ^^^^^ the table has no column prise
+//!       help: write price
+//!       help: the columns are sym, t, price
+//!
+//! Nothing here decides: the fault is that of `read_table` or `compile`, and hints are guesses from the words round its place. Each line
+//! ends in LF. The only error is want of memory.
+#![tactic(auto)]
+
+mod clause;
+mod explained;
+mod further;
+mod meaning;
+mod passed;
+mod statement;
+mod table_kinds;
+mod table_text;
+
+pub use clause::explain_clause;
+pub use explained::{Explained, explain_text};
+pub use table_text::explain_table;

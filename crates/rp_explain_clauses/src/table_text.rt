@@ -1,0 +1,300 @@
+//! Why the text of a table is refused.
+
+use crate::table_kinds::KINDS;
+use rp_lexer::{Mark, TokenKind};
+use rp_syntax::TableTextFault;
+use rp_value::{MAX_NAME_LEN, TableFault};
+use rp_wording::{
+    Advice, Hint, Reading, Report, Source, explain_lex, index_of, is_one_of, look_up, meant, said,
+    text_of, tokens_of,
+};
+use std::alloc::{AllocError, Global};
+
+/// What a table looks like.
+const LIKE: &str = "write a name and a kind, int or text, for each column: sym text, t int, p int";
+
+/// Explains why `read_table` refuses a text, by the fault that it gave.
+///
+/// The first line is the fault's own, `table: Expected at byte 6`; each line ends in LF. Of want of memory that line alone is
+/// told.
+pub fn explain_table(
+    alloc: Global,
+    text: &str,
+    fault: &TableTextFault,
+) -> Result<Report, AllocError> {
+    let mut report = Report::new(alloc, "table", fault)?;
+    match fault {
+        TableTextFault::Lex(why) => explain_lex(
+            alloc,
+            &mut report,
+            "table",
+            Source::whole(text),
+            *why,
+        )?,
+        TableTextFault::Expected(at) => explain_expected(alloc, &mut report, text, *at)?,
+        TableTextFault::Table(why) => explain_columns(alloc, &mut report, text, *why)?,
+        TableTextFault::OutOfMemory => {}
+    }
+    Ok(report)
+}
+
+/// Explains a token that can't stand in a table.
+fn explain_expected(
+    alloc: Global,
+    report: &mut Report,
+    text: &str,
+    offset: usize,
+) -> Result<(), AllocError> {
+    let tokens = tokens_of(alloc, text)?;
+    let reading = Reading::new(text, tokens.as_slice(), offset);
+    if reading.is_keyword() && !is_one_of(reading.here(), "NOT NULL") {
+        let advice = reserved(alloc, &reading)?;
+        return report.point("table", text, reading.span(), &advice);
+    }
+    let advice = of_place(alloc, &reading)?;
+    report.point("table", text, reading.span(), &advice)
+}
+
+/// What is wrong at a token, with the words of the table where they tell what to write.
+fn of_place(alloc: Global, reading: &Reading<'_>) -> Result<Advice, AllocError> {
+    if is_file_name(reading) {
+        let help = format!(in alloc;
+            "is it a file's name? write --table-file {}",
+            reading.text.trim()
+        )?;
+        return Advice::new(alloc, "a table lists its columns", help.as_str());
+    }
+    if let Some(end) = name_with_blanks(reading) {
+        let name = text_of(reading, reading.at.saturating_sub(1), end);
+        let help = format!(in alloc; "write \"{name}\" {}", reading.written(end))?;
+        return Advice::new(
+            alloc,
+            "a name with a blank is written in quotes",
+            help.as_str(),
+        );
+    }
+    Advice::of(alloc, of_token(reading))
+}
+
+/// Whether the table is two names with a point between, as a file's name.
+fn is_file_name(reading: &Reading<'_>) -> bool {
+    reading.tokens.len() == 3 && reading.at == 1 && reading.here() == "." && reading.touches()
+}
+
+/// The index of the kind behind two names or more side by side, of which the second is at the place.
+fn name_with_blanks(reading: &Reading<'_>) -> Option<usize> {
+    if reading.at == 0 || !begins_column(reading, reading.at.saturating_sub(1)) {
+        return None;
+    }
+    for (index, token) in reading.tokens.iter().enumerate().skip(reading.at) {
+        if token.kind != TokenKind::Name {
+            return None;
+        }
+        if index > reading.at && is_kind(reading.written(index)) {
+            return Some(index);
+        }
+    }
+    None
+}
+
+/// A reserved word as a column's name, or as its kind.
+fn reserved(alloc: Global, reading: &Reading<'_>) -> Result<Advice, AllocError> {
+    let word = meant(alloc, reading.here())?;
+    let what = format!(in alloc; "{word} is a reserved word")?;
+    let help = format!(in alloc; "as a name write \"{word}\", in quotes and in upper case")?;
+    Advice::new(alloc, what.as_str(), help.as_str())
+}
+
+/// What is wrong at a token.
+fn of_token(reading: &Reading<'_>) -> Hint {
+    if let Some(found) = of_shape(reading) {
+        return found;
+    }
+    if let Some(found) = look_up(&KINDS, reading.here()) {
+        return found;
+    }
+    if let Some(found) = of_words(reading) {
+        return found;
+    }
+    Hint {
+        what: "this can't come here",
+        help: LIKE,
+    }
+}
+
+/// What is wrong by the tokens round the place alone.
+fn of_shape(reading: &Reading<'_>) -> Option<Hint> {
+    if reading.tokens.is_empty() {
+        return said("the table is empty", LIKE);
+    }
+    if is_one_of(reading.back(1), "CREATE") || is_one_of(reading.next(1), "TABLE") {
+        return said(
+            "only the columns are read",
+            "leave CREATE TABLE and the brackets out: sym text, t int, p int",
+        );
+    }
+    if reading.here() == "(" {
+        return of_bracket(reading);
+    }
+    if reading.is_end() && reading.back(1) == "," {
+        return said(
+            "a column is missing behind the comma",
+            "leave the last comma out",
+        );
+    }
+    if reading.is_end() || reading.here() == "," {
+        return of_missing(reading);
+    }
+    of_signs(reading)
+}
+
+/// Constraints, and signs in a name.
+fn of_signs(reading: &Reading<'_>) -> Option<Hint> {
+    if is_one_of(reading.here(), "NOT NULL") {
+        return said(
+            "a table has no constraints",
+            "leave it out: every column may be null",
+        );
+    }
+    if reading.here() == "-" {
+        return said(
+            "a name with a minus sign is written in quotes",
+            "write \"net-price\" int, as the header has it",
+        );
+    }
+    if reading.here() == "." {
+        return said(
+            "a name with a point is written in quotes",
+            "write \"a.b\" int, as the header has it",
+        );
+    }
+    None
+}
+
+/// A bracket behind a kind, or in front.
+fn of_bracket(reading: &Reading<'_>) -> Option<Hint> {
+    if reading.at == 0 {
+        return said("there is no bracket round a table", LIKE);
+    }
+    said(
+        "a kind has no length",
+        "leave the bracket out: sym text, p int",
+    )
+}
+
+/// A name without a kind.
+fn of_missing(reading: &Reading<'_>) -> Option<Hint> {
+    if reading.here() == "," && (reading.back(1) == "," || reading.at == 0) {
+        return said("a column is missing before the comma", LIKE);
+    }
+    said(
+        "this column has no kind",
+        "write int or text behind its name: sym text, t int",
+    )
+}
+
+/// What is wrong by the words round the place.
+fn of_words(reading: &Reading<'_>) -> Option<Hint> {
+    if is_kind(reading.back(1)) && !reading.back(2).is_empty() && reading.back(2) != "," {
+        return said(
+            "a comma is missing",
+            "write a comma between columns: sym text, t int",
+        );
+    }
+    if is_kind(reading.back(1)) {
+        return said(
+            "the name comes before the kind",
+            "write sym text in place of text sym",
+        );
+    }
+    match reading.kind_here() {
+        Some(TokenKind::Number) => said(
+            "a name that begins with a digit is written in quotes",
+            "write \"2nd\" int, as the header has it",
+        ),
+        Some(TokenKind::Text) => said(
+            "a name is written in double quotes",
+            "write \"net price\" int; without quotes where it has letters, digits and _ alone",
+        ),
+        Some(TokenKind::Mark(Mark::Asterisk)) => said("the columns are all listed", LIKE),
+        Some(TokenKind::Name) => said(
+            "there is no such kind",
+            "the kinds are int (integer, bigint) and text (varchar); a name with a blank is written in double quotes",
+        ),
+        _ => None,
+    }
+}
+
+/// Whether the word is a kind.
+fn is_kind(word: &str) -> bool {
+    is_one_of(word, "INT INTEGER BIGINT TEXT VARCHAR")
+}
+
+/// Explains columns that make no table.
+fn explain_columns(
+    alloc: Global,
+    report: &mut Report,
+    text: &str,
+    fault: TableFault,
+) -> Result<(), AllocError> {
+    let tokens = tokens_of(alloc, text)?;
+    let mut reading = Reading::new(text, tokens.as_slice(), 0);
+    let advice = match fault {
+        TableFault::DoubleName => {
+            reading.at = second_of_a_name(alloc, &reading)?;
+            double_name(alloc, &reading)?
+        }
+        _ => {
+            reading.at = long_name(alloc, &reading)?;
+            Advice::new(
+                alloc,
+                "a name has at most 128 bytes",
+                "shorten it, in the header too",
+            )?
+        }
+    };
+    report.point("table", text, reading.span(), &advice)
+}
+
+/// A column's name that was given before.
+fn double_name(alloc: Global, reading: &Reading<'_>) -> Result<Advice, AllocError> {
+    let written = reading.here();
+    let what = format!(in alloc; "a column before is called {written} too")?;
+    let help =
+        "upper and lower case are one without quotes; a name in quotes is taken letter for letter";
+    Advice::new(alloc, what.as_str(), help)
+}
+
+/// The index of the first column's name that stands before too.
+fn second_of_a_name(alloc: Global, reading: &Reading<'_>) -> Result<usize, AllocError> {
+    let mut names = Vec::new(alloc);
+    for index in 0..reading.tokens.len() {
+        if begins_column(reading, index) {
+            let name = meant(alloc, reading.written(index))?;
+            if index_of(names.as_slice(), name.as_str()).is_some() {
+                return Ok(index);
+            }
+            names.push(name)?;
+        }
+    }
+    Ok(0)
+}
+
+/// The index of the first name that is too long.
+fn long_name(alloc: Global, reading: &Reading<'_>) -> Result<usize, AllocError> {
+    for index in 0..reading.tokens.len() {
+        let name = meant(alloc, reading.written(index))?;
+        if begins_column(reading, index) && name.len() > MAX_NAME_LEN {
+            return Ok(index);
+        }
+    }
+    Ok(0)
+}
+
+/// Whether a column begins at a token: the first, or one behind a comma.
+fn begins_column(reading: &Reading<'_>, index: usize) -> bool {
+    match index.checked_sub(1) {
+        Some(before) => reading.written(before) == ",",
+        None => true,
+    }
+}

@@ -1,0 +1,429 @@
+//! Why a CSV input is no rows of columns that are computed.
+
+use crate::csv_text::write_at;
+use crate::field::{Wanted, at_record, record_at, shortened};
+use crate::first_line::{BLANKS, listed_fields};
+use crate::fronts::of_front;
+use crate::heading::of_heading;
+use crate::null_words::of_null_word;
+use crate::number_cells::{of_known_fraction, of_number, of_sign};
+use crate::proposal_notes::words_in;
+use crate::scan::{field_span, record_start};
+use csv::ByteRecord;
+use rp_columns::{Columns, InputColumn, Reading, ReadingFault};
+use rp_input::{ColumnsCsvFault, CsvLayout, reader_of, take_record};
+use rp_value::upper_case_name;
+use rp_wording::{Advice, Report, nearest, noun, shown};
+use std::alloc::{AllocError, Global};
+
+/// An input by columns.
+#[derive(Clone, Copy)]
+struct Input<'a> {
+    columns: &'a [InputColumn],
+    layout: CsvLayout,
+    bytes: &'a [u8],
+}
+
+/// Explains why `rows_by` refuses the bytes of a CSV text, by the fault that it gave.
+///
+/// The first line is the fault's name with its record; each line ends in LF. Of a device and of want of memory that line alone is
+/// told.
+pub fn explain_csv_by(
+    alloc: Global,
+    columns: &Columns,
+    layout: CsvLayout,
+    bytes: &[u8],
+    fault: &ColumnsCsvFault,
+) -> Result<Report, AllocError> {
+    let input = Input {
+        columns: columns.as_slice(),
+        layout,
+        bytes,
+    };
+    let mut report = headline(alloc, &input, fault)?;
+    match fault {
+        ColumnsCsvFault::Header => of_no_header(alloc, &mut report, bytes, layout.delimiter)?,
+        ColumnsCsvFault::Missing(index) => of_missing(alloc, &mut report, &input, *index)?,
+        ColumnsCsvFault::Double(index) => of_double(alloc, &mut report, &input, *index)?,
+        ColumnsCsvFault::Record(number) => of_record(alloc, &mut report, &input, *number)?,
+        ColumnsCsvFault::Field(number, index, why) => {
+            of_field(alloc, &mut report, &input, *number, *index, *why)?
+        }
+        ColumnsCsvFault::Read | ColumnsCsvFault::Turns | ColumnsCsvFault::OutOfMemory => {}
+    }
+    Ok(report)
+}
+
+/// Explains why no columns can be proposed for the bytes of a CSV text, in which this byte is between fields: it is empty or no CSV,
+/// there is something above its header, or that has no name.
+pub fn explain_no_header(alloc: Global, bytes: &[u8], delimiter: u8) -> Result<Report, AllocError> {
+    let mut report = Report::new(alloc, "csv", &ColumnsCsvFault::Header)?;
+    of_no_header(alloc, &mut report, bytes, delimiter)?;
+    Ok(report)
+}
+
+/// The fault's own line, with the name of its column.
+fn headline(
+    alloc: Global,
+    input: &Input<'_>,
+    fault: &ColumnsCsvFault,
+) -> Result<Report, AllocError> {
+    match fault {
+        ColumnsCsvFault::Missing(index) => {
+            let source = source_of(input.columns, *index);
+            Report::new(alloc, "csv", &format!(in alloc; "Missing {source}")?)
+        }
+        ColumnsCsvFault::Double(index) => {
+            let source = source_of(input.columns, *index);
+            Report::new(alloc, "csv", &format!(in alloc; "Double {source}")?)
+        }
+        ColumnsCsvFault::Field(number, index, why) => {
+            let name = name_of(input.columns, *index);
+            let told = format!(in alloc; "{why} at record {number}, column {name}")?;
+            Report::new(alloc, "csv", &told)
+        }
+        fault => Report::new(alloc, "csv", fault),
+    }
+}
+
+/// The name of a column, by its index.
+fn name_of(columns: &[InputColumn], index: usize) -> &str {
+    match columns.get(index) {
+        Some(column) => column.name.as_str(),
+        None => "",
+    }
+}
+
+/// The name that the header has for a column, by its index.
+fn source_of(columns: &[InputColumn], index: usize) -> &str {
+    match columns.get(index) {
+        Some(column) => column.source.as_str(),
+        None => "",
+    }
+}
+
+/// Explains an input that has no header.
+fn of_no_header(
+    alloc: Global,
+    report: &mut Report,
+    bytes: &[u8],
+    delimiter: u8,
+) -> Result<(), AllocError> {
+    if of_above(alloc, report, bytes, delimiter)? {
+        return Ok(());
+    }
+    if bytes.is_empty() {
+        report.say("csv", "the input is empty")?;
+        return report.help("was its file found? the first line names the columns");
+    }
+    report.say("csv", "no field of the header has a name of its own")?;
+    report.help("the first line names the columns, each once")
+}
+
+/// Explains an input that is no CSV, or has something above its header; and says whether it is so.
+fn of_above(
+    alloc: Global,
+    report: &mut Report,
+    bytes: &[u8],
+    delimiter: u8,
+) -> Result<bool, AllocError> {
+    if let Some(found) = of_front(bytes) {
+        report.say("csv", found.what)?;
+        report.help(found.help)?;
+        return Ok(true);
+    }
+    let Some(found) = of_heading(alloc, bytes, delimiter)? else {
+        return Ok(false);
+    };
+    report.say("csv", found.what.as_str())?;
+    report.help(found.help.as_str())?;
+    Ok(true)
+}
+
+/// The header of an input; it has no field where there is none.
+fn header_of(alloc: Global, input: &Input<'_>) -> Result<ByteRecord, AllocError> {
+    let mut reader = reader_of(alloc, input.bytes, input.layout.delimiter);
+    let mut fields = ByteRecord::new(alloc);
+    take_record(&mut reader, &mut fields)?;
+    Ok(fields)
+}
+
+/// Explains a column that no field of the header names.
+fn of_missing(
+    alloc: Global,
+    report: &mut Report,
+    input: &Input<'_>,
+    index: usize,
+) -> Result<(), AllocError> {
+    if of_above(alloc, report, input.bytes, input.layout.delimiter)? {
+        return Ok(());
+    }
+    let header = header_of(alloc, input)?;
+    let source = source_of(input.columns, index);
+    let what = format!(in alloc;
+        "no field of the header is {source}, from which the column {} comes",
+        name_of(input.columns, index)
+    )?;
+    report.say("csv", what.as_str())?;
+    report.note(format!(in alloc; "the header has: {}", listed_fields(alloc, &header)?)?.as_str())?;
+    if let Some(help) = of_delimiter(&header) {
+        return report.help(help);
+    }
+    if has_word(alloc, &header, source)? {
+        return report.help(BLANKS);
+    }
+    let names = names_of(alloc, &header)?;
+    if let Some(place) = nearest(alloc, source, names.as_slice())?
+        && let Some(name) = names.get(place)
+    {
+        let typed = shown(alloc, name.as_str())?;
+        report.help(format!(in alloc; "write {typed} in the brackets")?.as_str())?;
+    }
+    report.help(
+        "a name with blanks or small letters that count is in double quotes, as the header has it",
+    )
+}
+
+/// Whether the header is one field of words with blanks between, of which one is this name.
+fn has_word(alloc: Global, header: &ByteRecord, name: &str) -> Result<bool, AllocError> {
+    if words_in(header) < 2 {
+        return Ok(false);
+    }
+    let line = String::from_utf8_lossy(alloc, header.get(0).unwrap_or(b""))?;
+    let found = line
+        .as_str()
+        .split(' ')
+        .any(|word| word.eq_ignore_ascii_case(name));
+    Ok(found)
+}
+
+/// What to write where the header is one field that holds another delimiter.
+pub(crate) fn of_delimiter(header: &ByteRecord) -> Option<&'static str> {
+    let first = header.get(0)?;
+    if header.len() > 1 {
+        return None;
+    }
+    if first.contains(&b';') {
+        return Some("the fields have semicolons between them: give --delimiter ';'");
+    }
+    if first.contains(&b'\t') {
+        return Some("the fields have tabs between them: give --delimiter '\\t'");
+    }
+    if first.contains(&b'|') {
+        return Some("the fields have bars between them: give --delimiter '|'");
+    }
+    if first.contains(&b',') {
+        return Some("the fields have commas between them: leave --delimiter out");
+    }
+    None
+}
+
+/// The names of a header's fields as they may be typed.
+fn names_of(alloc: Global, header: &ByteRecord) -> Result<Vec<String>, AllocError> {
+    let mut names = Vec::new(alloc);
+    for index in 0..header.len() {
+        let text = String::from_utf8_lossy(alloc, header.get(index).unwrap_or(b""))?;
+        match upper_case_name(alloc, text.as_str())? {
+            Some(name) => names.push(String::from_str(alloc, name.as_str())?)?,
+            None => names.push(text)?,
+        }
+    }
+    Ok(names)
+}
+
+/// Explains a column that more than one field of the header names.
+fn of_double(
+    alloc: Global,
+    report: &mut Report,
+    input: &Input<'_>,
+    index: usize,
+) -> Result<(), AllocError> {
+    let header = header_of(alloc, input)?;
+    let source = source_of(input.columns, index);
+    let what = format!(in alloc; "more than one field of the header is {source}")?;
+    report.say("csv", what.as_str())?;
+    report.note(format!(in alloc; "the header has: {}", listed_fields(alloc, &header)?)?.as_str())?;
+    report.help(
+        "give one of them another name in the file, or read it with --no-header below its first line: tail -n +2 FILE",
+    )
+}
+
+/// Explains a record with another number of fields.
+fn of_record(
+    alloc: Global,
+    report: &mut Report,
+    input: &Input<'_>,
+    number: u64,
+) -> Result<(), AllocError> {
+    let Some(found) = record_at(alloc, input.bytes, input.layout, number)? else {
+        return Ok(());
+    };
+    let wanted = if input.layout.has_header {
+        let count = header_of(alloc, input)?.len();
+        Wanted {
+            count,
+            whose: "header",
+            what: noun(count, "field", "fields"),
+        }
+    } else {
+        let count = fields_read(input.columns);
+        Wanted {
+            count,
+            whose: "list of columns",
+            what: noun(count, "column", "columns"),
+        }
+    };
+    at_record(
+        alloc,
+        report,
+        input.bytes,
+        input.layout.delimiter,
+        &found,
+        &wanted,
+    )
+}
+
+/// How many of these columns are read from fields.
+fn fields_read(columns: &[InputColumn]) -> usize {
+    columns
+        .iter()
+        .filter(|column| column.reading.reads_field())
+        .count()
+}
+
+/// Explains a field that is no value of its column.
+fn of_field(
+    alloc: Global,
+    report: &mut Report,
+    input: &Input<'_>,
+    number: u64,
+    index: usize,
+    why: ReadingFault,
+) -> Result<(), AllocError> {
+    let Some(found) = record_at(alloc, input.bytes, input.layout, number)? else {
+        return Ok(());
+    };
+    let Some(column) = input.columns.get(index) else {
+        return Ok(());
+    };
+    let place = place_of(alloc, input, index)?;
+    let field = found.fields.get(place).unwrap_or(b"");
+    let text = String::from_utf8_lossy(alloc, field)?;
+    let short = shortened(alloc, text.as_str())?;
+    let name = shown(alloc, column.name.as_str())?;
+    let what = format!(in alloc;
+        "record {number}, column {name}: `{short}` {}",
+        wrong(&column.reading, why)
+    )?;
+    let advice = match of_null_word(alloc, input.bytes, input.layout, place, text.as_str())? {
+        Some(help) => Advice::new(alloc, what.as_str(), help.as_str())?,
+        None => Advice::new(
+            alloc,
+            what.as_str(),
+            to_write(&column.reading, why, text.as_str()),
+        )?,
+    };
+    let span = field_span(input.bytes, found.start, place, input.layout.delimiter);
+    write_at(alloc, report, input.bytes, span, &advice)
+}
+
+/// The place of a column's field in a record.
+fn place_of(alloc: Global, input: &Input<'_>, index: usize) -> Result<usize, AllocError> {
+    if !input.layout.has_header {
+        return Ok(fields_read(input.columns.get(..index).unwrap_or(&[])));
+    }
+    let header = header_of(alloc, input)?;
+    let source = source_of(input.columns, index);
+    for place in 0..header.len() {
+        let field = header.get(place).unwrap_or(b"");
+        let text = String::from_utf8_lossy(alloc, field)?;
+        let named = match upper_case_name(alloc, text.as_str())? {
+            Some(name) => name.as_str() == source,
+            None => false,
+        };
+        if named || field == source.as_bytes() {
+            return Ok(place);
+        }
+    }
+    Ok(0)
+}
+
+/// What is wrong with a field, behind the field.
+fn wrong(reading: &Reading, why: ReadingFault) -> &'static str {
+    match why {
+        ReadingFault::NoSuchTime => "is a time that the calendar or the clock doesn't have",
+        ReadingFault::NoOffset => "has no offset from UTC",
+        ReadingFault::Gap => "is a time that clocks of the column's time zone skip",
+        ReadingFault::Fold => "is a time that clocks of the column's time zone show twice",
+        ReadingFault::Places => "has more digits behind the point than the column",
+        ReadingFault::Range => "is outside of 64 bits",
+        ReadingFault::NotText => "isn't UTF-8",
+        _ => match reading {
+            Reading::Int => "is no whole number",
+            Reading::Decimal(_, _) => "is no decimal number of this form",
+            Reading::Day => "is no date",
+            Reading::Instant(_, _) => "is no date with a time",
+            Reading::Formatted(_, _, _) | Reading::FormattedDay(_) => {
+                "doesn't have the column's format"
+            }
+            _ => "is no value of this column",
+        },
+    }
+}
+
+/// What to write for such a field.
+fn to_write(reading: &Reading, why: ReadingFault, field: &str) -> &'static str {
+    match why {
+        ReadingFault::NoSuchTime => "a day has the hours 0 to 23, and a minute the seconds 0 to 59",
+        ReadingFault::NoOffset => {
+            "say where clocks show the times of this column: seconds(Time, 'Europe/Berlin'), seconds(Time, '+01:00'), or 'UTC'"
+        }
+        ReadingFault::Gap | ReadingFault::Fold => {
+            "a field may have an offset of its own, as 2024-10-27T02:30:00+01:00; or give the column a fixed one, as seconds(Time, '+01:00')"
+        }
+        ReadingFault::Places =>
+            "nothing is rounded: give the column as many places, as decimal(Amount, 4)",
+        ReadingFault::Range => "read it as text, or by a smaller unit",
+        ReadingFault::NotText => "UTF-8 is read: iconv -f WINDOWS-1252 -t UTF-8 FILE | rowmatch ..",
+        _ => of_form(reading, field),
+    }
+}
+
+/// What to write for a field that hasn't the form of its reading.
+fn of_form(reading: &Reading, field: &str) -> &'static str {
+    match reading {
+        Reading::Int => of_int(field),
+        Reading::Decimal(_, _) => of_decimal(field),
+        Reading::Day => {
+            "dates as 2024-01-05 and 20240105 are read; for others give their format: date(C, '%d.%m.%Y')"
+        }
+        Reading::Instant(_, _) => {
+            "times as 2024-01-05T10:03:20+01:00, 2024-01-05 10:03:20.5 UTC and 20240105-09:30:00.123 are read; for others give their format: seconds(C, '%d/%m/%Y %H:%M:%S', 'UTC')"
+        }
+        Reading::Formatted(_, _, _) | Reading::FormattedDay(_) => {
+            "each field has the format's parts and the text between them"
+        }
+        _ => "",
+    }
+}
+
+/// What to write for a field that is no whole number.
+fn of_int(field: &str) -> &'static str {
+    if let Some(help) = of_known_fraction(field.trim()) {
+        return help;
+    }
+    if of_sign(field.trim()).is_none() && (field.contains('.') || field.contains(',')) {
+        return "read it by decimal(C, 2) where it has fractions, or by decimal(C, 0, ',') where it has signs between thousands";
+    }
+    of_number(field)
+}
+
+/// What to write for a field that is no decimal number of its column's form.
+fn of_decimal(field: &str) -> &'static str {
+    match of_sign(field.trim()) {
+        Some(help) => help,
+        None => {
+            "signs between thousands are named, and so is the point where it is no full stop: decimal(C, 2, ',') reads 1,234.56, and decimal(C, 2, '.', ',') reads 1.234,56"
+        }
+    }
+}

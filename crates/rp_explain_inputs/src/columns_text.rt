@@ -1,0 +1,213 @@
+//! Why a text of columns is refused.
+
+use rp_columns::ColumnsFault;
+use rp_value::{MAX_NAME_LEN, TableFault};
+use rp_wording::{
+    Advice, Reading, Report, Source, explain_lex, index_of, is_one_of, meant, tokens_of,
+};
+use std::alloc::{AllocError, Global};
+
+/// What columns look like.
+const LIKE: &str =
+    "write a name and a reading for each column: sym text, t = seconds(\"Booked At\"), cents = decimal(Amount, 2)";
+
+/// The words that call a reading.
+const READINGS: &str =
+    "TEXT VARCHAR LOWER INT INTEGER BIGINT DATE SECONDS MILLIS MICROS DECIMAL RECORD";
+
+/// Explains why `read_columns` refuses a text, by the fault that it gave.
+///
+/// The first line is the fault's own, `columns: Reading at byte 4`; each line ends in LF. Of want of memory that line alone is told.
+pub fn explain_columns(
+    alloc: Global,
+    text: &str,
+    fault: &ColumnsFault,
+) -> Result<Report, AllocError> {
+    let mut report = Report::new(alloc, "columns", fault)?;
+    match fault {
+        ColumnsFault::Lex(why) => explain_lex(
+            alloc,
+            &mut report,
+            "columns",
+            Source::whole(text),
+            *why,
+        )?,
+        ColumnsFault::Expected(at) => expected_at(alloc, &mut report, text, *at)?,
+        ColumnsFault::Reading(at) => no_reading_at(alloc, &mut report, text, *at)?,
+        ColumnsFault::Table(why) => no_table(alloc, &mut report, text, *why)?,
+        ColumnsFault::OutOfMemory => {}
+    }
+    Ok(report)
+}
+
+/// Explains that the system has no time zone of this name, which a text of columns has as a text.
+///
+/// The first line is `columns: Zone Europe/Berln`.
+pub fn explain_zone(alloc: Global, text: &str, name: &str) -> Result<Report, AllocError> {
+    let mut report = Report::new(alloc, "columns", &format!(in alloc; "Zone {name}")?)?;
+    let tokens = tokens_of(alloc, text)?;
+    let mut reading = Reading::new(text, tokens.as_slice(), 0);
+    reading.at = place_of_text(alloc, &reading, name)?;
+    let advice = Advice::new(
+        alloc,
+        "this system has no time zone of this name",
+        "write its identifier in the IANA Time Zone Database, as 'Europe/Berlin', or an offset, as '+01:00'",
+    )?;
+    report.point("columns", text, reading.span(), &advice)?;
+    Ok(report)
+}
+
+/// The index of the token that has this text between single quotes; the number of tokens where none has.
+fn place_of_text(alloc: Global, reading: &Reading<'_>, name: &str) -> Result<usize, AllocError> {
+    let quoted = format!(in alloc; "'{name}'")?;
+    for index in 0..reading.tokens.len() {
+        if reading.written(index) == quoted.as_str() {
+            return Ok(index);
+        }
+    }
+    Ok(reading.tokens.len())
+}
+
+/// Explains a token that can't stand where it is.
+fn expected_at(
+    alloc: Global,
+    report: &mut Report,
+    text: &str,
+    at: usize,
+) -> Result<(), AllocError> {
+    let tokens = tokens_of(alloc, text)?;
+    let reading = Reading::new(text, tokens.as_slice(), at);
+    let advice = unexpected(alloc, &reading)?;
+    report.point("columns", text, reading.span(), &advice)
+}
+
+/// What is wrong at a token.
+fn unexpected(alloc: Global, reading: &Reading<'_>) -> Result<Advice, AllocError> {
+    if reading.is_keyword() {
+        let word = meant(alloc, reading.here())?;
+        let what = format!(in alloc; "{word} is a reserved word")?;
+        let help = format!(in alloc; "as a name write \"{word}\", in quotes and in upper case")?;
+        return Advice::new(alloc, what.as_str(), help.as_str());
+    }
+    if reading.is_end() || reading.here() == "," {
+        return Advice::new(alloc, "this column isn't complete", LIKE);
+    }
+    if reading.here() == "(" {
+        return Advice::new(
+            alloc,
+            "a reading with brackets is behind an equals sign",
+            "write t = seconds(Time), or t seconds where the header has the name t",
+        );
+    }
+    Advice::new(alloc, "this can't come here", LIKE)
+}
+
+/// Explains a word that calls no reading.
+fn no_reading_at(
+    alloc: Global,
+    report: &mut Report,
+    text: &str,
+    at: usize,
+) -> Result<(), AllocError> {
+    let tokens = tokens_of(alloc, text)?;
+    let reading = Reading::new(text, tokens.as_slice(), at);
+    let word = reading.here();
+    let advice = if is_one_of(word, READINGS) {
+        let what = format!(in alloc; "{word} doesn't take what is behind it")?;
+        Advice::new(alloc, what.as_str(), form_of(word))?
+    } else {
+        let what = format!(in alloc; "there is no reading {word}")?;
+        Advice::new(
+            alloc,
+            what.as_str(),
+            "the readings are text, lower, int, date, seconds, millis, micros, decimal and record()",
+        )?
+    };
+    report.point("columns", text, reading.span(), &advice)
+}
+
+/// How a reading is written.
+fn form_of(word: &str) -> &'static str {
+    if is_one_of(word, "DECIMAL") {
+        return "write decimal(Amount, 2), or decimal(Amount, 2, ',') with a comma between thousands, or decimal(Amount, 2, '.', ',') with a comma as the point";
+    }
+    if is_one_of(word, "SECONDS MILLIS MICROS") {
+        return "write seconds(Time), or seconds(Time, 'Europe/Berlin') or seconds(Time, '+01:00') where the times have no offset from UTC, or with a format seconds(Time, '%d/%m/%Y %H:%M:%S', 'UTC')";
+    }
+    if is_one_of(word, "RECORD") {
+        return "write n = record()";
+    }
+    if is_one_of(word, "DATE") {
+        return "write date(Day), or with a format date(Day, '%d.%m.%Y')";
+    }
+    "write it with the header's name alone: text(Name)"
+}
+
+/// Explains columns that make no table.
+fn no_table(
+    alloc: Global,
+    report: &mut Report,
+    text: &str,
+    fault: TableFault,
+) -> Result<(), AllocError> {
+    let tokens = tokens_of(alloc, text)?;
+    let mut reading = Reading::new(text, tokens.as_slice(), 0);
+    reading.at = blamed(alloc, &reading, fault)?;
+    let advice = match fault {
+        TableFault::DoubleName => {
+            let written = reading.here();
+            let what = format!(in alloc; "a column before is called {written} too")?;
+            Advice::new(
+                alloc,
+                what.as_str(),
+                "upper and lower case are one without quotes; a name in quotes is taken letter for letter",
+            )?
+        }
+        TableFault::NoColumns => Advice::new(alloc, "there are no columns", LIKE)?,
+        _ => Advice::new(
+            alloc,
+            "a name has 1 to 128 bytes",
+            "give the column a name of its own: name = text(\"..\")",
+        )?,
+    };
+    report.point("columns", text, reading.span(), &advice)
+}
+
+/// The index of the name that is to blame: the first one that was given before, or that is empty or too long.
+fn blamed(alloc: Global, reading: &Reading<'_>, fault: TableFault) -> Result<usize, AllocError> {
+    let mut names = Vec::new(alloc);
+    let mut depth = 0usize;
+    for index in 0..reading.tokens.len() {
+        depth = depth_behind(depth, reading.written(index));
+        if depth > 0 || !begins_column(reading, index) {
+            continue;
+        }
+        let name = meant(alloc, reading.written(index))?;
+        let is_double = index_of(names.as_slice(), name.as_str()).is_some();
+        let is_bad = name.is_empty() || name.len() > MAX_NAME_LEN;
+        if (fault == TableFault::DoubleName && is_double)
+            || (fault != TableFault::DoubleName && is_bad)
+        {
+            return Ok(index);
+        }
+        names.push(name)?;
+    }
+    Ok(0)
+}
+
+/// How many brackets are open behind a token.
+fn depth_behind(depth: usize, token: &str) -> usize {
+    match token {
+        "(" => depth.saturating_add(1),
+        ")" => depth.saturating_sub(1),
+        _ => depth,
+    }
+}
+
+/// Whether a column begins at a token outside of brackets: the first, or one behind a comma.
+fn begins_column(reading: &Reading<'_>, index: usize) -> bool {
+    match index.checked_sub(1) {
+        Some(before) => reading.written(before) == ",",
+        None => true,
+    }
+}

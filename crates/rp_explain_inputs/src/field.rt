@@ -1,0 +1,240 @@
+//! Records with another number of fields, and fields that are no values of their columns.
+
+use crate::csv_text::write_at;
+use crate::null_words::of_null_word;
+use crate::number_cells::of_number;
+use crate::scan::{field_span, long_quote, open_quote, record_start};
+use crate::stray_lines::of_stray_line;
+use csv::ByteRecord;
+use rp_input::{CsvLayout, first_misfit, reader_of, take_record};
+use rp_place::{Span, shown_character};
+use rp_value::{Column, Table};
+use rp_wording::{Advice, Report, noun, shown};
+use std::alloc::{AllocError, Global};
+
+/// A record of a text.
+#[derive(Drop)]
+pub(crate) struct Found {
+    /// Its fields.
+    pub(crate) fields: ByteRecord,
+    /// The offset at which it begins.
+    pub(crate) start: usize,
+}
+
+/// The record of this number, from 1, below the header where the text has one, if there is such a record.
+pub(crate) fn record_at(
+    alloc: Global,
+    bytes: &[u8],
+    layout: CsvLayout,
+    number: u64,
+) -> Result<Option<Found>, AllocError> {
+    let mut reader = reader_of(alloc, bytes, layout.delimiter);
+    let mut fields = ByteRecord::new(alloc);
+    let before = if layout.has_header {
+        number
+    } else {
+        number.saturating_sub(1)
+    };
+    for _record in 0..before {
+        if !take_record(&mut reader, &mut fields)? {
+            return Ok(None);
+        }
+    }
+    if !take_record(&mut reader, &mut fields)? {
+        return Ok(None);
+    }
+    let from = match fields.position() {
+        Some(position) => usize::try_from(position.byte()).unwrap_or(0),
+        None => 0,
+    };
+    let start = record_start(bytes, from);
+    Ok(Some(Found { fields, start }))
+}
+
+/// Explains a record with another number of fields than the table has columns.
+pub(crate) fn of_record(
+    alloc: Global,
+    report: &mut Report,
+    table: &Table,
+    bytes: &[u8],
+    number: u64,
+) -> Result<(), AllocError> {
+    let layout = CsvLayout::plain();
+    let Some(found) = record_at(alloc, bytes, layout, number)? else {
+        return Ok(());
+    };
+    let wanted = Wanted {
+        count: table.columns().len(),
+        whose: "table",
+        what: noun(table.columns().len(), "column", "columns"),
+    };
+    at_record(alloc, report, bytes, layout.delimiter, &found, &wanted)
+}
+
+/// How many fields a record should have, and what says so.
+#[derive(Clone, Copy)]
+pub(crate) struct Wanted {
+    pub(crate) count: usize,
+    /// What has as many, as `table`.
+    pub(crate) whose: &'static str,
+    /// Of what, as `columns`.
+    pub(crate) what: &'static str,
+}
+
+/// Explains a record with another number of fields than it should have.
+pub(crate) fn at_record(
+    alloc: Global,
+    report: &mut Report,
+    bytes: &[u8],
+    delimiter: u8,
+    found: &Found,
+    wanted: &Wanted,
+) -> Result<(), AllocError> {
+    if let Some(at) = open_quote(bytes, found.start, delimiter) {
+        let advice = Advice::new(
+            alloc,
+            "the quote that begins here never closes, and takes all that follows",
+            "close it, or write a quote in a text twice and the text in quotes: \"a \"\"b\"\" c\"",
+        )?;
+        return write_at(alloc, report, bytes, quote_span(at), &advice);
+    }
+    if let Some(at) = long_quote(bytes, found.start, delimiter) {
+        let advice = Advice::new(
+            alloc,
+            "the quote that begins here closes in a later line",
+            "close it in its own line, if it should; a quote in a text is written twice",
+        )?;
+        return write_at(alloc, report, bytes, quote_span(at), &advice);
+    }
+    let advice = of_count(alloc, wanted, &found.fields)?;
+    let field = found.fields.len().min(wanted.count);
+    let span = field_span(bytes, found.start, field, delimiter);
+    write_at(alloc, report, bytes, span, &advice)
+}
+
+/// A quote.
+fn quote_span(at: usize) -> Span {
+    Span {
+        start: at,
+        end: at.saturating_add(1),
+    }
+}
+
+/// What is told of a record with this many fields.
+fn of_count(alloc: Global, wanted: &Wanted, fields: &ByteRecord) -> Result<Advice, AllocError> {
+    let count = fields.len();
+    let what = format!(in alloc;
+        "this record has {count} {}, and the {} has {} {}",
+        noun(count, "field", "fields"),
+        wanted.whose,
+        wanted.count,
+        wanted.what
+    )?;
+    let help = match of_stray_line(fields) {
+        Some(help) if wanted.count > 1 => help,
+        _ => of_fields(count > wanted.count),
+    };
+    Advice::new(alloc, what.as_str(), help)
+}
+
+/// What to do about a record with too many fields, or too few.
+fn of_fields(too_many: bool) -> &'static str {
+    if too_many {
+        "a field with a comma in it is written in double quotes: \"1,5\"; a comma at a line's end begins one more field"
+    } else {
+        "an empty field is between its commas: x,,5"
+    }
+}
+
+/// Explains a field that is no value of its column.
+pub(crate) fn of_field(
+    alloc: Global,
+    report: &mut Report,
+    table: &Table,
+    bytes: &[u8],
+    number: u64,
+) -> Result<(), AllocError> {
+    let Some(found) = record_at(alloc, bytes, CsvLayout::plain(), number)? else {
+        return Ok(());
+    };
+    let columns = table.columns();
+    let index = match not_text(&found.fields) {
+        Some(index) => index,
+        None => first_misfit(columns, &found.fields).unwrap_or(columns.len()),
+    };
+    let span = field_span(bytes, found.start, index, b',');
+    let Some(column) = columns.get(index) else {
+        return Ok(());
+    };
+    let field = found.fields.get(index).unwrap_or(b"");
+    let advice = match of_word(alloc, bytes, index, field)? {
+        Some(help) => not_whole(alloc, column, field, number, help.as_str())?,
+        None => at_field(alloc, column, field, number)?,
+    };
+    write_at(alloc, report, bytes, span, &advice)
+}
+
+/// The index of the first field that isn't UTF-8.
+fn not_text(fields: &ByteRecord) -> Option<usize> {
+    for index in 0..fields.len() {
+        let field = fields.get(index).unwrap_or(b"");
+        if std::str::from_utf8(field).is_err() {
+            return Some(index);
+        }
+    }
+    None
+}
+
+/// What to do about a field at this place that is a word for null, if it is one.
+fn of_word(
+    alloc: Global,
+    bytes: &[u8],
+    place: usize,
+    field: &[u8],
+) -> Result<Option<String>, AllocError> {
+    match std::str::from_utf8(field) {
+        Ok(text) => of_null_word(alloc, bytes, CsvLayout::plain(), place, text),
+        Err(_) => Ok(None),
+    }
+}
+
+/// What is told of a field.
+fn at_field(
+    alloc: Global,
+    column: &Column,
+    field: &[u8],
+    number: u64,
+) -> Result<Advice, AllocError> {
+    let Ok(text) = std::str::from_utf8(field) else {
+        let name = shown(alloc, column.name.as_str())?;
+        let what = format!(in alloc; "record {number}, column {name}: these bytes aren't UTF-8")?;
+        let help = "UTF-8 is read: iconv -f WINDOWS-1252 -t UTF-8 FILE | rowmatch ..";
+        return Advice::new(alloc, what.as_str(), help);
+    };
+    not_whole(alloc, column, field, number, of_number(text))
+}
+
+/// What is reported of a field that is no whole number.
+fn not_whole(
+    alloc: Global,
+    column: &Column,
+    field: &[u8],
+    number: u64,
+    help: &str,
+) -> Result<Advice, AllocError> {
+    let name = shown(alloc, column.name.as_str())?;
+    let text = String::from_utf8_lossy(alloc, field)?;
+    let short = shortened(alloc, text.as_str())?;
+    let what = format!(in alloc; "record {number}, column {name}: `{short}` is no whole number")?;
+    let help = format!(in alloc; "{help}\nfor any text the table has {name} text")?;
+    Advice::new(alloc, what.as_str(), help.as_str())
+}
+
+/// The first characters of a field.
+pub(crate) fn shortened(alloc: Global, field: &str) -> Result<String, AllocError> {
+    let mut short = String::new(alloc);
+    for character in field.chars().take(40) {
+        short.push(shown_character(character))?;
+    }
+    Ok(short)
+}

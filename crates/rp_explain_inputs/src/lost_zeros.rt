@@ -1,0 +1,59 @@
+//! Zeros before a number, which are lost.
+
+use crate::field::shortened;
+use crate::first_line::is_whole;
+use crate::proposed::is_plain_number;
+use csv::ByteRecord;
+use rp_input::{MAX_RECORDS, reader_of, take_record};
+use rp_value::{Column, Kind, Table};
+use rp_wording::{shown, shown_text};
+use std::alloc::{AllocError, Global};
+
+/// Says of the bytes of a CSV text, which are rows of a table, where zeros before a number are lost. The line ends in LF; there may be
+/// none.
+pub fn describe_zeros(alloc: Global, table: &Table, bytes: &[u8]) -> Result<String, AllocError> {
+    let mut reader = reader_of(alloc, bytes, b',');
+    let mut fields = ByteRecord::new(alloc);
+    if !take_record(&mut reader, &mut fields)? {
+        return Ok(String::new(alloc));
+    }
+    for _record in 0..MAX_RECORDS {
+        if !take_record(&mut reader, &mut fields)? {
+            break;
+        }
+        if let Some(index) = zeros_at(table.columns(), &fields) {
+            return of_zeros(alloc, table.columns(), &fields, index);
+        }
+    }
+    Ok(String::new(alloc))
+}
+
+/// The first column of whole numbers in which a record has zeros before a number.
+fn zeros_at(columns: &[Column], fields: &ByteRecord) -> Option<usize> {
+    for (index, column) in columns.iter().enumerate() {
+        let field = fields.get(index).unwrap_or(b"");
+        if column.kind == Kind::Int && is_whole(field) && !is_plain_number(field) {
+            return Some(index);
+        }
+    }
+    None
+}
+
+/// Says that zeros before a number are lost.
+fn of_zeros(
+    alloc: Global,
+    columns: &[Column],
+    fields: &ByteRecord,
+    index: usize,
+) -> Result<String, AllocError> {
+    let Some(column) = columns.get(index) else {
+        return Ok(String::new(alloc));
+    };
+    let typed = shown(alloc, column.name.as_str())?;
+    let field = String::from_utf8_lossy(alloc, fields.get(index).unwrap_or(b""))?;
+    let field = shortened(alloc, field.as_str())?;
+    let line = format!(in alloc;
+        "{typed} is int, so the zeros before {field} are lost: if they count, as in a postal code, write {typed} text\n"
+    )?;
+    shown_text(alloc, line.as_str())
+}

@@ -1,0 +1,136 @@
+//! Columns that are proposed as text, since words for null are among their numbers.
+
+use crate::null_words::{is_null_word, of_null_word};
+use crate::proposed::{is_null, is_plain_number, meaning};
+use csv::{ByteRecord, Reader};
+use rp_input::{CsvLayout, MAX_RECORDS, reader_of, take_record};
+use rp_place::push_help;
+use rp_value::Text;
+use rp_wording::shown;
+use std::alloc::{AllocError, Global};
+use std::fmt::Write;
+
+/// What was seen in a column's fields.
+#[derive(Clone, Copy)]
+struct Seen {
+    /// Whether one was a whole number.
+    number: bool,
+    /// Whether one was a word that other programs write for a null.
+    word: bool,
+    /// Whether one was neither of them, and not null.
+    other: bool,
+}
+
+/// Writes of each column of a CSV text that has whole numbers and words for null alone that it is text, and what to do.
+pub(crate) fn push_mixed(
+    alloc: Global,
+    out: &mut String,
+    bytes: &[u8],
+    layout: CsvLayout,
+    nulls: &[Text],
+) -> Result<(), AllocError> {
+    let mut reader = reader_of(alloc, bytes, layout.delimiter);
+    let mut header = ByteRecord::new(alloc);
+    if !take_record(&mut reader, &mut header)? {
+        return Ok(());
+    }
+    let seen = seen_in(alloc, &mut reader, header.len(), nulls)?;
+    for (index, one) in seen.iter().enumerate() {
+        if one.number && one.word && !one.other {
+            let name = meaning(alloc, header.get(index).unwrap_or(b""))?;
+            push_column(alloc, out, bytes, layout, index, name.as_str())?;
+        }
+    }
+    Ok(())
+}
+
+/// What all records that are left have in each of so many columns.
+fn seen_in(
+    alloc: Global,
+    reader: &mut Reader<&[u8]>,
+    count: usize,
+    nulls: &[Text],
+) -> Result<Vec<Seen>, AllocError> {
+    let mut seen = nothing_seen(alloc, count)?;
+    let mut fields = ByteRecord::new(alloc);
+    for _record in 0..MAX_RECORDS {
+        if !take_record(reader, &mut fields)? {
+            break;
+        }
+        look_at(&mut seen, &fields, nulls);
+    }
+    Ok(seen)
+}
+
+/// Nothing was seen of any column.
+fn nothing_seen(alloc: Global, count: usize) -> Result<Vec<Seen>, AllocError> {
+    let mut seen = Vec::new(alloc);
+    for _column in 0..count {
+        seen.push(Seen {
+            number: false,
+            word: false,
+            other: false,
+        })?;
+    }
+    Ok(seen)
+}
+
+/// Looks at the fields of a record.
+fn look_at(seen: &mut Vec<Seen>, fields: &ByteRecord, nulls: &[Text]) {
+    for (index, one) in seen.iter_mut().enumerate() {
+        let field = fields.get(index).unwrap_or(b"");
+        if !is_null(field, nulls) {
+            *one = with_field(*one, field);
+        }
+    }
+}
+
+/// What was seen of a column with a further field, which isn't null.
+fn with_field(seen: Seen, field: &[u8]) -> Seen {
+    let number = is_plain_number(field);
+    let word = is_null_word(field);
+    Seen {
+        number: seen.number || number,
+        word: seen.word || word,
+        other: seen.other || !number && !word,
+    }
+}
+
+/// Writes that a column is text because of a word, and what to do.
+fn push_column(
+    alloc: Global,
+    out: &mut String,
+    bytes: &[u8],
+    layout: CsvLayout,
+    index: usize,
+    name: &str,
+) -> Result<(), AllocError> {
+    let word = first_word(alloc, bytes, layout, index)?;
+    let Some(help) = of_null_word(alloc, bytes, layout, index, word.as_str())? else {
+        return Ok(());
+    };
+    let typed = shown(alloc, name)?;
+    writeln!(out, "  {typed} is text, since a word is among its numbers")?;
+    push_help(out, help.as_str())
+}
+
+/// The first word for null in a column; it may be empty.
+fn first_word(
+    alloc: Global,
+    bytes: &[u8],
+    layout: CsvLayout,
+    index: usize,
+) -> Result<String, AllocError> {
+    let mut reader = reader_of(alloc, bytes, layout.delimiter);
+    let mut fields = ByteRecord::new(alloc);
+    for _record in 0..MAX_RECORDS {
+        if !take_record(&mut reader, &mut fields)? {
+            break;
+        }
+        let field = fields.get(index).unwrap_or(b"");
+        if is_null_word(field) {
+            return String::from_utf8_lossy(alloc, field);
+        }
+    }
+    Ok(String::new(alloc))
+}

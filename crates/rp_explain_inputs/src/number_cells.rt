@@ -1,0 +1,170 @@
+//! What to do about fields that should be whole numbers, and aren't.
+
+use rp_wording::{is_date, is_one_of};
+
+/// What spreadsheets write where a formula failed.
+const SHEET_ERRORS: &str = "#REF! #DIV/0! #VALUE! #NAME? #NUM! #NULL!";
+
+/// What to do about a field that should be a whole number.
+pub(crate) fn of_number(field: &str) -> &'static str {
+    let inside = field.trim();
+    if inside.len() != field.len() && inside.parse::<i64>().is_ok() {
+        return "the blanks round the number are to be taken out of the file";
+    }
+    if inside.is_empty() {
+        return "a null is an empty field, without a blank";
+    }
+    if is_one_of(inside, "TRUE FALSE T F YES NO Y N") {
+        return "write 1 and 0";
+    }
+    if is_date(inside) {
+        return "dates as 2024-01-05 are ordered and compared as text; to subtract them let the file have seconds, as sqlite's unixepoch(t) or date -d .. +%s give them";
+    }
+    if let Some(help) = of_sign(inside) {
+        return help;
+    }
+    if let Some(help) = of_known_fraction(inside) {
+        return help;
+    }
+    of_digits(inside)
+}
+
+/// What to do about a number that has its sign in another way, or is none because of a formula.
+pub(crate) fn of_sign(text: &str) -> Option<&'static str> {
+    if is_one_of(text, SHEET_ERRORS) {
+        return Some(
+            "a spreadsheet writes this where a formula failed: mend the formula, or leave the cell empty for a null",
+        );
+    }
+    if text.contains('\u{2212}') {
+        return Some(
+            "the sign is U+2212, and no minus sign, which is U+002D: sed 's/\u{2212}/-/g' FILE | rowmatch ..",
+        );
+    }
+    if is_bracketed(text) {
+        return Some(
+            "accountants write -10 as (10): write the minus sign, and leave the brackets out",
+        );
+    }
+    None
+}
+
+/// Whether it is a number in brackets.
+fn is_bracketed(text: &str) -> bool {
+    text.starts_with('(')
+        && text.ends_with(')')
+        && text.bytes().all(|byte| byte.is_ascii_digit()
+            || matches!(byte, b'(' | b')' | b'.' | b','))
+}
+
+/// What to do about a number with signs between thousands, one whose fraction is 0, and seconds with a fraction.
+pub(crate) fn of_known_fraction(text: &str) -> Option<&'static str> {
+    if is_grouped(text) {
+        return Some(
+            "write the digits alone, without separators; or decimal(C, 0, ',') of --columns reads them",
+        );
+    }
+    let (whole, rest) = text.split_once('.')?;
+    if !is_digits(rest) || !is_digits(unsigned(whole)) {
+        return None;
+    }
+    if rest.bytes().all(|byte| byte == b'0') {
+        return Some(
+            "pandas writes whole numbers so in a column with a null: astype(\"Int64\") before to_csv; or decimal(C, 0) of --columns reads them",
+        );
+    }
+    if is_epoch(whole) {
+        return of_seconds(rest.len());
+    }
+    None
+}
+
+/// What to do about seconds with so many places behind the point.
+fn of_seconds(places: usize) -> Option<&'static str> {
+    match places {
+        0 | 1 | 2 | 3 => Some(
+            "seconds with a fraction: let the file have milliseconds; or decimal(C, 3) of --columns reads them as milliseconds",
+        ),
+        4 | 5 | 6 => Some(
+            "seconds with a fraction: let the file have microseconds; or decimal(C, 6) of --columns reads them as microseconds",
+        ),
+        7 | 8 | 9 => Some(
+            "seconds with a fraction: let the file have nanoseconds; or decimal(C, 9) of --columns reads them as nanoseconds",
+        ),
+        _ => None,
+    }
+}
+
+/// Whether it may be seconds since 1970, of the years 2001 to 2065.
+fn is_epoch(text: &str) -> bool {
+    text.len() == 10 && (text.starts_with('1') || text.starts_with('2'))
+}
+
+/// Whether there are commas between groups of three digits, as in 1,234,567.
+fn is_grouped(text: &str) -> bool {
+    let mut groups = 0usize;
+    for group in unsigned(text).split(',') {
+        let fits = group.len() == 3 || groups == 0 && group.len() < 3;
+        if !fits || !is_digits(group) {
+            return false;
+        }
+        groups = groups.saturating_add(1);
+    }
+    groups > 1
+}
+
+/// The text without a sign in front.
+fn unsigned(text: &str) -> &str {
+    match text.strip_prefix('-') {
+        Some(rest) => rest,
+        None => match text.strip_prefix('+') {
+            Some(rest) => rest,
+            None => text,
+        },
+    }
+}
+
+/// Whether it is one digit or more, and nothing else.
+fn is_digits(text: &str) -> bool {
+    !text.is_empty() && text.bytes().all(|byte| byte.is_ascii_digit())
+}
+
+/// What to do about a number that is no whole one.
+fn of_digits(text: &str) -> &'static str {
+    let digits = text.bytes().filter(|byte| byte.is_ascii_digit()).count();
+    if digits == 0 {
+        return "is the column one of text?";
+    }
+    if text.bytes().all(|byte| byte.is_ascii_digit() || byte == b'-' || byte == b'+') {
+        return "it has more than 64 bits, or its sign is in a wrong place";
+    }
+    if is_decimal(text, '.') || is_decimal(text, ',') {
+        return "there are no fractions: let the file have a smaller unit, as cents";
+    }
+    if text.contains('e') || text.contains('E') {
+        return "write all digits, without an exponent";
+    }
+    if text.contains(',') || text.contains('_') || text.contains('\'') || text.contains(' ') {
+        return "write the digits alone, without separators";
+    }
+    if text.contains('$')
+        || text.contains('%')
+        || text.contains('\u{20ac}')
+        || text.contains('\u{a3}')
+    {
+        return "write the digits alone, without the sign of a unit";
+    }
+    "digits alone, with - or + or nothing before them, are a whole number"
+}
+
+/// Whether it is digits, one point and digits.
+fn is_decimal(text: &str, point: char) -> bool {
+    match text.split_once(point) {
+        Some((whole, rest)) => {
+            !rest.is_empty()
+                && rest.bytes().all(|byte| byte.is_ascii_digit())
+                && whole.bytes().all(|byte| byte.is_ascii_digit() || byte == b'-' || byte == b'+')
+        }
+        None => false,
+    }
+}

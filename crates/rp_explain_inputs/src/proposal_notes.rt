@@ -1,0 +1,170 @@
+//! What is said of columns that are proposed: which fields have none, and whether something else is between fields.
+
+use crate::by_columns::of_delimiter;
+use crate::mixed::push_mixed;
+use crate::proposed::meanings;
+use csv::{ByteRecord, Reader};
+use rp_input::{CsvLayout, MAX_RECORDS, reader_of, take_record};
+use rp_place::push_help;
+use rp_value::Text;
+use rp_wording::{shown, shown_text};
+use std::alloc::{AllocError, Global};
+use std::fmt::Write;
+
+/// Says what is to be known of the columns that `propose_columns` proposes for the bytes of a CSV text, in which this byte is between
+/// fields: each field of the header that has no column, what seems to be between fields where the header is one field, and columns that
+/// are text since words for null are among their numbers.
+///
+/// Each line ends in LF; there may be none.
+pub fn explain_proposal(
+    alloc: Global,
+    bytes: &[u8],
+    delimiter: u8,
+    nulls: &[Text],
+) -> Result<String, AllocError> {
+    let mut out = String::new(alloc);
+    push_header(alloc, &mut out, bytes, delimiter)?;
+    let layout = CsvLayout {
+        delimiter,
+        has_header: true,
+    };
+    push_mixed(alloc, &mut out, bytes, layout, nulls)?;
+    shown_text(alloc, out.as_str())
+}
+
+/// Writes what is to be known of the header.
+fn push_header(
+    alloc: Global,
+    out: &mut String,
+    bytes: &[u8],
+    delimiter: u8,
+) -> Result<(), AllocError> {
+    let mut reader = reader_of(alloc, bytes, delimiter);
+    let mut header = ByteRecord::new(alloc);
+    if !take_record(&mut reader, &mut header)? {
+        return Ok(());
+    }
+    if header.len() == 1 {
+        return push_between(alloc, out, &header, &mut reader);
+    }
+    push_left_out(alloc, out, &header, delimiter)
+}
+
+/// Writes what to do where a header is one field, and something else seems to be between fields.
+fn push_between(
+    alloc: Global,
+    out: &mut String,
+    header: &ByteRecord,
+    reader: &mut Reader<&[u8]>,
+) -> Result<(), AllocError> {
+    if let Some(help) = of_delimiter(header) {
+        return push_help(out, help);
+    }
+    let words = words_in(header);
+    if words < 2 || !have_words(alloc, reader, words)? {
+        return Ok(());
+    }
+    let line = header.get(0).unwrap_or(b"");
+    if has_runs(line) {
+        return push_help(
+            out,
+            "if the blanks are between fields: tr -s ' ' ',' < FILE | rowmatch ..",
+        );
+    }
+    push_help(
+        out,
+        "if the blanks are between fields, give --delimiter ' '",
+    )
+}
+
+/// How many words with blanks between the one field of a record has; 0 where it has more fields.
+pub(crate) fn words_in(fields: &ByteRecord) -> usize {
+    if fields.len() > 1 {
+        return 0;
+    }
+    let line = fields.get(0).unwrap_or(b"");
+    line.split(|byte| *byte == b' ')
+        .filter(|word| !word.is_empty())
+        .count()
+}
+
+/// Whether all records that are left have so many words, and there is one.
+fn have_words(alloc: Global, reader: &mut Reader<&[u8]>, words: usize) -> Result<bool, AllocError> {
+    let mut fields = ByteRecord::new(alloc);
+    let mut any = false;
+    for _record in 0..MAX_RECORDS {
+        if !take_record(reader, &mut fields)? {
+            break;
+        }
+        if words_in(&fields) != words {
+            return Ok(false);
+        }
+        any = true;
+    }
+    Ok(any)
+}
+
+/// Whether there are two blanks in a row, or one at an end.
+fn has_runs(line: &[u8]) -> bool {
+    line.split(|byte| *byte == b' ').any(|word| word.is_empty())
+}
+
+/// Writes which fields of a header have no column, and what to do.
+fn push_left_out(
+    alloc: Global,
+    out: &mut String,
+    header: &ByteRecord,
+    delimiter: u8,
+) -> Result<(), AllocError> {
+    let names = meanings(alloc, header)?;
+    for (index, name) in names.iter().enumerate() {
+        if name.is_empty() {
+            push_nameless(out, index, delimiter)?;
+        } else if is_first_of_more(names.as_slice(), index) {
+            push_double(alloc, out, name.as_str())?;
+        }
+    }
+    Ok(())
+}
+
+/// Whether this name comes again behind this place, and not before.
+fn is_first_of_more(names: &[String], index: usize) -> bool {
+    let Some(name) = names.get(index) else {
+        return false;
+    };
+    let before = names.get(..index).unwrap_or(&[]);
+    let count = names
+        .iter()
+        .filter(|other| other.as_str() == name.as_str())
+        .count();
+    count > 1 && !before.iter().any(|other| other.as_str() == name.as_str())
+}
+
+/// Writes that a field has no name.
+fn push_nameless(out: &mut String, index: usize, delimiter: u8) -> Result<(), AllocError> {
+    let number = index.saturating_add(1);
+    writeln!(
+        out,
+        "  column {number} of the file has no name, and is left out"
+    )?;
+    if index == 0 && delimiter == b',' {
+        return push_help(
+            out,
+            "to name it: sed '1s/^,/index,/' FILE | rowmatch ..; pandas writes none with index=False",
+        );
+    }
+    push_help(out, "to have it, name it in the first line of the file")
+}
+
+/// Writes that more than one field has a name.
+fn push_double(alloc: Global, out: &mut String, name: &str) -> Result<(), AllocError> {
+    let typed = shown(alloc, name)?;
+    writeln!(
+        out,
+        "  {typed} is the name of more than one field of the header, and is left out"
+    )?;
+    push_help(
+        out,
+        "to have them, give them different names in the first line of the file",
+    )
+}

@@ -1,0 +1,249 @@
+//! The columns of an input, proposed from what it holds.
+
+use crate::first_line::{is_whole, kind_of};
+use crate::fronts::is_foreign;
+use crate::heading::of_heading;
+use csv::{ByteRecord, Reader};
+use rp_input::{MAX_RECORDS, reader_of, take_record};
+use rp_value::{Column, Kind, Text, upper_case_name};
+use rp_wording::{is_plain, shown, upper_case};
+use std::alloc::{AllocError, Global};
+
+/// Columns that are proposed for an input.
+#[derive(Drop)]
+pub struct Proposal {
+    /// Their text, as `sym text, t int`. It is empty where there is no header, there is something above it, or no field of it has a name
+    /// of its own.
+    pub columns: String,
+    /// Whether each field of the header has a column, so that the text is that of a table too.
+    pub is_table: bool,
+}
+
+/// What was seen in a column's fields.
+#[derive(Clone, Copy)]
+struct Seen {
+    /// Whether one wasn't null.
+    value: bool,
+    /// Whether one was neither null nor a whole number.
+    text: bool,
+}
+
+/// Columns that fit the header and all records of a CSV text, in which this byte is between fields. A column is `int` where it has a
+/// value and every one is a whole number of 64 bits, else `text`. A number with a zero in front is a text, since that zero would be
+/// lost: a card number or a postal code. So of `sym,t` and `x,1` it is `sym text, t int`.
+///
+/// A field of the header that is empty, or has the name of another one, has no column.
+pub fn propose_columns(
+    alloc: Global,
+    bytes: &[u8],
+    delimiter: u8,
+    nulls: &[Text],
+) -> Result<Proposal, AllocError> {
+    if is_foreign(bytes) || of_heading(alloc, bytes, delimiter)?.is_some() {
+        return Ok(no_columns(alloc));
+    }
+    propose_below(alloc, bytes, delimiter, nulls)
+}
+
+/// No columns.
+fn no_columns(alloc: Global) -> Proposal {
+    Proposal {
+        columns: String::new(alloc),
+        is_table: true,
+    }
+}
+
+/// Columns that fit the first record as a header, and all others.
+fn propose_below(
+    alloc: Global,
+    bytes: &[u8],
+    delimiter: u8,
+    nulls: &[Text],
+) -> Result<Proposal, AllocError> {
+    let mut reader = reader_of(alloc, bytes, delimiter);
+    let mut header = ByteRecord::new(alloc);
+    let mut proposal = no_columns(alloc);
+    if !take_record(&mut reader, &mut header)? {
+        return Ok(proposal);
+    }
+    let seen = seen_in(alloc, &mut reader, header.len(), nulls)?;
+    let names = meanings(alloc, &header)?;
+    for (index, one) in seen.iter().enumerate() {
+        if is_named(names.as_slice(), index) {
+            push_column(
+                alloc,
+                &mut proposal.columns,
+                &header,
+                index,
+                kind_seen(*one),
+            )?;
+        } else {
+            proposal.is_table = false;
+        }
+    }
+    Ok(proposal)
+}
+
+/// The names that the fields of a header mean.
+pub(crate) fn meanings(alloc: Global, header: &ByteRecord) -> Result<Vec<String>, AllocError> {
+    let mut names = Vec::new(alloc);
+    for index in 0..header.len() {
+        names.push(meaning(alloc, header.get(index).unwrap_or(b""))?)?;
+    }
+    Ok(names)
+}
+
+/// The name that a field of a header means.
+pub(crate) fn meaning(alloc: Global, field: &[u8]) -> Result<String, AllocError> {
+    let text = String::from_utf8_lossy(alloc, field)?;
+    match upper_case_name(alloc, text.as_str())? {
+        Some(name) => String::from_str(alloc, name.as_str()),
+        None => String::from_str(alloc, text.as_str()),
+    }
+}
+
+/// Whether a field of a header has a name, and no other one has it.
+pub(crate) fn is_named(names: &[String], index: usize) -> bool {
+    let name = match names.get(index) {
+        Some(name) => name.as_str(),
+        None => "",
+    };
+    let count = names.iter().filter(|other| other.as_str() == name).count();
+    !name.is_empty() && count == 1
+}
+
+/// The kind of a column by what was seen of it.
+fn kind_seen(seen: Seen) -> &'static str {
+    if seen.value && !seen.text {
+        "int"
+    } else {
+        "text"
+    }
+}
+
+/// What all records have in each of so many columns.
+fn seen_in(
+    alloc: Global,
+    reader: &mut Reader<&[u8]>,
+    count: usize,
+    nulls: &[Text],
+) -> Result<Vec<Seen>, AllocError> {
+    let mut seen = nothing_seen(alloc, count)?;
+    let mut fields = ByteRecord::new(alloc);
+    for _record in 0..MAX_RECORDS {
+        if !take_record(reader, &mut fields)? {
+            break;
+        }
+        look_at(&mut seen, &fields, nulls);
+    }
+    Ok(seen)
+}
+
+/// Nothing was seen of any column.
+fn nothing_seen(alloc: Global, count: usize) -> Result<Vec<Seen>, AllocError> {
+    let mut seen = Vec::new(alloc);
+    for _column in 0..count {
+        seen.push(Seen {
+            value: false,
+            text: false,
+        })?;
+    }
+    Ok(seen)
+}
+
+/// Looks at the fields of a record.
+fn look_at(seen: &mut Vec<Seen>, fields: &ByteRecord, nulls: &[Text]) {
+    for (index, one) in seen.iter_mut().enumerate() {
+        let field = fields.get(index).unwrap_or(b"");
+        if !is_null(field, nulls) {
+            *one = Seen {
+                value: true,
+                text: one.text || !is_plain_number(field),
+            };
+        }
+    }
+}
+
+/// Whether a field tells nothing of its column: it is empty or a word for null.
+pub(crate) fn is_null(field: &[u8], nulls: &[Text]) -> bool {
+    field.is_empty() || nulls.iter().any(|word| word.as_str().as_bytes() == field)
+}
+
+/// Whether a field is a whole number of 64 bits without a zero in front.
+pub(crate) fn is_plain_number(field: &[u8]) -> bool {
+    let digits = match field {
+        [b'-' | b'+', rest @ ..] => rest,
+        _ => field,
+    };
+    is_whole(field) && (digits.len() == 1 || digits.first() != Some(&b'0'))
+}
+
+/// Writes a column's name and kind behind those before.
+fn push_column(
+    alloc: Global,
+    text: &mut String,
+    header: &ByteRecord,
+    index: usize,
+    kind: &str,
+) -> Result<(), AllocError> {
+    if !text.is_empty() {
+        text.push_str(", ")?;
+    }
+    let field = header.get(index).unwrap_or(b"");
+    let name = String::from_utf8_lossy(alloc, field)?;
+    let typed = typed_name(alloc, name.as_str())?;
+    text.push_str(typed.as_str())?;
+    text.push(' ')?;
+    text.push_str(kind)
+}
+
+/// The name of a header as it may be typed in a table.
+fn typed_name(alloc: Global, name: &str) -> Result<String, AllocError> {
+    if is_plain(alloc, name)? {
+        return String::from_str(alloc, name);
+    }
+    let upper = upper_case(alloc, name)?;
+    if is_word(name) {
+        return shown(alloc, upper.as_str());
+    }
+    shown_as_is(alloc, name)
+}
+
+/// Whether a name has the form of one without quotes, as a reserved word has.
+fn is_word(name: &str) -> bool {
+    !name.is_empty()
+        && name
+            .bytes()
+            .all(|byte| byte.is_ascii_alphabetic() || byte == b'_')
+}
+
+/// A name in quotes.
+fn shown_as_is(alloc: Global, name: &str) -> Result<String, AllocError> {
+    let mut quoted = String::from_str(alloc, "\"")?;
+    for (index, piece) in name.split('"').enumerate() {
+        if index > 0 {
+            quoted.push_str("\"\"")?;
+        }
+        quoted.push_str(piece)?;
+    }
+    quoted.push('"')?;
+    Ok(quoted)
+}
+
+/// The text of a table with the columns of a header, and the kinds that those have in another table: text where they aren't in it.
+pub(crate) fn table_text(
+    alloc: Global,
+    header: &ByteRecord,
+    columns: &[Column],
+) -> Result<String, AllocError> {
+    let mut text = String::new(alloc);
+    for index in 0..header.len() {
+        let name = String::from_utf8_lossy(alloc, header.get(index).unwrap_or(b""))?;
+        let kind = match kind_of(alloc, columns, name.as_str())? {
+            Some(Kind::Int) => "int",
+            _ => "text",
+        };
+        push_column(alloc, &mut text, header, index, kind)?;
+    }
+    Ok(text)
+}

@@ -1,0 +1,222 @@
+//! What can't stand in an expression: signs, numbers and arguments.
+
+use rp_lexer::TokenKind;
+use rp_wording::{Hint, Part, Reading, is_one_of, said};
+
+/// Signs that were doubled or put together as in other languages: the one before, the one here, what is wrong and what to write.
+const SIGNS: [(&str, &str, &str, &str); 14] = [
+    ("=", ">", "there is no =>", "write >= for 'at least'"),
+    ("=", "<", "there is no =<", "write <= for 'at most'"),
+    ("=", "<=", "there is no =<", "write <= for 'at most'"),
+    ("=", ">=", "there is no =>", "write >= for 'at least'"),
+    ("=", "=", "there is no ==", "write = for 'equal'"),
+    (
+        "<",
+        "=",
+        "a sign of two characters has no blank inside",
+        "write <=",
+    ),
+    (
+        ">",
+        "=",
+        "a sign of two characters has no blank inside",
+        "write >=",
+    ),
+    (
+        "<",
+        ">",
+        "a sign of two characters has no blank inside",
+        "write <> for 'not equal'",
+    ),
+    (">", "<", "there is no ><", "write <> for 'not equal'"),
+    (
+        "<=",
+        ">",
+        "there is no <=>",
+        "write p = q OR p IS NULL AND q IS NULL",
+    ),
+    (">", ">", "there is no >>", "multiply by a power of two"),
+    ("<", "<", "there is no <<", "multiply by a power of two"),
+    ("<>", "=", "there is no <>=", "write <> for 'not equal'"),
+    (
+        "-",
+        ">",
+        "there is no ->",
+        "a column of a variable's row is written A.p",
+    ),
+];
+
+/// What is wrong behind a value or in the place of one, in MEASURES and DEFINE.
+pub(crate) fn behind_values(reading: &Reading<'_>) -> Option<Hint> {
+    if let Some(found) = of_signs(reading) {
+        return Some(found);
+    }
+    if let Some(found) = of_numbers(reading) {
+        return Some(found);
+    }
+    if reading.part() != Part::Measures && reading.part() != Part::Define {
+        return None;
+    }
+    if let Some(found) = of_null(reading) {
+        return Some(found);
+    }
+    if let Some(found) = of_arguments(reading) {
+        return Some(found);
+    }
+    if let Some(found) = of_calls(reading) {
+        return Some(found);
+    }
+    of_marks(reading)
+}
+
+/// Signs that make none together.
+fn of_signs(reading: &Reading<'_>) -> Option<Hint> {
+    for (before, here, what, help) in &SIGNS {
+        if reading.back(1) == *before && reading.here() == *here {
+            return said(what, help);
+        }
+    }
+    None
+}
+
+/// Fractions, exponents and digits with signs between.
+fn of_numbers(reading: &Reading<'_>) -> Option<Hint> {
+    let number = Some(TokenKind::Number);
+    let behind = reading.kind_back(1) == number;
+    if reading.here() == "." && (behind || reading.kind(reading.at.saturating_add(1)) == number) {
+        return said(
+            "there are no fractions",
+            "take a smaller unit, as cents, or multiply both sides: for p < 0.95 * q write p * 100 < 95 * q",
+        );
+    }
+    if behind && reading.touches() && reading.is_name() {
+        return said(
+            "a number has digits alone",
+            "write 1000 for 1e3, 1k and 1_000; a unit of time is left out",
+        );
+    }
+    if behind && reading.kind_here() == number {
+        return said(
+            "two numbers are side by side",
+            "write an operator between them; a number has no blanks inside",
+        );
+    }
+    None
+}
+
+/// NULL as a value, and IS before anything else.
+fn of_null(reading: &Reading<'_>) -> Option<Hint> {
+    if is_one_of(reading.here(), "NULL") {
+        return said(
+            "NULL is no value that is compared",
+            "write p IS NULL or p IS NOT NULL",
+        );
+    }
+    if is_one_of(reading.back(1), "IS")
+        || is_one_of(reading.back(2), "IS") && is_one_of(reading.back(1), "NOT")
+    {
+        return said(
+            "behind IS comes NULL or NOT NULL alone",
+            "write p IS NULL, p IS NOT NULL, or a comparison",
+        );
+    }
+    None
+}
+
+/// What stands in the brackets of a function.
+fn of_arguments(reading: &Reading<'_>) -> Option<Hint> {
+    let function = reading.function();
+    if is_one_of(function, "CLASSIFIER") {
+        return said(
+            "CLASSIFIER() has nothing in its brackets",
+            "for a union of UP and DOWN compare LAST(UP.t) with LAST(DOWN.t)",
+        );
+    }
+    if is_one_of(function, "MATCH_NUMBER") {
+        return said("MATCH_NUMBER() has nothing in its brackets", "leave it out");
+    }
+    if is_one_of(function, "COUNT") {
+        return said(
+            "COUNT counts rows or the values of one column",
+            "write COUNT(*), COUNT(A.*), COUNT(p) or COUNT(A.p)",
+        );
+    }
+    if is_one_of(function, "SUM MIN MAX") {
+        return said(
+            "an aggregate goes over one column",
+            "write SUM(p) or SUM(A.p); for the sum of an expression let one more column of the file have it",
+        );
+    }
+    if is_one_of(function, "PREV NEXT FIRST LAST") {
+        return of_navigation(reading);
+    }
+    None
+}
+
+/// What stands in the brackets of PREV, NEXT, FIRST or LAST.
+fn of_navigation(reading: &Reading<'_>) -> Option<Hint> {
+    if reading.back(1) == "," {
+        return said(
+            "an offset is a number that is written out",
+            "write PREV(p, 2); for PREV(p, -2) write NEXT(p, 2)",
+        );
+    }
+    said(
+        "a navigation is of one column, and perhaps a number",
+        "write PREV(p), PREV(A.p, 2), or PREV(p) + PREV(q) in place of PREV(p + q)",
+    )
+}
+
+/// Functions without their brackets, and a point behind a bracket.
+fn of_calls(reading: &Reading<'_>) -> Option<Hint> {
+    if reading.here() != "(" && is_one_of(reading.back(1), "CLASSIFIER MATCH_NUMBER") {
+        return said(
+            "the brackets are missing",
+            "write CLASSIFIER() and MATCH_NUMBER(); as a name in quotes, \"CLASSIFIER\"",
+        );
+    }
+    if reading.here() != "("
+        && is_one_of(reading.back(1), "FIRST LAST PREV NEXT COUNT SUM MIN MAX")
+    {
+        return said(
+            "a reserved word is before this, without its brackets",
+            "as a function write FIRST(p); as a name in quotes and in upper case, \"FIRST\"",
+        );
+    }
+    if is_one_of(reading.back(1), "RUNNING FINAL") {
+        return said(
+            "RUNNING and FINAL come before FIRST, LAST, COUNT, SUM, MIN and MAX alone",
+            "write FINAL LAST(p) in place of FINAL p",
+        );
+    }
+    if reading.here() == "." && reading.back(1) == ")" {
+        return said(
+            "a point can't follow a bracket",
+            "write LAST(A.p) in place of LAST(A).p",
+        );
+    }
+    if reading.here() == "*" && reading.back(1) == "." {
+        return said(
+            "A.* is for COUNT alone",
+            "write COUNT(A.*), or a column, A.p",
+        );
+    }
+    None
+}
+
+/// Marks that mean nothing in an expression, or mean something in PATTERN alone.
+fn of_marks(reading: &Reading<'_>) -> Option<Hint> {
+    match reading.here() {
+        "|" => said(
+            "| is for PATTERN alone",
+            "in a condition write OR; texts can't be joined",
+        ),
+        "^" => said("there are no powers", "write p * p"),
+        "*" if reading.back(1) == "*" => said("there are no powers", "write p * p"),
+        "?" => said("there are no parameters", "write the value itself"),
+        "{" | "{-" => said("this bracket is for PATTERN alone", "write ( )"),
+        "$" => said("$ is for PATTERN alone", "write the value itself"),
+        "+" => said("a + before a value means nothing", "leave it out"),
+        _ => None,
+    }
+}

@@ -1,0 +1,119 @@
+//! Brackets that are never closed.
+
+use crate::parts::begins_part;
+use rp_lexer::{Mark, TokenKind};
+use rp_place::{Place, Span};
+use rp_wording::{Advice, Part, Reading, is_one_of};
+use std::alloc::{AllocError, Global};
+
+/// The bracket, or the `{-`, that is open where a part or a name begins, or where the clause ends.
+pub(crate) fn unclosed(alloc: Global, reading: &Reading<'_>) -> Result<Option<Advice>, AllocError> {
+    if let Some(index) = open_exclusion(reading) {
+        let advice = never_closed(alloc, reading, index, "-}")?;
+        return Ok(Some(advice));
+    }
+    if let Some(index) = left_open(reading) {
+        let advice = never_closed(alloc, reading, index, ")")?;
+        return Ok(Some(advice));
+    }
+    Ok(None)
+}
+
+/// The index of a bracket that is open where a part or a name begins.
+fn left_open(reading: &Reading<'_>) -> Option<usize> {
+    if !may_begin(reading) || !reading.is_in_brackets() || is_awaited(reading) {
+        return None;
+    }
+    reading.open_bracket()
+}
+
+/// Whether a part or a name may begin at the place.
+fn may_begin(reading: &Reading<'_>) -> bool {
+    is_one_of(reading.here(), "AS PATTERN SUBSET DEFINE MEASURES") || begins_part(reading)
+}
+
+/// Whether more has to come behind the token before the place; in a pattern `+` and `*` end a part.
+fn is_awaited(reading: &Reading<'_>) -> bool {
+    let back = reading.back(1);
+    is_one_of(back, "( , . | = < > <= >= <> -")
+        || is_one_of(back, "+ *") && reading.part() != Part::Pattern
+}
+
+/// The index of a `{-` that is open where a bracket closes, a part begins or the clause ends.
+fn open_exclusion(reading: &Reading<'_>) -> Option<usize> {
+    if reading.part() != Part::Pattern {
+        return None;
+    }
+    if reading.here() == ")" || reading.is_end() || begins_part(reading) {
+        return innermost_exclusion(reading);
+    }
+    None
+}
+
+/// The index of the `{-` before the place that isn't closed there, and in which no other bracket is open.
+fn innermost_exclusion(reading: &Reading<'_>) -> Option<usize> {
+    let mut closed = 0usize;
+    for (index, token) in reading.tokens.iter().enumerate().take(reading.at).rev() {
+        if closed == 0 && opens(token.kind) {
+            return exclusion_at(token.kind, index);
+        }
+        closed = closed_before(token.kind, closed);
+    }
+    None
+}
+
+/// The index of a token, where that is a `{-`.
+fn exclusion_at(kind: TokenKind, index: usize) -> Option<usize> {
+    if kind == TokenKind::Mark(Mark::LeftBraceMinus) {
+        return Some(index);
+    }
+    None
+}
+
+/// Whether a token opens a bracket.
+fn opens(kind: TokenKind) -> bool {
+    kind == TokenKind::Mark(Mark::LeftBraceMinus) || kind == TokenKind::Mark(Mark::LeftParenthesis)
+}
+
+/// How many brackets are closed behind a token, by how many are behind the next one.
+fn closed_before(kind: TokenKind, closed: usize) -> usize {
+    match kind {
+        TokenKind::Mark(Mark::RightBraceMinus) => closed.saturating_add(1),
+        TokenKind::Mark(Mark::RightParenthesis) => closed.saturating_add(1),
+        _ if opens(kind) => closed.saturating_sub(1),
+        _ => closed,
+    }
+}
+
+/// A bracket that is open at the place, with where it stands, and what closes it.
+pub(crate) fn never_closed(
+    alloc: Global,
+    reading: &Reading<'_>,
+    index: usize,
+    close: &str,
+) -> Result<Advice, AllocError> {
+    let Some(token) = reading.tokens.get(index) else {
+        return Advice::new(alloc, "a bracket is never closed", "");
+    };
+    let span = Span {
+        start: token.start,
+        end: token.end,
+    };
+    let place = Place::of(reading.text, span);
+    let line = place.line;
+    let column = place.column();
+    let name = if close == ")" { "bracket" } else { "{-" };
+    let what = format!(in alloc; "the {name} of line {line}, column {column} is never closed")?;
+    let help = closing_help(alloc, reading, close)?;
+    Advice::new(alloc, what.as_str(), help.as_str())
+}
+
+/// Where to close a bracket.
+fn closing_help(alloc: Global, reading: &Reading<'_>, close: &str) -> Result<String, AllocError> {
+    if reading.is_end() {
+        return format!(in alloc; "write {close} at the end");
+    }
+    let mut word = String::from_str(alloc, reading.here())?;
+    word.make_ascii_uppercase();
+    format!(in alloc; "write {close} before {word}")
+}

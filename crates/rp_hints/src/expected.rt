@@ -1,0 +1,238 @@
+//! A token that can't follow those before it in a clause, or a clause that ends too early.
+
+use crate::behind::behind_values;
+use crate::brackets::{never_closed, unclosed};
+use crate::instead::instead;
+use crate::parts::{of_parts, of_structure};
+use crate::pattern_hints::of_pattern;
+use crate::rewriting::rewritten;
+use crate::words::{BEHIND, FUNCTIONS, HERE, KNOWN};
+use rp_lexer::{Keyword, TokenKind};
+use rp_wording::{Advice, Hint, Part, Reading, is_one_of, look_up, nearest, said};
+use std::alloc::{AllocError, Global};
+
+/// The words with which the parts of a clause begin.
+const PART_WORDS: &str =
+    "PARTITION ORDER MEASURES ONE ALL AFTER PATTERN SUBSET DEFINE MATCH_RECOGNIZE";
+
+/// The words with which a condition or a measure goes on, and the parts that may follow it.
+const WORDS_BEHIND: &str = "AND OR NOT IS NULL AS ONE ALL AFTER PATTERN SUBSET DEFINE";
+
+/// What is wrong at the token of the reading, which can't stand there.
+pub fn unexpected(alloc: Global, reading: &Reading<'_>) -> Result<Advice, AllocError> {
+    if let Some(advice) = unclosed(alloc, reading)? {
+        return Ok(advice);
+    }
+    if let Some(found) = outside(reading) {
+        return Advice::of(alloc, found);
+    }
+    if let Some(advice) = rewritten(alloc, reading)? {
+        return Ok(advice);
+    }
+    if let Some(advice) = instead(alloc, reading)? {
+        return Ok(advice);
+    }
+    briefly(alloc, reading)
+}
+
+/// The same by words and signs that are told of in the same way wherever they stand.
+fn briefly(alloc: Global, reading: &Reading<'_>) -> Result<Advice, AllocError> {
+    if is_call(reading) {
+        return no_function(alloc, reading.back(1));
+    }
+    if let Some(found) = plainly(reading) {
+        return Advice::of(alloc, found);
+    }
+    otherwise(alloc, reading)
+}
+
+/// The same where the words and signs alone tell nothing.
+fn otherwise(alloc: Global, reading: &Reading<'_>) -> Result<Advice, AllocError> {
+    if reading.is_end() {
+        return ends_early(alloc, reading);
+    }
+    if reading.is_keyword() {
+        return reserved(alloc, reading);
+    }
+    if let Some(advice) = misspelled(alloc, reading)? {
+        return Ok(advice);
+    }
+    let found = of_structure(reading).unwrap_or(generally(reading));
+    Advice::of(alloc, found)
+}
+
+/// What the words and signs tell by themselves.
+fn plainly(reading: &Reading<'_>) -> Option<Hint> {
+    if let Some(found) = of_words(reading) {
+        return Some(found);
+    }
+    if let Some(found) = of_pattern(reading) {
+        return Some(found);
+    }
+    if let Some(found) = behind_values(reading) {
+        return Some(found);
+    }
+    of_parts(reading)
+}
+
+/// An empty clause, and what stands before and behind MATCH_RECOGNIZE ( .. ).
+fn outside(reading: &Reading<'_>) -> Option<Hint> {
+    if reading.tokens.is_empty() {
+        return said(
+            "the clause is empty",
+            "was its file found? a clause is written PATTERN (A B+) DEFINE B AS p > PREV(p)",
+        );
+    }
+    if is_one_of(reading.back(1), "MATCH_RECOGNIZE") {
+        return said(
+            "a bracket comes behind MATCH_RECOGNIZE",
+            "write MATCH_RECOGNIZE ( .. )",
+        );
+    }
+    if reading.is_behind() {
+        return said(
+            "nothing may follow the closing bracket",
+            "leave the rest out: the answer has no alias, and nothing is selected from it",
+        );
+    }
+    if reading.here() == ")" && reading.open_bracket().is_none() {
+        return said("no bracket is open here", "leave this one out");
+    }
+    if reading.at == 0 && reading.kind(0) == Some(TokenKind::Keyword(Keyword::With)) {
+        return look_up(&HERE, "SELECT");
+    }
+    None
+}
+
+/// What the tables say of the word here and of the word before it.
+fn of_words(reading: &Reading<'_>) -> Option<Hint> {
+    if reading.is_name() {
+        if let Some(found) = look_up(&HERE, reading.here()) {
+            return Some(found);
+        }
+    }
+    if reading.here().eq_ignore_ascii_case("NOT") {
+        if let Some(found) = look_up(&HERE, reading.next(1)) {
+            return Some(found);
+        }
+    }
+    if reading.kind_back(1) == Some(TokenKind::Name) {
+        return look_up(&BEHIND, reading.back(1));
+    }
+    None
+}
+
+/// Whether a function is called that isn't one.
+fn is_call(reading: &Reading<'_>) -> bool {
+    let part = reading.part();
+    (part == Part::Measures || part == Part::Define)
+        && reading.here() == "("
+        && reading.kind_back(1) == Some(TokenKind::Name)
+}
+
+/// A function that there isn't.
+fn no_function(alloc: Global, name: &str) -> Result<Advice, AllocError> {
+    let what = format!(in alloc; "there is no function {name}")?;
+    if let Some(found) = look_up(&FUNCTIONS, name) {
+        return Advice::new(alloc, what.as_str(), found.help);
+    }
+    let mut help = guess(alloc, name, KNOWN)?;
+    help.push_str(
+        "the functions are COUNT, SUM, MIN, MAX, FIRST, LAST, PREV, NEXT, CLASSIFIER and MATCH_NUMBER",
+    )?;
+    Advice::new(alloc, what.as_str(), help.as_str())
+}
+
+/// A line with the word that is nearly this one, if one is.
+fn guess(alloc: Global, written: &str, words: &str) -> Result<String, AllocError> {
+    let mut names = Vec::new(alloc);
+    for word in words.split(' ') {
+        names.push(String::from_str(alloc, word)?)?;
+    }
+    let Some(index) = nearest(alloc, written, names.as_slice())? else {
+        return Ok(String::new(alloc));
+    };
+    match names.as_slice().get(index) {
+        Some(word) => format!(in alloc; "write {}\n", word.as_str()),
+        None => Ok(String::new(alloc)),
+    }
+}
+
+/// A reserved word in the place of a name.
+fn reserved(alloc: Global, reading: &Reading<'_>) -> Result<Advice, AllocError> {
+    if !is_name_due(reading) {
+        if let Some(found) = of_structure(reading) {
+            return Advice::of(alloc, found);
+        }
+    }
+    let mut word = String::from_str(alloc, reading.here())?;
+    word.make_ascii_uppercase();
+    let what = format!(in alloc; "{word} is a reserved word, and can't come here")?;
+    let help = format!(in alloc; "as a name write \"{word}\", in quotes and in upper case")?;
+    Advice::new(alloc, what.as_str(), help.as_str())
+}
+
+/// Whether a name may stand at the place, by what stands before it.
+fn is_name_due(reading: &Reading<'_>) -> bool {
+    is_one_of(
+        reading.back(1),
+        "AS = < > <= >= <> + - * . ( | , BY AND OR NOT SUBSET TO",
+    )
+}
+
+/// A word that is nearly one with which a part begins or a condition goes on.
+fn misspelled(alloc: Global, reading: &Reading<'_>) -> Result<Option<Advice>, AllocError> {
+    if !reading.is_name() {
+        return Ok(None);
+    }
+    let words = match reading.part() {
+        Part::Measures | Part::Define => WORDS_BEHIND,
+        _ => PART_WORDS,
+    };
+    if words == PART_WORDS && reading.is_in_brackets() {
+        return Ok(None);
+    }
+    let help = guess(alloc, reading.here(), words)?;
+    if help.is_empty() {
+        return Ok(None);
+    }
+    let what = format!(in alloc; "no word of a clause is {}", reading.here())?;
+    Ok(Some(Advice::new(alloc, what.as_str(), help.as_str())?))
+}
+
+/// A clause that ends where more has to come.
+fn ends_early(alloc: Global, reading: &Reading<'_>) -> Result<Advice, AllocError> {
+    if let Some(index) = reading.open_bracket() {
+        return never_closed(alloc, reading, index, ")");
+    }
+    let found = of_structure(reading).unwrap_or(generally(reading));
+    Advice::of(alloc, found)
+}
+
+/// What is said where nothing better is known.
+fn generally(reading: &Reading<'_>) -> Hint {
+    let help = match reading.part() {
+        Part::Front =>
+            "the parts come in this order: PARTITION BY, ORDER BY, MEASURES, ONE ROW or ALL ROWS PER MATCH, AFTER MATCH SKIP, PATTERN, SUBSET, DEFINE",
+        Part::Partition => "write PARTITION BY sym, or PARTITION BY sym, day",
+        Part::Order => "write ORDER BY t, or ORDER BY day DESC, t",
+        Part::Measures => "write MEASURES A.p AS began, LAST(p) AS ended",
+        Part::Rows =>
+            "write ONE ROW PER MATCH, or ALL ROWS PER MATCH and perhaps SHOW EMPTY MATCHES, OMIT EMPTY MATCHES or WITH UNMATCHED ROWS",
+        Part::Skip =>
+            "write AFTER MATCH SKIP PAST LAST ROW, SKIP TO NEXT ROW, SKIP TO FIRST A or SKIP TO LAST A",
+        Part::Pattern => "write PATTERN (A B+ C?), with | between alternatives",
+        Part::Subset => "write SUBSET MOVE = (UP, DOWN)",
+        Part::Define => "write DEFINE A AS p > 5, B AS p < PREV(p)",
+    };
+    if reading.is_end() {
+        return Hint {
+            what: "the clause ends too early",
+            help,
+        };
+    }
+    Hint {
+        what: "this can't come here",
+        help,
+    }
+}

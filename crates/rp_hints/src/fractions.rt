@@ -1,0 +1,124 @@
+//! A comparison with a fraction, as one of whole numbers.
+
+use rp_lexer::TokenKind;
+use rp_wording::{
+    Advice, Reading, is_arithmetic, is_comparison, is_one_of, is_short, operand_end, operand_start,
+    text_of,
+};
+use std::alloc::{AllocError, Global};
+
+/// The most digits on each side of a point that are written as a quotient.
+const DIGITS: usize = 6;
+
+/// A fraction as a quotient of whole numbers.
+#[derive(Clone, Copy)]
+struct Quotient {
+    over: u64,
+    under: u64,
+}
+
+/// What a comparison with a fraction is where both sides are multiplied: p > 1.5 * AVG(q). The place is its point.
+pub(crate) fn of_fraction(
+    alloc: Global,
+    reading: &Reading<'_>,
+) -> Result<Option<Advice>, AllocError> {
+    let sign = reading.at.saturating_sub(2);
+    let start = reading.at.saturating_add(3);
+    let end = operand_end(reading, start);
+    if !is_product(reading, sign) || is_arithmetic(reading.written(end)) {
+        return Ok(None);
+    }
+    let left = operand_start(reading, sign);
+    if is_arithmetic(reading.written(left.saturating_sub(1))) {
+        return Ok(None);
+    }
+    let value = text_of(reading, left, sign);
+    let factor = text_of(reading, start, end);
+    if !is_short(value) || !is_short(factor) {
+        return Ok(None);
+    }
+    let quotient = reduced(reading.back(1), reading.next(1));
+    let help = multiplied(alloc, reading, value, factor, quotient)?;
+    Ok(Some(Advice::new(alloc, "there are no fractions", help.as_str())?))
+}
+
+/// Whether a fraction is compared by this sign and multiplied by what follows it.
+fn is_product(reading: &Reading<'_>, sign: usize) -> bool {
+    let number = Some(TokenKind::Number);
+    is_comparison(reading.written(sign))
+        && reading.kind_back(1) == number
+        && reading.kind(reading.at.saturating_add(1)) == number
+        && reading.back(1).len() <= DIGITS
+        && reading.next(1).len() <= DIGITS
+        && reading.next(2) == "*"
+}
+
+/// The comparison with both sides multiplied.
+fn multiplied(
+    alloc: Global,
+    reading: &Reading<'_>,
+    value: &str,
+    factor: &str,
+    quotient: Quotient,
+) -> Result<String, AllocError> {
+    let sign = reading.back(2);
+    let over = quotient.over;
+    let under = quotient.under;
+    let start = reading.at.saturating_add(3);
+    if is_one_of(reading.written(start), "AVG MEAN AVERAGE") {
+        let first = start.saturating_add(2);
+        let inside = text_of(reading, first, operand_end(reading, first));
+        return format!(in alloc;
+            "multiply both sides: write {value} * {under} * COUNT({inside}) {sign} {over} * SUM({inside})"
+        );
+    }
+    format!(in alloc;
+        "take a smaller unit, as cents, or multiply both sides: write {value} * {under} {sign} {over} * {factor}"
+    )
+}
+
+/// The quotient in lowest terms of the digits before and behind a point.
+fn reduced(whole: &str, fraction: &str) -> Quotient {
+    let under = power_of_ten(fraction.len());
+    let over = value_of(whole)
+        .saturating_mul(under)
+        .saturating_add(value_of(fraction));
+    let divisor = common_divisor(over, under);
+    Quotient {
+        over: over.checked_div(divisor).unwrap_or(over),
+        under: under.checked_div(divisor).unwrap_or(under),
+    }
+}
+
+/// The value of digits.
+fn value_of(digits: &str) -> u64 {
+    let mut value = 0u64;
+    for byte in digits.bytes() {
+        let digit = u64::from(byte.saturating_sub(b'0'));
+        value = value.saturating_mul(10).saturating_add(digit);
+    }
+    value
+}
+
+/// Ten to this power.
+fn power_of_ten(exponent: usize) -> u64 {
+    let mut power = 1u64;
+    for _ in 0..exponent {
+        power = power.saturating_mul(10);
+    }
+    power
+}
+
+/// The greatest common divisor, by Euclid's algorithm, which is done in fewer than a hundred steps.
+fn common_divisor(one: u64, other: u64) -> u64 {
+    let mut greater = one;
+    let mut less = other;
+    for _ in 0..100u32 {
+        let Some(rest) = greater.checked_rem(less) else {
+            return greater;
+        };
+        greater = less;
+        less = rest;
+    }
+    greater
+}

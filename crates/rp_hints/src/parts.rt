@@ -1,0 +1,310 @@
+//! The parts of a clause in another order, and what is missing inside of them.
+
+use rp_lexer::{Keyword, TokenKind};
+use rp_wording::{Hint, Part, Reading, is_one_of, part_of, said};
+
+/// The order of the parts.
+const ORDER: &str =
+    "the parts come in this order: PARTITION BY, ORDER BY, MEASURES, ONE ROW or ALL ROWS PER MATCH, AFTER MATCH SKIP, PATTERN, SUBSET, DEFINE";
+
+/// What is missing where a part begins, and parts in another order.
+pub(crate) fn of_parts(reading: &Reading<'_>) -> Option<Hint> {
+    if reading.is_in_brackets() || !begins_part(reading) {
+        return None;
+    }
+    match reading.part() {
+        Part::Measures if is_one_of(reading.back(1), ", MEASURES") => return no_measure(),
+        Part::Measures if !has_as(reading) => return nameless(),
+        Part::Skip if of_skip(reading).is_some() => return of_skip(reading),
+        Part::Rows if of_rows(reading).is_some() => return of_rows(reading),
+        _ => {}
+    }
+    if is_one_of(reading.here(), "DEFINE") && is_later_definition(reading) {
+        return said(
+            "DEFINE comes once",
+            "leave this one out: definitions have commas between, DEFINE A AS p > 5, B AS p < 3",
+        );
+    }
+    if is_one_of(
+        reading.back(1),
+        "AS . = < > <= >= <> + - , ( BY DEFINE SUBSET MEASURES SKIP TO",
+    ) {
+        return None;
+    }
+    if is_one_of(reading.here(), "DEFINE") && !has_pattern(reading) {
+        return said("PATTERN comes before DEFINE", ORDER);
+    }
+    if is_one_of(reading.here(), "DEFINE SUBSET") && reading.part() == Part::Define {
+        return said(
+            "there is one DEFINE, behind SUBSET",
+            "write the definitions with commas between: DEFINE A AS p > 5, B AS p < 3",
+        );
+    }
+    said("this part comes further to the front", ORDER)
+}
+
+/// Whether a definition begins behind a comma and the word at the place.
+fn is_later_definition(reading: &Reading<'_>) -> bool {
+    reading.part() == Part::Define && reading.back(1) == "," && is_one_of(reading.next(2), "AS")
+}
+
+/// Whether a part begins at the place.
+pub(crate) fn begins_part(reading: &Reading<'_>) -> bool {
+    let Some(kind) = reading.kind_here() else {
+        return false;
+    };
+    match part_of(kind) {
+        Some(Part::Partition) | Some(Part::Order) => is_one_of(reading.next(1), "BY"),
+        Some(Part::Rows) => is_one_of(reading.next(1), "ROW ROWS"),
+        Some(Part::Skip) => is_one_of(reading.next(1), "MATCH"),
+        Some(_) => true,
+        None => false,
+    }
+}
+
+/// Whether PATTERN stands before the place.
+fn has_pattern(reading: &Reading<'_>) -> bool {
+    reading.has_before(TokenKind::Keyword(Keyword::Pattern))
+}
+
+/// No measure where one has to come.
+fn no_measure() -> Option<Hint> {
+    said(
+        "a measure is missing here",
+        "leave the last comma out, or write one more: LAST(p) AS ended",
+    )
+}
+
+/// A measure without a name.
+fn nameless() -> Option<Hint> {
+    said(
+        "this measure has no name",
+        "write AS and a name behind each: MEASURES LAST(p) AS ended",
+    )
+}
+
+/// Whether AS stands in the item before the place: behind the last comma outside of brackets.
+fn has_as(reading: &Reading<'_>) -> bool {
+    let before = reading.tokens.iter().take(reading.at);
+    for token in before.rev() {
+        match token.kind {
+            TokenKind::Keyword(Keyword::As) => return true,
+            TokenKind::Keyword(Keyword::Measures) => return false,
+            TokenKind::Keyword(Keyword::Define) => return false,
+            TokenKind::Mark(rp_lexer::Mark::Comma) => return false,
+            _ => {}
+        }
+    }
+    false
+}
+
+/// What is missing inside of a part.
+pub(crate) fn of_structure(reading: &Reading<'_>) -> Option<Hint> {
+    match reading.part() {
+        Part::Front => of_front(reading),
+        Part::Partition | Part::Order => of_lists(reading),
+        Part::Measures => of_measures(reading),
+        Part::Rows => of_rows(reading),
+        Part::Skip => of_skip(reading),
+        Part::Pattern => of_end(reading),
+        Part::Subset => of_subset(reading),
+        Part::Define => of_define(reading),
+    }
+}
+
+/// A clause without any part.
+fn of_front(reading: &Reading<'_>) -> Option<Hint> {
+    if reading.is_end() {
+        return said(
+            "PATTERN and DEFINE are missing",
+            "write PATTERN (A B+) DEFINE B AS p > PREV(p)",
+        );
+    }
+    None
+}
+
+/// The lists of PARTITION BY and ORDER BY.
+fn of_lists(reading: &Reading<'_>) -> Option<Hint> {
+    if is_one_of(reading.back(1), "PARTITION ORDER") {
+        return said("BY is missing", "write PARTITION BY sym, ORDER BY t");
+    }
+    if reading.is_end() && !is_one_of(reading.back(1), "BY ,") {
+        return said(
+            "PATTERN and DEFINE are missing",
+            "write PATTERN (A B+) DEFINE B AS p > PREV(p)",
+        );
+    }
+    if is_name_kind(reading.kind_here()) && is_name_kind(reading.kind_back(1)) {
+        return said(
+            "a comma comes between columns",
+            "write PARTITION BY sym, day",
+        );
+    }
+    said(
+        "columns of the table are listed here by their names",
+        "write PARTITION BY sym, day, or ORDER BY day DESC, t",
+    )
+}
+
+/// The list of MEASURES.
+fn of_measures(reading: &Reading<'_>) -> Option<Hint> {
+    if is_one_of(reading.back(1), "AS") {
+        return said(
+            "a name comes behind AS",
+            "write AS low, or in double quotes AS \"lowest price\"",
+        );
+    }
+    if reading.is_end() && has_as(reading) {
+        return said(
+            "PATTERN and DEFINE are missing",
+            "write PATTERN (A B+) DEFINE B AS p > PREV(p)",
+        );
+    }
+    if !has_as(reading) && (reading.here() == "," || reading.is_end()) {
+        return nameless();
+    }
+    if !has_as(reading) && is_name_kind(reading.kind_here()) && ends_value(reading) {
+        return said("AS is missing before the name", "write LAST(p) AS ended");
+    }
+    if has_as(reading) && is_name_kind(reading.kind_back(1)) {
+        return said(
+            "a comma comes between measures",
+            "write A.p AS began, LAST(p) AS ended",
+        );
+    }
+    None
+}
+
+/// Whether a value may end before the place.
+pub fn ends_value(reading: &Reading<'_>) -> bool {
+    match reading.kind_back(1) {
+        Some(TokenKind::Name) | Some(TokenKind::Quoted) => true,
+        Some(TokenKind::Number) | Some(TokenKind::Text) => true,
+        _ => reading.back(1) == ")" || is_one_of(reading.back(1), "NULL"),
+    }
+}
+
+/// Whether it is a name, in quotes or not.
+fn is_name_kind(kind: Option<TokenKind>) -> bool {
+    matches!(kind, Some(TokenKind::Name) | Some(TokenKind::Quoted))
+}
+
+/// ONE ROW and ALL ROWS PER MATCH.
+fn of_rows(reading: &Reading<'_>) -> Option<Hint> {
+    if is_one_of(reading.back(1), "ROW") && is_one_of(reading.back(2), "ONE") {
+        return said("PER MATCH is missing", "write ONE ROW PER MATCH");
+    }
+    if is_one_of(reading.back(1), "ROWS") && is_one_of(reading.back(2), "ALL") {
+        return said("PER MATCH is missing", "write ALL ROWS PER MATCH");
+    }
+    if is_one_of(reading.back(1), "ONE ALL ROW PER") {
+        return said(
+            "the words are ONE ROW PER MATCH and ALL ROWS PER MATCH",
+            "write one of the two",
+        );
+    }
+    None
+}
+
+/// AFTER MATCH SKIP.
+fn of_skip(reading: &Reading<'_>) -> Option<Hint> {
+    if is_one_of(reading.back(1), "LAST") && is_one_of(reading.back(2), "PAST") {
+        return said("ROW is missing", "write AFTER MATCH SKIP PAST LAST ROW");
+    }
+    if is_one_of(reading.back(1), "NEXT") {
+        return said("ROW is missing", "write AFTER MATCH SKIP TO NEXT ROW");
+    }
+    if is_one_of(reading.back(1), "SKIP") {
+        return said(
+            "PAST or TO comes behind SKIP",
+            "write AFTER MATCH SKIP PAST LAST ROW, SKIP TO NEXT ROW, SKIP TO FIRST A or SKIP TO LAST A",
+        );
+    }
+    None
+}
+
+/// What follows a pattern.
+fn of_end(reading: &Reading<'_>) -> Option<Hint> {
+    if reading.is_in_brackets() {
+        return None;
+    }
+    if reading.is_end() || reading.here() == ")" {
+        return said(
+            "the clause ends here: DEFINE is missing",
+            "write DEFINE A AS p > 5; for a pattern that takes any row, DEFINE A AS 1 = 1",
+        );
+    }
+    said(
+        "behind the pattern's brackets comes SUBSET or DEFINE",
+        "write DEFINE A AS p > 5; the whole pattern is written in one pair of brackets",
+    )
+}
+
+/// SUBSET.
+fn of_subset(reading: &Reading<'_>) -> Option<Hint> {
+    if reading.is_end() && reading.back(1) == ")" {
+        return said(
+            "the clause ends here: DEFINE is missing",
+            "write DEFINE A AS p > 5; for any row, DEFINE A AS 1 = 1",
+        );
+    }
+    said(
+        "a union is a name, = and variables in brackets",
+        "write SUBSET MOVE = (UP, DOWN)",
+    )
+}
+
+/// DEFINE.
+fn of_define(reading: &Reading<'_>) -> Option<Hint> {
+    if is_one_of(reading.back(1), "DEFINE ,") && !reading.is_in_brackets() {
+        return of_definition_start(reading);
+    }
+    if !has_as(reading) && !is_one_of(reading.here(), "AS") {
+        return said(
+            "AS is missing behind the variable",
+            "write DEFINE A AS p > 5",
+        );
+    }
+    if is_one_of(reading.back(1), "AS") {
+        return said(
+            "a condition is missing behind AS",
+            "write DEFINE A AS p > 5; for any row, A AS 1 = 1",
+        );
+    }
+    if is_name_kind(reading.kind_here()) && is_one_of(reading.next(1), "AS") {
+        return said(
+            "a comma comes between definitions",
+            "write DEFINE A AS p > 5, B AS p < 3",
+        );
+    }
+    if ends_value(reading) && !reading.is_end() {
+        return said(
+            "the condition can't go on with this",
+            "write an operator, AND or OR before it, or a comma before the next definition",
+        );
+    }
+    said(
+        "a value is missing here",
+        "write a column, a number or a text in single quotes",
+    )
+}
+
+/// What stands where a definition begins.
+fn of_definition_start(reading: &Reading<'_>) -> Option<Hint> {
+    if reading.is_end() && reading.back(1) == "," {
+        return said(
+            "a definition is missing behind the comma",
+            "leave the last comma out",
+        );
+    }
+    if reading.is_end() {
+        return said(
+            "a definition is missing",
+            "write DEFINE A AS p > 5; for any row, DEFINE A AS 1 = 1",
+        );
+    }
+    said(
+        "a variable of the pattern is wanted here",
+        "write DEFINE A AS p > 5",
+    )
+}

@@ -1,0 +1,59 @@
+//! What is told of a place, and the tables of words that it is taken from.
+
+use std::alloc::{AllocError, Global};
+
+/// What is told of a place.
+#[derive(Drop)]
+pub struct Advice {
+    /// What is wrong, in a line behind the marks.
+    pub what: String,
+    /// What to write, a line for each help; it may be empty.
+    pub help: String,
+}
+
+/// The same as texts of the program.
+#[derive(Clone, Copy)]
+pub struct Hint {
+    /// What is wrong.
+    pub what: &'static str,
+    /// What to write.
+    pub help: &'static str,
+}
+
+/// An entry of a table: words in upper case with blanks between, what is wrong with each of them, and what to write.
+pub type Entry = (&'static str, &'static str, &'static str);
+
+impl Advice {
+    /// The advice of two texts, which are copied.
+    pub fn new(alloc: Global, what: &str, help: &str) -> Result<Advice, AllocError> {
+        Ok(Advice {
+            what: String::from_str(alloc, what)?,
+            help: String::from_str(alloc, help)?,
+        })
+    }
+
+    /// The advice of what is said.
+    pub fn of(alloc: Global, said: Hint) -> Result<Advice, AllocError> {
+        Advice::new(alloc, said.what, said.help)
+    }
+}
+
+/// What is wrong, and what to write.
+pub fn said(what: &'static str, help: &'static str) -> Option<Hint> {
+    Some(Hint { what, help })
+}
+
+/// What a table says of a word, in any case.
+pub fn look_up(table: &[Entry], word: &str) -> Option<Hint> {
+    for (words, what, help) in table {
+        if is_one_of(word, words) {
+            return said(what, help);
+        }
+    }
+    None
+}
+
+/// Whether a word is one of some words with blanks between, in any case.
+pub fn is_one_of(word: &str, words: &str) -> bool {
+    !word.is_empty() && words.split(' ').any(|one| one.eq_ignore_ascii_case(word))
+}

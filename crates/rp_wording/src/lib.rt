@@ -1,0 +1,33 @@
+//! What is said of a fault, as far as clauses, tables, columns and inputs have it in common: the report with its place, its mark and
+//! what to write; why a text has no tokens; the tokens and operands round a place of a text; names as they are told, and the one that
+//! may be meant.
+//!
+//! Nothing here decides, and nothing knows the faults of a clause or an input: those are explained by the crates above. The only error
+//! is want of memory.
+#![tactic(auto)]
+
+mod advice;
+mod bad_places;
+mod characters;
+mod dates;
+mod lexical;
+mod names;
+mod nouns;
+mod operands;
+mod reading;
+mod report;
+
+pub use advice::{Advice, Entry, Hint, is_one_of, look_up, said};
+pub use bad_places::{NO_NOT, OPPOSITE};
+pub use dates::is_date;
+pub use lexical::{Source, explain_lex};
+pub use names::{
+    column_names, index_of, inside_quotes, is_plain, listed, meant, nearest, shown, upper_case,
+};
+pub use nouns::{kind_word, noun};
+pub use operands::{
+    closing, depth_behind, is_arithmetic, is_comparison, is_name, is_short, operand_end,
+    operand_start, text_of,
+};
+pub use reading::{Part, Reading, part_of, tokens_of};
+pub use report::{Mark, Report, shown_text};

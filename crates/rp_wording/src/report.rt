@@ -1,0 +1,118 @@
+//! What is said of a fault.
+
+use crate::advice::Advice;
+use rp_place::{Place, Span, draw, push_help, shown_character};
+use std::alloc::{AllocError, Global};
+use std::fmt::{Display, Write};
+
+/// What is said of a fault: a text for people, and its parts for programs.
+#[derive(Drop)]
+pub struct Report {
+    /// All of it: the line that the program prints, the place with its line and a mark under it, what is wrong there and
+    /// what to write. Each line ends in LF.
+    pub text: String,
+    /// The fault's name, as `UnknownColumn`.
+    pub kind: String,
+    /// What is wrong, in one line. It may be empty.
+    pub message: String,
+    /// What to write, a line for each help. It may be empty.
+    pub help: String,
+    /// Where it is; None where the fault has no place.
+    pub mark: Option<Mark>,
+}
+
+/// Where something is in a text.
+#[derive(Clone, Copy, Debug, PartialEq, Eq)]
+pub struct Mark {
+    /// The offset of its first byte, from 0.
+    pub byte: usize,
+    /// How many bytes of its line are meant.
+    pub length: usize,
+    /// Its line, from 1.
+    pub line: usize,
+    /// The number of its first character in the line, from 1.
+    pub column: usize,
+}
+
+impl Report {
+    /// The fault's own line alone, of a text that is called so.
+    pub fn new<F: Display>(alloc: Global, name: &str, fault: &F) -> Result<Report, AllocError> {
+        let told = shown_text(alloc, format!(in alloc; "{fault}")?.as_str())?;
+        let kind = told.as_str().split(' ').next().unwrap_or("");
+        Ok(Report {
+            text: format!(in alloc; "{name}: {told}\n")?,
+            kind: String::from_str(alloc, kind)?,
+            message: String::new(alloc),
+            help: String::new(alloc),
+            mark: None,
+        })
+    }
+
+    /// Adds the place of a part of a text that is called so, and advice.
+    pub fn point(
+        &mut self,
+        name: &str,
+        text: &str,
+        span: Span,
+        advice: &Advice,
+    ) -> Result<(), AllocError> {
+        self.point_at(name, span.start, &Place::of(text, span), advice)
+    }
+
+    /// Adds a place that begins at this byte, and advice.
+    pub fn point_at(
+        &mut self,
+        name: &str,
+        byte: usize,
+        place: &Place<'_>,
+        advice: &Advice,
+    ) -> Result<(), AllocError> {
+        let what = shown_text(*self.text.allocator(), advice.what.as_str())?;
+        draw(&mut self.text, name, place, what.as_str())?;
+        self.message.push_str(what.as_str())?;
+        self.mark = Some(Mark {
+            byte,
+            length: place.part.len(),
+            line: place.line,
+            column: place.column(),
+        });
+        self.help(advice.help.as_str())
+    }
+
+    /// Adds what is wrong where there is no place for it.
+    pub fn say(&mut self, name: &str, what: &str) -> Result<(), AllocError> {
+        let what = shown_text(*self.text.allocator(), what)?;
+        writeln!(self.text, "  {name}: {what}")?;
+        self.message.push_str(what.as_str())
+    }
+
+    /// Adds a line that is neither what is wrong nor what to write.
+    pub fn note(&mut self, line: &str) -> Result<(), AllocError> {
+        let line = shown_text(*self.text.allocator(), line)?;
+        writeln!(self.text, "  {line}")
+    }
+
+    /// Adds what to write, a line for each help.
+    pub fn help(&mut self, help: &str) -> Result<(), AllocError> {
+        let help = shown_text(*self.text.allocator(), help)?;
+        push_help(&mut self.text, help.as_str())?;
+        for line in help.as_str().lines() {
+            self.help.push_str(line)?;
+            self.help.push('\n')?;
+        }
+        Ok(())
+    }
+}
+
+/// A text as it is shown on a terminal: `?` for each character that would control it, other than a line end, and a blank for a tab.
+pub fn shown_text(alloc: Global, text: &str) -> Result<String, AllocError> {
+    let mut shown = String::new(alloc);
+    for character in text.chars() {
+        if character == '\n' {
+            shown.push(character)?;
+        } else {
+            shown.push(shown_character(character))?;
+        }
+    }
+    Ok(shown)
+}
