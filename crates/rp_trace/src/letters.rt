@@ -4,13 +4,15 @@ ghost use Rattle.rp_trace.specs.LetterTest.{admits_letter};
 ghost use Rattle.rp_trace.specs.Limits.{longest_line};
 
 use rp_search::Tests;
-use rp_words::{End, Label, Seen};
+use rp_words::{End, Label, Pattern, Seen};
 use std::alloc::AllocError;
 
 /// A closed partition with a row for each letter of a line. Variable Z admits every row, any other its own letter.
 #[derive(Drop)]
 pub(crate) struct Letters<'a> {
     line: &'a [u8],
+    /// The pattern whose match is looked for. It is named so that a search remembers where it failed.
+    pattern: &'a Pattern,
     /// How many calls of `enter` were made, up to 2^64 - 1, where the count stays.
     entries: u64,
     ghost short: { length line.now ≤ longest_line },
@@ -27,25 +29,31 @@ const ANY: usize = 25;
 
 impl<'a> Letters<'a> {
     ghost use Rattle.std.specs.Prelude.{◌≡◌, ◌≤◌, length};
-    ghost use Rattle.rp_trace.specs.LetterRows.{line_of};
+    ghost use Rattle.rp_words.specs.PatternForm.{form_of};
+    ghost use Rattle.rp_trace.specs.LetterRows.{sought_by};
 
     /// The rows of a line, none of which was entered yet.
-    pub fn new(line: &'a [u8]) -> Self
+    pub fn new(line: &'a [u8], pattern: &'a Pattern) -> Self
         requires { length line.now ≤ longest_line }
-        ensures { line_of result ≡ line.entry.now }
+        ensures line { (sought_by result).line ≡ line.entry.now }
+        ensures form { (sought_by result).form ≡ form_of pattern.entry.now }
     {
-        Letters { line, entries: 0 }
+        Letters {
+            line,
+            pattern,
+            entries: 0,
+        }
     }
 }
 
 impl Tests for Letters<'_> {
-    ghost use Rattle.std.specs.Prelude.{ℕ, List, length};
-    ghost use Rattle.rp_trace.specs.LetterRows.{asked_of_line, line_of};
+    ghost use Rattle.std.specs.Prelude.{length};
+    ghost use Rattle.rp_trace.specs.LetterRows.{Sought, asked_of_line, sought_by};
     ghost use Rattle.rp_trace.specs.LetterLaws.{letter_test-decided, short_fits};
 
-    ghost Subject = { List ℕ };
+    ghost Subject = { Sought };
 
-    ghost subject = { line_of };
+    ghost subject = { sought_by };
 
     ghost asked = { asked_of_line };
 
@@ -95,9 +103,9 @@ impl Tests for Letters<'_> {
 
     fn cut(&mut self, _depth: usize) {}
 
-    ghost few = { λ letters. short_fits (length (line_of letters)) letters.short };
+    ghost few = { λ letters. short_fits (length letters.line.now) letters.short };
 
-    ghost decided = { λ letters start labels _. letter_test-decided (line_of letters) start labels };
+    ghost decided = { λ letters start labels _. letter_test-decided letters.line.now start labels };
 }
 
 /// Whether a row with this letter is admitted for the variable.

@@ -131,25 +131,25 @@ fn push_answer(
 /// Adds the labels of the match at row 1. The search begins anew, and keeps its room; its turns aren't counted.
 fn push_match<L: Ledger>(
     text: &mut Vec<u8>,
-    _pattern: &Pattern,
+    pattern: &Pattern,
     search: &mut Search,
     line: &[u8],
     blank: Blank,
 ) -> Result<(), AllocError>
-    requires lettered { are_below letter_count (form_of _pattern.now) ≡ true }
-    requires is_for { IsSearchFor (form_of _pattern.now) search.old }
+    requires lettered { are_below letter_count (form_of pattern.now) ≡ true }
+    requires is_for { IsSearchFor (form_of pattern.now) search.old }
     requires some { 0 < length line.now }
     requires short { length line.now ≤ longest_line }
     requires name { blank.name ≡ L.name }
     requires parts { blank.parts ≡ L.parts }
     requires counts { 0 < blank.parts }
-    ensures is_for { IsSearchFor (form_of _pattern.now) search.new }
-    ensures added { OnOk result (text.new.items ≡ text.old.items ++ search_text (form_of _pattern.now) line.now) }
+    ensures is_for { IsSearchFor (form_of pattern.now) search.new }
+    ensures added { OnOk result (text.new.items ≡ text.old.items ++ search_text (form_of pattern.now) line.now) }
 {
     // The labels of a pattern's words are of its variables, so that each is a letter.
     law_labels();
     let mut steps = Steps::<L>::new(blank);
-    let mut letters = Letters::new(line);
+    let mut letters = Letters::new(line, pattern);
     search.restart(1);
     if !find(search, &mut letters, &mut steps)? {
         return text.extend_from_slice(b"none");
