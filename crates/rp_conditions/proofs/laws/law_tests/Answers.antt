@@ -6,7 +6,11 @@ pub returns : goal.returns
 returns c = λ t p' e' start one sound g.
     record {
       later = g.later;
-      stay = λ row le. outcome_stays c.law_conditions.ensures.stays t p' e' row (omega (arith, one, le)) sound
-          (goes_on_from (max 1 (start - t.query.reach)) (max 1 (row - t.query.reach)) t.rows p' t.ending e' (omega (arith, le)) g);
+      stay = outcome_stays c.law_conditions.ensures.stays t p' e' start one sound g;
       variables = refl;
+      remembered = (
+        refl,
+        λ row le. outcome_stays c.law_conditions.ensures.stays t p' e' row (omega (arith, one, le)) sound
+            (goes_on_from (max 1 (start - t.query.reach)) (max 1 (row - t.query.reach)) t.rows p' t.ending e' (omega (arith, le)) g),
+      );
     }
