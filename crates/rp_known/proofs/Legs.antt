@@ -154,7 +154,7 @@ module _ (extend : WordsExtend) (within : WordsEnd) (found_stays : FoundStays) (
   pub found_kept : FindingsStay
   found_kept q p p' start reaches one g h =
       found_stays (suc (count p) - start) (outcome_of (tested_by q p) start) (outcome_of (tested_by q p') start) (words (count p) p.end (form_of q.pattern) start) (words (count p') p'.end (form_of q.pattern) start)
-      ((tests (tested_by q p) p'.rows p'.end start one reaches g).stay start (omega arith)) (within (form_of q.pattern) (count p) p.end start)
+      (tests (tested_by q p) p'.rows p'.end start one reaches g).stay (within (form_of q.pattern) (count p) p.end start)
       (extend (form_of q.pattern) (count p) (count p') p.end p'.end start g.later) h
 
   pub leg_stays : LegStays
