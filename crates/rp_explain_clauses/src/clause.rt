@@ -30,13 +30,24 @@ pub(crate) fn explain(
     fault: &CompileFault,
 ) -> Result<Report, AllocError> {
     let mut report = Report::new(alloc, "clause", fault)?;
-    match fault {
-        CompileFault::Lex(why) => explain_lex(alloc, &mut report, "clause", source, *why)?,
-        CompileFault::Parse(why) => explain_parse(alloc, &mut report, source, *why)?,
-        CompileFault::Check(why) => explain_check(alloc, &mut report, table, source, *why)?,
-        CompileFault::OutOfMemory => {}
-    }
+    explain_in(alloc, &mut report, table, source, fault)?;
     Ok(report)
+}
+
+/// Adds where a fault is, and what to write.
+fn explain_in(
+    alloc: Global,
+    report: &mut Report,
+    table: &Table,
+    source: Source<'_>,
+    fault: &CompileFault,
+) -> Result<(), AllocError> {
+    match fault {
+        CompileFault::Lex(why) => explain_lex(alloc, report, "clause", source, *why),
+        CompileFault::Parse(why) => explain_parse(alloc, report, source, *why),
+        CompileFault::Check(why) => explain_check(alloc, report, table, source, *why),
+        CompileFault::OutOfMemory => Ok(()),
+    }
 }
 
 /// Explains a clause whose tokens derive none.
@@ -56,7 +67,7 @@ fn explain_parse(
         ParseFault::Deep(at) => {
             let reading = Reading::new(source.shown, tokens.as_slice(), at);
             let what = "a hundred brackets are open before this one";
-            let advice = Advice::new(alloc, what, "leave out brackets that group nothing")?;
+            let advice = Advice::new(alloc, what, "leave out brackets that group nothing");
             report.point("clause", source.shown, reading.span(), &advice)
         }
         ParseFault::OutOfMemory => Ok(()),

@@ -122,10 +122,10 @@ fn push_outer(
         reports.push(front_report(alloc, text, statement, fault)?)?;
         return Ok(());
     }
-    if let Some(fault) = statement.behind {
-        reports.push(explain(alloc, table, source, &fault)?)?;
+    match statement.behind {
+        Some(fault) => push_fault(alloc, reports, table, source, &fault),
+        None => Ok(()),
     }
-    Ok(())
 }
 
 /// Explains what stands before MATCH_RECOGNIZE.
@@ -137,10 +137,10 @@ fn front_report(
 ) -> Result<Report, AllocError> {
     let mut report = Report::new(alloc, "clause", &fault)?;
     let around = sql_around();
-    let mut help = statement.help(alloc, text)?;
-    help.push('\n')?;
-    help.push_str(around.help)?;
-    let advice = Advice::new(alloc, around.what, help.as_str())?;
+    let mut help = statement.help(alloc, text);
+    help.push("\n");
+    help.push(around.help);
+    let advice = Advice::with_help(alloc, around.what, help);
     let start = match fault {
         CompileFault::Parse(ParseFault::Expected(at)) => at,
         CompileFault::Lex(why) => place_of(why),
@@ -172,7 +172,7 @@ fn push_faults(
     fault: &CompileFault,
     most: u32,
 ) -> Result<(), AllocError> {
-    reports.push(explain(alloc, table, source, fault)?)?;
+    push_fault(alloc, reports, table, source, fault)?;
     let passed = pass_over(alloc, source.read, MOST)?;
     let others = further(alloc, &passed, fault, most.saturating_sub(1))?;
     let source = Source {
@@ -180,7 +180,19 @@ fn push_faults(
         ..source
     };
     for other in others.as_slice() {
-        reports.push(explain(alloc, table, source, other)?)?;
+        push_fault(alloc, reports, table, source, other)?;
     }
+    Ok(())
+}
+
+/// Explains a fault.
+fn push_fault(
+    alloc: Global,
+    reports: &mut Vec<Report>,
+    table: &Table,
+    source: Source<'_>,
+    fault: &CompileFault,
+) -> Result<(), AllocError> {
+    reports.push(explain(alloc, table, source, fault)?)?;
     Ok(())
 }

@@ -5,7 +5,7 @@ use rp_hints::{unknown_column, unknown_variable};
 use rp_lexer::TokenKind;
 use rp_value::Table;
 use rp_wording::{
-    Advice, Part, Reading, is_date, is_name, is_one_of, kind_word, meant, operand_end,
+    Advice, Part, Pieces, Reading, is_date, is_name, is_one_of, kind_word, meant, operand_end,
     operand_start,
 };
 use std::alloc::{AllocError, Global};
@@ -20,40 +20,40 @@ pub(crate) fn meaning(
     match kind {
         CheckKind::UnknownColumn => unknown_column(alloc, table, reading),
         CheckKind::UnknownVariable => unknown_variable(alloc, table, reading),
-        CheckKind::DoubleName => double_name(alloc, reading),
+        CheckKind::DoubleName => Ok(double_name(alloc, reading)),
         CheckKind::KindMismatch => mismatch(alloc, table, reading),
-        CheckKind::FinalInDefine => Advice::new(
+        CheckKind::FinalInDefine => Ok(Advice::new(
             alloc,
             "FINAL can't be used in DEFINE",
             "leave FINAL out: a condition sees the rows up to its own",
-        ),
-        CheckKind::NestedNavigation => Advice::new(
+        )),
+        CheckKind::NestedNavigation => Ok(Advice::new(
             alloc,
             "this navigation can't be inside another",
             "only FIRST or LAST stand in PREV or NEXT: PREV(FIRST(A.p))\n\
             two rows back are PREV(p, 2); the second row of A is FIRST(A.p, 1)",
-        ),
-        CheckKind::BadBounds => bounds(alloc, reading),
-        CheckKind::TooManyPermuted => Advice::new(
+        )),
+        CheckKind::BadBounds => Ok(bounds(alloc, reading)),
+        CheckKind::TooManyPermuted => Ok(Advice::new(
             alloc,
             "PERMUTE has at most 8 parts",
             "write (A | B | ..){9}, and in each definition COUNT(A.*) = 1",
-        ),
-        CheckKind::ExclusionWithUnmatched => Advice::new(
+        )),
+        CheckKind::ExclusionWithUnmatched => Ok(Advice::new(
             alloc,
             "{- .. -} can't be with WITH UNMATCHED ROWS",
             "write ALL ROWS PER MATCH alone, or leave {- and -} out",
-        ),
-        CheckKind::MeasureOnly => Advice::new(
+        )),
+        CheckKind::MeasureOnly => Ok(Advice::new(
             alloc,
             "this is for MEASURES alone",
             "in a condition count rows, COUNT(A.*), or give the rows a variable of their own",
-        ),
+        )),
     }
 }
 
 /// A bound or an offset.
-fn bounds(alloc: Global, reading: &Reading<'_>) -> Result<Advice, AllocError> {
+fn bounds(alloc: Global, reading: &Reading<'_>) -> Advice {
     if reading.here() == "{" {
         return Advice::new(
             alloc,
@@ -69,28 +69,40 @@ fn bounds(alloc: Global, reading: &Reading<'_>) -> Result<Advice, AllocError> {
 }
 
 /// A name that was given before.
-fn double_name(alloc: Global, reading: &Reading<'_>) -> Result<Advice, AllocError> {
+fn double_name(alloc: Global, reading: &Reading<'_>) -> Advice {
     let written = reading.here();
     match reading.part() {
         Part::Measures => {
-            let what = format!(in alloc; "the name {written} is taken")?;
             let help = "write another name behind AS\n\
             the columns of PARTITION BY stand in the answer by themselves, with ALL ROWS PER MATCH every column does";
-            Advice::new(alloc, what.as_str(), help)
+            Advice::with_what(
+                alloc,
+                Pieces::filled(alloc, "the name {} is taken", &[written]),
+                help,
+            )
         }
         Part::Define => {
-            let what = format!(in alloc; "{written} has a definition already")?;
-            Advice::new(alloc, what.as_str(), "join the two conditions by AND or OR")
+            Advice::with_what(
+                alloc,
+                Pieces::filled(alloc, "{} has a definition already", &[written]),
+                "join the two conditions by AND or OR",
+            )
         }
         Part::Subset => {
-            let what = format!(in alloc; "the name {written} is taken by a variable or a union")?;
-            Advice::new(alloc, what.as_str(), "give the union another name")
+            Advice::with_what(
+                alloc,
+                Pieces::filled(
+                    alloc,
+                    "the name {} is taken by a variable or a union",
+                    &[written],
+                ),
+                "give the union another name",
+            )
         }
         _ => {
-            let what = format!(in alloc; "{written} is listed already")?;
-            Advice::new(
+            Advice::with_what(
                 alloc,
-                what.as_str(),
+                Pieces::filled(alloc, "{} is listed already", &[written]),
                 "leave it out here: all rows of a partition have the same value in its columns",
             )
         }
@@ -108,11 +120,11 @@ fn mismatch(alloc: Global, table: &Table, reading: &Reading<'_>) -> Result<Advic
             return Ok(advice);
         }
     }
-    of_signs_and_words(alloc, reading)
+    Ok(of_signs_and_words(alloc, reading))
 }
 
 /// The same, by the sign or word alone.
-fn of_signs_and_words(alloc: Global, reading: &Reading<'_>) -> Result<Advice, AllocError> {
+fn of_signs_and_words(alloc: Global, reading: &Reading<'_>) -> Advice {
     let here = reading.here();
     if matches!(here, "+" | "-" | "*") {
         return Advice::new(
@@ -156,13 +168,17 @@ fn text_difference(
     let right = last_name(reading, behind, operand_end(reading, behind));
     for index in [left, right] {
         if kind_at(alloc, table, reading, index)? == "text" {
-            let help = format!(in alloc;
-                "{} is text: a date as text can't be subtracted\n\
-                let --columns read it as seconds: docs/RECIPES.md, Dates and times",
-                reading.written(index)
-            )?;
             let what = "only whole numbers are added, subtracted and multiplied";
-            return Ok(Some(Advice::new(alloc, what, help.as_str())?));
+            return Ok(Some(Advice::with_help(
+                alloc,
+                what,
+                Pieces::filled(
+                    alloc,
+                    "{} is text: a date as text can't be subtracted\n\
+            let --columns read it as seconds: docs/RECIPES.md, Dates and times",
+                    &[reading.written(index)],
+                ),
+            )));
         }
     }
     Ok(None)
@@ -194,20 +210,20 @@ fn of_comparison(
             let help =
                 "dates as 2024-01-05 are ordered and compared where the table has the column as text\n\
                         to subtract them let the file have seconds, and write a number";
-            return Advice::new(alloc, what, help);
+            return Ok(Advice::new(alloc, what, help));
         }
         if is_digits(inside) {
             let help = "a number stands without quotes: p = 5\n\
                         if the file's column is one of texts, its kind in the table is text";
-            return Advice::new(alloc, what, help);
+            return Ok(Advice::new(alloc, what, help));
         }
     }
     let help = two_kinds(alloc, table, reading)?;
-    Advice::new(alloc, what, help.as_str())
+    Ok(Advice::with_help(alloc, what, help))
 }
 
 /// Which side of a comparison has which kind, as far as its tokens tell.
-fn two_kinds(alloc: Global, table: &Table, reading: &Reading<'_>) -> Result<String, AllocError> {
+fn two_kinds(alloc: Global, table: &Table, reading: &Reading<'_>) -> Result<Pieces, AllocError> {
     let mut index = reading.at.saturating_add(1);
     if reading.next(2) == "." {
         index = reading.at.saturating_add(3);
@@ -220,11 +236,15 @@ fn two_kinds(alloc: Global, table: &Table, reading: &Reading<'_>) -> Result<Stri
     let help =
         "a text is written in single quotes, a number in none; the kinds of columns are in the table";
     if left.is_empty() || right.is_empty() {
-        return String::from_str(alloc, help);
+        return Ok(Pieces::of(alloc, help));
     }
-    let one = reading.back(1);
-    let other = reading.written(index);
-    format!(in alloc; "{one} is {left}, {other} is {right}\n{help}")
+    let mut kinds = Pieces::filled(alloc, "{} is ", &[reading.back(1)]);
+    kinds.push(left);
+    kinds.push_filled(", {} is ", &[reading.written(index)]);
+    kinds.push(right);
+    kinds.push("\n");
+    kinds.push(help);
+    Ok(kinds)
 }
 
 /// The kind of a literal or a column at a token; nothing where it is something else.
@@ -264,7 +284,7 @@ fn is_digits(inside: &str) -> bool {
 }
 
 /// A measure that is a condition, or a definition that is none.
-fn of_whole(alloc: Global, reading: &Reading<'_>) -> Result<Advice, AllocError> {
+fn of_whole(alloc: Global, reading: &Reading<'_>) -> Advice {
     if reading.part() == Part::Measures {
         return Advice::new(
             alloc,

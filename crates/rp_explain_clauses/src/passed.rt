@@ -2,6 +2,7 @@
 
 use rp_lexer::{LexFault, lex};
 use rp_place::Span;
+use rp_wording::Pieces;
 use std::alloc::{AllocError, Global};
 
 /// A text whose faults are passed over, and those faults.
@@ -71,20 +72,18 @@ fn without(alloc: Global, text: &str, fault: LexFault) -> Result<String, AllocEr
         _ => rest.len(),
     };
     let end = start.saturating_add(length);
-    let mut read = String::new(alloc);
-    read.push_str(text.get(..start).unwrap_or(""))?;
-    push_blanks(&mut read, text, Span { start, end })?;
-    read.push_str(text.get(end..).unwrap_or(""))?;
-    Ok(read)
+    let mut read = Pieces::of(alloc, text.get(..start).unwrap_or(""));
+    push_blanks(&mut read, text, Span { start, end });
+    read.push(text.get(end..).unwrap_or(""));
+    read.finish()
 }
 
 /// Writes a blank for each byte of a part of a text, but its line ends.
-pub(crate) fn push_blanks(out: &mut String, text: &str, part: Span) -> Result<(), AllocError> {
+pub(crate) fn push_blanks(out: &mut Pieces, text: &str, part: Span) {
     let part = text.get(part.start..part.end).unwrap_or("");
     for byte in part.bytes() {
-        out.push(if byte == b'\n' { '\n' } else { ' ' })?;
+        out.push(if byte == b'\n' { "\n" } else { " " });
     }
-    Ok(())
 }
 
 /// How many bytes a bad character has, with what belongs to it.

@@ -5,7 +5,7 @@ use rp_compile::CompileFault;
 use rp_grammar::ParseFault;
 use rp_lexer::{Keyword, LexFault, TokenKind};
 use rp_place::{Place, Span};
-use rp_wording::{Reading, closing, tokens_of};
+use rp_wording::{Pieces, Reading, closing, tokens_of};
 use std::alloc::{AllocError, Global};
 
 /// So many faults round a clause are passed over, at most.
@@ -152,25 +152,19 @@ fn first_bad(faults: &[LexFault], part: Span) -> Option<LexFault> {
 
 /// The text with a blank for each byte outside of a part, but its line ends.
 fn alone(alloc: Global, text: &str, part: Span) -> Result<String, AllocError> {
-    let mut out = String::new(alloc);
-    push_blanks(
-        &mut out,
-        text,
-        Span {
-            start: 0,
-            end: part.start,
-        },
-    )?;
-    out.push_str(text.get(part.start..part.end).unwrap_or(""))?;
-    push_blanks(
-        &mut out,
-        text,
-        Span {
-            start: part.end,
-            end: text.len(),
-        },
-    )?;
-    Ok(out)
+    let mut out = Pieces::new(alloc);
+    let before = Span {
+        start: 0,
+        end: part.start,
+    };
+    let behind = Span {
+        start: part.end,
+        end: text.len(),
+    };
+    push_blanks(&mut out, text, before);
+    out.push(text.get(part.start..part.end).unwrap_or(""));
+    push_blanks(&mut out, text, behind);
+    out.finish()
 }
 
 impl Statement {
@@ -186,23 +180,21 @@ impl Statement {
     }
 
     /// What to paste: where what stands inside begins and ends, by lines and columns.
-    pub(crate) fn help(&self, alloc: Global, text: &str) -> Result<String, AllocError> {
+    pub(crate) fn help(&self, alloc: Global, text: &str) -> Pieces {
         let all = text.get(self.span.start..self.span.end).unwrap_or("");
-        let begin = self.span.end.saturating_sub(all.trim_start().len());
+        let start = self.span.end.saturating_sub(all.trim_start().len());
         let end = self.span.start.saturating_add(all.trim_end().len());
-        let begin = Place::of(
-            text,
-            Span {
-                start: begin,
-                end: begin,
-            },
-        );
-        let end = Place::of(text, Span { start: end, end });
-        let first = begin.column();
-        let last = end.column().saturating_sub(1);
-        format!(in alloc;
-            "give that alone, without its brackets: from line {}, column {first}, to line {}, column {last}",
-            begin.line, end.line
-        )
+        let mut help = Pieces::of(alloc, "give that alone, without its brackets: from ");
+        let first = place_at(text, start);
+        help.push_place(first.line, first.column());
+        help.push(", to ");
+        let last = place_at(text, end);
+        help.push_place(last.line, last.column().saturating_sub(1));
+        help
     }
+}
+
+/// The place before a byte.
+fn place_at(text: &str, at: usize) -> Place<'_> {
+    Place::of(text, Span { start: at, end: at })
 }

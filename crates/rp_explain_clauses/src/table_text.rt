@@ -5,8 +5,8 @@ use rp_lexer::{Mark, TokenKind};
 use rp_syntax::TableTextFault;
 use rp_value::{MAX_NAME_LEN, TableFault};
 use rp_wording::{
-    Advice, Hint, Reading, Report, Source, explain_lex, index_of, is_one_of, look_up, meant, said,
-    text_of, tokens_of,
+    Advice, Hint, Pieces, Reading, Report, Source, explain_lex, index_of, is_one_of, look_up,
+    meant, said, text_of, tokens_of,
 };
 use std::alloc::{AllocError, Global};
 
@@ -23,19 +23,23 @@ pub fn explain_table(
     fault: &TableTextFault,
 ) -> Result<Report, AllocError> {
     let mut report = Report::new(alloc, "table", fault)?;
-    match fault {
-        TableTextFault::Lex(why) => explain_lex(
-            alloc,
-            &mut report,
-            "table",
-            Source::whole(text),
-            *why,
-        )?,
-        TableTextFault::Expected(at) => explain_expected(alloc, &mut report, text, *at)?,
-        TableTextFault::Table(why) => explain_columns(alloc, &mut report, text, *why)?,
-        TableTextFault::OutOfMemory => {}
-    }
+    explain(alloc, &mut report, text, fault)?;
     Ok(report)
+}
+
+/// Adds where a fault is, and what to write.
+fn explain(
+    alloc: Global,
+    report: &mut Report,
+    text: &str,
+    fault: &TableTextFault,
+) -> Result<(), AllocError> {
+    match fault {
+        TableTextFault::Lex(why) => explain_lex(alloc, report, "table", Source::whole(text), *why),
+        TableTextFault::Expected(at) => explain_expected(alloc, report, text, *at),
+        TableTextFault::Table(why) => explain_columns(alloc, report, text, *why),
+        TableTextFault::OutOfMemory => Ok(()),
+    }
 }
 
 /// Explains a token that can't stand in a table.
@@ -48,29 +52,32 @@ fn explain_expected(
     let tokens = tokens_of(alloc, text)?;
     let reading = Reading::new(text, tokens.as_slice(), offset);
     if reading.is_keyword() && !is_one_of(reading.here(), "NOT NULL") {
-        let advice = reserved(alloc, &reading)?;
+        let advice = reserved(alloc, &reading);
         return report.point("table", text, reading.span(), &advice);
     }
-    let advice = of_place(alloc, &reading)?;
+    let advice = of_place(alloc, &reading);
     report.point("table", text, reading.span(), &advice)
 }
 
 /// What is wrong at a token, with the words of the table where they tell what to write.
-fn of_place(alloc: Global, reading: &Reading<'_>) -> Result<Advice, AllocError> {
+fn of_place(alloc: Global, reading: &Reading<'_>) -> Advice {
     if is_file_name(reading) {
-        let help = format!(in alloc;
-            "is it a file's name? write --table-file {}",
-            reading.text.trim()
-        )?;
-        return Advice::new(alloc, "a table lists its columns", help.as_str());
+        return Advice::with_help(
+            alloc,
+            "a table lists its columns",
+            Pieces::filled(
+                alloc,
+                "is it a file's name? write --table-file {}",
+                &[reading.text.trim()],
+            ),
+        );
     }
     if let Some(end) = name_with_blanks(reading) {
         let name = text_of(reading, reading.at.saturating_sub(1), end);
-        let help = format!(in alloc; "write \"{name}\" {}", reading.written(end))?;
-        return Advice::new(
+        return Advice::with_help(
             alloc,
             "a name with a blank is written in quotes",
-            help.as_str(),
+            Pieces::filled(alloc, "write \"{}\" {}", &[name, reading.written(end)]),
         );
     }
     Advice::of(alloc, of_token(reading))
@@ -98,11 +105,14 @@ fn name_with_blanks(reading: &Reading<'_>) -> Option<usize> {
 }
 
 /// A reserved word as a column's name, or as its kind.
-fn reserved(alloc: Global, reading: &Reading<'_>) -> Result<Advice, AllocError> {
-    let word = meant(alloc, reading.here())?;
-    let what = format!(in alloc; "{word} is a reserved word")?;
-    let help = format!(in alloc; "as a name write \"{word}\", in quotes and in upper case")?;
-    Advice::new(alloc, what.as_str(), help.as_str())
+fn reserved(alloc: Global, reading: &Reading<'_>) -> Advice {
+    let mut what = Pieces::new(alloc);
+    what.push_upper(reading.here());
+    what.push(" is a reserved word");
+    let mut help = Pieces::of(alloc, "as a name write \"");
+    help.push_upper(reading.here());
+    help.push("\", in quotes and in upper case");
+    Advice::of_pieces(what, help)
 }
 
 /// What is wrong at a token.
@@ -242,7 +252,7 @@ fn explain_columns(
     let advice = match fault {
         TableFault::DoubleName => {
             reading.at = second_of_a_name(alloc, &reading)?;
-            double_name(alloc, &reading)?
+            double_name(alloc, &reading)
         }
         _ => {
             reading.at = long_name(alloc, &reading)?;
@@ -250,19 +260,22 @@ fn explain_columns(
                 alloc,
                 "a name has at most 128 bytes",
                 "shorten it, in the header too",
-            )?
+            )
         }
     };
     report.point("table", text, reading.span(), &advice)
 }
 
 /// A column's name that was given before.
-fn double_name(alloc: Global, reading: &Reading<'_>) -> Result<Advice, AllocError> {
+fn double_name(alloc: Global, reading: &Reading<'_>) -> Advice {
     let written = reading.here();
-    let what = format!(in alloc; "a column before is called {written} too")?;
     let help =
         "upper and lower case are one without quotes; a name in quotes is taken letter for letter";
-    Advice::new(alloc, what.as_str(), help)
+    Advice::with_what(
+        alloc,
+        Pieces::filled(alloc, "a column before is called {} too", &[written]),
+        help,
+    )
 }
 
 /// The index of the first column's name that stands before too.

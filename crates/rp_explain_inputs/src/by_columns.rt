@@ -1,19 +1,19 @@
 //! Why a CSV input is no rows of columns that are computed.
 
 use crate::csv_text::write_at;
-use crate::field::{Wanted, at_record, record_at, shortened};
-use crate::first_line::{BLANKS, listed_fields};
-use crate::fronts::of_front;
-use crate::heading::of_heading;
+use crate::field::{Wanted, at_record, place_told, record_at};
+use crate::first_line::{BLANKS, empty_input, push_fields};
+use crate::heading::of_above;
 use crate::null_words::of_null_word;
 use crate::number_cells::{of_known_fraction, of_number, of_sign};
 use crate::proposal_notes::words_in;
-use crate::scan::{field_span, record_start};
+use crate::proposed::meanings;
+use crate::scan::field_span;
 use csv::ByteRecord;
 use rp_columns::{Columns, InputColumn, Reading, ReadingFault};
 use rp_input::{ColumnsCsvFault, CsvLayout, reader_of, take_record};
 use rp_value::upper_case_name;
-use rp_wording::{Advice, Report, nearest, noun, shown};
+use rp_wording::{Advice, Pieces, Report, nearest, noun};
 use std::alloc::{AllocError, Global};
 
 /// An input by columns.
@@ -41,17 +41,29 @@ pub fn explain_csv_by(
         bytes,
     };
     let mut report = headline(alloc, &input, fault)?;
-    match fault {
-        ColumnsCsvFault::Header => of_no_header(alloc, &mut report, bytes, layout.delimiter)?,
-        ColumnsCsvFault::Missing(index) => of_missing(alloc, &mut report, &input, *index)?,
-        ColumnsCsvFault::Double(index) => of_double(alloc, &mut report, &input, *index)?,
-        ColumnsCsvFault::Record(number) => of_record(alloc, &mut report, &input, *number)?,
-        ColumnsCsvFault::Field(number, index, why) => {
-            of_field(alloc, &mut report, &input, *number, *index, *why)?
-        }
-        ColumnsCsvFault::Read | ColumnsCsvFault::Turns | ColumnsCsvFault::OutOfMemory => {}
-    }
+    explain(alloc, &mut report, &input, fault)?;
     Ok(report)
+}
+
+/// Adds where a fault is, and what to write.
+fn explain(
+    alloc: Global,
+    report: &mut Report,
+    input: &Input<'_>,
+    fault: &ColumnsCsvFault,
+) -> Result<(), AllocError> {
+    match fault {
+        ColumnsCsvFault::Header => {
+            of_no_header(alloc, report, input.bytes, input.layout.delimiter)
+        }
+        ColumnsCsvFault::Missing(index) => of_missing(alloc, report, input, *index),
+        ColumnsCsvFault::Double(index) => of_double(alloc, report, input, *index),
+        ColumnsCsvFault::Record(number) => of_record(alloc, report, input, *number),
+        ColumnsCsvFault::Field(number, index, why) => {
+            of_field(alloc, report, input, *number, *index, *why)
+        }
+        ColumnsCsvFault::Read | ColumnsCsvFault::Turns | ColumnsCsvFault::OutOfMemory => Ok(()),
+    }
 }
 
 /// Explains why no columns can be proposed for the bytes of a CSV text, in which this byte is between fields: it is empty or no CSV,
@@ -71,16 +83,18 @@ fn headline(
     match fault {
         ColumnsCsvFault::Missing(index) => {
             let source = source_of(input.columns, *index);
-            Report::new(alloc, "csv", &format!(in alloc; "Missing {source}")?)
+            let told = Pieces::filled(alloc, "Missing {}", &[source]);
+            Report::of(alloc, "csv", told.text()?)
         }
         ColumnsCsvFault::Double(index) => {
             let source = source_of(input.columns, *index);
-            Report::new(alloc, "csv", &format!(in alloc; "Double {source}")?)
+            let told = Pieces::filled(alloc, "Double {}", &[source]);
+            Report::of(alloc, "csv", told.text()?)
         }
         ColumnsCsvFault::Field(number, index, why) => {
             let name = name_of(input.columns, *index);
             let told = format!(in alloc; "{why} at record {number}, column {name}")?;
-            Report::new(alloc, "csv", &told)
+            Report::of(alloc, "csv", told.as_str())
         }
         fault => Report::new(alloc, "csv", fault),
     }
@@ -109,35 +123,18 @@ fn of_no_header(
     bytes: &[u8],
     delimiter: u8,
 ) -> Result<(), AllocError> {
-    if of_above(alloc, report, bytes, delimiter)? {
-        return Ok(());
+    if let Some(found) = of_above(alloc, bytes, delimiter)? {
+        return report.advise("csv", &found);
     }
     if bytes.is_empty() {
-        report.say("csv", "the input is empty")?;
-        return report.help("was its file found? the first line names the columns");
+        return report.advise("csv", &empty_input(alloc));
     }
-    report.say("csv", "no field of the header has a name of its own")?;
-    report.help("the first line names the columns, each once")
-}
-
-/// Explains an input that is no CSV, or has something above its header; and says whether it is so.
-fn of_above(
-    alloc: Global,
-    report: &mut Report,
-    bytes: &[u8],
-    delimiter: u8,
-) -> Result<bool, AllocError> {
-    if let Some(found) = of_front(bytes) {
-        report.say("csv", found.what)?;
-        report.help(found.help)?;
-        return Ok(true);
-    }
-    let Some(found) = of_heading(alloc, bytes, delimiter)? else {
-        return Ok(false);
-    };
-    report.say("csv", found.what.as_str())?;
-    report.help(found.help.as_str())?;
-    Ok(true)
+    let advice = Advice::new(
+        alloc,
+        "no field of the header has a name of its own",
+        "the first line names the columns, each once",
+    );
+    report.advise("csv", &advice)
 }
 
 /// The header of an input; it has no field where there is none.
@@ -155,33 +152,65 @@ fn of_missing(
     input: &Input<'_>,
     index: usize,
 ) -> Result<(), AllocError> {
-    if of_above(alloc, report, input.bytes, input.layout.delimiter)? {
-        return Ok(());
+    if let Some(found) = of_above(alloc, input.bytes, input.layout.delimiter)? {
+        return report.advise("csv", &found);
     }
     let header = header_of(alloc, input)?;
     let source = source_of(input.columns, index);
-    let what = format!(in alloc;
-        "no field of the header is {source}, from which the column {} comes",
-        name_of(input.columns, index)
-    )?;
-    report.say("csv", what.as_str())?;
-    report.note(format!(in alloc; "the header has: {}", listed_fields(alloc, &header)?)?.as_str())?;
-    if let Some(help) = of_delimiter(&header) {
-        return report.help(help);
+    let what = Pieces::filled(
+        alloc,
+        "no field of the header is {}, from which the column {} comes",
+        &[source, name_of(input.columns, index)],
+    );
+    let help = help_for_missing(alloc, &header, source)?;
+    tell(alloc, report, &header, &Advice::of_pieces(what, help))
+}
+
+/// Adds advice on the header of an input, with that header.
+fn tell(
+    alloc: Global,
+    report: &mut Report,
+    header: &ByteRecord,
+    advice: &Advice,
+) -> Result<(), AllocError> {
+    report.say("csv", advice.what()?)?;
+    let mut line = Pieces::of(alloc, "the header has: ");
+    push_fields(&mut line, header);
+    report.note(&line)?;
+    report.help(advice.help()?)
+}
+
+/// What to do about a column that no field of a header names.
+fn help_for_missing(
+    alloc: Global,
+    header: &ByteRecord,
+    source: &str,
+) -> Result<Pieces, AllocError> {
+    if let Some(help) = of_delimiter(header) {
+        return Ok(Pieces::of(alloc, help));
     }
-    if has_word(alloc, &header, source)? {
-        return report.help(BLANKS);
+    if has_word(alloc, header, source)? {
+        return Ok(Pieces::of(alloc, BLANKS));
     }
-    let names = names_of(alloc, &header)?;
+    let mut help = meant_field(alloc, header, source)?;
+    help.push(
+        "a name with blanks or small letters that count is in double quotes, as the header has it",
+    );
+    Ok(help)
+}
+
+/// A line that guesses which field of a header is meant; nothing where there is no guess.
+fn meant_field(alloc: Global, header: &ByteRecord, source: &str) -> Result<Pieces, AllocError> {
+    let names = meanings(alloc, header)?;
+    let mut help = Pieces::new(alloc);
     if let Some(place) = nearest(alloc, source, names.as_slice())?
         && let Some(name) = names.get(place)
     {
-        let typed = shown(alloc, name.as_str())?;
-        report.help(format!(in alloc; "write {typed} in the brackets")?.as_str())?;
+        help.push("write ");
+        help.push_name(name.as_str());
+        help.push(" in the brackets\n");
     }
-    report.help(
-        "a name with blanks or small letters that count is in double quotes, as the header has it",
-    )
+    Ok(help)
 }
 
 /// Whether the header is one field of words with blanks between, of which one is this name.
@@ -218,19 +247,6 @@ pub(crate) fn of_delimiter(header: &ByteRecord) -> Option<&'static str> {
     None
 }
 
-/// The names of a header's fields as they may be typed.
-fn names_of(alloc: Global, header: &ByteRecord) -> Result<Vec<String>, AllocError> {
-    let mut names = Vec::new(alloc);
-    for index in 0..header.len() {
-        let text = String::from_utf8_lossy(alloc, header.get(index).unwrap_or(b""))?;
-        match upper_case_name(alloc, text.as_str())? {
-            Some(name) => names.push(String::from_str(alloc, name.as_str())?)?,
-            None => names.push(text)?,
-        }
-    }
-    Ok(names)
-}
-
 /// Explains a column that more than one field of the header names.
 fn of_double(
     alloc: Global,
@@ -240,12 +256,12 @@ fn of_double(
 ) -> Result<(), AllocError> {
     let header = header_of(alloc, input)?;
     let source = source_of(input.columns, index);
-    let what = format!(in alloc; "more than one field of the header is {source}")?;
-    report.say("csv", what.as_str())?;
-    report.note(format!(in alloc; "the header has: {}", listed_fields(alloc, &header)?)?.as_str())?;
-    report.help(
+    let advice = Advice::with_what(
+        alloc,
+        Pieces::filled(alloc, "more than one field of the header is {}", &[source]),
         "give one of them another name in the file, or read it with --no-header below its first line: tail -n +2 FILE",
-    )
+    );
+    tell(alloc, report, &header, &advice)
 }
 
 /// Explains a record with another number of fields.
@@ -308,23 +324,35 @@ fn of_field(
     };
     let place = place_of(alloc, input, index)?;
     let field = found.fields.get(place).unwrap_or(b"");
-    let text = String::from_utf8_lossy(alloc, field)?;
-    let short = shortened(alloc, text.as_str())?;
-    let name = shown(alloc, column.name.as_str())?;
-    let what = format!(in alloc;
-        "record {number}, column {name}: `{short}` {}",
-        wrong(&column.reading, why)
-    )?;
-    let advice = match of_null_word(alloc, input.bytes, input.layout, place, text.as_str())? {
-        Some(help) => Advice::new(alloc, what.as_str(), help.as_str())?,
-        None => Advice::new(
-            alloc,
-            what.as_str(),
-            to_write(&column.reading, why, text.as_str()),
-        )?,
-    };
+    let mut what = place_told(alloc, number, column.name.as_str());
+    what.push("`");
+    what.push_start(field);
+    what.push_filled("` {}", &[wrong(&column.reading, why)]);
+    let help = help_for_field(alloc, input, place, field, &column.reading, why)?;
     let span = field_span(input.bytes, found.start, place, input.layout.delimiter);
-    write_at(alloc, report, input.bytes, span, &advice)
+    write_at(
+        alloc,
+        report,
+        input.bytes,
+        span,
+        &Advice::of_pieces(what, help),
+    )
+}
+
+/// What to write in place of a field, or how to read it.
+fn help_for_field(
+    alloc: Global,
+    input: &Input<'_>,
+    place: usize,
+    field: &[u8],
+    reading: &Reading,
+    why: ReadingFault,
+) -> Result<Pieces, AllocError> {
+    let text = String::from_utf8_lossy(alloc, field)?;
+    match of_null_word(alloc, input.bytes, input.layout, place, text.as_str())? {
+        Some(help) => Ok(help),
+        None => Ok(Pieces::of(alloc, to_write(reading, why, text.as_str()))),
+    }
 }
 
 /// The place of a column's field in a record.

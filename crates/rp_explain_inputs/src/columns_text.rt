@@ -3,7 +3,7 @@
 use rp_columns::ColumnsFault;
 use rp_value::{MAX_NAME_LEN, TableFault};
 use rp_wording::{
-    Advice, Reading, Report, Source, explain_lex, index_of, is_one_of, meant, tokens_of,
+    Advice, Pieces, Reading, Report, Source, explain_lex, index_of, is_one_of, meant, tokens_of,
 };
 use std::alloc::{AllocError, Global};
 
@@ -24,48 +24,63 @@ pub fn explain_columns(
     fault: &ColumnsFault,
 ) -> Result<Report, AllocError> {
     let mut report = Report::new(alloc, "columns", fault)?;
-    match fault {
-        ColumnsFault::Lex(why) => explain_lex(
-            alloc,
-            &mut report,
-            "columns",
-            Source::whole(text),
-            *why,
-        )?,
-        ColumnsFault::Expected(at) => expected_at(alloc, &mut report, text, *at)?,
-        ColumnsFault::Reading(at) => no_reading_at(alloc, &mut report, text, *at)?,
-        ColumnsFault::Table(why) => no_table(alloc, &mut report, text, *why)?,
-        ColumnsFault::OutOfMemory => {}
-    }
+    explain(alloc, &mut report, text, fault)?;
     Ok(report)
+}
+
+/// Adds where a fault is, and what to write.
+fn explain(
+    alloc: Global,
+    report: &mut Report,
+    text: &str,
+    fault: &ColumnsFault,
+) -> Result<(), AllocError> {
+    match fault {
+        ColumnsFault::Lex(why) => explain_lex(alloc, report, "columns", Source::whole(text), *why),
+        ColumnsFault::Expected(at) => expected_at(alloc, report, text, *at),
+        ColumnsFault::Reading(at) => no_reading_at(alloc, report, text, *at),
+        ColumnsFault::Table(why) => no_table(alloc, report, text, *why),
+        ColumnsFault::OutOfMemory => Ok(()),
+    }
 }
 
 /// Explains that the system has no time zone of this name, which a text of columns has as a text.
 ///
 /// The first line is `columns: Zone Europe/Berln`.
 pub fn explain_zone(alloc: Global, text: &str, name: &str) -> Result<Report, AllocError> {
-    let mut report = Report::new(alloc, "columns", &format!(in alloc; "Zone {name}")?)?;
+    let told = Pieces::filled(alloc, "Zone {}", &[name]);
+    let mut report = Report::of(alloc, "columns", told.text()?)?;
+    no_zone(alloc, &mut report, text, name)?;
+    Ok(report)
+}
+
+/// Adds where the name of a time zone stands, and what to write.
+fn no_zone(alloc: Global, report: &mut Report, text: &str, name: &str) -> Result<(), AllocError> {
     let tokens = tokens_of(alloc, text)?;
     let mut reading = Reading::new(text, tokens.as_slice(), 0);
-    reading.at = place_of_text(alloc, &reading, name)?;
+    reading.at = place_of_text(&reading, name);
     let advice = Advice::new(
         alloc,
         "this system has no time zone of this name",
         "write its identifier in the IANA Time Zone Database, as 'Europe/Berlin', or an offset, as '+01:00'",
-    )?;
-    report.point("columns", text, reading.span(), &advice)?;
-    Ok(report)
+    );
+    report.point("columns", text, reading.span(), &advice)
 }
 
 /// The index of the token that has this text between single quotes; the number of tokens where none has.
-fn place_of_text(alloc: Global, reading: &Reading<'_>, name: &str) -> Result<usize, AllocError> {
-    let quoted = format!(in alloc; "'{name}'")?;
+fn place_of_text(reading: &Reading<'_>, name: &str) -> usize {
     for index in 0..reading.tokens.len() {
-        if reading.written(index) == quoted.as_str() {
-            return Ok(index);
+        if inside_single_quotes(reading.written(index)) == Some(name) {
+            return index;
         }
     }
-    Ok(reading.tokens.len())
+    reading.tokens.len()
+}
+
+/// What stands between single quotes.
+fn inside_single_quotes(written: &str) -> Option<&str> {
+    let behind = written.strip_prefix('\'')?;
+    behind.strip_suffix('\'')
 }
 
 /// Explains a token that can't stand where it is.
@@ -77,17 +92,20 @@ fn expected_at(
 ) -> Result<(), AllocError> {
     let tokens = tokens_of(alloc, text)?;
     let reading = Reading::new(text, tokens.as_slice(), at);
-    let advice = unexpected(alloc, &reading)?;
+    let advice = unexpected(alloc, &reading);
     report.point("columns", text, reading.span(), &advice)
 }
 
 /// What is wrong at a token.
-fn unexpected(alloc: Global, reading: &Reading<'_>) -> Result<Advice, AllocError> {
+fn unexpected(alloc: Global, reading: &Reading<'_>) -> Advice {
     if reading.is_keyword() {
-        let word = meant(alloc, reading.here())?;
-        let what = format!(in alloc; "{word} is a reserved word")?;
-        let help = format!(in alloc; "as a name write \"{word}\", in quotes and in upper case")?;
-        return Advice::new(alloc, what.as_str(), help.as_str());
+        let mut what = Pieces::new(alloc);
+        what.push_upper(reading.here());
+        what.push(" is a reserved word");
+        let mut help = Pieces::of(alloc, "as a name write \"");
+        help.push_upper(reading.here());
+        help.push("\", in quotes and in upper case");
+        return Advice::of_pieces(what, help);
     }
     if reading.is_end() || reading.here() == "," {
         return Advice::new(alloc, "this column isn't complete", LIKE);
@@ -111,19 +129,22 @@ fn no_reading_at(
 ) -> Result<(), AllocError> {
     let tokens = tokens_of(alloc, text)?;
     let reading = Reading::new(text, tokens.as_slice(), at);
-    let word = reading.here();
-    let advice = if is_one_of(word, READINGS) {
-        let what = format!(in alloc; "{word} doesn't take what is behind it")?;
-        Advice::new(alloc, what.as_str(), form_of(word))?
-    } else {
-        let what = format!(in alloc; "there is no reading {word}")?;
-        Advice::new(
-            alloc,
-            what.as_str(),
-            "the readings are text, lower, int, date, seconds, millis, micros, decimal and record()",
-        )?
-    };
+    let advice = no_reading(alloc, reading.here());
     report.point("columns", text, reading.span(), &advice)
+}
+
+/// What is said of a word that calls no reading, or none with what is behind it.
+fn no_reading(alloc: Global, word: &str) -> Advice {
+    if is_one_of(word, READINGS) {
+        let what = Pieces::filled(alloc, "{} doesn't take what is behind it", &[word]);
+        return Advice::with_what(alloc, what, form_of(word));
+    }
+    let what = Pieces::filled(alloc, "there is no reading {}", &[word]);
+    Advice::with_what(
+        alloc,
+        what,
+        "the readings are text, lower, int, date, seconds, millis, micros, decimal and record()",
+    )
 }
 
 /// How a reading is written.
@@ -153,24 +174,25 @@ fn no_table(
     let tokens = tokens_of(alloc, text)?;
     let mut reading = Reading::new(text, tokens.as_slice(), 0);
     reading.at = blamed(alloc, &reading, fault)?;
-    let advice = match fault {
-        TableFault::DoubleName => {
-            let written = reading.here();
-            let what = format!(in alloc; "a column before is called {written} too")?;
-            Advice::new(
-                alloc,
-                what.as_str(),
-                "upper and lower case are one without quotes; a name in quotes is taken letter for letter",
-            )?
-        }
-        TableFault::NoColumns => Advice::new(alloc, "there are no columns", LIKE)?,
+    let advice = of_table(alloc, reading.here(), fault);
+    report.point("columns", text, reading.span(), &advice)
+}
+
+/// What is said of columns that make no table, by the name that is to blame.
+fn of_table(alloc: Global, written: &str, fault: TableFault) -> Advice {
+    match fault {
+        TableFault::DoubleName => Advice::with_what(
+            alloc,
+            Pieces::filled(alloc, "a column before is called {} too", &[written]),
+            "upper and lower case are one without quotes; a name in quotes is taken letter for letter",
+        ),
+        TableFault::NoColumns => Advice::new(alloc, "there are no columns", LIKE),
         _ => Advice::new(
             alloc,
             "a name has 1 to 128 bytes",
             "give the column a name of its own: name = text(\"..\")",
-        )?,
-    };
-    report.point("columns", text, reading.span(), &advice)
+        ),
+    }
 }
 
 /// The index of the name that is to blame: the first one that was given before, or that is empty or too long.

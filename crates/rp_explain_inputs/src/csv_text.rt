@@ -19,13 +19,24 @@ pub fn explain_csv(
     fault: &CsvFault,
 ) -> Result<Report, AllocError> {
     let mut report = Report::new(alloc, "csv", fault)?;
-    match fault {
-        CsvFault::Header => of_header(alloc, &mut report, table, bytes)?,
-        CsvFault::Record(number) => of_record(alloc, &mut report, table, bytes, *number)?,
-        CsvFault::Field(number) => of_field(alloc, &mut report, table, bytes, *number)?,
-        CsvFault::Read | CsvFault::Turns | CsvFault::OutOfMemory => {}
-    }
+    explain(alloc, &mut report, table, bytes, fault)?;
     Ok(report)
+}
+
+/// Adds where a fault is, and what to write.
+fn explain(
+    alloc: Global,
+    report: &mut Report,
+    table: &Table,
+    bytes: &[u8],
+    fault: &CsvFault,
+) -> Result<(), AllocError> {
+    match fault {
+        CsvFault::Header => of_header(alloc, report, table, bytes),
+        CsvFault::Record(number) => of_record(alloc, report, table, bytes, *number),
+        CsvFault::Field(number) => of_field(alloc, report, table, bytes, *number),
+        CsvFault::Read | CsvFault::Turns | CsvFault::OutOfMemory => Ok(()),
+    }
 }
 
 /// Writes advice at a part of the bytes.

@@ -7,9 +7,9 @@ use crate::scan::{field_span, long_quote, open_quote, record_start};
 use crate::stray_lines::of_stray_line;
 use csv::ByteRecord;
 use rp_input::{CsvLayout, first_misfit, reader_of, take_record};
-use rp_place::{Span, shown_character};
+use rp_place::Span;
 use rp_value::{Column, Table};
-use rp_wording::{Advice, Report, noun, shown};
+use rp_wording::{Advice, Pieces, Report, noun};
 use std::alloc::{AllocError, Global};
 
 /// A record of a text.
@@ -95,7 +95,7 @@ pub(crate) fn at_record(
             alloc,
             "the quote that begins here never closes, and takes all that follows",
             "close it, or write a quote in a text twice and the text in quotes: \"a \"\"b\"\" c\"",
-        )?;
+        );
         return write_at(alloc, report, bytes, quote_span(at), &advice);
     }
     if let Some(at) = long_quote(bytes, found.start, delimiter) {
@@ -103,10 +103,10 @@ pub(crate) fn at_record(
             alloc,
             "the quote that begins here closes in a later line",
             "close it in its own line, if it should; a quote in a text is written twice",
-        )?;
+        );
         return write_at(alloc, report, bytes, quote_span(at), &advice);
     }
-    let advice = of_count(alloc, wanted, &found.fields)?;
+    let advice = of_count(alloc, wanted, &found.fields);
     let field = found.fields.len().min(wanted.count);
     let span = field_span(bytes, found.start, field, delimiter);
     write_at(alloc, report, bytes, span, &advice)
@@ -121,20 +121,21 @@ fn quote_span(at: usize) -> Span {
 }
 
 /// What is told of a record with this many fields.
-fn of_count(alloc: Global, wanted: &Wanted, fields: &ByteRecord) -> Result<Advice, AllocError> {
+fn of_count(alloc: Global, wanted: &Wanted, fields: &ByteRecord) -> Advice {
     let count = fields.len();
-    let what = format!(in alloc;
-        "this record has {count} {}, and the {} has {} {}",
-        noun(count, "field", "fields"),
-        wanted.whose,
-        wanted.count,
-        wanted.what
-    )?;
+    let mut what = Pieces::of(alloc, "this record has ");
+    what.push_count(count);
+    what.push_filled(
+        " {}, and the {} has ",
+        &[noun(count, "field", "fields"), wanted.whose],
+    );
+    what.push_count(wanted.count);
+    what.push_filled(" {}", &[wanted.what]);
     let help = match of_stray_line(fields) {
         Some(help) if wanted.count > 1 => help,
         _ => of_fields(count > wanted.count),
     };
-    Advice::new(alloc, what.as_str(), help)
+    Advice::with_what(alloc, what, help)
 }
 
 /// What to do about a record with too many fields, or too few.
@@ -168,8 +169,8 @@ pub(crate) fn of_field(
     };
     let field = found.fields.get(index).unwrap_or(b"");
     let advice = match of_word(alloc, bytes, index, field)? {
-        Some(help) => not_whole(alloc, column, field, number, help.as_str())?,
-        None => at_field(alloc, column, field, number)?,
+        Some(help) => not_whole(alloc, column, field, number, help),
+        None => at_field(alloc, column, field, number),
     };
     write_at(alloc, report, bytes, span, &advice)
 }
@@ -191,7 +192,7 @@ fn of_word(
     bytes: &[u8],
     place: usize,
     field: &[u8],
-) -> Result<Option<String>, AllocError> {
+) -> Result<Option<Pieces>, AllocError> {
     match std::str::from_utf8(field) {
         Ok(text) => of_null_word(alloc, bytes, CsvLayout::plain(), place, text),
         Err(_) => Ok(None),
@@ -199,42 +200,37 @@ fn of_word(
 }
 
 /// What is told of a field.
-fn at_field(
-    alloc: Global,
-    column: &Column,
-    field: &[u8],
-    number: u64,
-) -> Result<Advice, AllocError> {
+fn at_field(alloc: Global, column: &Column, field: &[u8], number: u64) -> Advice {
     let Ok(text) = std::str::from_utf8(field) else {
-        let name = shown(alloc, column.name.as_str())?;
-        let what = format!(in alloc; "record {number}, column {name}: these bytes aren't UTF-8")?;
+        let mut what = place_told(alloc, number, column.name.as_str());
+        what.push("these bytes aren't UTF-8");
         let help = "UTF-8 is read: iconv -f WINDOWS-1252 -t UTF-8 FILE | rowmatch ..";
-        return Advice::new(alloc, what.as_str(), help);
+        return Advice::with_what(alloc, what, help);
     };
-    not_whole(alloc, column, field, number, of_number(text))
+    let help = Pieces::of(alloc, of_number(text));
+    not_whole(alloc, column, field, number, help)
+}
+
+/// The place of a field as it is told, by its record's number and its column's name.
+pub(crate) fn place_told(alloc: Global, number: u64, name: &str) -> Pieces {
+    let mut told = Pieces::of(alloc, "record ");
+    told.push_number(number);
+    told.push(", column ");
+    told.push_name(name);
+    told.push(": ");
+    told
 }
 
 /// What is reported of a field that is no whole number.
-fn not_whole(
-    alloc: Global,
-    column: &Column,
-    field: &[u8],
-    number: u64,
-    help: &str,
-) -> Result<Advice, AllocError> {
-    let name = shown(alloc, column.name.as_str())?;
-    let text = String::from_utf8_lossy(alloc, field)?;
-    let short = shortened(alloc, text.as_str())?;
-    let what = format!(in alloc; "record {number}, column {name}: `{short}` is no whole number")?;
-    let help = format!(in alloc; "{help}\nfor any text the table has {name} text")?;
-    Advice::new(alloc, what.as_str(), help.as_str())
-}
-
-/// The first characters of a field.
-pub(crate) fn shortened(alloc: Global, field: &str) -> Result<String, AllocError> {
-    let mut short = String::new(alloc);
-    for character in field.chars().take(40) {
-        short.push(shown_character(character))?;
-    }
-    Ok(short)
+fn not_whole(alloc: Global, column: &Column, field: &[u8], number: u64, help: Pieces) -> Advice {
+    let name = column.name.as_str();
+    let mut what = place_told(alloc, number, name);
+    what.push("`");
+    what.push_start(field);
+    what.push("` is no whole number");
+    let mut help = help;
+    help.push("\nfor any text the table has ");
+    help.push_name(name);
+    help.push(" text");
+    Advice::of_pieces(what, help)
 }

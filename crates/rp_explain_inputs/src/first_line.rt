@@ -1,18 +1,15 @@
 //! A header that isn't the table's.
 
 use crate::csv_text::write_at;
-use crate::field::shortened;
-use crate::fronts::of_front;
-use crate::heading::of_heading;
+use crate::heading::of_above;
 use crate::proposal_notes::words_in;
-use crate::proposed::{is_named, meanings, table_text};
+use crate::proposed::{is_named, meanings, push_table};
 use crate::scan::{field_span, record_start};
 use csv::ByteRecord;
 use rp_input::{is_value, names_column, reader_of, take_record};
 use rp_value::{Column, Kind, Table};
-use rp_wording::{Advice, Report, column_names, index_of, kind_word, listed, shown, upper_case};
+use rp_wording::{Advice, Pieces, Report, column_names, index_of, kind_word, upper_case};
 use std::alloc::{AllocError, Global};
-use std::fmt::Write;
 
 /// What to do where blanks seem to be between fields.
 pub(crate) const BLANKS: &str =
@@ -25,26 +22,41 @@ pub(crate) fn of_header(
     table: &Table,
     bytes: &[u8],
 ) -> Result<(), AllocError> {
-    if let Some(found) = of_front(bytes) {
-        report.say("csv", found.what)?;
-        return report.help(found.help);
+    if let Some(found) = of_above(alloc, bytes, b',')? {
+        return report.advise("csv", &found);
     }
     let mut reader = reader_of(alloc, bytes, b',');
     let mut fields = ByteRecord::new(alloc);
     if !take_record(&mut reader, &mut fields)? {
-        report.say("csv", "the input is empty")?;
-        return report.help("was its file found? the first line names the columns");
+        return report.advise("csv", &empty_input(alloc));
     }
-    if let Some(heading) = of_heading(alloc, bytes, b',')? {
-        report.say("csv", heading.what.as_str())?;
-        return report.help(heading.help.as_str());
-    }
-    let place = first_difference(alloc, table.columns(), &fields)?;
-    let advice = at_field(alloc, table.columns(), &fields, place)?;
+    of_names(alloc, report, table, bytes, &fields)
+}
+
+/// What is said of an input without a byte.
+pub(crate) fn empty_input(alloc: Global) -> Advice {
+    Advice::new(
+        alloc,
+        "the input is empty",
+        "was its file found? the first line names the columns",
+    )
+}
+
+/// Explains a header of other names than the table's.
+fn of_names(
+    alloc: Global,
+    report: &mut Report,
+    table: &Table,
+    bytes: &[u8],
+    fields: &ByteRecord,
+) -> Result<(), AllocError> {
+    let columns = table.columns();
+    let place = first_difference(alloc, columns, fields)?;
+    let advice = at_field(alloc, columns, fields, place);
     let span = field_span(bytes, record_start(bytes, 0), place, b',');
     write_at(alloc, report, bytes, span, &advice)?;
-    push_both(alloc, report, table, &fields)?;
-    push_hint(alloc, report, table.columns(), &fields)
+    push_both(alloc, report, table, fields)?;
+    push_hint(alloc, report, columns, fields)
 }
 
 /// The index of the first field that doesn't name its column; of the first one that is too many or missing where all do.
@@ -62,27 +74,33 @@ fn first_difference(
 }
 
 /// What is wrong at a field of the header.
-fn at_field(
-    alloc: Global,
-    columns: &[Column],
-    fields: &ByteRecord,
-    index: usize,
-) -> Result<Advice, AllocError> {
-    let number = index.saturating_add(1);
+fn at_field(alloc: Global, columns: &[Column], fields: &ByteRecord, index: usize) -> Advice {
     let Some(column) = columns.get(index) else {
-        let count = columns.len();
-        let what = format!(in alloc; "the table has {count} columns, and the file goes on")?;
-        return Advice::new(alloc, what.as_str(), "");
+        let mut what = Pieces::of(alloc, "the table has ");
+        what.push_count(columns.len());
+        what.push(" columns, and the file goes on");
+        return Advice::with_what(alloc, what, "");
     };
-    let name = shown(alloc, column.name.as_str())?;
-    let Some(_field) = fields.get(index) else {
-        let what = format!(in alloc;
-            "the file has no column {number}, and the table has {name} there"
-        )?;
-        return Advice::new(alloc, what.as_str(), "");
-    };
-    let what = format!(in alloc; "column {number} of the table is {name}")?;
-    Advice::new(alloc, what.as_str(), "")
+    let what = named_there(alloc, column, fields.get(index).is_some(), index);
+    Advice::with_what(alloc, what, "")
+}
+
+/// Which column the table has at a place, where the file has another one or none.
+fn named_there(alloc: Global, column: &Column, is_in_file: bool, index: usize) -> Pieces {
+    let number = index.saturating_add(1);
+    if !is_in_file {
+        let mut what = Pieces::of(alloc, "the file has no column ");
+        what.push_count(number);
+        what.push(", and the table has ");
+        what.push_name(column.name.as_str());
+        what.push(" there");
+        return what;
+    }
+    let mut what = Pieces::of(alloc, "column ");
+    what.push_count(number);
+    what.push(" of the table is ");
+    what.push_name(column.name.as_str());
+    what
 }
 
 /// Writes the columns of the table and those of the file.
@@ -93,35 +111,22 @@ fn push_both(
     fields: &ByteRecord,
 ) -> Result<(), AllocError> {
     let names = column_names(alloc, table.columns())?;
-    let list = listed(alloc, names.as_slice())?;
-    report.note(format!(in alloc; "the table has: {list}")?.as_str())?;
-    let list = listed_fields(alloc, fields)?;
-    report.note(format!(in alloc; "the file has:  {list}")?.as_str())
+    let mut line = Pieces::of(alloc, "the table has: ");
+    line.push_names(names.as_slice());
+    report.note(&line)?;
+    let mut line = Pieces::of(alloc, "the file has:  ");
+    push_fields(&mut line, fields);
+    report.note(&line)
 }
 
-/// The first fields of a header, with commas between.
-pub(crate) fn listed_fields(alloc: Global, fields: &ByteRecord) -> Result<String, AllocError> {
-    let mut list = String::new(alloc);
+/// Adds the first fields of a header, with commas between.
+pub(crate) fn push_fields(list: &mut Pieces, fields: &ByteRecord) {
     for index in 0..fields.len().min(16) {
         if index > 0 {
-            list.push_str(", ")?;
+            list.push(", ");
         }
-        push_field(alloc, &mut list, fields, index)?;
+        list.push_start(fields.get(index).unwrap_or(b""));
     }
-    Ok(list)
-}
-
-/// Writes a field of the header.
-fn push_field(
-    alloc: Global,
-    out: &mut String,
-    fields: &ByteRecord,
-    index: usize,
-) -> Result<(), AllocError> {
-    let field = fields.get(index).unwrap_or(b"");
-    let text = String::from_utf8_lossy(alloc, field)?;
-    let short = shortened(alloc, text.as_str())?;
-    out.push_str(short.as_str())
 }
 
 /// Writes what to do about a header.
@@ -143,44 +148,57 @@ fn push_hint(
             "a blank behind a comma belongs to the name, and is to be taken out of the file",
         );
     }
-    if looks_like_values(columns, fields) {
-        let names = plain_header(alloc, columns)?;
-        report.help("these look like values: the first line names the columns")?;
-        let help = format!(in alloc; "(echo '{names}'; cat FILE) | rowmatch ..")?;
-        return report.help(help.as_str());
+    let help = hint_of(alloc, columns, fields)?;
+    report.help(help.text()?)
+}
+
+/// What to do about a header whose fields are separated as they should be.
+fn hint_of(alloc: Global, columns: &[Column], fields: &ByteRecord) -> Result<Pieces, AllocError> {
+    if !looks_like_values(columns, fields) {
+        return of_list(alloc, columns, fields);
     }
-    let help = of_list(alloc, columns, fields)?;
-    report.help(help.as_str())
+    let mut help = Pieces::of(
+        alloc,
+        "these look like values: the first line names the columns\n(echo '",
+    );
+    help.push_made(plain_header(alloc, columns));
+    help.push("'; cat FILE) | rowmatch ..");
+    Ok(help)
 }
 
 /// What to do about a header that is of other columns than the table's: a table lists all of them, unless two have one name or one
 /// has none.
-fn of_list(alloc: Global, columns: &[Column], fields: &ByteRecord) -> Result<String, AllocError> {
+fn of_list(alloc: Global, columns: &[Column], fields: &ByteRecord) -> Result<Pieces, AllocError> {
     let names = meanings(alloc, fields)?;
     let mut places = names.iter().enumerate();
     if places.all(|(index, _name)| is_named(names.as_slice(), index)) {
-        let text = table_text(alloc, fields, columns)?;
-        return format!(in alloc;
-            "the table lists the file's columns, all of them and in its order: --table '{text}'"
+        let mut help = Pieces::of(
+            alloc,
+            "the table lists the file's columns, all of them and in its order: --table '",
         );
+        push_table(alloc, &mut help, fields, columns)?;
+        help.push("'");
+        return Ok(help);
     }
-    let text = typed_columns(alloc, columns)?;
-    format!(in alloc;
-        "a field of the header has no name, or one that another has too: those that are named once are read by --columns '{text}'"
-    )
+    let mut help = Pieces::of(
+        alloc,
+        "a field of the header has no name, or one that another has too: those that are named once are read by --columns '",
+    );
+    push_typed_columns(&mut help, columns);
+    help.push("'");
+    Ok(help)
 }
 
-/// The columns of a table with their kinds, as they may be typed.
-fn typed_columns(alloc: Global, columns: &[Column]) -> Result<String, AllocError> {
-    let mut text = String::new(alloc);
+/// Adds the columns of a table with their kinds, as they may be typed.
+fn push_typed_columns(text: &mut Pieces, columns: &[Column]) {
     for (index, column) in columns.iter().enumerate() {
         if index > 0 {
-            text.push_str(", ")?;
+            text.push(", ");
         }
-        let typed = shown(alloc, column.name.as_str())?;
-        write!(text, "{typed} {}", kind_word(column.kind))?;
+        text.push_name(column.name.as_str());
+        text.push(" ");
+        text.push(kind_word(column.kind));
     }
-    Ok(text)
 }
 
 /// What separates the fields, where no commas do.
@@ -238,14 +256,14 @@ pub(crate) fn is_whole(field: &[u8]) -> bool {
 
 /// A header that names the columns.
 fn plain_header(alloc: Global, columns: &[Column]) -> Result<String, AllocError> {
-    let names = column_names(alloc, columns)?;
-    let mut header = String::new(alloc);
-    for (index, name) in names.iter().enumerate() {
+    let mut names = Pieces::new(alloc);
+    for (index, column) in columns.iter().enumerate() {
         if index > 0 {
-            header.push(',')?;
+            names.push(",");
         }
-        header.push_str(name.as_str())?;
+        names.push(column.name.as_str());
     }
+    let mut header = names.finish()?;
     header.make_ascii_lowercase();
     Ok(header)
 }

@@ -1,14 +1,27 @@
 //! Lines above the header of a CSV text.
 
+use crate::fronts::of_front;
 use crate::scan::record_start;
 use csv::{ByteRecord, Reader};
 use rp_input::{MAX_RECORDS, reader_of, take_record};
 use rp_place::line_number;
-use rp_wording::Advice;
+use rp_wording::{Advice, Pieces};
 use std::alloc::{AllocError, Global};
 
 /// In so many records below a title the names are looked for.
 const LOOKED_AT: u64 = 20;
+
+/// What is said of an input that is no CSV, or has something above its header.
+pub(crate) fn of_above(
+    alloc: Global,
+    bytes: &[u8],
+    delimiter: u8,
+) -> Result<Option<Advice>, AllocError> {
+    match of_front(bytes) {
+        Some(found) => Ok(Some(Advice::of(alloc, found))),
+        None => of_heading(alloc, bytes, delimiter),
+    }
+}
 
 /// What is said of lines above the header: remarks, or a title. None: the first line may be the header.
 pub(crate) fn of_heading(
@@ -57,23 +70,22 @@ fn of_remarks(
             return Ok(None);
         }
         if !is_remark(&fields) {
-            return remarks(alloc, fields.len() != count);
+            return Ok(remarks(alloc, fields.len() != count));
         }
     }
     Ok(None)
 }
 
 /// What is said of remarks, if there are some.
-fn remarks(alloc: Global, are_there: bool) -> Result<Option<Advice>, AllocError> {
+fn remarks(alloc: Global, are_there: bool) -> Option<Advice> {
     if !are_there {
-        return Ok(None);
+        return None;
     }
-    let advice = Advice::new(
+    Some(Advice::new(
         alloc,
         "the first line is a remark, and the names of the columns are wanted there",
         "grep -v '^#' FILE | rowmatch ..",
-    )?;
-    Ok(Some(advice))
+    ))
 }
 
 /// What is said of a first record that is one field: it is a title where the first record with more fields has names, and the next
@@ -91,11 +103,8 @@ fn of_title(
         if fields.len() > 1 {
             let start = start_of(&fields, bytes);
             let is_header = are_names(&fields) && has_next(alloc, reader, fields.len())?;
-            return title(
-                alloc,
-                is_header,
-                line_number(bytes.get(..start).unwrap_or(bytes)),
-            );
+            let line = line_number(bytes.get(..start).unwrap_or(bytes));
+            return Ok(title(alloc, is_header, line));
         }
     }
     Ok(None)
@@ -129,14 +138,17 @@ fn has_next(alloc: Global, reader: &mut Reader<&[u8]>, count: usize) -> Result<b
 }
 
 /// What is said of a title, if it is one, above names in this line.
-fn title(alloc: Global, is_there: bool, line: usize) -> Result<Option<Advice>, AllocError> {
+fn title(alloc: Global, is_there: bool, line: usize) -> Option<Advice> {
     if !is_there {
-        return Ok(None);
+        return None;
     }
-    let what = format!(in alloc;
-        "the names of the columns are wanted in line 1, and seem to be in line {line}"
-    )?;
-    let help = format!(in alloc; "tail -n +{line} FILE | rowmatch ..")?;
-    let advice = Advice::new(alloc, what.as_str(), help.as_str())?;
-    Ok(Some(advice))
+    let mut what = Pieces::of(
+        alloc,
+        "the names of the columns are wanted in line 1, and seem to be in line ",
+    );
+    what.push_count(line);
+    let mut help = Pieces::of(alloc, "tail -n +");
+    help.push_count(line);
+    help.push(" FILE | rowmatch ..");
+    Some(Advice::of_pieces(what, help))
 }

@@ -1,12 +1,11 @@
 //! Zeros before a number, which are lost.
 
-use crate::field::shortened;
 use crate::first_line::is_whole;
 use crate::proposed::is_plain_number;
 use csv::ByteRecord;
 use rp_input::{MAX_RECORDS, reader_of, take_record};
 use rp_value::{Column, Kind, Table};
-use rp_wording::{shown, shown_text};
+use rp_wording::{Pieces, shown_text};
 use std::alloc::{AllocError, Global};
 
 /// Says of the bytes of a CSV text, which are rows of a table, where zeros before a number are lost. The line ends in LF; there may be
@@ -49,11 +48,13 @@ fn of_zeros(
     let Some(column) = columns.get(index) else {
         return Ok(String::new(alloc));
     };
-    let typed = shown(alloc, column.name.as_str())?;
-    let field = String::from_utf8_lossy(alloc, fields.get(index).unwrap_or(b""))?;
-    let field = shortened(alloc, field.as_str())?;
-    let line = format!(in alloc;
-        "{typed} is int, so the zeros before {field} are lost: if they count, as in a postal code, write {typed} text\n"
-    )?;
-    shown_text(alloc, line.as_str())
+    let name = column.name.as_str();
+    let mut line = Pieces::new(alloc);
+    line.push_name(name);
+    line.push(" is int, so the zeros before ");
+    line.push_start(fields.get(index).unwrap_or(b""));
+    line.push(" are lost: if they count, as in a postal code, write ");
+    line.push_name(name);
+    line.push(" text\n");
+    shown_text(alloc, line.text()?)
 }

@@ -6,9 +6,8 @@ use csv::{ByteRecord, Reader};
 use rp_input::{CsvLayout, MAX_RECORDS, reader_of, take_record};
 use rp_place::push_help;
 use rp_value::Text;
-use rp_wording::shown;
+use rp_wording::Pieces;
 use std::alloc::{AllocError, Global};
-use std::fmt::Write;
 
 /// What was seen in a column's fields.
 #[derive(Clone, Copy)]
@@ -24,7 +23,7 @@ struct Seen {
 /// Writes of each column of a CSV text that has whole numbers and words for null alone that it is text, and what to do.
 pub(crate) fn push_mixed(
     alloc: Global,
-    out: &mut String,
+    out: &mut Pieces,
     bytes: &[u8],
     layout: CsvLayout,
     nulls: &[Text],
@@ -99,7 +98,7 @@ fn with_field(seen: Seen, field: &[u8]) -> Seen {
 /// Writes that a column is text because of a word, and what to do.
 fn push_column(
     alloc: Global,
-    out: &mut String,
+    out: &mut Pieces,
     bytes: &[u8],
     layout: CsvLayout,
     index: usize,
@@ -109,9 +108,11 @@ fn push_column(
     let Some(help) = of_null_word(alloc, bytes, layout, index, word.as_str())? else {
         return Ok(());
     };
-    let typed = shown(alloc, name)?;
-    writeln!(out, "  {typed} is text, since a word is among its numbers")?;
-    push_help(out, help.as_str())
+    out.push("  ");
+    out.push_name(name);
+    out.push(" is text, since a word is among its numbers\n");
+    out.push_help(help.text()?);
+    Ok(())
 }
 
 /// The first word for null in a column; it may be empty.

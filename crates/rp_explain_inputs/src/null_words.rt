@@ -1,9 +1,8 @@
 //! Words that other programs write for a null.
 
-use crate::field::shortened;
 use csv::ByteRecord;
 use rp_input::{CsvLayout, MAX_RECORDS, reader_of, take_record};
-use rp_wording::{is_one_of, noun};
+use rp_wording::{Pieces, is_one_of, noun};
 use std::alloc::{AllocError, Global};
 
 /// The words.
@@ -24,16 +23,20 @@ pub(crate) fn of_null_word(
     layout: CsvLayout,
     place: usize,
     field: &str,
-) -> Result<Option<String>, AllocError> {
+) -> Result<Option<Pieces>, AllocError> {
     if !is_one_of(field.trim(), WORDS) {
         return Ok(None);
     }
     let count = count_of(alloc, bytes, layout, place, field.as_bytes())?;
+    let mut help = Pieces::of(alloc, "`");
+    help.push_start(field.as_bytes());
+    help.push("` seems to be a null; ");
+    help.push_count(count);
     let records = noun(count, "record has", "records have");
-    let word = shortened(alloc, field)?;
-    Ok(Some(format!(in alloc;
-        "`{word}` seems to be a null; {count} {records} it here: give --null '{word}' (and --null '' if empty texts are null)"
-    )?))
+    help.push_filled(" {} it here: give --null '", &[records]);
+    help.push_start(field.as_bytes());
+    help.push("' (and --null '' if empty texts are null)");
+    Ok(Some(help))
 }
 
 /// How many records have this field at this place.

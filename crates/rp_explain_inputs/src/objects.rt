@@ -3,7 +3,7 @@
 use rp_columns::{Columns, InputColumn};
 use rp_objects::{FieldFault, ObjectsFault};
 use rp_place::Place;
-use rp_wording::{Advice, Report, shown};
+use rp_wording::{Advice, Pieces, Report, shown};
 use std::alloc::{AllocError, Global};
 
 /// Explains why `rows_by_objects` refuses the bytes of a text, by the fault that it gave.
@@ -20,7 +20,7 @@ pub fn explain_objects(
             let what = "this is no object of JSON";
             let help =
                 "each line is an object, as {\"sym\":\"x\",\"p\":1}: jq -c '.[]' FILE makes such lines of a list";
-            at_line(alloc, fault, bytes, *line, what, help)
+            at_line(alloc, fault, bytes, *line, &Advice::new(alloc, what, help))
         }
         ObjectsFault::DoubleKey(line) => {
             let what = "a key is in an object twice";
@@ -29,12 +29,12 @@ pub fn explain_objects(
                 fault,
                 bytes,
                 *line,
-                what,
-                "which of the two is meant?",
+                &Advice::new(alloc, what, "which of the two is meant?"),
             )
         }
         ObjectsFault::TooMany(line) => {
-            at_line(alloc, fault, bytes, *line, "there are too many objects", "")
+            let advice = Advice::new(alloc, "there are too many objects", "");
+            at_line(alloc, fault, bytes, *line, &advice)
         }
         ObjectsFault::Field(line, index, why) => {
             let Some(column) = columns.as_slice().get(*index) else {
@@ -56,9 +56,12 @@ fn of_field(
 ) -> Result<Report, AllocError> {
     let name = column.name.as_str();
     let told = format!(in alloc; "{why} at line {line}, column {name}")?;
-    let typed = shown(alloc, name)?;
-    let source = column.source.as_str();
-    let what = format!(in alloc; "column {typed}, which comes from {source}, has no value here")?;
+    let mut what = Pieces::of(alloc, "column ");
+    what.push_name(name);
+    what.push_filled(
+        ", which comes from {}, has no value here",
+        &[column.source.as_str()],
+    );
     let help = match why {
         FieldFault::Nested => {
             "a list or an object is no value: name what is in it by a path in double quotes, as \"user.id\""
@@ -68,7 +71,13 @@ fn of_field(
         FieldFault::Reading(_) =>
             "the text is read as a field of a CSV: docs/COLUMNS.md has the forms",
     };
-    at_line(alloc, &told, bytes, line, what.as_str(), help)
+    at_line(
+        alloc,
+        &told,
+        bytes,
+        line,
+        &Advice::with_what(alloc, what, help),
+    )
 }
 
 /// A report of a fault with the line of a text, from 1.
@@ -77,24 +86,47 @@ fn at_line<F: std::fmt::Display>(
     fault: &F,
     bytes: &[u8],
     line: u64,
-    what: &str,
-    help: &str,
+    advice: &Advice,
 ) -> Result<Report, AllocError> {
     let mut report = Report::new(alloc, "json", fault)?;
+    point_at_line(alloc, &mut report, bytes, line, advice)?;
+    Ok(report)
+}
+
+/// Adds the line of a text, from 1, and advice.
+fn point_at_line(
+    alloc: Global,
+    report: &mut Report,
+    bytes: &[u8],
+    line: u64,
+    advice: &Advice,
+) -> Result<(), AllocError> {
     let number = usize::try_from(line).unwrap_or(usize::MAX);
     let mut start = 0usize;
     for (index, text) in bytes.split(|byte| *byte == b'\n').enumerate() {
         if index.saturating_add(1) == number {
-            let shown = String::from_utf8_lossy(alloc, text)?;
-            let place = Place {
-                line: number,
-                front: "",
-                part: shown.as_str(),
-                behind: "",
-            };
-            report.point_at("json", start, &place, &Advice::new(alloc, what, help)?)?;
+            return point_at_all(alloc, report, number, start, text, advice);
         }
         start = start.saturating_add(text.len()).saturating_add(1);
     }
-    Ok(report)
+    Ok(())
+}
+
+/// Adds a line of this number, which begins at this byte, and advice.
+fn point_at_all(
+    alloc: Global,
+    report: &mut Report,
+    line: usize,
+    start: usize,
+    text: &[u8],
+    advice: &Advice,
+) -> Result<(), AllocError> {
+    let shown = String::from_utf8_lossy(alloc, text)?;
+    let place = Place {
+        line,
+        front: "",
+        part: shown.as_str(),
+        behind: "",
+    };
+    report.point_at("json", start, &place, advice)
 }

@@ -7,9 +7,8 @@ use csv::{ByteRecord, Reader};
 use rp_input::{CsvLayout, MAX_RECORDS, reader_of, take_record};
 use rp_place::push_help;
 use rp_value::Text;
-use rp_wording::{shown, shown_text};
+use rp_wording::{Pieces, shown_text};
 use std::alloc::{AllocError, Global};
-use std::fmt::Write;
 
 /// Says what is to be known of the columns that `propose_columns` proposes for the bytes of a CSV text, in which this byte is between
 /// fields: each field of the header that has no column, what seems to be between fields where the header is one field, and columns that
@@ -22,20 +21,20 @@ pub fn explain_proposal(
     delimiter: u8,
     nulls: &[Text],
 ) -> Result<String, AllocError> {
-    let mut out = String::new(alloc);
+    let mut out = Pieces::new(alloc);
     push_header(alloc, &mut out, bytes, delimiter)?;
     let layout = CsvLayout {
         delimiter,
         has_header: true,
     };
     push_mixed(alloc, &mut out, bytes, layout, nulls)?;
-    shown_text(alloc, out.as_str())
+    shown_text(alloc, out.text()?)
 }
 
 /// Writes what is to be known of the header.
 fn push_header(
     alloc: Global,
-    out: &mut String,
+    out: &mut Pieces,
     bytes: &[u8],
     delimiter: u8,
 ) -> Result<(), AllocError> {
@@ -47,34 +46,31 @@ fn push_header(
     if header.len() == 1 {
         return push_between(alloc, out, &header, &mut reader);
     }
-    push_left_out(alloc, out, &header, delimiter)
+    push_left_out(out, meanings(alloc, &header)?.as_slice(), delimiter);
+    Ok(())
 }
 
 /// Writes what to do where a header is one field, and something else seems to be between fields.
 fn push_between(
     alloc: Global,
-    out: &mut String,
+    out: &mut Pieces,
     header: &ByteRecord,
     reader: &mut Reader<&[u8]>,
 ) -> Result<(), AllocError> {
     if let Some(help) = of_delimiter(header) {
-        return push_help(out, help);
+        out.push_help(help);
+        return Ok(());
     }
     let words = words_in(header);
     if words < 2 || !have_words(alloc, reader, words)? {
         return Ok(());
     }
-    let line = header.get(0).unwrap_or(b"");
-    if has_runs(line) {
-        return push_help(
-            out,
-            "if the blanks are between fields: tr -s ' ' ',' < FILE | rowmatch ..",
-        );
-    }
-    push_help(
-        out,
-        "if the blanks are between fields, give --delimiter ' '",
-    )
+    out.push_help(if has_runs(header.get(0).unwrap_or(b"")) {
+        "if the blanks are between fields: tr -s ' ' ',' < FILE | rowmatch .."
+    } else {
+        "if the blanks are between fields, give --delimiter ' '"
+    });
+    Ok(())
 }
 
 /// How many words with blanks between the one field of a record has; 0 where it has more fields.
@@ -109,22 +105,15 @@ fn has_runs(line: &[u8]) -> bool {
     line.split(|byte| *byte == b' ').any(|word| word.is_empty())
 }
 
-/// Writes which fields of a header have no column, and what to do.
-fn push_left_out(
-    alloc: Global,
-    out: &mut String,
-    header: &ByteRecord,
-    delimiter: u8,
-) -> Result<(), AllocError> {
-    let names = meanings(alloc, header)?;
+/// Writes which fields of a header, by the names that they mean, have no column, and what to do.
+fn push_left_out(out: &mut Pieces, names: &[String], delimiter: u8) {
     for (index, name) in names.iter().enumerate() {
         if name.is_empty() {
-            push_nameless(out, index, delimiter)?;
-        } else if is_first_of_more(names.as_slice(), index) {
-            push_double(alloc, out, name.as_str())?;
+            push_nameless(out, index, delimiter);
+        } else if is_first_of_more(names, index) {
+            push_double(out, name.as_str());
         }
     }
-    Ok(())
 }
 
 /// Whether this name comes again behind this place, and not before.
@@ -141,30 +130,22 @@ fn is_first_of_more(names: &[String], index: usize) -> bool {
 }
 
 /// Writes that a field has no name.
-fn push_nameless(out: &mut String, index: usize, delimiter: u8) -> Result<(), AllocError> {
-    let number = index.saturating_add(1);
-    writeln!(
-        out,
-        "  column {number} of the file has no name, and is left out"
-    )?;
+fn push_nameless(out: &mut Pieces, index: usize, delimiter: u8) {
+    out.push("  column ");
+    out.push_count(index.saturating_add(1));
+    out.push(" of the file has no name, and is left out\n");
     if index == 0 && delimiter == b',' {
-        return push_help(
-            out,
+        return out.push_help(
             "to name it: sed '1s/^,/index,/' FILE | rowmatch ..; pandas writes none with index=False",
         );
     }
-    push_help(out, "to have it, name it in the first line of the file")
+    out.push_help("to have it, name it in the first line of the file");
 }
 
 /// Writes that more than one field has a name.
-fn push_double(alloc: Global, out: &mut String, name: &str) -> Result<(), AllocError> {
-    let typed = shown(alloc, name)?;
-    writeln!(
-        out,
-        "  {typed} is the name of more than one field of the header, and is left out"
-    )?;
-    push_help(
-        out,
-        "to have them, give them different names in the first line of the file",
-    )
+fn push_double(out: &mut Pieces, name: &str) {
+    out.push("  ");
+    out.push_name(name);
+    out.push(" is the name of more than one field of the header, and is left out\n");
+    out.push_help("to have them, give them different names in the first line of the file");
 }

@@ -6,7 +6,7 @@ use crate::heading::of_heading;
 use csv::{ByteRecord, Reader};
 use rp_input::{MAX_RECORDS, reader_of, take_record};
 use rp_value::{Column, Kind, Text, upper_case_name};
-use rp_wording::{is_plain, shown, upper_case};
+use rp_wording::{Pieces, is_plain, quoted, shown, upper_case};
 use std::alloc::{AllocError, Global};
 
 /// Columns that are proposed for an input.
@@ -62,26 +62,41 @@ fn propose_below(
 ) -> Result<Proposal, AllocError> {
     let mut reader = reader_of(alloc, bytes, delimiter);
     let mut header = ByteRecord::new(alloc);
-    let mut proposal = no_columns(alloc);
     if !take_record(&mut reader, &mut header)? {
-        return Ok(proposal);
+        return Ok(no_columns(alloc));
     }
     let seen = seen_in(alloc, &mut reader, header.len(), nulls)?;
-    let names = meanings(alloc, &header)?;
+    propose_kinds(alloc, &header, seen.as_slice())
+}
+
+/// Columns for the fields of a header, of the kinds that fit what was seen of each.
+fn propose_kinds(
+    alloc: Global,
+    header: &ByteRecord,
+    seen: &[Seen],
+) -> Result<Proposal, AllocError> {
+    let names = meanings(alloc, header)?;
+    let mut columns = Pieces::new(alloc);
+    let mut is_table = true;
     for (index, one) in seen.iter().enumerate() {
         if is_named(names.as_slice(), index) {
+            if !columns.is_empty() {
+                columns.push(", ");
+            }
             push_column(
                 alloc,
-                &mut proposal.columns,
-                &header,
-                index,
+                &mut columns,
+                header.get(index).unwrap_or(b""),
                 kind_seen(*one),
-            )?;
+            );
         } else {
-            proposal.is_table = false;
+            is_table = false;
         }
     }
-    Ok(proposal)
+    Ok(Proposal {
+        columns: columns.finish()?,
+        is_table,
+    })
 }
 
 /// The names that the fields of a header mean.
@@ -178,35 +193,25 @@ pub(crate) fn is_plain_number(field: &[u8]) -> bool {
     is_whole(field) && (digits.len() == 1 || digits.first() != Some(&b'0'))
 }
 
-/// Writes a column's name and kind behind those before.
-fn push_column(
-    alloc: Global,
-    text: &mut String,
-    header: &ByteRecord,
-    index: usize,
-    kind: &str,
-) -> Result<(), AllocError> {
-    if !text.is_empty() {
-        text.push_str(", ")?;
-    }
-    let field = header.get(index).unwrap_or(b"");
-    let name = String::from_utf8_lossy(alloc, field)?;
-    let typed = typed_name(alloc, name.as_str())?;
-    text.push_str(typed.as_str())?;
-    text.push(' ')?;
-    text.push_str(kind)
+/// Adds the name of a header's field as it may be typed, and a kind.
+fn push_column(alloc: Global, text: &mut Pieces, field: &[u8], kind: &str) {
+    text.push_made(typed_name(alloc, field));
+    text.push(" ");
+    text.push(kind);
 }
 
 /// The name of a header as it may be typed in a table.
-fn typed_name(alloc: Global, name: &str) -> Result<String, AllocError> {
-    if is_plain(alloc, name)? {
-        return String::from_str(alloc, name);
+fn typed_name(alloc: Global, field: &[u8]) -> Result<String, AllocError> {
+    let name = String::from_utf8_lossy(alloc, field)?;
+    let text = name.as_str();
+    if is_plain(alloc, text)? {
+        return Ok(name);
     }
-    let upper = upper_case(alloc, name)?;
-    if is_word(name) {
+    if is_word(text) {
+        let upper = upper_case(alloc, text)?;
         return shown(alloc, upper.as_str());
     }
-    shown_as_is(alloc, name)
+    quoted(alloc, text)
 }
 
 /// Whether a name has the form of one without quotes, as a reserved word has.
@@ -217,33 +222,29 @@ fn is_word(name: &str) -> bool {
             .all(|byte| byte.is_ascii_alphabetic() || byte == b'_')
 }
 
-/// A name in quotes.
-fn shown_as_is(alloc: Global, name: &str) -> Result<String, AllocError> {
-    let mut quoted = String::from_str(alloc, "\"")?;
-    for (index, piece) in name.split('"').enumerate() {
-        if index > 0 {
-            quoted.push_str("\"\"")?;
-        }
-        quoted.push_str(piece)?;
-    }
-    quoted.push('"')?;
-    Ok(quoted)
-}
-
-/// The text of a table with the columns of a header, and the kinds that those have in another table: text where they aren't in it.
-pub(crate) fn table_text(
+/// Adds the text of a table with the columns of a header, and the kinds that those have in another table: text where they aren't in
+/// it.
+pub(crate) fn push_table(
     alloc: Global,
+    text: &mut Pieces,
     header: &ByteRecord,
     columns: &[Column],
-) -> Result<String, AllocError> {
-    let mut text = String::new(alloc);
+) -> Result<(), AllocError> {
     for index in 0..header.len() {
-        let name = String::from_utf8_lossy(alloc, header.get(index).unwrap_or(b""))?;
-        let kind = match kind_of(alloc, columns, name.as_str())? {
-            Some(Kind::Int) => "int",
-            _ => "text",
-        };
-        push_column(alloc, &mut text, header, index, kind)?;
+        if index > 0 {
+            text.push(", ");
+        }
+        let field = header.get(index).unwrap_or(b"");
+        push_column(alloc, text, field, kind_in(alloc, columns, field)?);
     }
-    Ok(text)
+    Ok(())
+}
+
+/// The kind that a field of a header has in a table: text where it isn't in it.
+fn kind_in(alloc: Global, columns: &[Column], field: &[u8]) -> Result<&'static str, AllocError> {
+    let name = String::from_utf8_lossy(alloc, field)?;
+    match kind_of(alloc, columns, name.as_str())? {
+        Some(Kind::Int) => Ok("int"),
+        _ => Ok("text"),
+    }
 }

@@ -1,23 +1,22 @@
 //! What a search costs that finds nothing, by which rows the conditions look at, and which variables may take any number of rows.
 
 use rp_describe::{Looks, has_variable};
+use rp_wording::Pieces;
 use rp_words::Form;
-use std::alloc::AllocError;
-use std::fmt::Write;
 
 /// Writes what rows cost that are read without a match, by which rows all conditions look at.
-pub(crate) fn push_cost(out: &mut String, all: Looks) -> Result<(), AllocError> {
+pub(crate) fn push_cost(out: &mut Pieces, all: Looks) {
     if all.elsewhere {
-        return out.push_str(
+        return out.push(
             "where no match comes, each way to take the rows is tried: one row more may double the time\n",
         );
     }
     if all.first {
-        return out.push_str(
+        return out.push(
             "where no match comes, a row may be read again for each first row whose bound lets it in\n",
         );
     }
-    out.push_str("where no match comes, the time grows in step with the rows\n")
+    out.push("where no match comes, the time grows in step with the rows\n");
 }
 
 /// Whether nothing bounds how many rows a variable takes: a quantifier without an upper bound goes over it, and no condition of what
@@ -55,13 +54,13 @@ fn is_bounded(form: &Form, looks: &[Looks]) -> bool {
 }
 
 /// Writes that nothing bounds how many rows the variables of a list take, and what to do where that may cost much.
-pub(crate) fn push_boundless(out: &mut String, list: &str, all: Looks) -> Result<(), AllocError> {
+pub(crate) fn push_boundless(out: &mut Pieces, list: &str, all: Looks) {
     if list.is_empty() {
-        return Ok(());
+        return;
     }
-    write!(out, "nothing bounds how many rows {list} may take")?;
+    out.push_filled("nothing bounds how many rows {} may take", &[list]);
     if all.elsewhere {
-        out.push_str(": bound them by a time, or by a number as {0,100}")?;
+        out.push(": bound them by a time, or by a number as {0,100}");
     }
-    out.push('\n')
+    out.push("\n");
 }

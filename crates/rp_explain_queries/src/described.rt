@@ -4,9 +4,8 @@ use crate::costs::{is_boundless, push_boundless, push_cost};
 use rp_describe::{Looks, OWN_ROW, all_looks, looks_at, missing_variable};
 use rp_query::Query;
 use rp_value::Text;
-use rp_wording::{kind_word, noun, shown, shown_text};
+use rp_wording::{Pieces, kind_word, noun, shown_text};
 use std::alloc::{AllocError, Global};
-use std::fmt::Write;
 
 /// Says what a query gives and looks at: its output columns with their kinds; of each pattern variable which rows it looks at, or
 /// that it has no definition and takes any row; how far before a match rows are read; what rows cost that are read without a match,
@@ -14,92 +13,89 @@ use std::fmt::Write;
 ///
 /// Each line ends in LF.
 pub fn describe(alloc: Global, query: &Query) -> Result<String, AllocError> {
-    let mut out = String::new(alloc);
-    push_output(alloc, &mut out, query)?;
-    push_variables(&mut out, query)?;
-    push_reach(&mut out, query.reach())?;
+    let mut out = Pieces::new(alloc);
+    push_output(&mut out, query);
+    push_variables(&mut out, query);
+    push_reach(&mut out, query.reach());
     let all = all_looks(query);
-    push_locality(&mut out, all)?;
-    push_cost(&mut out, all)?;
-    push_boundless(&mut out, boundless(alloc, query)?.as_str(), all)?;
-    push_waiting(&mut out, all)?;
-    shown_text(alloc, out.as_str())
+    push_locality(&mut out, all);
+    push_cost(&mut out, all);
+    push_boundless(&mut out, boundless(alloc, query)?.text()?, all);
+    push_waiting(&mut out, all);
+    shown_text(alloc, out.text()?)
 }
 
 /// Writes the output columns with their kinds.
-fn push_output(alloc: Global, out: &mut String, query: &Query) -> Result<(), AllocError> {
-    out.push_str("output: ")?;
+fn push_output(out: &mut Pieces, query: &Query) {
+    out.push("output: ");
     for (index, column) in query.output().iter().enumerate() {
         if index > 0 {
-            out.push_str(", ")?;
+            out.push(", ");
         }
-        let typed = shown(alloc, column.name.as_str())?;
-        write!(out, "{typed} {}", kind_word(column.kind))?;
+        out.push_name(column.name.as_str());
+        out.push(" ");
+        out.push(kind_word(column.kind));
     }
     if query.output().is_empty() {
-        out.push_str("no columns")?;
+        out.push("no columns");
     }
-    out.push('\n')
+    out.push("\n");
 }
 
 /// Writes a line for each pattern variable.
-fn push_variables(out: &mut String, query: &Query) -> Result<(), AllocError> {
+fn push_variables(out: &mut Pieces, query: &Query) {
     for (number, name) in query.variables().iter().enumerate() {
         let name = name.as_str();
         match looks_at(query, number) {
-            Some(looks) => push_looks(out, name, looks)?,
-            None => writeln!(out, "{name} has no definition and takes any row")?,
+            Some(looks) => push_looks(out, name, looks),
+            None => out.push_filled("{} has no definition and takes any row\n", &[name]),
         }
         push_missing(
             out,
             name,
             missing_variable(query, number),
             query.variables(),
-        )?;
+        );
     }
-    Ok(())
 }
 
 /// Writes which rows the condition of a variable looks at.
-fn push_looks(out: &mut String, name: &str, looks: Looks) -> Result<(), AllocError> {
-    write!(out, "{name} looks at its own row")?;
+fn push_looks(out: &mut Pieces, name: &str, looks: Looks) {
+    out.push_filled("{} looks at its own row", &[name]);
     if looks == OWN_ROW {
-        return out.push_str(" alone\n");
+        return out.push(" alone\n");
     }
-    if looks.back > 0 {
-        let back = looks.back;
-        write!(out, ", {back} {} back", rows(back))?;
-    }
-    if looks.ahead > 0 {
-        let ahead = looks.ahead;
-        write!(out, ", {ahead} {} ahead", rows(ahead))?;
-    }
+    push_distance(out, looks.back, "back");
+    push_distance(out, looks.ahead, "ahead");
     if looks.elsewhere {
-        out.push_str(", and at other rows of the match")?;
+        out.push(", and at other rows of the match");
     } else if looks.first {
-        out.push_str(", and at the first row of the match")?;
+        out.push(", and at the first row of the match");
     }
-    out.push('\n')
+    out.push("\n");
+}
+
+/// Writes how many rows from its own a condition looks at, and in which direction.
+fn push_distance(out: &mut Pieces, count: u64, direction: &'static str) {
+    if count > 0 {
+        out.push(", ");
+        out.push_number(count);
+        out.push_filled(" {} {}", &[rows(count), direction]);
+    }
 }
 
 /// Writes that a variable whose rows are looked at has none then.
-fn push_missing(
-    out: &mut String,
-    name: &str,
-    missing: Option<usize>,
-    names: &[Text],
-) -> Result<(), AllocError> {
+fn push_missing(out: &mut Pieces, name: &str, missing: Option<usize>, names: &[Text]) {
     let Some(number) = missing else {
-        return Ok(());
+        return;
     };
     let Some(other) = names.get(number) else {
-        return Ok(());
+        return;
     };
-    let other = other.as_str();
-    writeln!(
-        out,
-        "{name} looks at {other}, which has no row before {name}: what is compared is null"
-    )
+    out.push_filled(
+        "{} looks at {}, which has no row before {}: what is compared is null\n",
+        &[name, other.as_str(), name],
+    );
 }
 
 /// The word for so many rows.
@@ -108,15 +104,13 @@ fn rows(count: u64) -> &'static str {
 }
 
 /// Writes how far before a match rows are read.
-fn push_reach(out: &mut String, reach: u64) -> Result<(), AllocError> {
+fn push_reach(out: &mut Pieces, reach: u64) {
     if reach == 0 {
-        return out.push_str("no row before a match is read\n");
+        return out.push("no row before a match is read\n");
     }
-    writeln!(
-        out,
-        "up to {reach} {} before a match are read (PREV)",
-        rows(reach)
-    )
+    out.push("up to ");
+    out.push_number(reach);
+    out.push_filled(" {} before a match are read (PREV)\n", &[rows(reach)]);
 }
 
 /// Which rows the condition of each variable looks at; a variable without one looks at its own.
@@ -129,54 +123,54 @@ fn each_looks(alloc: Global, query: &Query) -> Result<Vec<Looks>, AllocError> {
 }
 
 /// The names of the variables that nothing bounds, with commas between.
-fn boundless(alloc: Global, query: &Query) -> Result<String, AllocError> {
+fn boundless(alloc: Global, query: &Query) -> Result<Pieces, AllocError> {
     let each = each_looks(alloc, query)?;
     let form = query.pattern().form();
-    let mut list = String::new(alloc);
+    let mut list = Pieces::new(alloc);
     for (number, name) in query.variables().iter().enumerate() {
         if is_boundless(form, number, each.as_slice()) {
-            push_name(&mut list, name.as_str())?;
+            push_behind(&mut list, name.as_str());
         }
     }
     Ok(list)
 }
 
 /// Writes a name behind those before.
-fn push_name(list: &mut String, name: &str) -> Result<(), AllocError> {
+fn push_behind(list: &mut Pieces, name: &str) {
     if !list.is_empty() {
-        list.push_str(", ")?;
+        list.push(", ");
     }
-    list.push_str(name)
+    list.push(name);
 }
 
 /// Writes whether a condition waits for later rows.
-fn push_waiting(out: &mut String, all: Looks) -> Result<(), AllocError> {
+fn push_waiting(out: &mut Pieces, all: Looks) {
     if all.ahead == 0 {
-        return out.push_str("no condition waits for later rows\n");
+        return out.push("no condition waits for later rows\n");
     }
-    let ahead = all.ahead;
-    writeln!(
-        out,
-        "a condition waits for {ahead} later {} (NEXT): an answer may be held back until they have come",
-        rows(ahead)
-    )
+    out.push("a condition waits for ");
+    out.push_number(all.ahead);
+    out.push_filled(
+        " later {} (NEXT): an answer may be held back until they have come\n",
+        &[rows(all.ahead)],
+    );
 }
 
 /// Writes whether conditions look at their own row alone, at the match's first row too, or at more: how often a row is looked at goes
 /// by that.
-fn push_locality(out: &mut String, all: Looks) -> Result<(), AllocError> {
+fn push_locality(out: &mut Pieces, all: Looks) {
     if all == OWN_ROW {
-        return out.push_str("each condition looks at its own row alone\n");
+        return out.push("each condition looks at its own row alone\n");
     }
     if all.elsewhere {
-        return out.push_str(
+        return out.push(
             "a condition looks at other rows of the match, so a row may be looked at again for each way to come to it\n",
         );
     }
     if all.first {
-        return out.push_str(
+        return out.push(
             "each condition looks at its own row and the match's first, and rows at fixed distances from them\n",
         );
     }
-    out.push_str("each condition looks at its own row and rows at fixed distances from it\n")
+    out.push("each condition looks at its own row and rows at fixed distances from it\n");
 }

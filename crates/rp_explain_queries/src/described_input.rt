@@ -2,57 +2,46 @@
 
 use rp_query::{Condition, Expr, Query};
 use rp_value::{Column, Comparison, Row, Value};
-use rp_wording::{is_date, noun, shown, shown_text};
+use rp_wording::{Pieces, is_date, noun, shown_text};
 use std::alloc::{AllocError, Global};
-use std::fmt::Write;
 
 /// Says where rows that fit a query may not be read as they are meant: a column with nulls that is compared by `<>`, and a column of
 /// texts that rows are ordered by, whose times have different offsets from UTC.
 ///
 /// Each line ends in LF; there may be none.
 pub fn describe_input(alloc: Global, query: &Query, rows: &[Row]) -> Result<String, AllocError> {
-    let mut out = String::new(alloc);
+    let mut out = Pieces::new(alloc);
     for (index, column) in query.table().columns().iter().enumerate() {
-        push_unequal(
-            alloc,
-            &mut out,
-            query,
-            rows,
-            column,
-            index.saturating_add(1),
-        )?;
+        push_unequal(&mut out, query, rows, column, index.saturating_add(1));
     }
     for order in query.order() {
-        push_offsets(alloc, &mut out, query, rows, order.column)?;
+        push_offsets(&mut out, query, rows, order.column);
     }
-    shown_text(alloc, out.as_str())
+    shown_text(alloc, out.text()?)
 }
 
 /// Writes that nulls of a column, by its number from 1, are neither equal nor unequal, where a condition compares it so.
-fn push_unequal(
-    alloc: Global,
-    out: &mut String,
-    query: &Query,
-    rows: &[Row],
-    column: &Column,
-    number: usize,
-) -> Result<(), AllocError> {
+fn push_unequal(out: &mut Pieces, query: &Query, rows: &[Row], column: &Column, number: usize) {
     if !is_asked_unequal(query, number) {
-        return Ok(());
+        return;
     }
     let count = rows
         .iter()
         .filter(|row| row.cell(number) == Some(&Value::Null))
         .count();
     if count == 0 {
-        return Ok(());
+        return;
     }
-    let typed = shown(alloc, column.name.as_str())?;
-    let rows = noun(count, "row", "rows");
-    writeln!(
-        out,
-        "{typed} is null in {count} {rows}, and null is neither equal nor unequal (<>): to take them too add OR {typed} IS NULL"
-    )
+    let name = column.name.as_str();
+    out.push_name(name);
+    out.push(" is null in ");
+    out.push_count(count);
+    out.push_filled(
+        " {}, and null is neither equal nor unequal (<>): to take them too add OR ",
+        &[noun(count, "row", "rows")],
+    );
+    out.push_name(name);
+    out.push(" IS NULL\n");
 }
 
 /// Whether a condition compares a column by `<>`, and doesn't ask whether it is null.
@@ -108,24 +97,23 @@ fn names(expr: &Expr, column: usize) -> bool {
 }
 
 /// Writes that a column of texts, by its number from 1, isn't ordered by time, where its times have different offsets.
-fn push_offsets(
-    alloc: Global,
-    out: &mut String,
-    query: &Query,
-    rows: &[Row],
-    number: usize,
-) -> Result<(), AllocError> {
+fn push_offsets(out: &mut Pieces, query: &Query, rows: &[Row], number: usize) {
     let Some(column) = query.table().columns().get(number.saturating_sub(1)) else {
-        return Ok(());
+        return;
     };
     let Some((one, other)) = two_offsets(rows, number) else {
-        return Ok(());
+        return;
     };
-    let typed = shown(alloc, column.name.as_str())?;
-    writeln!(
-        out,
-        "{typed} is a text with offsets as {one} and {other}, so ORDER BY isn't by time: write {typed} = seconds({typed}) in --columns"
-    )
+    let name = column.name.as_str();
+    out.push_name(name);
+    out.push_filled(
+        " is a text with offsets as {} and {}, so ORDER BY isn't by time: write ",
+        &[one, other],
+    );
+    out.push_name(name);
+    out.push(" = seconds(");
+    out.push_name(name);
+    out.push(") in --columns\n");
 }
 
 /// Two different offsets from UTC of times in a column of texts.

@@ -3,20 +3,18 @@
 use crate::parts::begins_part;
 use rp_lexer::{Mark, TokenKind};
 use rp_place::{Place, Span};
-use rp_wording::{Advice, Part, Reading, is_one_of};
-use std::alloc::{AllocError, Global};
+use rp_wording::{Advice, Part, Pieces, Reading, is_one_of};
+use std::alloc::Global;
 
 /// The bracket, or the `{-`, that is open where a part or a name begins, or where the clause ends.
-pub(crate) fn unclosed(alloc: Global, reading: &Reading<'_>) -> Result<Option<Advice>, AllocError> {
+pub(crate) fn unclosed(alloc: Global, reading: &Reading<'_>) -> Option<Advice> {
     if let Some(index) = open_exclusion(reading) {
-        let advice = never_closed(alloc, reading, index, "-}")?;
-        return Ok(Some(advice));
+        return Some(never_closed(alloc, reading, index, "-}"));
     }
     if let Some(index) = left_open(reading) {
-        let advice = never_closed(alloc, reading, index, ")")?;
-        return Ok(Some(advice));
+        return Some(never_closed(alloc, reading, index, ")"));
     }
-    Ok(None)
+    None
 }
 
 /// The index of a bracket that is open where a part or a name begins.
@@ -91,7 +89,7 @@ pub(crate) fn never_closed(
     reading: &Reading<'_>,
     index: usize,
     close: &str,
-) -> Result<Advice, AllocError> {
+) -> Advice {
     let Some(token) = reading.tokens.get(index) else {
         return Advice::new(alloc, "a bracket is never closed", "");
     };
@@ -100,20 +98,19 @@ pub(crate) fn never_closed(
         end: token.end,
     };
     let place = Place::of(reading.text, span);
-    let line = place.line;
-    let column = place.column();
     let name = if close == ")" { "bracket" } else { "{-" };
-    let what = format!(in alloc; "the {name} of line {line}, column {column} is never closed")?;
-    let help = closing_help(alloc, reading, close)?;
-    Advice::new(alloc, what.as_str(), help.as_str())
+    let mut what = Pieces::filled(alloc, "the {} of ", &[name]);
+    what.push_place(place.line, place.column());
+    what.push(" is never closed");
+    Advice::of_pieces(what, closing_help(alloc, reading, close))
 }
 
 /// Where to close a bracket.
-fn closing_help(alloc: Global, reading: &Reading<'_>, close: &str) -> Result<String, AllocError> {
+fn closing_help(alloc: Global, reading: &Reading<'_>, close: &str) -> Pieces {
     if reading.is_end() {
-        return format!(in alloc; "write {close} at the end");
+        return Pieces::filled(alloc, "write {} at the end", &[close]);
     }
-    let mut word = String::from_str(alloc, reading.here())?;
-    word.make_ascii_uppercase();
-    format!(in alloc; "write {close} before {word}")
+    let mut help = Pieces::filled(alloc, "write {} before ", &[close]);
+    help.push_upper(reading.here());
+    help
 }

@@ -4,7 +4,7 @@ use crate::words::{BEHIND, is_missing_function};
 use rp_lexer::{Keyword, TokenKind};
 use rp_value::Table;
 use rp_wording::{
-    Advice, Reading, column_names, index_of, inside_quotes, listed, look_up, meant, nearest, shown,
+    Advice, Pieces, Reading, column_names, index_of, inside_quotes, look_up, meant, nearest,
     upper_case,
 };
 use std::alloc::{AllocError, Global};
@@ -15,83 +15,79 @@ pub fn unknown_column(
     table: &Table,
     reading: &Reading<'_>,
 ) -> Result<Advice, AllocError> {
-    let written = reading.here();
     let names = column_names(alloc, table.columns())?;
-    let list = listed(alloc, names.as_slice())?;
-    let mut help = String::new(alloc);
-    push_guess(alloc, &mut help, reading, names.as_slice())?;
-    help.push_str("the columns are ")?;
-    help.push_str(list.as_str())?;
-    let what = format!(in alloc; "the table has no column {written}")?;
-    Advice::new(alloc, what.as_str(), help.as_str())
+    let mut help = column_guess(alloc, reading, names.as_slice())?;
+    help.push("the columns are ");
+    help.push_names(names.as_slice());
+    let what = Pieces::filled(alloc, "the table has no column {}", &[reading.here()]);
+    Ok(Advice::of_pieces(what, help))
 }
 
-/// Writes a line that guesses what is meant in place of a column.
-fn push_guess(
+/// A line that guesses what is meant in place of a column; nothing where there is no guess.
+fn column_guess(
     alloc: Global,
-    help: &mut String,
     reading: &Reading<'_>,
     names: &[String],
-) -> Result<(), AllocError> {
+) -> Result<Pieces, AllocError> {
     let written = reading.here();
     if let Some(inside) = inside_quotes(written) {
-        return push_quoted_guess(alloc, help, inside, names);
+        return quoted_guess(alloc, inside, names);
     }
     if written.eq_ignore_ascii_case("TRUE") || written.eq_ignore_ascii_case("FALSE") {
-        return help.push_str("there are no TRUE and FALSE: write 1 = 1, or 1 = 0\n");
+        let line = "there are no TRUE and FALSE: write 1 = 1, or 1 = 0\n";
+        return Ok(Pieces::of(alloc, line));
     }
     if is_variable(alloc, reading, written)? {
-        let line = format!(in alloc;
-            "{written} is a variable: write a column of its rows, as {written}.p, or COUNT({written}.*)\n"
-        )?;
-        return help.push_str(line.as_str());
+        return Ok(variable_help(alloc, written));
     }
     if let Some(index) = nearest(alloc, written, names)? {
-        return push_write(alloc, help, names, index);
+        return Ok(name_line(alloc, names, index));
     }
-    if let Some(found) = look_up(&BEHIND, written) {
-        help.push_str(found.help)?;
-        return help.push('\n');
+    match look_up(&BEHIND, written) {
+        Some(found) => Ok(Pieces::filled(alloc, "{}\n", &[found.help])),
+        None => Ok(Pieces::new(alloc)),
     }
-    Ok(())
 }
 
-/// Writes a line that guesses what a name in quotes means.
-fn push_quoted_guess(
-    alloc: Global,
-    help: &mut String,
-    inside: &str,
-    names: &[String],
-) -> Result<(), AllocError> {
+/// What to write in place of a variable that stands where a column comes.
+fn variable_help(alloc: Global, written: &str) -> Pieces {
+    Pieces::filled(
+        alloc,
+        "{} is a variable: write a column of its rows, as {}.p, or COUNT({}.*)\n",
+        &[written, written, written],
+    )
+}
+
+/// Lines that guess what a name in quotes means.
+fn quoted_guess(alloc: Global, inside: &str, names: &[String]) -> Result<Pieces, AllocError> {
     let upper = upper_case(alloc, inside)?;
     if index_of(names, upper.as_str()).is_some() {
-        let line = format!(in alloc;
-            "a name in quotes is taken letter for letter: write {inside}, or \"{upper}\"\n"
-        )?;
-        return help.push_str(line.as_str());
+        return Ok(Pieces::filled(
+            alloc,
+            "a name in quotes is taken letter for letter: write {}, or \"{}\"\n",
+            &[inside, upper.as_str()],
+        ));
     }
-    if let Some(index) = nearest(alloc, inside, names)? {
-        push_write(alloc, help, names, index)?;
-    }
-    let line = format!(in alloc;
-        "a name is written in double quotes; a text is written in single ones: '{inside}'\n"
-    )?;
-    help.push_str(line.as_str())
+    let mut help = match nearest(alloc, inside, names)? {
+        Some(index) => name_line(alloc, names, index),
+        None => Pieces::new(alloc),
+    };
+    help.push_filled(
+        "a name is written in double quotes; a text is written in single ones: '{}'\n",
+        &[inside],
+    );
+    Ok(help)
 }
 
-/// Writes a line with one of the names.
-fn push_write(
-    alloc: Global,
-    help: &mut String,
-    names: &[String],
-    index: usize,
-) -> Result<(), AllocError> {
-    let Some(name) = names.get(index) else {
-        return Ok(());
-    };
-    let typed = shown(alloc, name.as_str())?;
-    let line = format!(in alloc; "write {typed}\n")?;
-    help.push_str(line.as_str())
+/// A line with one of the names.
+fn name_line(alloc: Global, names: &[String], index: usize) -> Pieces {
+    let mut line = Pieces::new(alloc);
+    if let Some(name) = names.get(index) {
+        line.push("write ");
+        line.push_name(name.as_str());
+        line.push("\n");
+    }
+    line
 }
 
 /// Whether the pattern has a variable of this name.
@@ -141,42 +137,44 @@ pub fn unknown_variable(
     reading: &Reading<'_>,
 ) -> Result<Advice, AllocError> {
     let variables = variables(alloc, reading)?;
-    let list = listed_variables(alloc, variables.as_slice())?;
-    let what = format!(in alloc; "the pattern has no variable {}", reading.here())?;
-    let mut help = meant_variable(alloc, table, reading, variables.as_slice())?;
-    help.push_str("the variables are ")?;
-    help.push_str(list.as_str())?;
-    Advice::new(alloc, what.as_str(), help.as_str())
+    let mut help = variable_guess(alloc, table, reading, variables.as_slice())?;
+    help.push("the variables are ");
+    push_variables(&mut help, variables.as_slice());
+    let what = Pieces::filled(alloc, "the pattern has no variable {}", &[reading.here()]);
+    Ok(Advice::of_pieces(what, help))
 }
 
 /// A line that guesses what is meant in place of a variable; nothing where there is no guess.
-fn meant_variable(
+fn variable_guess(
     alloc: Global,
     table: &Table,
     reading: &Reading<'_>,
     variables: &[String],
-) -> Result<String, AllocError> {
+) -> Result<Pieces, AllocError> {
     let written = reading.here();
     if let Some(index) = nearest(alloc, written, variables)? {
-        return variable_line(alloc, variables, index);
+        return Ok(variable_line(alloc, variables, index));
     }
     let name = meant(alloc, written)?;
     if is_column(table, name.as_str()) {
-        return format!(in alloc;
-            "{written} is a column: a variable comes before the point, A.{written}\n"
-        );
+        return Ok(Pieces::filled(
+            alloc,
+            "{} is a column: a variable comes before the point, A.{}\n",
+            &[written, written],
+        ));
     }
     if is_column_of_table(alloc, table, reading)? {
-        return format!(in alloc;
-            "is {written} a table? a column is written without its table: {}\n",
-            reading.next(2)
-        );
+        return Ok(Pieces::filled(
+            alloc,
+            "is {} a table? a column is written without its table: {}\n",
+            &[written, reading.next(2)],
+        ));
     }
     if is_missing_function(written) {
         let line = "there are no functions but COUNT, SUM, MIN, MAX, FIRST, LAST, PREV, NEXT\n";
-        return String::from_str(alloc, line);
+        return Ok(Pieces::of(alloc, line));
     }
-    Ok(String::new(alloc))
+    Ok(Pieces::new(alloc))
 }
 
 /// Whether a point and a column of the table stand behind the place.
@@ -190,10 +188,10 @@ fn is_column_of_table(
 }
 
 /// A line with one of the variables.
-fn variable_line(alloc: Global, names: &[String], index: usize) -> Result<String, AllocError> {
+fn variable_line(alloc: Global, names: &[String], index: usize) -> Pieces {
     match names.get(index) {
-        Some(name) => format!(in alloc; "write {}\n", name.as_str()),
-        None => Ok(String::new(alloc)),
+        Some(name) => Pieces::filled(alloc, "write {}\n", &[name.as_str()]),
+        None => Pieces::new(alloc),
     }
 }
 
@@ -205,14 +203,12 @@ fn is_column(table: &Table, name: &str) -> bool {
         .any(|column| column.name.as_str() == name)
 }
 
-/// Variables with commas between.
-pub(crate) fn listed_variables(alloc: Global, names: &[String]) -> Result<String, AllocError> {
-    let mut list = String::new(alloc);
+/// Adds variables with commas between.
+fn push_variables(help: &mut Pieces, names: &[String]) {
     for (index, name) in names.iter().enumerate() {
         if index > 0 {
-            list.push_str(", ")?;
+            help.push(", ");
         }
-        list.push_str(name.as_str())?;
+        help.push(name.as_str());
     }
-    Ok(list)
 }

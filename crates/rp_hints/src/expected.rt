@@ -8,7 +8,7 @@ use crate::pattern_hints::of_pattern;
 use crate::rewriting::rewritten;
 use crate::words::{BEHIND, FUNCTIONS, HERE, KNOWN};
 use rp_lexer::{Keyword, TokenKind};
-use rp_wording::{Advice, Hint, Part, Reading, is_one_of, look_up, nearest, said};
+use rp_wording::{Advice, Hint, Part, Pieces, Reading, is_one_of, look_up, nearest, said};
 use std::alloc::{AllocError, Global};
 
 /// The words with which the parts of a clause begin.
@@ -20,13 +20,13 @@ const WORDS_BEHIND: &str = "AND OR NOT IS NULL AS ONE ALL AFTER PATTERN SUBSET D
 
 /// What is wrong at the token of the reading, which can't stand there.
 pub fn unexpected(alloc: Global, reading: &Reading<'_>) -> Result<Advice, AllocError> {
-    if let Some(advice) = unclosed(alloc, reading)? {
+    if let Some(advice) = unclosed(alloc, reading) {
         return Ok(advice);
     }
     if let Some(found) = outside(reading) {
-        return Advice::of(alloc, found);
+        return Ok(Advice::of(alloc, found));
     }
-    if let Some(advice) = rewritten(alloc, reading)? {
+    if let Some(advice) = rewritten(alloc, reading) {
         return Ok(advice);
     }
     if let Some(advice) = instead(alloc, reading)? {
@@ -41,7 +41,7 @@ fn briefly(alloc: Global, reading: &Reading<'_>) -> Result<Advice, AllocError> {
         return no_function(alloc, reading.back(1));
     }
     if let Some(found) = plainly(reading) {
-        return Advice::of(alloc, found);
+        return Ok(Advice::of(alloc, found));
     }
     otherwise(alloc, reading)
 }
@@ -49,16 +49,16 @@ fn briefly(alloc: Global, reading: &Reading<'_>) -> Result<Advice, AllocError> {
 /// The same where the words and signs alone tell nothing.
 fn otherwise(alloc: Global, reading: &Reading<'_>) -> Result<Advice, AllocError> {
     if reading.is_end() {
-        return ends_early(alloc, reading);
+        return Ok(ends_early(alloc, reading));
     }
     if reading.is_keyword() {
-        return reserved(alloc, reading);
+        return Ok(reserved(alloc, reading));
     }
     if let Some(advice) = misspelled(alloc, reading)? {
         return Ok(advice);
     }
     let found = of_structure(reading).unwrap_or(generally(reading));
-    Advice::of(alloc, found)
+    Ok(Advice::of(alloc, found))
 }
 
 /// What the words and signs tell by themselves.
@@ -132,44 +132,46 @@ fn is_call(reading: &Reading<'_>) -> bool {
 
 /// A function that there isn't.
 fn no_function(alloc: Global, name: &str) -> Result<Advice, AllocError> {
-    let what = format!(in alloc; "there is no function {name}")?;
+    let what = Pieces::filled(alloc, "there is no function {}", &[name]);
     if let Some(found) = look_up(&FUNCTIONS, name) {
-        return Advice::new(alloc, what.as_str(), found.help);
+        return Ok(Advice::with_what(alloc, what, found.help));
     }
     let mut help = guess(alloc, name, KNOWN)?;
-    help.push_str(
+    help.push(
         "the functions are COUNT, SUM, MIN, MAX, FIRST, LAST, PREV, NEXT, CLASSIFIER and MATCH_NUMBER",
-    )?;
-    Advice::new(alloc, what.as_str(), help.as_str())
+    );
+    Ok(Advice::of_pieces(what, help))
 }
 
 /// A line with the word that is nearly this one, if one is.
-fn guess(alloc: Global, written: &str, words: &str) -> Result<String, AllocError> {
+fn guess(alloc: Global, written: &str, words: &str) -> Result<Pieces, AllocError> {
     let mut names = Vec::new(alloc);
     for word in words.split(' ') {
         names.push(String::from_str(alloc, word)?)?;
     }
     let Some(index) = nearest(alloc, written, names.as_slice())? else {
-        return Ok(String::new(alloc));
+        return Ok(Pieces::new(alloc));
     };
     match names.as_slice().get(index) {
-        Some(word) => format!(in alloc; "write {}\n", word.as_str()),
-        None => Ok(String::new(alloc)),
+        Some(word) => Ok(Pieces::filled(alloc, "write {}\n", &[word.as_str()])),
+        None => Ok(Pieces::new(alloc)),
     }
 }
 
 /// A reserved word in the place of a name.
-fn reserved(alloc: Global, reading: &Reading<'_>) -> Result<Advice, AllocError> {
+fn reserved(alloc: Global, reading: &Reading<'_>) -> Advice {
     if !is_name_due(reading) {
         if let Some(found) = of_structure(reading) {
             return Advice::of(alloc, found);
         }
     }
-    let mut word = String::from_str(alloc, reading.here())?;
-    word.make_ascii_uppercase();
-    let what = format!(in alloc; "{word} is a reserved word, and can't come here")?;
-    let help = format!(in alloc; "as a name write \"{word}\", in quotes and in upper case")?;
-    Advice::new(alloc, what.as_str(), help.as_str())
+    let mut what = Pieces::new(alloc);
+    what.push_upper(reading.here());
+    what.push(" is a reserved word, and can't come here");
+    let mut help = Pieces::of(alloc, "as a name write \"");
+    help.push_upper(reading.here());
+    help.push("\", in quotes and in upper case");
+    Advice::of_pieces(what, help)
 }
 
 /// Whether a name may stand at the place, by what stands before it.
@@ -196,12 +198,14 @@ fn misspelled(alloc: Global, reading: &Reading<'_>) -> Result<Option<Advice>, Al
     if help.is_empty() {
         return Ok(None);
     }
-    let what = format!(in alloc; "no word of a clause is {}", reading.here())?;
-    Ok(Some(Advice::new(alloc, what.as_str(), help.as_str())?))
+    Ok(Some(Advice::of_pieces(
+        Pieces::filled(alloc, "no word of a clause is {}", &[reading.here()]),
+        help,
+    )))
 }
 
 /// A clause that ends where more has to come.
-fn ends_early(alloc: Global, reading: &Reading<'_>) -> Result<Advice, AllocError> {
+fn ends_early(alloc: Global, reading: &Reading<'_>) -> Advice {
     if let Some(index) = reading.open_bracket() {
         return never_closed(alloc, reading, index, ")");
     }

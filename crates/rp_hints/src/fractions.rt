@@ -2,10 +2,10 @@
 
 use rp_lexer::TokenKind;
 use rp_wording::{
-    Advice, Reading, is_arithmetic, is_comparison, is_one_of, is_short, operand_end, operand_start,
-    text_of,
+    Advice, Pieces, Reading, is_arithmetic, is_comparison, is_one_of, is_short, operand_end,
+    operand_start, text_of,
 };
-use std::alloc::{AllocError, Global};
+use std::alloc::Global;
 
 /// The most digits on each side of a point that are written as a quotient.
 const DIGITS: usize = 6;
@@ -18,28 +18,25 @@ struct Quotient {
 }
 
 /// What a comparison with a fraction is where both sides are multiplied: p > 1.5 * AVG(q). The place is its point.
-pub(crate) fn of_fraction(
-    alloc: Global,
-    reading: &Reading<'_>,
-) -> Result<Option<Advice>, AllocError> {
+pub(crate) fn of_fraction(alloc: Global, reading: &Reading<'_>) -> Option<Advice> {
     let sign = reading.at.saturating_sub(2);
     let start = reading.at.saturating_add(3);
     let end = operand_end(reading, start);
     if !is_product(reading, sign) || is_arithmetic(reading.written(end)) {
-        return Ok(None);
+        return None;
     }
     let left = operand_start(reading, sign);
     if is_arithmetic(reading.written(left.saturating_sub(1))) {
-        return Ok(None);
+        return None;
     }
     let value = text_of(reading, left, sign);
     let factor = text_of(reading, start, end);
     if !is_short(value) || !is_short(factor) {
-        return Ok(None);
+        return None;
     }
     let quotient = reduced(reading.back(1), reading.next(1));
-    let help = multiplied(alloc, reading, value, factor, quotient)?;
-    Ok(Some(Advice::new(alloc, "there are no fractions", help.as_str())?))
+    let help = multiplied(alloc, reading, value, factor, quotient);
+    Some(Advice::with_help(alloc, "there are no fractions", help))
 }
 
 /// Whether a fraction is compared by this sign and multiplied by what follows it.
@@ -60,21 +57,26 @@ fn multiplied(
     value: &str,
     factor: &str,
     quotient: Quotient,
-) -> Result<String, AllocError> {
+) -> Pieces {
     let sign = reading.back(2);
-    let over = quotient.over;
-    let under = quotient.under;
     let start = reading.at.saturating_add(3);
     if is_one_of(reading.written(start), "AVG MEAN AVERAGE") {
         let first = start.saturating_add(2);
         let inside = text_of(reading, first, operand_end(reading, first));
-        return format!(in alloc;
-            "multiply both sides: write {value} * {under} * COUNT({inside}) {sign} {over} * SUM({inside})"
-        );
+        let mut help = Pieces::filled(alloc, "multiply both sides: write {} * ", &[value]);
+        help.push_number(quotient.under);
+        help.push_filled(" * COUNT({}) {} ", &[inside, sign]);
+        help.push_number(quotient.over);
+        help.push_filled(" * SUM({})", &[inside]);
+        return help;
     }
-    format!(in alloc;
-        "take a smaller unit, as cents, or multiply both sides: write {value} * {under} {sign} {over} * {factor}"
-    )
+    let form = "take a smaller unit, as cents, or multiply both sides: write {} * ";
+    let mut help = Pieces::filled(alloc, form, &[value]);
+    help.push_number(quotient.under);
+    help.push_filled(" {} ", &[sign]);
+    help.push_number(quotient.over);
+    help.push_filled(" * {}", &[factor]);
+    help
 }
 
 /// The quotient in lowest terms of the digits before and behind a point.

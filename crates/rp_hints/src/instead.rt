@@ -4,23 +4,23 @@ use crate::columns::variables;
 use crate::fractions::of_fraction;
 use rp_lexer::{Keyword, TokenKind};
 use rp_wording::{
-    Advice, Part, Reading, closing, is_arithmetic, is_comparison, is_name, is_one_of, is_short,
-    operand_end, operand_start, text_of,
+    Advice, Part, Pieces, Reading, closing, is_arithmetic, is_comparison, is_name, is_one_of,
+    is_short, operand_end, operand_start, text_of,
 };
 use std::alloc::{AllocError, Global};
 
 /// What to write in place of what stands at the place, where that can be said in the clause's own words.
 pub(crate) fn instead(alloc: Global, reading: &Reading<'_>) -> Result<Option<Advice>, AllocError> {
     match reading.part() {
-        Part::Measures | Part::Define => in_values(alloc, reading),
-        Part::Pattern => in_pattern(alloc, reading),
+        Part::Measures | Part::Define => Ok(in_values(alloc, reading)),
+        Part::Pattern => Ok(in_pattern(alloc, reading)),
         Part::Skip => in_skip(alloc, reading),
         _ => Ok(None),
     }
 }
 
 /// The same in MEASURES and DEFINE.
-fn in_values(alloc: Global, reading: &Reading<'_>) -> Result<Option<Advice>, AllocError> {
+fn in_values(alloc: Global, reading: &Reading<'_>) -> Option<Advice> {
     match reading.here() {
         "(" => in_call(alloc, reading),
         "." if reading.back(1) == ")" => point(alloc, reading),
@@ -28,17 +28,18 @@ fn in_values(alloc: Global, reading: &Reading<'_>) -> Result<Option<Advice>, All
         "," | "*" | "+" | "-" => in_arguments(alloc, reading),
         sign if is_comparison(sign) => chained(alloc, reading),
         word if is_one_of(word, "DISTINCT") => distinct(alloc, reading),
-        _ => Ok(None),
+        _ => None,
     }
 }
 
-/// Advice, as it is handed on.
-fn told(alloc: Global, what: &str, help: &str) -> Result<Option<Advice>, AllocError> {
-    Ok(Some(Advice::new(alloc, what, help)?))
+/// Advice with a form in which words of the clause stand.
+fn told(alloc: Global, what: &str, form: &str, values: &[&str]) -> Option<Advice> {
+    let help = Pieces::filled(alloc, form, values);
+    Some(Advice::with_help(alloc, what, help))
 }
 
 /// A function that there isn't, at its bracket.
-fn in_call(alloc: Global, reading: &Reading<'_>) -> Result<Option<Advice>, AllocError> {
+fn in_call(alloc: Global, reading: &Reading<'_>) -> Option<Advice> {
     match reading.back(1) {
         name if is_one_of(name, "ISNULL IS_NULL") => null_test(alloc, reading, "IS NULL"),
         name if is_one_of(name, "NOTNULL ISNOTNULL IS_NOT_NULL") => {
@@ -46,29 +47,26 @@ fn in_call(alloc: Global, reading: &Reading<'_>) -> Result<Option<Advice>, Alloc
         }
         name if is_one_of(name, "ABS") => absolute(alloc, reading),
         name if is_one_of(name, "MATCH_ROWTIME FIRST_ROWTIME") => row_time(alloc, reading),
-        _ => Ok(None),
+        _ => None,
     }
 }
 
 /// ISNULL of one value.
-fn null_test(
-    alloc: Global,
-    reading: &Reading<'_>,
-    test: &str,
-) -> Result<Option<Advice>, AllocError> {
+fn null_test(alloc: Global, reading: &Reading<'_>, test: &str) -> Option<Advice> {
     let start = reading.at.saturating_add(1);
     let end = operand_end(reading, start);
     let value = text_of(reading, start, end);
     if reading.written(end) != ")" || !is_short(value) {
-        return Ok(None);
+        return None;
     }
-    let what = format!(in alloc; "there is no function {}", reading.back(1))?;
-    let help = format!(in alloc; "write {value} {test}")?;
-    told(alloc, what.as_str(), help.as_str())
+    Some(Advice::of_pieces(
+        Pieces::filled(alloc, "there is no function {}", &[reading.back(1)]),
+        Pieces::filled(alloc, "write {} {}", &[value, test]),
+    ))
 }
 
 /// The time of a match, which is that of its last row.
-fn row_time(alloc: Global, reading: &Reading<'_>) -> Result<Option<Advice>, AllocError> {
+fn row_time(alloc: Global, reading: &Reading<'_>) -> Option<Advice> {
     let name = reading.back(1);
     let function = if is_one_of(name, "MATCH_ROWTIME") {
         "LAST"
@@ -76,9 +74,10 @@ fn row_time(alloc: Global, reading: &Reading<'_>) -> Result<Option<Advice>, Allo
         "FIRST"
     };
     let column = first_order_column(reading);
-    let what = format!(in alloc; "there is no function {name}")?;
-    let help = format!(in alloc; "write {function}({column})")?;
-    told(alloc, what.as_str(), help.as_str())
+    Some(Advice::of_pieces(
+        Pieces::filled(alloc, "there is no function {}", &[name]),
+        Pieces::filled(alloc, "write {}({})", &[function, column]),
+    ))
 }
 
 /// The first column of ORDER BY; `t` where there is none.
@@ -92,7 +91,7 @@ fn first_order_column<'a>(reading: &Reading<'a>) -> &'a str {
 }
 
 /// ABS of a difference that is compared.
-fn absolute(alloc: Global, reading: &Reading<'_>) -> Result<Option<Advice>, AllocError> {
+fn absolute(alloc: Global, reading: &Reading<'_>) -> Option<Advice> {
     let first = reading.at.saturating_add(1);
     let minus = operand_end(reading, first);
     let second = minus.saturating_add(1);
@@ -100,62 +99,71 @@ fn absolute(alloc: Global, reading: &Reading<'_>) -> Result<Option<Advice>, Allo
     let sign = close.saturating_add(1);
     let end = operand_end(reading, sign.saturating_add(1));
     if reading.written(minus) != "-" || reading.written(close) != ")" {
-        return Ok(None);
+        return None;
     }
     if is_arithmetic(reading.back(2)) || is_arithmetic(reading.written(end)) {
-        return Ok(None);
+        return None;
     }
     let one = text_of(reading, first, minus);
     let other = text_of(reading, second, close);
     let limit = text_of(reading, sign, end);
-    let help = match reading.written(sign) {
-        ">" | ">=" => {
-            format!(in alloc; "write ({one} - {other} {limit} OR {other} - {one} {limit})")?
-        }
-        "<" | "<=" => {
-            format!(in alloc; "write {one} - {other} {limit} AND {other} - {one} {limit}")?
-        }
-        _ => return Ok(None),
+    let form = match reading.written(sign) {
+        ">" | ">=" => "write ({} - {} {} OR {} - {} {})",
+        "<" | "<=" => "write {} - {} {} AND {} - {} {}",
+        _ => return None,
     };
-    told(alloc, "there is no function ABS", help.as_str())
+    told(
+        alloc,
+        "there is no function ABS",
+        form,
+        &[one, other, limit, other, one, limit],
+    )
 }
 
 /// A point behind the call of a navigation: PREV(B).p.
-fn point(alloc: Global, reading: &Reading<'_>) -> Result<Option<Advice>, AllocError> {
+fn point(alloc: Global, reading: &Reading<'_>) -> Option<Advice> {
     let function = reading.back(4);
     if reading.back(3) != "(" || !is_one_of(function, "PREV NEXT FIRST LAST COUNT SUM MIN MAX") {
-        return Ok(None);
+        return None;
     }
     let variable = reading.back(2);
     let column = reading.next(1);
     if !is_name(reading.kind_back(2)) || !is_name(reading.kind(reading.at.saturating_add(1))) {
-        return Ok(None);
+        return None;
     }
-    let help = format!(in alloc;
-        "write {function}({variable}.{column}) in place of {function}({variable}).{column}"
-    )?;
-    told(alloc, "a point can't follow a bracket", help.as_str())
+    told(
+        alloc,
+        "a point can't follow a bracket",
+        "write {}({}.{}) in place of {}({}).{}",
+        &[function, variable, column, function, variable, column],
+    )
 }
 
 /// More than one column in the brackets of MIN, MAX, FIRST, LAST, PREV or NEXT.
-fn in_arguments(alloc: Global, reading: &Reading<'_>) -> Result<Option<Advice>, AllocError> {
+fn in_arguments(alloc: Global, reading: &Reading<'_>) -> Option<Advice> {
     let function = reading.function();
     let column = argument(reading);
     if is_one_of(function, "MIN MAX") {
         let column = whole_argument(reading);
-        let help = format!(in alloc;
-            "write {function}({column}); to compare columns let one more column of the file have the value"
-        )?;
-        return told(alloc, "an aggregate goes over one column", help.as_str());
+        return told(
+            alloc,
+            "an aggregate goes over one column",
+            "write {}({}); to compare columns let one more column of the file have the value",
+            &[function, column],
+        );
     }
     if is_one_of(function, "PREV NEXT FIRST LAST") && reading.back(1) != "," {
-        let help = format!(in alloc;
-            "write {function}({column}), {function}(A.{column}, 2), or {function}(p) + {function}(q) in place of {function}(p + q)"
-        )?;
         let what = "a navigation is of one column, and perhaps a number";
-        return told(alloc, what, help.as_str());
+        return told(
+            alloc,
+            what,
+            "write {}({}), {}(A.{}, 2), or {}(p) + {}(q) in place of {}(p + q)",
+            &[
+                function, column, function, column, function, function, function,
+            ],
+        );
     }
-    Ok(None)
+    None
 }
 
 /// The column in the brackets of a function before the place; `p` where there is none.
@@ -175,30 +183,34 @@ fn whole_argument<'a>(reading: &Reading<'a>) -> &'a str {
 }
 
 /// Two comparisons in a chain: 5 < p < 10.
-fn chained(alloc: Global, reading: &Reading<'_>) -> Result<Option<Advice>, AllocError> {
+fn chained(alloc: Global, reading: &Reading<'_>) -> Option<Advice> {
     let middle = operand_start(reading, reading.at);
     let sign = middle.saturating_sub(1);
     let left = operand_start(reading, sign);
     let end = operand_end(reading, reading.at.saturating_add(1));
     if !is_comparison(reading.written(sign)) || is_arithmetic(reading.written(end)) {
-        return Ok(None);
+        return None;
     }
     if is_arithmetic(reading.written(left.saturating_sub(1))) {
-        return Ok(None);
+        return None;
     }
     let one = text_of(reading, left, reading.at);
     let other = text_of(reading, middle, end);
     if !is_short(one) || !is_short(other) {
-        return Ok(None);
+        return None;
     }
-    let help = format!(in alloc; "write {one} AND {other}")?;
-    told(alloc, "a comparison has two sides", help.as_str())
+    told(
+        alloc,
+        "a comparison has two sides",
+        "write {} AND {}",
+        &[one, other],
+    )
 }
 
 /// IS DISTINCT FROM and IS NOT DISTINCT FROM.
-fn distinct(alloc: Global, reading: &Reading<'_>) -> Result<Option<Advice>, AllocError> {
+fn distinct(alloc: Global, reading: &Reading<'_>) -> Option<Advice> {
     if !is_one_of(reading.next(1), "FROM") {
-        return Ok(None);
+        return None;
     }
     let negated = is_one_of(reading.back(1), "NOT");
     let is = reading.at.saturating_sub(if negated { 2 } else { 1 });
@@ -206,29 +218,38 @@ fn distinct(alloc: Global, reading: &Reading<'_>) -> Result<Option<Advice>, Allo
     let one = text_of(reading, operand_start(reading, is), is);
     let other = text_of(reading, start, operand_end(reading, start));
     if !is_short(one) || !is_short(other) {
-        return Ok(None);
+        return None;
     }
-    let help = if negated {
-        format!(in alloc; "write ({one} = {other} OR {one} IS NULL AND {other} IS NULL)")?
-    } else {
-        format!(in alloc;
-            "write ({one} <> {other} OR {one} IS NULL AND {other} IS NOT NULL OR {one} IS NOT NULL AND {other} IS NULL)"
-        )?
-    };
-    told(alloc, "there is no DISTINCT", help.as_str())
+    let what = "there is no DISTINCT";
+    if negated {
+        return told(
+            alloc,
+            what,
+            "write ({} = {} OR {} IS NULL AND {} IS NULL)",
+            &[one, other, one, other],
+        );
+    }
+    told(
+        alloc,
+        what,
+        "write ({} <> {} OR {} IS NULL AND {} IS NOT NULL OR {} IS NOT NULL AND {} IS NULL)",
+        &[one, other, one, other, one, other],
+    )
 }
 
 /// A point in a pattern that isn't one between a variable and a column: .* and ...
-fn in_pattern(alloc: Global, reading: &Reading<'_>) -> Result<Option<Advice>, AllocError> {
+fn in_pattern(alloc: Global, reading: &Reading<'_>) -> Option<Advice> {
     if is_digit_name(reading) {
         let name = text_of(reading, reading.at, reading.at.saturating_add(2));
-        let help = format!(in alloc;
-            "write it with a letter or _ in front, as _{name}, in DEFINE too"
-        )?;
-        return told(alloc, "a name begins with a letter or _", help.as_str());
+        return told(
+            alloc,
+            "a name begins with a letter or _",
+            "write it with a letter or _ in front, as _{}, in DEFINE too",
+            &[name],
+        );
     }
     if reading.here() != "." || is_name(reading.kind(reading.at.saturating_add(1))) {
-        return Ok(None);
+        return None;
     }
     let before = if is_name(reading.kind_back(1)) {
         reading.back(1)
@@ -236,10 +257,12 @@ fn in_pattern(alloc: Global, reading: &Reading<'_>) -> Result<Option<Advice>, Al
         "A"
     };
     let after = name_behind(reading);
-    let help = format!(in alloc;
-        "for any rows between write {before} ANY*? {after}: ANY has no definition, and takes any row"
-    )?;
-    told(alloc, "a point means no row in a pattern", help.as_str())
+    told(
+        alloc,
+        "a point means no row in a pattern",
+        "for any rows between write {} ANY*? {}: ANY has no definition, and takes any row",
+        &[before, after],
+    )
 }
 
 /// Whether a number stands at the place, and letters behind it without a gap.
@@ -271,12 +294,20 @@ fn in_skip(alloc: Global, reading: &Reading<'_>) -> Result<Option<Advice>, Alloc
     };
     let back = reading.back(1);
     if is_one_of(back, "FIRST LAST") && is_one_of(reading.back(2), "TO") {
-        let help = format!(in alloc; "write AFTER MATCH SKIP TO {back} {name}")?;
-        return told(alloc, "a variable is missing here", help.as_str());
+        return Ok(told(
+            alloc,
+            "a variable is missing here",
+            "write AFTER MATCH SKIP TO {} {}",
+            &[back, name],
+        ));
     }
     if is_one_of(back, "TO") {
-        let help = format!(in alloc; "write AFTER MATCH SKIP TO {name}, or SKIP TO NEXT ROW")?;
-        return told(alloc, "a variable is missing here", help.as_str());
+        return Ok(told(
+            alloc,
+            "a variable is missing here",
+            "write AFTER MATCH SKIP TO {}, or SKIP TO NEXT ROW",
+            &[name],
+        ));
     }
     Ok(None)
 }

@@ -1,19 +1,16 @@
 //! What is written in a clause in place of BETWEEN and IN.
 
 use rp_lexer::TokenKind;
-use rp_wording::{Advice, Reading, is_one_of};
-use std::alloc::{AllocError, Global};
+use rp_wording::{Advice, Pieces, Reading, is_one_of};
+use std::alloc::Global;
 
 /// So many values of an IN are written out.
 const VALUES: usize = 8;
 
 /// The comparisons that the BETWEEN or IN at the place stands for, where its operands are columns and literals.
-pub(crate) fn rewritten(
-    alloc: Global,
-    reading: &Reading<'_>,
-) -> Result<Option<Advice>, AllocError> {
+pub(crate) fn rewritten(alloc: Global, reading: &Reading<'_>) -> Option<Advice> {
     if !is_simple(reading.kind_back(1)) {
-        return Ok(None);
+        return None;
     }
     if is_one_of(reading.here(), "BETWEEN") && is_one_of(reading.next(2), "AND") {
         return between(alloc, reading);
@@ -21,7 +18,7 @@ pub(crate) fn rewritten(
     if is_one_of(reading.here(), "IN") && reading.next(1) == "(" {
         return one_of(alloc, reading);
     }
-    Ok(None)
+    None
 }
 
 /// Whether it is a name or a literal.
@@ -33,47 +30,52 @@ fn is_simple(kind: Option<TokenKind>) -> bool {
     }
 }
 
-/// The value before the place: a column, perhaps of a variable, or a literal.
-fn operand(alloc: Global, reading: &Reading<'_>) -> Result<String, AllocError> {
+/// The value before the place: a column, perhaps with a variable and a point before it, or a literal.
+fn operand<'a>(reading: &Reading<'a>) -> (&'a str, &'a str, &'a str) {
     if reading.back(2) == "." {
-        return format!(in alloc; "{}.{}", reading.back(3), reading.back(1));
+        return (reading.back(3), ".", reading.back(1));
     }
-    String::from_str(alloc, reading.back(1))
+    ("", "", reading.back(1))
 }
 
 /// What a BETWEEN stands for.
-fn between(alloc: Global, reading: &Reading<'_>) -> Result<Option<Advice>, AllocError> {
+fn between(alloc: Global, reading: &Reading<'_>) -> Option<Advice> {
     let lower = reading.at.saturating_add(1);
     let upper = reading.at.saturating_add(3);
     if !is_simple(reading.kind(lower)) || !is_simple(reading.kind(upper)) {
-        return Ok(None);
+        return None;
     }
-    let value = operand(alloc, reading)?;
-    let value = value.as_str();
+    let (variable, point, value) = operand(reading);
     let least = reading.written(lower);
     let most = reading.written(upper);
-    let help = format!(in alloc; "write {value} >= {least} AND {value} <= {most}")?;
-    let advice = Advice::new(alloc, "there is no BETWEEN", help.as_str())?;
-    Ok(Some(advice))
+    Some(Advice::with_help(
+        alloc,
+        "there is no BETWEEN",
+        Pieces::filled(
+            alloc,
+            "write {}{}{} >= {} AND {}{}{} <= {}",
+            &[variable, point, value, least, variable, point, value, most],
+        ),
+    ))
 }
 
 /// What an IN stands for.
-fn one_of(alloc: Global, reading: &Reading<'_>) -> Result<Option<Advice>, AllocError> {
-    let value = operand(alloc, reading)?;
-    let mut help = String::from_str(alloc, "write ")?;
+fn one_of(alloc: Global, reading: &Reading<'_>) -> Option<Advice> {
+    let (variable, point, value) = operand(reading);
+    let mut help = Pieces::of(alloc, "write ");
     for place in 0..VALUES {
         let index = reading.at.saturating_add(2 + 2 * place);
         if !is_simple(reading.kind(index)) {
-            return Ok(None);
+            return None;
         }
-        let one = reading.written(index);
-        let comparison = format!(in alloc; "{} = {one}", value.as_str())?;
-        help.push_str(comparison.as_str())?;
+        help.push_filled(
+            "{}{}{} = {}",
+            &[variable, point, value, reading.written(index)],
+        );
         if reading.written(index.saturating_add(1)) != "," {
             break;
         }
-        help.push_str(" OR ")?;
+        help.push(" OR ");
     }
-    let advice = Advice::new(alloc, "there is no IN", help.as_str())?;
-    Ok(Some(advice))
+    Some(Advice::with_help(alloc, "there is no IN", help))
 }

@@ -1,14 +1,13 @@
 //! What is told of a place, and the tables of words that it is taken from.
 
+use crate::pieces::Pieces;
 use std::alloc::{AllocError, Global};
 
-/// What is told of a place.
+/// What is told of a place. Making it never fails: whoever asks for its texts is told where memory was refused to one.
 #[derive(Drop)]
 pub struct Advice {
-    /// What is wrong, in a line behind the marks.
-    pub what: String,
-    /// What to write, a line for each help; it may be empty.
-    pub help: String,
+    what: Pieces,
+    help: Pieces,
 }
 
 /// The same as texts of the program.
@@ -24,17 +23,39 @@ pub struct Hint {
 pub type Entry = (&'static str, &'static str, &'static str);
 
 impl Advice {
-    /// The advice of two texts, which are copied.
-    pub fn new(alloc: Global, what: &str, help: &str) -> Result<Advice, AllocError> {
-        Ok(Advice {
-            what: String::from_str(alloc, what)?,
-            help: String::from_str(alloc, help)?,
-        })
+    /// The advice of two texts: what is wrong, and what to write.
+    pub fn new(alloc: Global, what: &str, help: &str) -> Advice {
+        Advice::of_pieces(Pieces::of(alloc, what), Pieces::of(alloc, help))
+    }
+
+    /// The same, where what to write is put together already.
+    pub fn with_help(alloc: Global, what: &str, help: Pieces) -> Advice {
+        Advice::of_pieces(Pieces::of(alloc, what), help)
+    }
+
+    /// The same, where what is wrong is put together already.
+    pub fn with_what(alloc: Global, what: Pieces, help: &str) -> Advice {
+        Advice::of_pieces(what, Pieces::of(alloc, help))
+    }
+
+    /// The advice of what is wrong and what to write.
+    pub fn of_pieces(what: Pieces, help: Pieces) -> Advice {
+        Advice { what, help }
     }
 
     /// The advice of what is said.
-    pub fn of(alloc: Global, said: Hint) -> Result<Advice, AllocError> {
+    pub fn of(alloc: Global, said: Hint) -> Advice {
         Advice::new(alloc, said.what, said.help)
+    }
+
+    /// What is wrong, in a line behind the marks.
+    pub fn what(&self) -> Result<&str, AllocError> {
+        self.what.text()
+    }
+
+    /// What to write, a line for each help; it may be empty.
+    pub fn help(&self) -> Result<&str, AllocError> {
+        self.help.text()
     }
 }
 

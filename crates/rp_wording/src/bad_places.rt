@@ -2,6 +2,7 @@
 
 use crate::advice::{Advice, is_one_of};
 use crate::operands::{is_name, is_short};
+use crate::pieces::Pieces;
 use crate::reading::{Part, Reading, tokens_of};
 use std::alloc::{AllocError, Global};
 
@@ -24,39 +25,35 @@ pub(crate) fn by_part(
     let tokens = tokens_of(alloc, before)?;
     let reading = Reading::new(before, tokens.as_slice(), before.len());
     if rest.starts_with('!') {
-        return of_not(alloc, &reading);
+        return Ok(of_not(alloc, &reading));
     }
-    of_colon(alloc, &reading, rest)
+    Ok(of_colon(alloc, &reading, rest))
 }
 
 /// A `!` in a pattern.
-fn of_not(alloc: Global, reading: &Reading<'_>) -> Result<Option<Advice>, AllocError> {
+fn of_not(alloc: Global, reading: &Reading<'_>) -> Option<Advice> {
     if reading.part() != Part::Pattern {
-        return Ok(None);
+        return None;
     }
-    Ok(Some(Advice::new(alloc, NO_NOT, OPPOSITE)?))
+    Some(Advice::new(alloc, NO_NOT, OPPOSITE))
 }
 
 /// A colon behind the variable of a definition.
-fn of_colon(
-    alloc: Global,
-    reading: &Reading<'_>,
-    rest: &str,
-) -> Result<Option<Advice>, AllocError> {
+fn of_colon(alloc: Global, reading: &Reading<'_>, rest: &str) -> Option<Advice> {
     let begins = is_one_of(reading.back(2), ", DEFINE");
     if reading.part() != Part::Define || !begins || !is_name(reading.kind_back(1)) {
-        return Ok(None);
+        return None;
     }
     let variable = reading.back(1);
     let condition = rest.trim_start_matches(':').trim_start_matches('=').trim();
-    let help = if is_short(condition) {
-        format!(in alloc; "write {variable} AS {condition}")?
+    let condition = if is_short(condition) {
+        condition
     } else {
-        format!(in alloc; "write {variable} AS and the condition")?
+        "and the condition"
     };
-    Ok(Some(Advice::new(
+    Some(Advice::with_help(
         alloc,
         "AS comes between a variable and its condition",
-        help.as_str(),
-    )?))
+        Pieces::filled(alloc, "write {} AS {}", &[variable, condition]),
+    ))
 }

@@ -35,26 +35,18 @@ pub fn explain_lex(
     fault: LexFault,
 ) -> Result<(), AllocError> {
     let text = source.shown;
-    match fault {
+    let (part, advice) = match fault {
         LexFault::BadChar(at) => {
             let before = source.read.get(..at).unwrap_or("");
             let advice = bad_character(alloc, name, before, text.get(at..).unwrap_or(""))?;
-            report.point(name, text, character_at(text, at), &advice)
+            (character_at(text, at), advice)
         }
-        LexFault::OpenText(at) => {
-            let advice = open_quote(alloc, text, at, "text", "'")?;
-            report.point(name, text, to_end(text, at), &advice)
-        }
-        LexFault::OpenName(at) => {
-            let advice = open_quote(alloc, text, at, "name", "\"")?;
-            report.point(name, text, to_end(text, at), &advice)
-        }
-        LexFault::NumberRange(at) => {
-            let advice = no_number(alloc)?;
-            report.point(name, text, digits_at(text, at), &advice)
-        }
-        LexFault::OutOfMemory => Ok(()),
-    }
+        LexFault::OpenText(at) => (to_end(text, at), open_quote(alloc, text, at, "text", "'")),
+        LexFault::OpenName(at) => (to_end(text, at), open_quote(alloc, text, at, "name", "\"")),
+        LexFault::NumberRange(at) => (digits_at(text, at), no_number(alloc)),
+        LexFault::OutOfMemory => return Ok(()),
+    };
+    report.point(name, text, part, &advice)
 }
 
 /// The character at an offset.

@@ -14,6 +14,7 @@ mod lexical;
 mod names;
 mod nouns;
 mod operands;
+mod pieces;
 mod reading;
 mod report;
 
@@ -22,12 +23,13 @@ pub use bad_places::{NO_NOT, OPPOSITE};
 pub use dates::is_date;
 pub use lexical::{Source, explain_lex};
 pub use names::{
-    column_names, index_of, inside_quotes, is_plain, listed, meant, nearest, shown, upper_case,
+    column_names, index_of, inside_quotes, is_plain, meant, nearest, quoted, shown, upper_case,
 };
 pub use nouns::{kind_word, noun};
 pub use operands::{
     closing, depth_behind, is_arithmetic, is_comparison, is_name, is_short, operand_end,
     operand_start, text_of,
 };
+pub use pieces::Pieces;
 pub use reading::{Part, Reading, part_of, tokens_of};
 pub use report::{Mark, Report, shown_text};

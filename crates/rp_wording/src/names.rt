@@ -1,13 +1,11 @@
 //! Names as they are told, and the one that may be meant.
 
+use crate::pieces::Pieces;
 use crate::reading::tokens_of;
 use rp_lexer::TokenKind;
 use rp_value::Column;
 use std::alloc::{AllocError, Global};
 use strsim::damerau_levenshtein;
-
-/// So many names of a list are told.
-const TOLD: usize = 16;
 
 /// What a name means that is written so: in upper case, or what stands inside of its quotes.
 pub fn meant(alloc: Global, written: &str) -> Result<String, AllocError> {
@@ -39,16 +37,14 @@ fn lower_case(alloc: Global, text: &str) -> Result<String, AllocError> {
 
 /// The text with one quote for two.
 fn undoubled(alloc: Global, text: &str) -> Result<String, AllocError> {
-    let mut name = String::new(alloc);
-    let mut first = true;
-    for piece in text.split("\"\"") {
-        if !first {
-            name.push('"')?;
+    let mut name = Pieces::new(alloc);
+    for (index, piece) in text.split("\"\"").enumerate() {
+        if index > 0 {
+            name.push("\"");
         }
-        name.push_str(piece)?;
-        first = false;
+        name.push(piece);
     }
-    Ok(name)
+    name.finish()
 }
 
 /// A name as it may be typed: in lower case where it needs no quotes.
@@ -57,20 +53,20 @@ pub fn shown(alloc: Global, name: &str) -> Result<String, AllocError> {
     if is_plain(alloc, lower.as_str())? && !has_lower(name) {
         return Ok(lower);
     }
-    let mut quoted = String::from_str(alloc, "\"")?;
-    for character in name.chars() {
-        push_quoted(&mut quoted, character)?;
-    }
-    quoted.push('"')?;
-    Ok(quoted)
+    quoted(alloc, name)
 }
 
-/// Writes a character of a quoted name.
-fn push_quoted(out: &mut String, character: char) -> Result<(), AllocError> {
-    if character == '"' {
-        out.push('"')?;
+/// A name in quotes, letter for letter.
+pub fn quoted(alloc: Global, name: &str) -> Result<String, AllocError> {
+    let mut quoted = Pieces::of(alloc, "\"");
+    for (index, piece) in name.split('"').enumerate() {
+        if index > 0 {
+            quoted.push("\"\"");
+        }
+        quoted.push(piece);
     }
-    out.push(character)
+    quoted.push("\"");
+    quoted.finish()
 }
 
 /// Whether a lower-case letter of a to z stands in the name.
@@ -94,24 +90,6 @@ pub fn column_names(alloc: Global, columns: &[Column]) -> Result<Vec<String>, Al
         names.push(String::from_str(alloc, column.name.as_str())?)?;
     }
     Ok(names)
-}
-
-/// Names with commas between, as they may be typed.
-pub fn listed(alloc: Global, names: &[String]) -> Result<String, AllocError> {
-    let mut list = String::new(alloc);
-    for (index, name) in names.iter().enumerate().take(TOLD) {
-        if index > 0 {
-            list.push_str(", ")?;
-        }
-        let typed = shown(alloc, name.as_str())?;
-        list.push_str(typed.as_str())?;
-    }
-    if names.len() > TOLD {
-        let more = names.len() - TOLD;
-        let rest = format!(in alloc; " and {more} more")?;
-        list.push_str(rest.as_str())?;
-    }
-    Ok(list)
 }
 
 /// The index of a name.

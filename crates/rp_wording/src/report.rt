@@ -1,6 +1,7 @@
 //! What is said of a fault.
 
 use crate::advice::Advice;
+use crate::pieces::Pieces;
 use rp_place::{Place, Span, draw, push_help, shown_character};
 use std::alloc::{AllocError, Global};
 use std::fmt::{Display, Write};
@@ -37,10 +38,15 @@ pub struct Mark {
 impl Report {
     /// The fault's own line alone, of a text that is called so.
     pub fn new<F: Display>(alloc: Global, name: &str, fault: &F) -> Result<Report, AllocError> {
-        let told = shown_text(alloc, format!(in alloc; "{fault}")?.as_str())?;
+        Report::of(alloc, name, format!(in alloc; "{fault}")?.as_str())
+    }
+
+    /// The same of a fault as it is printed.
+    pub fn of(alloc: Global, name: &str, fault: &str) -> Result<Report, AllocError> {
+        let told = shown_text(alloc, fault)?;
         let kind = told.as_str().split(' ').next().unwrap_or("");
         Ok(Report {
-            text: format!(in alloc; "{name}: {told}\n")?,
+            text: Pieces::filled(alloc, "{}: {}\n", &[name, told.as_str()]).finish()?,
             kind: String::from_str(alloc, kind)?,
             message: String::new(alloc),
             help: String::new(alloc),
@@ -67,16 +73,27 @@ impl Report {
         place: &Place<'_>,
         advice: &Advice,
     ) -> Result<(), AllocError> {
-        let what = shown_text(*self.text.allocator(), advice.what.as_str())?;
-        draw(&mut self.text, name, place, what.as_str())?;
-        self.message.push_str(what.as_str())?;
+        let what = shown_text(*self.text.allocator(), advice.what()?)?;
+        self.draw(name, byte, place, what.as_str())?;
+        self.help(advice.help()?)
+    }
+
+    /// Adds a place that begins at this byte, and what is wrong there.
+    fn draw(
+        &mut self,
+        name: &str,
+        byte: usize,
+        place: &Place<'_>,
+        what: &str,
+    ) -> Result<(), AllocError> {
+        draw(&mut self.text, name, place, what)?;
         self.mark = Some(Mark {
             byte,
             length: place.part.len(),
             line: place.line,
             column: place.column(),
         });
-        self.help(advice.help.as_str())
+        self.message.push_str(what)
     }
 
     /// Adds what is wrong where there is no place for it.
@@ -86,9 +103,15 @@ impl Report {
         self.message.push_str(what.as_str())
     }
 
+    /// Adds advice where there is no place for it.
+    pub fn advise(&mut self, name: &str, advice: &Advice) -> Result<(), AllocError> {
+        self.say(name, advice.what()?)?;
+        self.help(advice.help()?)
+    }
+
     /// Adds a line that is neither what is wrong nor what to write.
-    pub fn note(&mut self, line: &str) -> Result<(), AllocError> {
-        let line = shown_text(*self.text.allocator(), line)?;
+    pub fn note(&mut self, line: &Pieces) -> Result<(), AllocError> {
+        let line = shown_text(*self.text.allocator(), line.text()?)?;
         writeln!(self.text, "  {line}")
     }
 
@@ -96,12 +119,17 @@ impl Report {
     pub fn help(&mut self, help: &str) -> Result<(), AllocError> {
         let help = shown_text(*self.text.allocator(), help)?;
         push_help(&mut self.text, help.as_str())?;
-        for line in help.as_str().lines() {
-            self.help.push_str(line)?;
-            self.help.push('\n')?;
-        }
-        Ok(())
+        push_lines(&mut self.help, help.as_str())
     }
+}
+
+/// Adds lines, each with a line end behind it.
+fn push_lines(out: &mut String, lines: &str) -> Result<(), AllocError> {
+    for line in lines.lines() {
+        out.push_str(line)?;
+        out.push('\n')?;
+    }
+    Ok(())
 }
 
 /// A text as it is shown on a terminal: `?` for each character that would control it, other than a line end, and a blank for a tab.
