@@ -29,9 +29,9 @@ pub fn run_why(rt: &HostRuntime, job: &WhyJob) -> Result<Verdict, ProgramFault> 
     };
     let (query, rows) = asked.query_and_rows(rt, &mut None)?;
     let mut verdict = None;
-    for (found, rows) in partitions(rt.alloc(), &query, rows, seeded_hasher(rt)?)? {
-        if is_asked(&key, &found) {
-            let one = tell_partition(rt, job, &query, &found, rows)?;
+    for part in partitions(rt.alloc(), &query, rows, seeded_hasher(rt)?)? {
+        if is_asked(&key, &part.key) {
+            let one = tell_partition(rt, job, &query, &part.key, part.rows)?;
             verdict = Some(worse(verdict, one));
         }
     }

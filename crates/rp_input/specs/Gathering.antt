@@ -2,14 +2,13 @@
 use Rattle.std.specs.Prelude.{List, [], ◌∷◌, ◌++◌, map, if◌then◌else◌}
 use Rattle.rp_value.specs.RowLists.{rows_added}
 use Rattle.rp_value.specs.declared.row_list.RowList.{RowList}
-use Rattle.std.specs.declared.vec.Vec.{Vec}
-use Rattle.std.specs.declared.alloc.Global.{Global}
 use Rattle.rp_value.specs.declared.value.Value.{Value}
 use Rattle.rp_input.specs.Partitions.{Part, same_key}
+use Rattle.rp_input.specs.declared.partition.Part.{Part as Gathered}
 
 -- partitions as plain lists: keys with their rows
-abbrev pub parts_of : List (List Value × Vec (List Value) Global) → List Part
-parts_of entries = map (λ entry. (entry.0, entry.1.items)) entries
+abbrev pub parts_of : List Gathered → List Part
+parts_of parts = map (λ part. (part.key, part.rows.items)) parts
 
 -- the same, of keys with the rows that were added for them
 abbrev pub parts_added : List (List Value × RowList) → List Part

@@ -36,6 +36,6 @@ pub use laws::{law_fitting, law_fitting_columns, law_same_fields, law_same_rows}
 pub use layout::{CsvLayout, is_delimiter};
 pub use number::number_rows;
 pub use order::{law_orders, order_rows};
-pub use partition::partitions;
+pub use partition::{Part, partitions};
 pub use records::{reader_of, take_record};
 pub use rows::{CsvFault, MAX_RECORDS, rows_of};

@@ -4,7 +4,7 @@ ghost use Rattle.rp_query.specs.QueryView.{data_of};
 ghost use Rattle.rp_input.specs.Numbered.{AreNumbered, part_packets};
 
 use crate::order::order_rows;
-use crate::partition::partitions;
+use crate::partition::{Part, partitions};
 use rp_feed::Packet;
 use rp_query::Query;
 use rp_value::{Cells, Row};
@@ -25,7 +25,7 @@ pub fn number_rows(
         rows.items packets.items) }
 {
     let mut packets = Vec::new(alloc);
-    for (key, rows) in partitions(alloc, query, rows, hasher)? {
+    for Part { key, rows } in partitions(alloc, query, rows, hasher)? {
         let mut rows = rows;
         order_rows(query, &mut rows)?;
         push_part(&mut packets, key, rows)?;

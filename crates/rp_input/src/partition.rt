@@ -11,12 +11,20 @@ use rp_value::{Cells, Row, RowList, Value};
 use std::alloc::{AllocError, Global};
 use std::collections::hash_map::RandomState;
 
+/// A partition: the rows that have the same values in the columns of PARTITION BY.
+#[derive(Drop)]
+pub struct Part {
+    /// Those values.
+    pub key: Cells,
+    /// The rows, as they came.
+    pub rows: Vec<Row>,
+}
+
 /// The rows of each key, by the first appearance of the key. They are copied, so that those of a key lie together: who goes
 /// over a partition then goes through memory in order. A text isn't copied but gets a further owner.
 type Parts = IndexMap<Cells, RowList, RandomState>;
 
-/// The partitions of rows by the query, by first appearance: the key of each, and its rows as they came. After want of
-/// memory the rows are dropped.
+/// The partitions of rows by the query, by first appearance. After want of memory the rows are dropped.
 ///
 /// The hasher finds the partition of a key. Its seed is drawn at random, so that whoever chooses keys can't choose ones that
 /// are all looked for in one place; the result is the same with any seed.
@@ -25,7 +33,7 @@ pub fn partitions(
     query: &Query,
     rows: Vec<Row>,
     hasher: RandomState,
-) -> Result<Vec<(Cells, Vec<Row>)>, AllocError>
+) -> Result<Vec<Part>, AllocError>
     ensures { IfOk result (λ parts. parts_of parts.items ≡
         partitions_are (data_of query.now).partition.items rows.items) }
 {
@@ -55,10 +63,7 @@ fn gather(
 }
 
 /// The rows of each key, as a list each.
-fn rows_of_lists(
-    alloc: Global,
-    lists: Vec<(Cells, RowList)>,
-) -> Result<Vec<(Cells, Vec<Row>)>, AllocError>
+fn rows_of_lists(alloc: Global, lists: Vec<(Cells, RowList)>) -> Result<Vec<Part>, AllocError>
     ensures { IfOk result (λ parts. parts_of parts.items ≡ parts_added lists.items) }
 {
     let mut parts = Vec::with_capacity(alloc, lists.len())?;
@@ -68,14 +73,10 @@ fn rows_of_lists(
     Ok(parts)
 }
 
-fn push_part(
-    parts: &mut Vec<(Cells, Vec<Row>)>,
-    key: Cells,
-    rows: Vec<Row>,
-) -> Result<(), AllocError>
-    ensures { OnOk result (parts.new.items ≡ parts.old.items ++ (key, rows) ∷ []) }
+fn push_part(parts: &mut Vec<Part>, key: Cells, rows: Vec<Row>) -> Result<(), AllocError>
+    ensures { OnOk result (parts.new.items ≡ parts.old.items ++ record { key = key; rows = rows } ∷ []) }
 {
-    match parts.push((key, rows)) {
+    match parts.push(Part { key, rows }) {
         Ok(()) => Ok(()),
         Err(_) => Err(AllocError),
     }

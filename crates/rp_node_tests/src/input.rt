@@ -2,10 +2,10 @@
 //! texts are in cases/inputs.cases.
 use super::support::{fixed_hasher, prices, query_of, refused_twice};
 use rp_feed::Packet;
-use rp_input::{CsvFault, number_rows, order_rows, partitions, read_rows, rows_of};
+use rp_input::{CsvFault, Part, number_rows, order_rows, partitions, read_rows, rows_of};
 use rp_io::MemoryInput;
 use rp_query::Query;
-use rp_value::{Cells, Row, Value};
+use rp_value::{Row, Value};
 use std::alloc::{AllocError, Global};
 use std::test::Fail;
 
@@ -35,12 +35,12 @@ fn show_rows(alloc: Global, rows: &[Row]) -> Result<String, AllocError> {
 }
 
 /// The key of each partition, and after a colon its rows.
-fn show_parts(alloc: Global, parts: &[(Cells, Vec<Row>)]) -> Result<String, AllocError> {
+fn show_parts(alloc: Global, parts: &[Part]) -> Result<String, AllocError> {
     let mut shown = String::new(alloc);
-    for (key, rows) in parts {
-        show_cells(alloc, &mut shown, key.as_slice())?;
+    for part in parts {
+        show_cells(alloc, &mut shown, part.key.as_slice())?;
         shown.push_str(":")?;
-        let rows = show_rows(alloc, rows.as_slice())?;
+        let rows = show_rows(alloc, part.rows.as_slice())?;
         shown.push_str(rows.as_str())?;
     }
     Ok(shown)
@@ -71,7 +71,7 @@ fn packets_of(alloc: Global, query: &Query, text: &str) -> Result<Vec<Packet>, C
 }
 
 /// The partitions of a text's rows.
-fn parts_of(alloc: Global, query: &Query, text: &str) -> Result<Vec<(Cells, Vec<Row>)>, CsvFault> {
+fn parts_of(alloc: Global, query: &Query, text: &str) -> Result<Vec<Part>, CsvFault> {
     let rows = rows_of(alloc, text.as_bytes(), query.table())?;
     Ok(partitions(alloc, query, rows, fixed_hasher()?)?)
 }

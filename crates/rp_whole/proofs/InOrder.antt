@@ -6,8 +6,6 @@ use Rattle.std.proofs.lemmas.List.Elements.{All-append, All-cons, All-nil, All-p
 use Rattle.std.specs.Prelude.{All}
 use Rattle.std.specs.Io.KnownBytes.{Appends}
 use Rattle.std.specs.List.{flat_map}
-use Rattle.std.specs.declared.vec.Vec.{Vec}
-use Rattle.std.specs.declared.alloc.Global.{Global}
 use Rattle.rp_value.specs.declared.value.Value.{Value}
 use Rattle.rp_query.specs.declared.query.QueryData.{QueryData}
 use Rattle.rp_io.specs.Devices.{AppendsFront, Moves}
@@ -20,9 +18,6 @@ use Rattle.rp_whole.specs.declared.halted.Halted.{Halted}
 use Rattle.rp_whole.specs.declared.stopped.Stopped.{Stopped}
 use Rattle.rp_whole.proofs.AllShown.{all_is_shown, all_of, all_taken, part_shown}
 use Rattle.rp_io.proofs.Writes.{front_longer, front_none, moves_end, moves_front, moves_more, moves_none, moves_part}
-
-abbrev pub Kept : Type 0
-Kept = List Value × Vec (List Value) Global
 
 -- partitions can be put in order, and all of their answers shown
 pub all_ordered : OrderExists → (limited : Bool) (q : QueryData) (parts : List Part)

@@ -12,10 +12,9 @@ use crate::halted::{Halted, push_halted};
 use crate::part::write_part;
 use crate::turns::{Counting, Turns};
 use crate::watch::Watch;
-use rp_input::{law_orders, order_rows};
+use rp_input::{Part as InputPart, law_orders, order_rows};
 use rp_io::Outlet;
 use rp_query::Query;
-use rp_value::{Cells, Row};
 use std::alloc::Global;
 use std::sync::ledger::Ledger;
 
@@ -26,7 +25,7 @@ use std::sync::ledger::Ledger;
 pub(crate) fn write_parts<W: Outlet, G: Gathered, V: Watch, L: Ledger>(
     alloc: Global,
     query: &Query,
-    parts: Vec<(Cells, Vec<Row>)>,
+    parts: Vec<InputPart>,
     gathered: &mut G,
     writer: &mut W,
     watch: &mut V,
@@ -47,7 +46,7 @@ pub(crate) fn write_parts<W: Outlet, G: Gathered, V: Watch, L: Ledger>(
     law_orders();
     let mut turns = Turns::<L>::new(counting);
     let mut halted = Vec::new(alloc);
-    for (key, rows) in parts {
+    for InputPart { key, rows } in parts {
         let mut rows = rows;
         order_rows(query, &mut rows)?;
         let part = Part { key, rows };

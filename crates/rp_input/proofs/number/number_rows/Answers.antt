@@ -14,12 +14,12 @@ loop-key-preserved c =
     let inv = c.loop-key.invariant in
     let ordered = c.order_rows.new.rows.items in
     let left = into_iter_items c.next.new.self in
-    let gives : into_iter_items c.loop-key.key-iterator ≡ (c.in-Some.key, c.in-Some.rows) ∷ left = grind (arith, common_steps, c.in-Some.ensures.steps) in
-    let all : (later : List Part) → AreOrdered query.order.items ((c.in-Some.key, c.in-Some.rows.items) ∷ parts_of left) later → AreOrderedParts query.partition.items query.order.items c.args.rows.items (inv.0 ++ later) =
+    let gives : into_iter_items c.loop-key.key-iterator ≡ c.in-Some.field-0 ∷ left = grind (arith, common_steps, c.in-Some.ensures.steps) in
+    let all : (later : List Part) → AreOrdered query.order.items ((c.in-Some.field-0.key, c.in-Some.field-0.rows.items) ∷ parts_of left) later → AreOrderedParts query.partition.items query.order.items c.args.rows.items (inv.0 ++ later) =
     λ later h. inv.2 later (subst (λ parts. AreOrdered query.order.items (parts_of parts) later) (sym gives) h) in (
-      inv.0 ++ (c.in-Some.key, ordered) ∷ [],
-      c.in_ok-push_part.ensures ∙ ap (λ t. t ++ part_packets (c.in-Some.key, ordered)) inv.1 ∙ sym (packets_more inv.0 (c.in-Some.key, ordered)),
-      order_next query.order.items (AreOrderedParts query.partition.items query.order.items c.args.rows.items) inv.0 (parts_of left) c.in-Some.key c.in-Some.rows.items ordered c.in_ok-order_rows.ensures.ok all,
+      inv.0 ++ (c.in-Some.field-0.key, ordered) ∷ [],
+      c.in_ok-push_part.ensures ∙ ap (λ t. t ++ part_packets (c.in-Some.field-0.key, ordered)) inv.1 ∙ sym (packets_more inv.0 (c.in-Some.field-0.key, ordered)),
+      order_next query.order.items (AreOrderedParts query.partition.items query.order.items c.args.rows.items) inv.0 (parts_of left) c.in-Some.field-0.key c.in-Some.field-0.rows.items ordered c.in_ok-order_rows.ensures.ok all,
     )
 
 pub returns : goal.returns

@@ -5,9 +5,10 @@ use Rattle.std.specs.Vec.Iter.{into_iter_items}
 use Rattle.rp_query.specs.QueryView.{data_of}
 use Rattle.rp_io.proofs.Cutting.{on_err_from}
 use Rattle.rp_input.specs.Gathering.{parts_of}
+use Rattle.rp_input.specs.declared.partition.Part.{Part as Kept}
 use Rattle.rp_whole.specs.Answers.{halted_at}
 use Rattle.rp_whole.specs.Writing.{WritesPart}
-use Rattle.rp_whole.proofs.InOrder.{HasWritten, Kept, all_front, all_written, none_written, part_front, part_written, stopped_front}
+use Rattle.rp_whole.proofs.InOrder.{HasWritten, all_front, all_written, none_written, part_front, part_written, stopped_front}
 use Rattle.rp_whole.proofs.parts.write_parts.Goals as goal
 
 pub loop-key-init : goal.loop-key-init
@@ -48,11 +49,11 @@ returns-in_err-given_up-clause-front g c =
     let t = g.G.Gathered.stopped c.loop-key.gathered in
     let halted = c.loop-key.halted.items in
     let left = into_iter_items c.next.new.self in
-    let kept : Kept = (c.in-Some.key, c.in-Some.rows) in
+    let kept : Kept = c.in-Some.field-0 in
     let gives : into_iter_items c.loop-key.key-iterator ≡ kept ∷ left = grind (arith, common_steps, c.in-Some.ensures.steps) in
     let before : HasWritten limited form q all (parts_of (kept ∷ left)) a start s b gathered t halted =
     subst (λ items. HasWritten limited form q all (parts_of items) a start s b gathered t halted) gives c.loop-key.invariant.written in
-    on_err_from _ (part_front limited form q all a start (parts_of left) c.in-Some.key c.in-Some.rows.items c.order_rows.new.rows.items c.in_ok-order_rows.ensures.ok s
+    on_err_from _ (part_front limited form q all a start (parts_of left) c.in-Some.field-0.key c.in-Some.field-0.rows.items c.order_rows.new.rows.items c.in_ok-order_rows.ensures.ok s
     b (g.W.Outlet.contents c.write_part.new.writer) gathered t halted before c.law_orders.ensures c.in_err-given_up.ensures.front)
 
 pub returns-in_err-push_halted-clause-front : goal.returns-in_err-push_halted-clause-front
@@ -72,15 +73,15 @@ returns-in_err-push_halted-clause-front g c =
     let u = g.G.Gathered.stopped c.write_part.new.gathered in
     let halted = c.loop-key.halted.items in
     let left = into_iter_items c.next.new.self in
-    let kept : Kept = (c.in-Some.key, c.in-Some.rows) in
+    let kept : Kept = c.in-Some.field-0 in
     let gives : into_iter_items c.loop-key.key-iterator ≡ kept ∷ left = grind (arith, common_steps, c.in-Some.ensures.steps) in
     let before : HasWritten limited form q all (parts_of (kept ∷ left)) a start s b gathered t halted =
     subst (λ items. HasWritten limited form q all (parts_of items) a start s b gathered t halted) gives c.loop-key.invariant.written in
-    let wrote : WritesPart limited form q (c.in-Some.key, c.order_rows.new.rows.items) c.in_ok-given_up.given_up b gathered e rest t u =
-    subst (λ l. WritesPart (is_some l) form q (c.in-Some.key, c.order_rows.new.rows.items) c.in_ok-given_up.given_up b gathered e rest t u) c.loop-key.invariant.limit c.in_ok-given_up.ensures.written in
-    let more = halted ++ halted_at c.in-Some.key c.in_ok-given_up.given_up in
+    let wrote : WritesPart limited form q (c.in-Some.field-0.key, c.order_rows.new.rows.items) c.in_ok-given_up.given_up b gathered e rest t u =
+    subst (λ l. WritesPart (is_some l) form q (c.in-Some.field-0.key, c.order_rows.new.rows.items) c.in_ok-given_up.given_up b gathered e rest t u) c.loop-key.invariant.limit c.in_ok-given_up.ensures.written in
+    let more = halted ++ halted_at c.in-Some.field-0.key c.in_ok-given_up.given_up in
     on_err_from _ (stopped_front limited form q all a start (parts_of left) s e rest u more
-    (part_written limited form q all a start (parts_of left) c.in-Some.key c.in-Some.rows.items c.order_rows.new.rows.items c.in_ok-order_rows.ensures.ok s
+    (part_written limited form q all a start (parts_of left) c.in-Some.field-0.key c.in-Some.field-0.rows.items c.order_rows.new.rows.items c.in_ok-order_rows.ensures.ok s
     b e gathered t halted before c.in_ok-given_up.given_up rest u more wrote refl) c.law_orders.ensures)
 
 pub loop-key-preserved : goal.loop-key-preserved
@@ -100,14 +101,14 @@ loop-key-preserved g c =
     let u = g.G.Gathered.stopped c.write_part.new.gathered in
     let halted = c.loop-key.halted.items in
     let left = into_iter_items c.next.new.self in
-    let kept : Kept = (c.in-Some.key, c.in-Some.rows) in
+    let kept : Kept = c.in-Some.field-0 in
     let gives : into_iter_items c.loop-key.key-iterator ≡ kept ∷ left = grind (arith, common_steps, c.in-Some.ensures.steps) in
     let before : HasWritten limited form q all (parts_of (kept ∷ left)) a start s b gathered t halted =
     subst (λ items. HasWritten limited form q all (parts_of items) a start s b gathered t halted) gives c.loop-key.invariant.written in
-    let wrote : WritesPart limited form q (c.in-Some.key, c.order_rows.new.rows.items) c.in_ok-given_up.given_up b gathered e rest t u =
-    subst (λ l. WritesPart (is_some l) form q (c.in-Some.key, c.order_rows.new.rows.items) c.in_ok-given_up.given_up b gathered e rest t u) c.loop-key.invariant.limit c.in_ok-given_up.ensures.written in
+    let wrote : WritesPart limited form q (c.in-Some.field-0.key, c.order_rows.new.rows.items) c.in_ok-given_up.given_up b gathered e rest t u =
+    subst (λ l. WritesPart (is_some l) form q (c.in-Some.field-0.key, c.order_rows.new.rows.items) c.in_ok-given_up.given_up b gathered e rest t u) c.loop-key.invariant.limit c.in_ok-given_up.ensures.written in
     record {
-      written = part_written limited form q all a start (parts_of left) c.in-Some.key c.in-Some.rows.items c.order_rows.new.rows.items c.in_ok-order_rows.ensures.ok s
+      written = part_written limited form q all a start (parts_of left) c.in-Some.field-0.key c.in-Some.field-0.rows.items c.order_rows.new.rows.items c.in_ok-order_rows.ensures.ok s
           b e gathered t halted before c.in_ok-given_up.given_up rest u c.push_halted.new.halted.items wrote c.in_ok-push_halted.ensures;
       limit = c.write_part.ensures.limit ∙ c.loop-key.invariant.limit;
       failures = c.in_ok-given_up.ensures.failures ∙ c.loop-key.invariant.failures;
