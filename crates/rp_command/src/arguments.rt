@@ -1,10 +1,10 @@
 //! What the commands have in common: options, what clap makes of the words, and the values that it finds.
 ghost use Rattle.std.specs.Prelude.{◌≡◌, false, true, [], IfOk, OnOk, codes, map, option_map, string_bytes};
-ghost use Rattle.clap.specs.Words.{IsAmong, IsParsedFrom, app_of, found_of, is_simple, kind_of, rows_of, rule_of};
-ghost use Rattle.clap.specs.declared.error.kind.ErrorKind.TheVariants.{InvalidValue, OutOfMemory};
+ghost use Rattle.clap.specs.Words.{IsAmong, IsParsedFrom, app_of, found_of, is_simple, kind_of, new_app, rows_of, rule_of};
+ghost use Rattle.clap.specs.declared.error.kind.ErrorKind.TheVariants.{OutOfMemory};
 ghost use Rattle.clap.specs.declared.builder.value_parser.ValueParser.TheVariants as parser;
 ghost use Rattle.clap.specs.declared.error.Error.{Error};
-ghost use Rattle.rp_command.specs.Commands.{are_taken, by_each_name, by_flag, by_name, by_name_if_any, by_name_or, by_number, by_place_if_any, by_places_if_any, faults_by, is_ruled, rows_by, with_clause};
+ghost use Rattle.rp_command.specs.Commands.{are_own, are_taken, by_each_name, by_flag, by_name, by_name_if_any, by_name_or, by_number, by_place_if_any, by_places_if_any, faults_by, is_ruled, rows_by, with_arguments};
 ghost use Rattle.rp_command.specs.Values.{HasFlag, HasNumber, HasNumberIfAny, HasText, HasTextIfAny, HasTexts, HasTextsIfAny, HasValue, Passes, number_parser};
 
 use crate::job::JobFault;
@@ -22,16 +22,21 @@ pub(crate) const COLUMNS: &str =
 /// What help tells of an option that names a clause.
 pub(crate) const CLAUSE: &str = "The clause, as \"PATTERN (A B+) DEFINE B AS p < PREV(p)\"";
 
-/// The command with the options that name a table and a clause over it.
-pub(crate) fn with_clause<'a>(
-    command: Command<'a>,
+/// The command of this name with these arguments. Help shows `usage_name` in the usage line, `summary` above it, and
+/// `details` below all.
+pub(crate) fn command_with<'a>(
     alloc: Global,
+    name: &'a str,
+    usage_name: &str,
+    summary: &'a str,
+    details: &'a str,
+    arguments: Vec<Arg<'a>>,
 ) -> Result<Command<'a>, AllocError>
-    ensures { IfOk result (λ made. app_of made ≡ with_clause (app_of command.entry)) }
+    requires { are_own arguments.items ≡ true }
+    ensures { IfOk result (λ command. app_of command ≡ with_arguments (new_app name.entry.now) arguments.entry.items) }
 {
-    command
-        .arg(text_option(alloc, "table", "TEXT", TABLE))?
-        .arg(text_option(alloc, "clause", "TEXT", CLAUSE))
+    let command = Command::new(alloc, name).bin_name(usage_name)?;
+    command.about(summary).after_help(details).args(arguments)
 }
 
 /// An option that must be given, with a text, which help shows as `value`.
@@ -274,33 +279,13 @@ pub(crate) fn line_fault(error: Error) -> JobFault
     }
 }
 
-/// The fault of a word that an option of the command doesn't take, where these are the words that it takes.
-pub(crate) fn no_such_word(
-    alloc: Global,
+/// An error of this kind and text, with the usage of the command.
+pub(crate) fn error_of(
     command: Result<Command, AllocError>,
-    option: &str,
-    words: &str,
-    word: &str,
-) -> JobFault
-    ensures { (error : Error) → result ≡ JobFault.Line error → kind_of error ≡ InvalidValue }
-{
-    match line_of_no_such_word(alloc, command, option, words, word) {
-        Ok(error) => line_fault(error),
-        Err(_) => JobFault::OutOfMemory,
-    }
-}
-
-fn line_of_no_such_word(
-    alloc: Global,
-    command: Result<Command, AllocError>,
-    option: &str,
-    words: &str,
-    word: &str,
+    kind: ErrorKind,
+    text: &str,
 ) -> Result<Error, AllocError>
-    ensures { IfOk result (λ error. kind_of error ≡ InvalidValue) }
+    ensures { IfOk result (λ error. kind_of error ≡ kind) }
 {
-    let told = format!(in alloc;
-        "invalid value '{word}' for '{option}'\n  [possible values: {words}]"
-    )?;
-    command?.error(ErrorKind::InvalidValue, told.as_str())
+    command?.error(kind, text)
 }

@@ -5,7 +5,7 @@ ghost use Rattle.clap.specs.declared.error.kind.ErrorKind.TheVariants.{ValueVali
 ghost use Rattle.clap.specs.declared.error.Error.{Error};
 ghost use Rattle.rp_command.specs.Jobs.{IsCause, IsFaultless, IsRead, NamesJob, name_of};
 
-use crate::arguments::line_fault;
+use crate::arguments::{error_of, line_fault};
 use crate::check::{check_command, read_check};
 use crate::help;
 use crate::job::{Job, JobFault};
@@ -54,7 +54,11 @@ pub fn not_utf8(alloc: Global) -> JobFault
 fn line_of_no_text(alloc: Global) -> Result<Error, AllocError>
     ensures { IfOk result (λ error. kind_of error ≡ ValueValidation) }
 {
-    program(alloc)?.error(ErrorKind::ValueValidation, "an argument isn't UTF-8")
+    error_of(
+        program(alloc),
+        ErrorKind::ValueValidation,
+        "an argument isn't UTF-8",
+    )
 }
 
 /// The fault of words whose first one names no job: what all commands together make of them.
@@ -67,24 +71,44 @@ fn no_job(alloc: Global, words: &[String]) -> JobFault {
 
 /// All commands together.
 fn program<'a>(alloc: Global) -> Result<Command<'a>, AllocError> {
-    Command::new(alloc, "rowmatch")
-        .bin_name("rowmatch")?
+    let commands = commands(alloc)?;
+    let program = Command::new(alloc, "rowmatch").bin_name("rowmatch")?;
+    program
         .version(VERSION)
         .no_binary_name(true)
         .subcommand_required(true)
         .after_help(help::EXAMPLES)
-        .subcommand(trace_command(alloc)?)?
-        .subcommand(whole_command(alloc)?)?
-        .subcommand(node_command(alloc)?)?
-        .subcommand(source_command(alloc)?)?
-        .subcommand(check_command(alloc)?)?
-        .subcommand(why_command(alloc)?)
+        .subcommands(commands)
+}
+
+/// Each command, in the order in which help lists them.
+fn commands<'a>(alloc: Global) -> Result<Vec<Command<'a>>, AllocError> {
+    let mut commands = Vec::new(alloc);
+    add(&mut commands, trace_command(alloc))?;
+    add(&mut commands, whole_command(alloc))?;
+    add(&mut commands, node_command(alloc))?;
+    add(&mut commands, source_command(alloc))?;
+    add(&mut commands, check_command(alloc))?;
+    add(&mut commands, why_command(alloc))?;
+    Ok(commands)
+}
+
+/// Adds the command, where it was made.
+fn add<'a>(
+    commands: &mut Vec<Command<'a>>,
+    command: Result<Command<'a>, AllocError>,
+) -> Result<(), AllocError> {
+    commands.push(command?)?;
+    Ok(())
 }
 
 fn line_of_no_job(alloc: Global, words: &[String]) -> Result<Error, AllocError> {
-    let mut command = program(alloc)?;
-    match command.try_get_matches_from_mut(words) {
+    match program(alloc)?.try_get_matches_from(words) {
         Err(error) => Ok(error),
-        Ok(_) => command.error(ErrorKind::InvalidSubcommand, "no such command"),
+        Ok(_) => error_of(
+            program(alloc),
+            ErrorKind::InvalidSubcommand,
+            "no such command",
+        ),
     }
 }

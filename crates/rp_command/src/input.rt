@@ -1,53 +1,81 @@
 //! The options that say how an input is read.
-ghost use Rattle.std.specs.Prelude.{◌≡◌, false, IfOk, IfSome, codes};
-ghost use Rattle.clap.specs.Words.{app_of, found_of, rows_of};
+ghost use Rattle.std.specs.Prelude.{◌≡◌, false, true, IfOk, IfSome, codes};
+ghost use Rattle.clap.specs.Words.{App, app_of, found_of, kind_of, new_app, rows_of};
+ghost use Rattle.clap.specs.declared.error.Error.{Error};
+ghost use Rattle.clap.specs.declared.error.kind.ErrorKind.TheVariants.{InvalidValue};
 ghost use Rattle.clap.specs.declared.builder.value_parser.ValueParser.TheVariants as parser;
-ghost use Rattle.rp_command.specs.Commands.{with_columns, with_input, with_layout};
+ghost use Rattle.rp_command.specs.Commands.{are_own, with_arguments, with_input};
 ghost use Rattle.rp_command.specs.Jobs.{HasInput, input_word};
-ghost use Rattle.rp_command.specs.Values.{HasText, Passes};
+ghost use Rattle.rp_command.specs.Values.{HasOther, HasText, HasValue, Passes};
 ghost use Rattle.rp_command.specs.declared.job.InputFormat.{InputFormat as Named};
 
 use crate::arguments::{
-    COLUMNS, TABLE, flag, flag_of, text_if_any, text_option_if_any, text_option_or, texts_if_any,
-    texts_option,
+    COLUMNS, TABLE, command_with, flag, flag_of, text_if_any, text_of, text_option_if_any,
+    text_option_or, texts_if_any, texts_option,
 };
-use crate::job::{InputFormat, InputOptions};
-use clap::{ArgMatches, Command};
+use crate::choices::{ChoosingCommand, no_such_word};
+use crate::job::{InputFormat, InputOptions, JobFault};
+use clap::{Arg, ArgMatches, Command};
 use std::alloc::{AllocError, Global};
 
 /// The words that `--from` takes.
-pub(crate) const INPUTS: &str = "csv, jsonl";
+const INPUTS: &str = "csv, jsonl";
 
-/// The command with the options that say how an input is read.
-pub(crate) fn with_input<'a>(command: Command<'a>, alloc: Global) -> Result<Command<'a>, AllocError>
-    ensures { IfOk result (λ made. app_of made ≡ with_input (app_of command.entry)) }
+/// The command of this name with the options that say how an input is read, and these arguments. The texts of help are
+/// as in `command_with`.
+pub(crate) fn command_with_input<'a>(
+    alloc: Global,
+    name: &'a str,
+    usage_name: &str,
+    summary: &'a str,
+    details: &'a str,
+    arguments: Vec<Arg<'a>>,
+) -> Result<Command<'a>, AllocError>
+    requires { are_own arguments.items ≡ true }
+    ensures { IfOk result (λ command.
+        app_of command ≡ with_arguments (with_input (new_app name.entry.now)) arguments.entry.items) }
 {
-    let command = with_columns(command, alloc)?;
-    with_layout(command, alloc)
+    let inputs = input_arguments(alloc)?;
+    let command = command_with(alloc, name, usage_name, summary, details, inputs)?;
+    command.args(arguments)
 }
 
-/// The command with the options that name the columns that are read.
-fn with_columns<'a>(command: Command<'a>, alloc: Global) -> Result<Command<'a>, AllocError>
-    ensures { IfOk result (λ made. app_of made ≡ with_columns (app_of command.entry)) }
-{
-    command
-        .arg(text_option_if_any(alloc, "table", "TEXT", TABLE))?
-        .arg(text_option_if_any(alloc, "columns", "TEXT", COLUMNS))
-}
-
-/// The command with the options that say how an input is laid out.
-fn with_layout<'a>(command: Command<'a>, alloc: Global) -> Result<Command<'a>, AllocError>
-    ensures { IfOk result (λ made. app_of made ≡ with_layout (app_of command.entry)) }
+/// The options that say how an input is read.
+fn input_arguments<'a>(alloc: Global) -> Result<Vec<Arg<'a>>, AllocError>
+    ensures own { IfOk result (λ arguments. are_own arguments.items ≡ true) }
+    ensures rules { IfOk result (λ arguments. (app : App) → with_arguments app arguments.items ≡ with_input app) }
 {
     let about_delimiter = "What is between the fields of a record, as ; or \\t";
     let about_null = "A field that is null; it may be given again and again";
     let about_header = "The first record is a row: the columns are the fields in order";
     let about_from = "What the input is: csv, or jsonl (an object of JSON in each line)";
-    command
-        .arg(text_option_if_any(alloc, "delimiter", "CHARACTER", about_delimiter))?
-        .arg(texts_option(alloc, "null", "WORD", about_null))?
-        .arg(flag(alloc, "no-header", about_header))?
-        .arg(text_option_or(alloc, "from", "FORMAT", about_from, "csv"))
+    let arguments = vec![in alloc;
+        text_option_if_any(alloc, "table", "TEXT", TABLE),
+        text_option_if_any(alloc, "columns", "TEXT", COLUMNS),
+        text_option_if_any(alloc, "delimiter", "CHARACTER", about_delimiter),
+        texts_option(alloc, "null", "WORD", about_null),
+        flag(alloc, "no-header", about_header),
+        text_option_or(alloc, "from", "FORMAT", about_from, "csv"),
+    ]?;
+    Ok(arguments)
+}
+
+/// What the input is, as the command's option says.
+pub(crate) fn input_of(
+    alloc: Global,
+    matches: &ArgMatches,
+    command: ChoosingCommand,
+) -> Result<InputFormat, JobFault>
+    requires { HasValue (codes "from") matches.now }
+    ensures value { IfOk result (λ from. HasText (rows_of (found_of matches.now)) (codes "from") (input_word from)) }
+    ensures other { (error : Error) → result ≡ Err (JobFault.Line error) →
+        (kind_of error ≡ InvalidValue) × HasOther (rows_of (found_of matches.now)) (codes "from") input_word }
+{
+    let word = text_of(alloc, matches, "from")?;
+    match input_named(word.as_str()) {
+        Some(from) => Ok(from),
+        None => Err(no_such_word(alloc, command, "--from <FORMAT>", INPUTS, word.as_str())),
+    }
 }
 
 /// The values that clap found of these options, beside what the input is.
@@ -71,7 +99,7 @@ pub(crate) fn input_options(
 }
 
 /// What the input is that the word is for.
-pub(crate) fn input_named(word: &str) -> Option<InputFormat>
+fn input_named(word: &str) -> Option<InputFormat>
     ensures named { IfSome result (λ from. word.now ≡ input_word from) }
     ensures other { result ≡ None → (from : Named) → word.now ≡ input_word from → ⊥ }
 {

@@ -17,6 +17,7 @@
 
 mod arguments;
 mod check;
+mod choices;
 mod command;
 pub mod help;
 mod input;

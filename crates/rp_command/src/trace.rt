@@ -1,12 +1,12 @@
 //! The command `trace`.
-ghost use Rattle.std.specs.Prelude.{◌≡◌, IfOk, codes, map, string_bytes};
-ghost use Rattle.clap.specs.Words.{app_of};
+ghost use Rattle.std.specs.Prelude.{◌≡◌, false, IfOk, codes, map, string_bytes};
+ghost use Rattle.clap.specs.Words.{app_of, rule_of};
 ghost use Rattle.clap.specs.declared.error.Error.{Error};
-ghost use Rattle.rp_command.specs.Commands.{trace_app};
+ghost use Rattle.rp_command.specs.Commands.{by_place, trace_app};
 ghost use Rattle.rp_command.specs.Jobs.{AreUnderstood, IsFaultBy, IsFaultless, IsRead, name_of};
 ghost use Rattle.rp_command.specs.Jobs.CommandName.{TraceCommand};
 
-use crate::arguments::{matched, text_of};
+use crate::arguments::{command_with, matched, text_of};
 use crate::help;
 use crate::job::{Job, JobFault};
 use clap::{Arg, ArgAction, Command};
@@ -29,17 +29,27 @@ pub(crate) fn read_trace(alloc: Global, words: &[String]) -> Result<Job, JobFaul
 }
 
 /// The command.
-#[tactic(auto, unfolding(crate::specs::Commands::trace_app))]
 pub(crate) fn trace_command<'a>(alloc: Global) -> Result<Command<'a>, AllocError>
     ensures { IfOk result (λ command. app_of command ≡ trace_app) }
 {
-    let pattern = Arg::new(alloc, "PATTERN")
-        .help("Variables A to Z, `( )`, `|` and `*`, as \"(A B | A)* C\"")
-        .required(true)
-        .action(ArgAction::Set);
-    Command::new(alloc, "trace")
-        .bin_name("rowmatch trace")?
-        .about("Prints the variables of each line's match, a row for each letter")
-        .after_help(help::TRACE)
-        .arg(pattern)
+    let arguments = vec![in alloc; pattern(alloc)]?;
+    let about = "Prints the variables of each line's match, a row for each letter";
+    command_with(
+        alloc,
+        "trace",
+        "rowmatch trace",
+        about,
+        help::TRACE,
+        arguments,
+    )
+}
+
+/// The pattern.
+fn pattern<'a>(alloc: Global) -> Arg<'a>
+    ensures rule { rule_of result ≡ by_place (codes "PATTERN") }
+    ensures own { result.global ≡ false }
+{
+    let about = "Variables A to Z, `( )`, `|` and `*`, as \"(A B | A)* C\"";
+    let pattern = Arg::new(alloc, "PATTERN").help(about).required(true);
+    pattern.action(ArgAction::Set)
 }

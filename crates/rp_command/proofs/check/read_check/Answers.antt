@@ -1,44 +1,33 @@
-use Rattle.std.proofs.Common.{codes, inl, inr, rules}
-use Rattle.rp_command.proofs.Apps.{check_format, check_from, check_meets, check_ruled, check_simple}
-use Rattle.rp_command.proofs.Words.{other_word}
+use Rattle.std.proofs.Common.{inl, inr, rules}
+use Rattle.rp_command.proofs.Apps.{check_meets, check_ruled, check_simple}
+use Rattle.rp_command.proofs.Words.{in_words}
 use Rattle.rp_command.specs.Commands.{check_app}
-use Rattle.rp_command.specs.Jobs.{input_word, report_word}
+use Rattle.rp_command.specs.Jobs.{HasCheck, HasNoSuchWord}
+use Rattle.rp_command.specs.Jobs.CommandName.{CheckCommand}
 use Rattle.rp_command.proofs.check.read_check.Goals as goal
 
 pub matched-requires : goal.matched-requires
 matched-requires c = check_simple _ c.in_ok-command.ensures
 
-pub text_of-requires : goal.text_of-requires
-text_of-requires c = check_from _ (check_meets _ _ c.in_ok-command.ensures c.in_ok-matches.ensures.parsed)
+pub check_found-requires : goal.check_found-requires
+check_found-requires c = check_meets _ _ c.in_ok-command.ensures c.in_ok-matches.ensures.parsed
 
-pub text_of-requires-2 : goal.text_of-requires-2
-text_of-requires-2 c = check_format _ (check_meets _ _ c.in_ok-command.ensures c.in_ok-matches.ensures.parsed)
-
-pub check_job-requires-clause-rules : goal.check_job-requires-clause-rules
-check_job-requires-clause-rules c = check_meets _ _ c.in_ok-command.ensures c.in_ok-matches.ensures.parsed
-
-pub returns-in_err-matches-clause-cause : goal.returns-in_err-matches-clause-cause
-returns-in_err-matches-clause-cause c = λ error is. inl (rw c.in_ok-command.ensures at c.in_err-matches.ensures.cause check_ruled error (search rules))
+pub returns-clause-value : goal.returns-clause-value
+returns-clause-value c =
+    in_words (λ rows. HasCheck rows c.in_ok-job.job) check_app _ _ _ c.in_ok-command.ensures c.in_ok-matches.ensures.rows c.in_ok-job.ensures.value
 
 pub returns-clause-taken : goal.returns-clause-taken
 returns-clause-taken c = rw c.in_ok-command.ensures at c.in_ok-matches.ensures.faultless check_ruled
 
-pub returns-in_default-clause-cause : goal.returns-in_default-clause-cause
-returns-in_default-clause-cause c = λ error is. inr (
-  c.no_such_word.ensures error (search rules),
-  inl (other_word input_word (codes "from") check_app _ _ _ _ c.in_ok-command.ensures c.in_ok-matches.ensures.rows c.in_ok-from.ensures (λ one same. c.in_default.ensures.other (search rules) one (search rules))),
-)
+pub returns-in_err-matches-clause-cause : goal.returns-in_err-matches-clause-cause
+returns-in_err-matches-clause-cause c = λ error is. inl (rw c.in_ok-command.ensures at c.in_err-matches.ensures.cause check_ruled error (search rules))
 
-pub returns-in_default-clause-line : goal.returns-in_default-clause-line
-returns-in_default-clause-line c = λ error is understood. understood.1
-    (inl (other_word input_word (codes "from") check_app _ _ _ _ c.in_ok-command.ensures c.in_ok-matches.ensures.rows c.in_ok-from.ensures (λ one same. c.in_default.ensures.other (search rules) one (search rules))))
+pub returns-in_err-job-clause-cause : goal.returns-in_err-job-clause-cause
+returns-in_err-job-clause-cause c = λ error is.
+    let fault = c.in_err-job.ensures.other error (search rules) in
+    inr (fault.0, in_words (λ rows. HasNoSuchWord CheckCommand rows) check_app _ _ _ c.in_ok-command.ensures c.in_ok-matches.ensures.rows fault.1)
 
-pub returns-in_default-report_named-clause-cause : goal.returns-in_default-report_named-clause-cause
-returns-in_default-report_named-clause-cause c = λ error is. inr (
-  c.no_such_word-in_default-report_named.ensures error (search rules),
-  inr (other_word report_word (codes "format") check_app _ _ _ _ c.in_ok-command.ensures c.in_ok-matches.ensures.rows c.in_ok-format.ensures (λ one same. c.in_default-report_named.ensures.other (search rules) one (search rules))),
-)
-
-pub returns-in_default-report_named-clause-line : goal.returns-in_default-report_named-clause-line
-returns-in_default-report_named-clause-line c = λ error is understood. understood.1
-    (inr (other_word report_word (codes "format") check_app _ _ _ _ c.in_ok-command.ensures c.in_ok-matches.ensures.rows c.in_ok-format.ensures (λ one same. c.in_default-report_named.ensures.other (search rules) one (search rules))))
+pub returns-in_err-job-clause-line : goal.returns-in_err-job-clause-line
+returns-in_err-job-clause-line c = λ error is understood.
+    let fault = c.in_err-job.ensures.other error (search rules) in
+    understood.1 (in_words (λ rows. HasNoSuchWord CheckCommand rows) check_app _ _ _ c.in_ok-command.ensures c.in_ok-matches.ensures.rows fault.1)

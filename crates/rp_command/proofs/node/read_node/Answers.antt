@@ -1,5 +1,8 @@
 use Rattle.std.proofs.Common.{inl, rules}
 use Rattle.rp_command.proofs.Apps.{node_meets, node_ruled, node_simple}
+use Rattle.rp_command.proofs.Words.{in_words}
+use Rattle.rp_command.specs.Commands.{node_app}
+use Rattle.rp_command.specs.Jobs.{HasNode}
 use Rattle.rp_command.proofs.node.read_node.Goals as goal
 
 pub matched-requires : goal.matched-requires
@@ -13,3 +16,7 @@ returns-in_err-matches-clause-cause c = λ error is. inl (rw c.in_ok-command.ens
 
 pub returns-clause-taken : goal.returns-clause-taken
 returns-clause-taken c = rw c.in_ok-command.ensures at c.in_ok-matches.ensures.faultless node_ruled
+
+pub returns-clause-value : goal.returns-clause-value
+returns-clause-value c =
+    in_words (λ rows. HasNode rows c.in_ok-job.job) node_app _ _ _ c.in_ok-command.ensures c.in_ok-matches.ensures.rows c.in_ok-job.ensures

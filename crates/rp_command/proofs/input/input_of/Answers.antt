@@ -1,0 +1,11 @@
+use Rattle.std.proofs.Common.{codes, rules}
+use Rattle.clap.specs.Words.{found_of, rows_of}
+use Rattle.rp_command.proofs.Words.{is_other}
+use Rattle.rp_command.specs.Jobs.{input_word}
+use Rattle.rp_command.proofs.input.input_of.Goals as goal
+
+pub returns-clause-other : goal.returns-clause-other
+returns-clause-other c = λ error is. (
+  c.no_such_word.ensures error (search rules),
+  is_other input_word (codes "from") (rows_of (found_of c.args.matches.now)) _ c.in_ok-word.ensures (λ one same. c.in-None.ensures.other (search rules) one (search rules)),
+)

@@ -1,0 +1,20 @@
+use Rattle.std.proofs.Common.{◌≡◌, ap, ap₂, codes, refl, subst, sym, true}
+use Rattle.clap.specs.Words.{new_app, with_rule}
+use Rattle.rp_command.proofs.Added.{own_and}
+use Rattle.rp_command.specs.Commands.{are_own, source_app, with_arguments, with_input}
+use Rattle.rp_command.proofs.source.source_arguments.Goals as goal
+
+pub returns-clause-own : goal.returns-clause-own
+returns-clause-own c =
+    subst (λ items. are_own items ≡ true) (sym c.in_ok-arguments.ensures.items)
+    (ap₂ own_and c.text_option.ensures.own (ap₂ own_and c.budget.ensures.own (ap₂ own_and c.number_option.ensures.own (ap₂ own_and c.flag.ensures.own (ap₂ own_and c.flag-2.ensures.own (ap₂ own_and c.addresses.ensures.own refl))))))
+
+pub returns-clause-rules : goal.returns-clause-rules
+unfolding source_app
+returns-clause-rules c =
+    let first = ap (with_rule (with_input (new_app (codes "source")))) c.text_option.ensures.rule in
+    let second = ap₂ with_rule first c.budget.ensures.rule in
+    let third = ap₂ with_rule second c.number_option.ensures.rule in
+    let fourth = ap₂ with_rule third c.flag.ensures.rule in
+    let fifth = ap₂ with_rule fourth c.flag-2.ensures.rule in
+    subst (λ items. with_arguments (with_input (new_app (codes "source"))) items ≡ source_app) (sym c.in_ok-arguments.ensures.items) (ap₂ with_rule fifth c.addresses.ensures.rule)
