@@ -5,7 +5,7 @@ use crate::fault::ProgramFault;
 use crate::seed::seeded_hasher;
 use crate::shown::shown_key;
 use rp_command::{ReportFormat, WhyJob};
-use rp_input::{order_rows, partitions};
+use rp_input::{Part, order_rows, partitions};
 use rp_io::{Port, write_all};
 use rp_json::cells_of;
 use rp_query::Query;
@@ -29,9 +29,10 @@ pub fn run_why(rt: &HostRuntime, job: &WhyJob) -> Result<Verdict, ProgramFault> 
     };
     let (query, rows) = asked.query_and_rows(rt, &mut None)?;
     let mut verdict = None;
-    for part in partitions(rt.alloc(), &query, rows, seeded_hasher(rt)?)? {
-        if is_asked(&key, &part.key) {
-            let one = tell_partition(rt, job, &query, &part.key, part.rows)?;
+    let parts = partitions(rt.alloc(), &query, rows, seeded_hasher(rt)?)?;
+    for Part { key: of_part, rows } in parts {
+        if is_asked(&key, &of_part) {
+            let one = tell_partition(rt, job, &query, &of_part, rows)?;
             verdict = Some(worse(verdict, one));
         }
     }
