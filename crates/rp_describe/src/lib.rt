@@ -2,7 +2,7 @@
 //! row before others.
 //!
 //! What is said holds of what conditions come to, and of the words of the pattern: `specs/Said` and `specs/Precedes`. The
-//! sentences that say it are the crate rp_explain's.
+//! sentences that say it are the crate rp_explain_queries's.
 #![tactic(auto)]
 
 mod laws;
