@@ -1,5 +1,6 @@
 -- For the tests alone: what is written down for rows and variables, and when a row's test is open.
 use Rattle.std.specs.Prelude.{ℕ, ◌+◌, ◌-◌, Bool, true, false, ◌&&◌, ◌==◌, List, length, nat_lt, Option, Some, None, if◌then◌else◌, slice_get}
+use Rattle.rp_words.specs.declared.form.Form.{Form}
 use Rattle.rp_words.specs.declared.word.Label.{Label}
 use Rattle.rp_words.specs.declared.word.End.{End}
 use Rattle.rp_words.specs.declared.word.End.TheVariants.{Open as OpenEnd, Closed as ClosedEnd}
@@ -40,6 +41,7 @@ last_answer answer (Some l) = answer l.var
 abbrev pub grid_outcome : List Seen → List Seen → ℕ → ℕ → End → ℕ → List Label → Seen
 grid_outcome first second reach known e start labels = last_answer (row_answer first second reach known e (start + length labels - 1)) (slice_get labels (length labels - 1))
 
--- two variables are tested
-abbrev pub grid_asked : List Seen → List Seen → ℕ → ℕ → End → Asked
-grid_asked first second reach known e = record { known = known; end = e; variables = 2; outcome = grid_outcome first second reach known e; pattern = None }
+-- two variables are tested, of this pattern, if one is named
+abbrev pub grid_asked : List Seen → List Seen → ℕ → ℕ → End → Option Form → Asked
+grid_asked first second reach known e named =
+    record { known = known; end = e; variables = 2; outcome = grid_outcome first second reach known e; pattern = named }

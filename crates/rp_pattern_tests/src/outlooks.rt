@@ -3,7 +3,7 @@
 //! listed from the next row on, and its turns with those of choices that are taken up one by one.
 ghost use Rattle.std.specs.Prelude.{◌≤◌};
 
-use crate::support::refused_twice;
+use crate::support::{refused_twice, some_form};
 use rp_pattern::{Choices, ListFault, Outlook, Sight, Taken, list_words};
 use rp_reference::Dice;
 use rp_words::{End, Form, Pattern};
@@ -16,42 +16,6 @@ const MOST_TURNS: u32 = 6_000;
 
 /// An outlook remembers nothing of its first turns: so many.
 const FIRST_TURNS: u32 = 1_000;
-
-/// A form of so many levels at most, of variables A and B.
-fn some_form(alloc: Global, dice: &mut Dice, levels: u64) -> Result<Form, AllocError> {
-    if levels == 0 || dice.below(8) == 0 {
-        return Ok(Form::variable(dice.below(2)));
-    }
-    match dice.below(10) {
-        0..=2 => {
-            let first = some_form(alloc, dice, levels - 1)?;
-            Form::concatenation(alloc, first, some_form(alloc, dice, levels - 1)?)
-        }
-        3..=4 => {
-            let first = some_form(alloc, dice, levels - 1)?;
-            Form::alternation(alloc, first, some_form(alloc, dice, levels - 1)?)
-        }
-        5..=7 => {
-            let body = some_form(alloc, dice, levels - 1)?;
-            quantified(alloc, dice, body)
-        }
-        8 => {
-            let first = some_form(alloc, dice, levels - 1)?;
-            let second = some_form(alloc, dice, levels - 1)?;
-            Form::permute(alloc, vec![in alloc; first, second]?)
-        }
-        _ => Ok(edge(dice)),
-    }
-}
-
-fn quantified(alloc: Global, dice: &mut Dice, body: Form) -> Result<Form, AllocError> {
-    let least = dice.below(3) as u32;
-    let most = match dice.below(3) {
-        0 => Some(least.saturating_add(dice.below(3) as u32)),
-        _ => None,
-    };
-    Form::quantified(alloc, body, least, most, dice.below(4) == 0)
-}
 
 fn edge(dice: &mut Dice) -> Form {
     match dice.below(2) {

@@ -1,11 +1,13 @@
 //! The tests' own rows, with a written answer for each.
-ghost use Rattle.std.specs.Prelude.{◌≡◌, ℕ, ◌+◌, ◌-◌, ◌^◌, ◌<◌, ◌≤◌, [], IfOk, IsTrue, slice_get};
+ghost use Rattle.std.specs.Prelude.{◌≡◌, ℕ, ◌+◌, ◌-◌, ◌^◌, ◌<◌, ◌≤◌, [], IfOk, IfSome, IsTrue, None, OnOk, slice_get};
+ghost use Rattle.rp_words.specs.PatternForm.{form_of};
+ghost use Rattle.rp_words.specs.SameTree.{IsSameTree};
 ghost use Rattle.rp_pattern_tests.specs.Grid.{grid_asked, may_go_on, row_answer, written};
 ghost use Rattle.rp_pattern_tests.specs.GridDecides.{grid_decides};
 ghost use Rattle.rp_search.specs.Asked.{AskedExtend};
 
 use rp_search::Tests;
-use rp_words::{End, Label, Seen};
+use rp_words::{End, Form, Label, Pattern, Seen};
 use std::alloc::{AllocError, Global};
 use std::cell::Cell;
 
@@ -24,8 +26,9 @@ pub struct Grid {
     pub entries: u64,
     /// How many calls of `test`.
     pub asked: Cell<u64>,
-    /// Whether a search may remember where it failed.
+    /// Whether a search is to remember where it failed: the tests name their pattern then.
     pub remembers: bool,
+    named: Option<Form>,
     ghost few: { known < 2 ^ 64 - 1 },
 }
 
@@ -33,6 +36,7 @@ impl Grid {
     /// A grid of no known row. Each row is admitted for both.
     pub fn new(alloc: Global, reach: u64) -> Grid
         ensures none { result.entered.items ≡ [] }
+        ensures unnamed { result.named ≡ None }
     {
         Grid {
             first: Vec::new(alloc),
@@ -45,6 +49,7 @@ impl Grid {
             entries: 0,
             asked: Cell::new(0),
             remembers: false,
+            named: None,
         }
     }
 
@@ -81,13 +86,26 @@ impl Grid {
         self.calls.clear();
     }
 
+    /// The tests are of this pattern from now on. They name it if a search is to remember where it failed.
+    pub fn name(&mut self, alloc: Global, pattern: &Pattern) -> Result<(), AllocError>
+        ensures named { OnOk result (IfSome self.new.named (IsSameTree (form_of pattern.now))) }
+        ensures none { self.new.entered ≡ self.old.entered }
+    {
+        self.named = None;
+        if self.remembers {
+            self.named = Some(pattern.form().share(alloc)?);
+        }
+        Ok(())
+    }
+
     /// More rows, or the close. It answers whether these go on from what was known.
     pub fn advance(&mut self, known: u64, end: End) -> bool
         ensures none { self.new.entered ≡ self.old.entered }
+        ensures named { self.new.named ≡ self.old.named }
         ensures some { IsTrue result → 1 ≤ self.new.known }
         ensures known { IsTrue result → self.new.known ≡ known }
-        ensures extends { IsTrue result →
-            AskedExtend 1 (⟦<Grid as Tests>⟧.subject self.old) (⟦<Grid as Tests>⟧.subject self.new) }
+        ensures extends { IsTrue result → (start : ℕ) →
+            AskedExtend start (⟦<Grid as Tests>⟧.subject self.old) (⟦<Grid as Tests>⟧.subject self.new) }
     {
         if self.end == End::Closed || known < self.known || known == 0 || known == u64::MAX {
             return false;
@@ -126,7 +144,7 @@ impl Tests for Grid {
 
     ghost Subject = { Asked };
 
-    ghost subject = { λ t. grid_asked t.first.items t.second.items t.reach t.known t.end };
+    ghost subject = { λ t. grid_asked t.first.items t.second.items t.reach t.known t.end t.named };
 
     ghost asked = { λ asked. asked };
 
@@ -149,7 +167,7 @@ impl Tests for Grid {
     }
 
     fn is_lasting(&self) -> bool {
-        self.remembers
+        self.named.is_some()
     }
 
     fn refused_until(&self, _start: u64, _labels: &[Label], _most: u64) -> u64 {

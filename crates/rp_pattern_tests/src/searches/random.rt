@@ -1,17 +1,18 @@
 //! Random patterns over random answers. Each is searched for over its program and over linked parts, by a search that remembers
 //! where it failed and by one that doesn't, from start row to start row while rows come and the partition is closed. What each
 //! run comes to is held beside the words that are listed.
-ghost use Rattle.std.specs.Prelude.{◌≡◌, ◌-◌, ◌^◌, ◌<◌, ◌≤◌, true, [], IsTrue, IfOk, OnOk};
+ghost use Rattle.std.specs.Prelude.{◌≡◌, ◌-◌, ◌^◌, ◌<◌, ◌≤◌, true, [], IsTrue, IfOk, IfSome, OnOk};
 ghost use Rattle.rp_words.specs.PatternForm.{form_of};
+ghost use Rattle.rp_words.specs.SameTree.{IsSameTree};
 ghost use Rattle.rp_words.specs.Variables.{are_below};
 ghost use Rattle.rp_pattern.specs.Prepared.{Prepares};
 ghost use Rattle.rp_search.specs.Search.{start_of_search};
-ghost use Rattle.rp_pattern_tests.specs.Grid.{grid_asked};
 ghost use Rattle.rp_pattern_tests.specs.Standing.{Stands};
 
 use super::grid::Grid;
 use super::script::{MANY, a, any, b, decide};
 use super::table::is_found;
+use crate::support::some_form;
 use rp_pattern::{ListFault, Prepared, list_words};
 use rp_reference::Dice;
 use rp_search::{Outcome, Search, Steps, Tests, law_search};
@@ -27,54 +28,6 @@ const MOST_WORDS: usize = 3_000;
 
 /// A search remembers nothing of its first turns: so many at most, over the few rows of a case.
 const FIRST_TURNS: u32 = 1_100;
-
-/// A form of so many levels at most, of variables A and B.
-fn some_form(alloc: Global, dice: &mut Dice, levels: u64) -> Result<Form, AllocError> {
-    if levels == 0 || dice.below(7) == 0 {
-        return Ok(Form::variable(dice.below(2)));
-    }
-    match dice.below(12) {
-        0..=2 => {
-            let first = some_form(alloc, dice, levels - 1)?;
-            Form::concatenation(alloc, first, some_form(alloc, dice, levels - 1)?)
-        }
-        3..=4 => {
-            let first = some_form(alloc, dice, levels - 1)?;
-            Form::alternation(alloc, first, some_form(alloc, dice, levels - 1)?)
-        }
-        5..=8 => {
-            let body = some_form(alloc, dice, levels - 1)?;
-            quantified(alloc, dice, body)
-        }
-        9 => {
-            let body = some_form(alloc, dice, levels - 1)?;
-            Form::exclusion(alloc, body)
-        }
-        10 => {
-            let first = some_form(alloc, dice, levels - 1)?;
-            let second = some_form(alloc, dice, levels - 1)?;
-            Form::permute(alloc, vec![in alloc; first, second]?)
-        }
-        _ => Ok(edge(dice)),
-    }
-}
-
-fn quantified(alloc: Global, dice: &mut Dice, body: Form) -> Result<Form, AllocError> {
-    let least = dice.below(3) as u32;
-    let most = match dice.below(3) {
-        0 => Some(least.saturating_add(dice.below(3) as u32)),
-        _ => None,
-    };
-    Form::quantified(alloc, body, least, most, dice.below(4) == 0)
-}
-
-fn edge(dice: &mut Dice) -> Form {
-    match dice.below(3) {
-        0 => Form::Empty,
-        1 => Form::PartitionStart,
-        _ => Form::PartitionEnd,
-    }
-}
 
 /// Answers for the rows from 0 on. Some are open until the close.
 fn some_answers(alloc: Global, dice: &mut Dice, rows: u64) -> Result<Vec<Seen>, AllocError> {
@@ -223,6 +176,7 @@ fn counted<L: Ledger>(
 {
     let mut steps = Steps::<L>::new(blank);
     grid.begin();
+    grid.name(alloc, pattern)?;
     if !grid.advance(1, End::Open) {
         return Ok(None);
     }
@@ -245,9 +199,8 @@ fn begun(alloc: Global, pattern: &Pattern, prepared: &Prepared, grid: &Grid) -> 
     requires variables { are_below 2 (form_of pattern.now) ≡ true }
     requires prepared { Prepares (form_of pattern.now) prepared.now }
     requires none { grid.now.entered.items ≡ [] }
-    ensures stands { IfOk result (λ s. Stands s
-        (grid_asked grid.now.first.items grid.now.second.items grid.now.reach grid.now.known grid.now.end)
-        grid.now.entered.items) }
+    requires named { IfSome grid.now.named (IsSameTree (form_of pattern.now)) }
+    ensures stands { IfOk result (λ s. Stands s (⟦<Grid as Tests>⟧.subject grid.now) grid.now.entered.items) }
     ensures start { IfOk result (λ s. start_of_search s ≡ 1) }
 {
     law_search();
@@ -257,12 +210,8 @@ fn begun(alloc: Global, pattern: &Pattern, prepared: &Prepared, grid: &Grid) -> 
 
 /// More rows, or the close. It answers whether these go on from what was known.
 fn advanced(search: &Search, grid: &mut Grid, known: u64, end: End) -> bool
-    requires { Stands search.now
-        (grid_asked grid.old.first.items grid.old.second.items grid.old.reach grid.old.known grid.old.end)
-        grid.old.entered.items }
-    ensures { IsTrue result → Stands search.now
-        (grid_asked grid.new.first.items grid.new.second.items grid.new.reach grid.new.known grid.new.end)
-        grid.new.entered.items }
+    requires { Stands search.now (⟦<Grid as Tests>⟧.subject grid.old) grid.old.entered.items }
+    ensures { IsTrue result → Stands search.now (⟦<Grid as Tests>⟧.subject grid.new) grid.new.entered.items }
 {
     law_search();
     grid.advance(known, end)
@@ -274,14 +223,10 @@ fn warm_up<L: Ledger>(
     grid: &mut Grid,
     steps: &mut Steps<L>,
 ) -> Result<(), Fail>
-    requires stands { Stands search.old
-        (grid_asked grid.old.first.items grid.old.second.items grid.old.reach grid.old.known grid.old.end)
-        grid.old.entered.items }
+    requires stands { Stands search.old (⟦<Grid as Tests>⟧.subject grid.old) grid.old.entered.items }
     requires start { start_of_search search.old ≤ grid.old.known }
     requires known { 1 ≤ grid.old.known }
-    ensures { OnOk result (Stands search.new
-        (grid_asked grid.new.first.items grid.new.second.items grid.new.reach grid.new.known grid.new.end)
-        grid.new.entered.items) }
+    ensures { OnOk result (Stands search.new (⟦<Grid as Tests>⟧.subject grid.new) grid.new.entered.items) }
 {
     let mut turns: u32 = 0;
     'turns: while turns < FIRST_TURNS {
@@ -296,14 +241,10 @@ fn one_run<L: Ledger>(
     grid: &mut Grid,
     steps: &mut Steps<L>,
 ) -> Result<u32, Fail>
-    requires stands { Stands search.old
-        (grid_asked grid.old.first.items grid.old.second.items grid.old.reach grid.old.known grid.old.end)
-        grid.old.entered.items }
+    requires stands { Stands search.old (⟦<Grid as Tests>⟧.subject grid.old) grid.old.entered.items }
     requires start { start_of_search search.old ≤ grid.old.known }
     ensures some { IfOk result (λ turns. 1 ≤ turns) }
-    ensures stands { OnOk result (Stands search.new
-        (grid_asked grid.new.first.items grid.new.second.items grid.new.reach grid.new.known grid.new.end)
-        grid.new.entered.items) }
+    ensures stands { OnOk result (Stands search.new (⟦<Grid as Tests>⟧.subject grid.new) grid.new.entered.items) }
     ensures start { OnOk result (start_of_search search.new ≡ 1) }
     ensures known { OnOk result (grid.new.known ≡ grid.old.known) }
 {
@@ -323,12 +264,8 @@ fn from_each_row<L: Ledger>(
     grid: &mut Grid,
     steps: &mut Steps<L>,
 ) -> Result<Option<u64>, Fail>
-    requires { Stands search.old
-        (grid_asked grid.old.first.items grid.old.second.items grid.old.reach grid.old.known grid.old.end)
-        grid.old.entered.items }
-    ensures { OnOk result (Stands search.new
-        (grid_asked grid.new.first.items grid.new.second.items grid.new.reach grid.new.known grid.new.end)
-        grid.new.entered.items) }
+    requires { Stands search.old (⟦<Grid as Tests>⟧.subject grid.old) grid.old.entered.items }
+    ensures { OnOk result (Stands search.new (⟦<Grid as Tests>⟧.subject grid.new) grid.new.entered.items) }
 {
     let mut turns: u64 = 0;
     'rows: while search.start() <= grid.rows() {
@@ -352,13 +289,9 @@ fn decided<L: Ledger>(
     grid: &mut Grid,
     steps: &mut Steps<L>,
 ) -> Result<Outcome, Fail>
-    requires stands { Stands search.old
-        (grid_asked grid.old.first.items grid.old.second.items grid.old.reach grid.old.known grid.old.end)
-        grid.old.entered.items }
+    requires stands { Stands search.old (⟦<Grid as Tests>⟧.subject grid.old) grid.old.entered.items }
     requires start { start_of_search search.old ≤ grid.old.known }
-    ensures stands { OnOk result (Stands search.new
-        (grid_asked grid.new.first.items grid.new.second.items grid.new.reach grid.new.known grid.new.end)
-        grid.new.entered.items) }
+    ensures stands { OnOk result (Stands search.new (⟦<Grid as Tests>⟧.subject grid.new) grid.new.entered.items) }
     ensures start { OnOk result (start_of_search search.new ≡ start_of_search search.old) }
     ensures known { OnOk result (grid.new.known ≡ grid.old.known) }
 {
@@ -367,14 +300,10 @@ fn decided<L: Ledger>(
 
 /// It goes on by so many rows, and remembers where it failed.
 fn go_on(search: &mut Search, grid: &mut Grid, rows: u64)
-    requires stands { Stands search.old
-        (grid_asked grid.old.first.items grid.old.second.items grid.old.reach grid.old.known grid.old.end)
-        grid.old.entered.items }
+    requires stands { Stands search.old (⟦<Grid as Tests>⟧.subject grid.old) grid.old.entered.items }
     requires start { start_of_search search.old < 2 ^ 64 - 1 }
     requires rows { 1 ≤ rows }
-    ensures stands { Stands search.new
-        (grid_asked grid.new.first.items grid.new.second.items grid.new.reach grid.new.known grid.new.end)
-        grid.new.entered.items }
+    ensures stands { Stands search.new (⟦<Grid as Tests>⟧.subject grid.new) grid.new.entered.items }
     ensures start { start_of_search search.old < start_of_search search.new }
     ensures known { grid.new.known ≡ grid.old.known }
 {
@@ -401,9 +330,7 @@ fn is_listed(
     grid: &Grid,
     outcome: Outcome,
 ) -> Result<bool, Fail>
-    requires stands { Stands search.now
-        (grid_asked grid.now.first.items grid.now.second.items grid.now.reach grid.now.known grid.now.end)
-        grid.now.entered.items }
+    requires stands { Stands search.now (⟦<Grid as Tests>⟧.subject grid.now) grid.now.entered.items }
     requires start { start_of_search search.now ≤ grid.now.known }
 {
     let start = search.start();

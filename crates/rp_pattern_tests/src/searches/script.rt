@@ -2,7 +2,7 @@
 ghost use Rattle.std.specs.Prelude.{◌≡◌, ◌<◌, true, [], IfOk, OnOk};
 ghost use Rattle.rp_words.specs.PatternForm.{form_of};
 ghost use Rattle.rp_words.specs.Variables.{are_below};
-ghost use Rattle.rp_search.specs.Search.{CanRun, HasVariablesBelow, IsAtStart, IsSameSearch, RunAnswers, start_of_search};
+ghost use Rattle.rp_search.specs.Search.{CanRun, HasVariablesBelow, IsAtStart, IsSameSearch, IsSearchFor, RunAnswers, start_of_search};
 
 use super::grid::{Grid, write_letters};
 use crate::support::refused_twice;
@@ -96,7 +96,9 @@ fn counted<L: Ledger>(
         return Ok(played);
     }
     let mut steps = Steps::<L>::new(blank);
-    let mut search = created(alloc, &Pattern::new(form))?;
+    let pattern = Pattern::new(form);
+    grid.name(alloc, &pattern)?;
+    let mut search = created(alloc, &pattern)?;
     'stages: for (known, end) in stages {
         if !grid.advance(*known, *end) {
             return Ok(played);
@@ -113,6 +115,7 @@ fn counted<L: Ledger>(
 /// A search from row 1. A refused call is made again.
 pub fn created(alloc: Global, pattern: &Pattern) -> Result<Search, Fail>
     requires { are_below 2 (form_of pattern.now) ≡ true }
+    ensures pattern { IfOk result (IsSearchFor (form_of pattern.now)) }
     ensures start { IfOk result (λ s. start_of_search s ≡ 1) }
     ensures variables { IfOk result (HasVariablesBelow 2) }
     ensures at_start { IfOk result IsAtStart }
@@ -127,6 +130,7 @@ pub fn created(alloc: Global, pattern: &Pattern) -> Result<Search, Fail>
 /// The same, where memory was refused before.
 fn created_again(alloc: Global, pattern: &Pattern) -> Result<Search, Fail>
     requires { are_below 2 (form_of pattern.now) ≡ true }
+    ensures pattern { IfOk result (IsSearchFor (form_of pattern.now)) }
     ensures start { IfOk result (λ s. start_of_search s ≡ 1) }
     ensures variables { IfOk result (HasVariablesBelow 2) }
     ensures at_start { IfOk result IsAtStart }

@@ -200,6 +200,7 @@ fn counted<L: Ledger>(
     requires shared { 0 < blank.parts }
 {
     grid.begin();
+    grid.name(alloc, pattern)?;
     if !grid.advance(known, end) {
         return Ok(false);
     }

@@ -5,7 +5,7 @@ use Rattle.rp_pattern_tests.specs.Standing.{Stands}
 use Rattle.rp_pattern_tests.proofs.searches.random.warm_up.Given as goal
 
 abbrev pub invariant-turns : goal.invariant-turns
-invariant-turns g l = Stands l.search (grid_asked l.grid.first.items l.grid.second.items l.grid.reach l.grid.known l.grid.end) l.grid.entered.items × (start_of_search l.search ≤ l.grid.known) × (1 ≤ l.grid.known)
+invariant-turns g l = Stands l.search (grid_asked l.grid.first.items l.grid.second.items l.grid.reach l.grid.known l.grid.end l.grid.named) l.grid.entered.items × (start_of_search l.search ≤ l.grid.known) × (1 ≤ l.grid.known)
 
 abbrev pub decreases-turns : goal.decreases-turns
 decreases-turns g l = 1100 - l.turns

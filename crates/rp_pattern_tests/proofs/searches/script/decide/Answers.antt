@@ -22,6 +22,6 @@ answers_from old now new asked Paused same answers = tt
 
 pub returns-then-ne-clause-answers : goal.returns-then-ne-clause-answers
 returns-then-ne-clause-answers g c =
-    let asked = grid_asked c.args.grid.now.first.items c.args.grid.now.second.items c.args.grid.now.reach c.args.grid.now.known c.args.grid.now.end in
+    let asked = grid_asked c.args.grid.now.first.items c.args.grid.now.second.items c.args.grid.now.reach c.args.grid.now.known c.args.grid.now.end c.args.grid.now.named in
     answers_from c.args.search.now c.runs.search c.run_once.new.search asked c.run_once.new.decided.outcome (found_same c.args.search.now c.runs.search asked c.runs.invariant.1)
     (subst (λ asked. RunAnswers c.runs.search c.run_once.new.search asked c.run_once.new.decided.outcome) c.runs.invariant.2 c.in_ok-run_once.ensures.answers)
