@@ -1,17 +1,17 @@
 //! Lines of input and blocks of output, over devices whose bytes, calls and failures clauses see.
 //!
-//! `Port` makes a device of any of std's readers and writers. Of each line at most 80 bytes are kept here, the reader is called
-//! at most a thousand times, and what is gathered is written once it is a block:
+//! `CountedDevice` makes a device of any of std's readers and writers. Of each line at most 80 bytes are kept here, the reader is
+//! called at most a thousand times, and what is gathered is written once it is a block:
 //!
 //! ```text
-//! let (mut reader, mut writer) = (Port::new(stdin), Port::new(stdout));
+//! let (mut reader, mut writer) = (CountedDevice::new(stdin), CountedDevice::new(stdout));
 //! let mut lines = Lines::new(alloc, 1_000, 80);
 //! let (mut line, mut text) = (Vec::new(alloc), Vec::new(alloc));
 //! while lines.next(&mut reader, &mut line)? {
 //!     text.extend_from_slice(line.as_slice())?;
 //!     write_block(&mut writer, &mut text)?;
 //! }
-//! write_all(&mut writer, text.as_slice())?; // `line` has what stood behind the last LF
+//! write_all(&mut writer, text.as_slice())?; // `line` has what is behind the last LF
 //! ```
 //!
 //! What a line is, is said by `specs/Lines`; what calls do to a device's bytes and counts by `specs/Devices`, `Counts` and
@@ -20,10 +20,12 @@
 //! `MemoryInput` and `MemoryOutput` are devices over bytes, for tests: one call of theirs can be made to fail.
 #![tactic(auto)]
 
+mod device;
 mod lines;
 mod memory;
-mod port;
 
+pub use device::{
+    CountedDevice, Intake, Outlet, READS, ReadFailed, WriteFailed, write_all, write_block,
+};
 pub use lines::{LineFault, Lines};
 pub use memory::{MemoryInput, MemoryOutput};
-pub use port::{Intake, Outlet, Port, READS, ReadFailed, WriteFailed, write_all, write_block};

@@ -3,7 +3,7 @@ ghost use Rattle.std.specs.Prelude.{◌≡◌, ◌+◌, ◌<◌, ◌≤◌, ◌�
 ghost use Rattle.rp_io.specs.Lines.{IsLfFree, line_feed};
 ghost use Rattle.rp_io.specs.declared.lines.TheConstants.{CHUNK};
 
-use crate::port::Intake;
+use crate::device::Intake;
 use std::alloc::{AllocError, AllocFailed, Global};
 use thiserror::Error;
 

@@ -1,7 +1,7 @@
 //! Devices in memory, of which one call can be made to fail.
 ghost use Rattle.std.specs.Prelude.{Some};
 
-use crate::port::{Intake, Outlet, ReadFailed, WriteFailed};
+use crate::device::{Intake, Outlet, ReadFailed, WriteFailed};
 use std::alloc::{AllocError, Global};
 
 /// A reader of bytes in memory, which come in pieces.

@@ -7,7 +7,7 @@ use rp_command::{InputFormat, InputOptions};
 use rp_input::{
     ColumnsCsvFault, CsvLayout, is_delimiter, read_rows, read_rows_by, rows_by, rows_of,
 };
-use rp_io::{Intake, Port, READS};
+use rp_io::{CountedDevice, Intake, READS};
 use rp_objects::{ObjectsFault, rows_by_objects};
 use rp_syntax::read_table;
 use rp_value::{Row, Table, Text};
@@ -218,7 +218,7 @@ pub fn rows_of_input(
         let bytes = bytes_of_input(rt)?;
         return shape.rows(rt.alloc(), bytes.as_slice(), form, None);
     }
-    shape.read(rt.alloc(), &mut Port::new(rt.stdin()), form)
+    shape.read(rt.alloc(), &mut CountedDevice::new(rt.stdin()), form)
 }
 
 /// All bytes of a file; of standard input where there is none.

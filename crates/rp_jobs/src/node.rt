@@ -11,7 +11,7 @@ use crate::seed::seeded_hasher;
 use crate::state::StateFile;
 use rp_command::NodeJob;
 use rp_compile::compile;
-use rp_io::{Outlet, Port, READS, write_all};
+use rp_io::{CountedDevice, Outlet, READS, write_all};
 use rp_node::{Node, RestartFault, begin, clause_difference};
 use rp_query::Query;
 use rp_serve::{RoundEnd, ServeFault, round_on, saved_line};
@@ -128,8 +128,8 @@ fn connection(
     ensures again { IfOk result (λ s. ForSome s.saved (λ bytes. CanRestart s.node.query bytes.items)) }
     ensures known { IfOk result (λ s. s.is_current ≡ true → IsSavedAs IsSaved s.node (kept_bytes s.saved)) }
 {
-    let mut reader = Port::new(ClientInput::new(rt, stream, job.idle));
-    let mut writer = Port::new(ClientOutput::new(stream));
+    let mut reader = CountedDevice::new(ClientInput::new(rt, stream, job.idle));
+    let mut writer = CountedDevice::new(ClientOutput::new(stream));
     let end = round_on(
         rt.alloc(),
         standing.node,

@@ -6,7 +6,7 @@ use crate::source::run_source;
 use crate::whole::run_answer;
 use crate::why::run_why;
 use rp_command::Job;
-use rp_io::{Port, READS};
+use rp_io::{CountedDevice, READS};
 use rp_trace::{run_trace, trace_pattern};
 
 /// Does the job. Only `check`, `whole` and `why` have a verdict.
@@ -24,8 +24,8 @@ pub fn run_job(rt: &HostRuntime, job: &Job) -> Result<Verdict, ProgramFault> {
 
 fn trace(rt: &HostRuntime, pattern: &str) -> Result<(), ProgramFault> {
     let pattern = trace_pattern(rt.alloc(), pattern)?;
-    let mut reader = Port::new(rt.stdin());
-    let mut writer = Port::new(rt.stdout());
+    let mut reader = CountedDevice::new(rt.stdin());
+    let mut writer = CountedDevice::new(rt.stdout());
     run_trace(rt.alloc(), &mut reader, &mut writer, &pattern, READS)?;
     Ok(())
 }

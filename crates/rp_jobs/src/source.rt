@@ -8,7 +8,7 @@ use rp_compile::compile;
 use rp_drive::{Conversation, Counted, DriveFault, Stop, drive_within};
 use rp_feed::Packet;
 use rp_input::number_rows;
-use rp_io::{Lines, Outlet, Port, READS};
+use rp_io::{CountedDevice, Lines, Outlet, READS};
 use rp_protocol::{MAX_LINE_LEN, Refusal, Reply, reply_line, saved_of};
 use rp_query::Query;
 use std::alloc::{AllocError, Global};
@@ -20,7 +20,7 @@ use std::time::Duration;
 const MAX_REPLY_LEN: usize = 16_777_216;
 
 /// A stream to a node, with the count of the lines that went through it.
-type Counter<'a> = Counted<Port<&'a TcpStream>>;
+type Counter<'a> = Counted<CountedDevice<&'a TcpStream>>;
 
 /// Hands all rows of standard input to each node in turn. The first fault ends it.
 pub fn run_source(rt: &HostRuntime, job: &SourceJob) -> Result<(), ProgramFault> {
@@ -31,7 +31,7 @@ pub fn run_source(rt: &HostRuntime, job: &SourceJob) -> Result<(), ProgramFault>
     let query = compile(rt.alloc(), job.clause.as_str(), shape.table())?;
     let rows = rows_of_input(rt, &shape, &form)?;
     let packets = number_rows(rt.alloc(), &query, rows, seeded_hasher(rt)?)?;
-    let mut out = Port::new(rt.stdout());
+    let mut out = CountedDevice::new(rt.stdout());
     let mut number = 0u64;
     for address in &job.addresses {
         number = number.saturating_add(1);
@@ -77,8 +77,8 @@ fn converse<O: Outlet>(
     stream: &TcpStream,
     out: &mut O,
 ) -> Result<(), ProgramFault> {
-    let mut heard = Counted::new(Port::new(stream));
-    let mut sent = Counted::new(Port::new(stream));
+    let mut heard = Counted::new(CountedDevice::new(stream));
+    let mut sent = Counted::new(CountedDevice::new(stream));
     hand_over(rt, node, &mut heard, &mut sent, out)?;
     if heard.lines > sent.lines {
         return Err(ProgramFault::BadReply(node.number));
@@ -131,7 +131,7 @@ fn wait_for_saved(
     sent: u128,
     number: u64,
 ) -> Result<(), ProgramFault> {
-    let mut rest = Port::new(stream);
+    let mut rest = CountedDevice::new(stream);
     let mut lines = Lines::new(rt.alloc(), READS, MAX_LINE_LEN);
     let mut line = Vec::new(rt.alloc());
     if let Ok(true) = lines.next(&mut rest, &mut line)

@@ -6,7 +6,7 @@ use crate::progress::Progress;
 use crate::seed::seeded_hasher;
 use crate::shown::shown_key;
 use rp_command::{AnswerFormat, WholeJob};
-use rp_io::Port;
+use rp_io::CountedDevice;
 use rp_query::Query;
 use rp_value::Row;
 use rp_whole::{Halted, Stopped, Unwatched, Watch, write_csv, write_lines, write_objects};
@@ -53,7 +53,7 @@ fn print_answer<V: Watch>(
     let alloc = rt.alloc();
     let hasher = seeded_hasher(rt)?;
     let limit = most_turns(job);
-    let mut writer = Port::new(rt.stdout());
+    let mut writer = CountedDevice::new(rt.stdout());
     match job.format {
         AnswerFormat::Lines => {
             let halted = write_lines(alloc, query, rows, limit, &mut writer, watch, hasher)?;

@@ -6,7 +6,7 @@ use crate::seed::seeded_hasher;
 use crate::shown::shown_key;
 use rp_command::{ReportFormat, WhyJob};
 use rp_input::{Part, order_rows, partitions};
-use rp_io::{Port, write_all};
+use rp_io::{CountedDevice, write_all};
 use rp_json::cells_of;
 use rp_query::Query;
 use rp_value::{Cells, Row};
@@ -104,7 +104,7 @@ fn tell_partition(
             line
         }
     };
-    match write_all(&mut Port::new(rt.stdout()), bytes.as_slice()) {
+    match write_all(&mut CountedDevice::new(rt.stdout()), bytes.as_slice()) {
         Ok(()) => Ok(verdict_of(&finding)),
         Err(_) => Err(ProgramFault::Write),
     }

@@ -6,7 +6,7 @@ ghost use Rattle.rp_words.specs.Variables.{are_below};
 ghost use Rattle.rp_trace.specs.Limits.{letter_count};
 
 use crate::support::refused_twice;
-use rp_io::{MemoryInput, MemoryOutput, Port, READS};
+use rp_io::{CountedDevice, MemoryInput, MemoryOutput, READS};
 use rp_trace::{BUDGET, TraceFault, TracePatternFault, run_trace, trace_pattern};
 use rp_words::Pattern;
 use std::alloc::{AllocError, Global};
@@ -286,8 +286,8 @@ fn refused_run(rt: HostRuntime) -> Result<(), Fail> {
 fn streams(rt: HostRuntime) -> Result<(), Fail> {
     let pattern = pattern_of(rt.alloc(), PATTERN)?;
     let mut bytes = Vec::with_capacity(rt.alloc(), 100)?;
-    let mut reader = Port::new(LINES.as_bytes());
-    let mut writer = Port::new(&mut bytes);
+    let mut reader = CountedDevice::new(LINES.as_bytes());
+    let mut writer = CountedDevice::new(&mut bytes);
     run_trace(rt.alloc(), &mut reader, &mut writer, &pattern, 2)?;
     assert_eq!(rt; (reader.calls, reader.failures), (2, 0));
     assert!(rt; reader.ended);

@@ -4,7 +4,7 @@
 //!
 //! ```text
 //! let pattern = trace_pattern(alloc, "(A B | A)* C")?;
-//! let (mut reader, mut writer) = (Port::new(stdin), Port::new(stdout)); // of rp_io
+//! let (mut reader, mut writer) = (CountedDevice::new(stdin), CountedDevice::new(stdout)); // of rp_io
 //! run_trace(alloc, &mut reader, &mut writer, &pattern, READS)?;
 //! ```
 //!

@@ -2,7 +2,7 @@
 use super::driving::{ITEMS, REPLIES, packets, query};
 use super::node::SmallNode;
 use rp_drive::{Conversation, drive};
-use rp_io::{MemoryOutput, Port};
+use rp_io::{CountedDevice, MemoryOutput};
 use rp_serve::serve;
 use std::io::Write;
 use std::net::{Shutdown, TcpListener, TcpStream};
@@ -19,8 +19,8 @@ fn loopback(rt: HostRuntime) -> Result<(), Fail> {
     let (node, _from) = listener.accept()?;
     let mut replies = &node;
     replies.write_all(REPLIES.as_bytes())?;
-    let mut reader = Port::new(&source);
-    let mut writer = Port::new(&source);
+    let mut reader = CountedDevice::new(&source);
+    let mut writer = CountedDevice::new(&source);
     let mut out = MemoryOutput::new(alloc, 4_096, 1_000, 0)?;
     let conversation = Conversation {
         query: &query,
@@ -32,7 +32,7 @@ fn loopback(rt: HostRuntime) -> Result<(), Fail> {
     drive(alloc, &conversation, &mut reader, &mut writer, &mut out)?;
     assert!(rt; out.bytes() == ITEMS.as_bytes());
     source.shutdown(Shutdown::Write)?;
-    let mut lines = Port::new(&node);
+    let mut lines = CountedDevice::new(&node);
     let mut served = MemoryOutput::new(alloc, 4_096, 1_000, 0)?;
     let mut small = SmallNode::new(alloc);
     let count = serve(alloc, &mut lines, &mut served, &mut small, 1_000)?;

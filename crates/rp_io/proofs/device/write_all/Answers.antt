@@ -1,7 +1,7 @@
 use Rattle.std.proofs.Common.{rules}
 use Rattle.rp_io.proofs.Cutting.{on_err_from}
 use Rattle.rp_io.proofs.Written.{Called-end, Called-fault, Called-more, WroteFront-rest}
-use Rattle.rp_io.proofs.port.write_all.Goals as goal
+use Rattle.rp_io.proofs.device.write_all.Goals as goal
 
 pub returns-in_err-count-clause-calls_failed : goal.returns-in_err-count-clause-calls_failed
 returns-in_err-count-clause-calls_failed g c =

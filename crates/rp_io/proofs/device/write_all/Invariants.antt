@@ -1,6 +1,6 @@
 use Rattle.std.proofs.Common.{◌≡◌, length}
 use Rattle.rp_io.proofs.Written.{Called, WroteFront}
-use Rattle.rp_io.proofs.port.write_all.Given as goal
+use Rattle.rp_io.proofs.device.write_all.Given as goal
 
 abbrev pub invariant-loop-rest : goal.invariant-loop-rest
 invariant-loop-rest g l = record {

@@ -63,28 +63,28 @@ pub trait Outlet {
         ensures no_failure { OnOk result (failures self.new ≡ failures self.old) };
 }
 
-/// A stream, with counts of its calls.
+/// A device, with counts of its calls.
 #[derive(Drop)]
-pub struct Port<D> {
-    /// The stream itself.
+pub struct CountedDevice<D> {
+    /// The device itself.
     pub device: D,
     /// How many calls of it were made, up to 2^64 - 1, where the count stays.
     pub calls: u64,
     /// How many of them failed, counted in the same way.
     pub failures: u64,
-    /// Whether a read has told the end.
+    /// Whether a read has reported the end.
     pub ended: bool,
 }
 
-impl<D> Port<D> {
-    /// A stream that was not called yet.
+impl<D> CountedDevice<D> {
+    /// A device that was not called yet.
     pub fn new(device: D) -> Self
         ensures device { result.device ≡ device }
         ensures calls { result.calls ≡ 0 }
         ensures failures { result.failures ≡ 0 }
         ensures ended { result.ended ≡ false }
     {
-        Port {
+        CountedDevice {
             device,
             calls: 0,
             failures: 0,
@@ -93,14 +93,14 @@ impl<D> Port<D> {
     }
 }
 
-impl<R: Read> Intake for Port<R> {
+impl<R: Read> Intake for CountedDevice<R> {
     ghost use Rattle.rp_io.specs.State.{IntakeState};
 
-    ghost seen = { λ port. record {
-      calls = port.calls;
-      failures = port.failures;
-      ended = port.ended;
-      remaining = R.remaining port.device;
+    ghost seen = { λ counted. record {
+      calls = counted.calls;
+      failures = counted.failures;
+      ended = counted.ended;
+      remaining = R.remaining counted.device;
     } };
 
     fn read(&mut self, buffer: &mut [u8]) -> Result<usize, ReadFailed> {
@@ -120,12 +120,12 @@ impl<R: Read> Intake for Port<R> {
     }
 }
 
-impl<W: Write> Outlet for Port<W> {
-    ghost contents = { λ port. W.contents port.device };
+impl<W: Write> Outlet for CountedDevice<W> {
+    ghost contents = { λ counted. W.contents counted.device };
 
-    ghost calls = { λ port. port.calls };
+    ghost calls = { λ counted. counted.calls };
 
-    ghost failures = { λ port. port.failures };
+    ghost failures = { λ counted. counted.failures };
 
     fn write(&mut self, bytes: &[u8]) -> Result<usize, WriteFailed> {
         self.calls = self.calls.saturating_add(1);
