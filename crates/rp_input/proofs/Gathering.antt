@@ -9,8 +9,8 @@ use Rattle.rp_value.specs.declared.value.Value.{Value}
 use Rattle.rp_value.specs.RowLists.{rows_added}
 use Rattle.rp_value.specs.declared.row_list.RowList.{RowList}
 use Rattle.rp_input.specs.Gathering.{parts_added, with_row}
-use Rattle.rp_query.specs.Keys.{values_in}
-use Rattle.rp_input.specs.Partitions.{Part, partitions, rows_of_key, same_key}
+use Rattle.rp_query.specs.Keys.{same_key, values_in}
+use Rattle.rp_input.specs.Partitions.{Part, partitions, rows_of_key}
 
 abbrev Entry : Type 0
 Entry = List Value × RowList

@@ -13,7 +13,7 @@ use Rattle.rp_value.specs.declared.value.Kind.{Kind}
 use Rattle.rp_value.specs.declared.value.Kind.TheVariants as kind
 use Rattle.rp_value.specs.declared.value.Value.{Value}
 use Rattle.rp_value.specs.declared.value.Value.TheVariants.{Null}
-use Rattle.rp_query.specs.Keys.{AreRowsOver, values_in}
+use Rattle.rp_query.specs.Keys.{AreRowsOver, same_key, values_in}
 use Rattle.rp_query.specs.declared.query.OrderColumn.{OrderColumn}
 use Rattle.rp_query.proofs.KeyFaults.{none_fails_more}
 use Rattle.rp_input.specs.CsvRows.{AreRows}
@@ -21,7 +21,7 @@ use Rattle.rp_input.specs.Fields.{IsField, IsFull, IsRow}
 use Rattle.rp_input.specs.Fitting.{PartsFit}
 use Rattle.rp_input.specs.Numbered.{AreOrdered}
 use Rattle.rp_input.specs.Orders.{is_before}
-use Rattle.rp_input.specs.Partitions.{Part, partitions, same_key}
+use Rattle.rp_input.specs.Partitions.{Part, partitions}
 
 -- ---- a record's row
 

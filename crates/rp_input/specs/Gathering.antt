@@ -3,7 +3,8 @@ use Rattle.std.specs.Prelude.{List, [], ◌∷◌, ◌++◌, map, if◌then◌el
 use Rattle.rp_value.specs.RowLists.{rows_added}
 use Rattle.rp_value.specs.declared.row_list.RowList.{RowList}
 use Rattle.rp_value.specs.declared.value.Value.{Value}
-use Rattle.rp_input.specs.Partitions.{Part, same_key}
+use Rattle.rp_query.specs.Keys.{same_key}
+use Rattle.rp_input.specs.Partitions.{Part}
 use Rattle.rp_input.specs.declared.partition.Part.{Part as Gathered}
 
 -- partitions as plain lists: keys with their rows

@@ -1,12 +1,7 @@
 -- The partitions of rows.
-use Rattle.std.specs.Prelude.{ℕ, Bool, not, List, [], ◌∷◌, filter}
-use Rattle.rp_value.specs.contracts.cells.CellsPartialEq.TheImpl.{ghosts as cells}
+use Rattle.std.specs.Prelude.{ℕ, not, List, [], ◌∷◌, filter}
 use Rattle.rp_value.specs.declared.value.Value.{Value}
-use Rattle.rp_query.specs.Keys.{values_in}
-
--- whether two keys are equal, null being equal to null
-abbrev pub same_key : List Value → List Value → Bool
-same_key = cells.eq
+use Rattle.rp_query.specs.Keys.{same_key, values_in}
 
 -- the rows of a key, as they came
 abbrev pub rows_of_key : List ℕ → List Value → List (List Value) → List (List Value)

@@ -5,7 +5,7 @@ use Rattle.std.specs.Cmp.Lexicographic.{pointwise}
 use Rattle.rp_value.specs.declared.value.Value.{Value}
 use Rattle.rp_value.specs.declared.row.RowFault.{RowFault}
 use Rattle.rp_value.specs.contracts.value.ValuePartialEq.TheImpl.{eq-value}
-use Rattle.rp_query.specs.Keys.{key_of}
+use Rattle.rp_query.specs.Keys.{key_of, same_key}
 use Rattle.rp_query.specs.declared.item.Item.{Item}
 use Rattle.rp_query.specs.declared.query.QueryData.{QueryData}
 use Rattle.rp_feed.specs.declared.answer.Taken.{Taken}
@@ -16,7 +16,7 @@ use Rattle.rp_feed.specs.declared.packet.Packet.TheVariants.{Row as RowPacket, C
 use Rattle.rp_schedules.specs.Schedules.{StaysElsewhere, Act, Event}
 use Rattle.rp_schedules.specs.Records.{Held, Fits, PollFits, or_fresh, record_at, with_fed, Calls, CallsBySame, row_taken, close_taken, polled, no_memory}
 use Rattle.rp_node.specs.declared.fault.NodeFault.TheVariants as node
-use Rattle.rp_node.specs.NodeSeen.{Entries, NodeSeen, same_key, entry_at, with_entry}
+use Rattle.rp_node.specs.NodeSeen.{Entries, NodeSeen, entry_at, with_entry}
 use Rattle.rp_node.specs.Accepting.{feed_answer, packet_fault, record_for, told}
 use Rattle.rp_node.specs.Events.{World, Wholes, IsCallOf, RowsAreEvents, ClosesAreEvents, PollsAreEvents, RefusedPollsAreEvents}
 use Rattle.rp_node.proofs.Nodes.{SameKeys}

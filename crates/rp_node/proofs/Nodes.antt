@@ -17,7 +17,7 @@ use Rattle.rp_value.specs.Tables.{kinds_of}
 use Rattle.rp_words.specs.PatternForm.{form_of}
 use Rattle.rp_words.specs.Turns.{all_turns}
 use Rattle.rp_query.specs.declared.query.QueryData.{QueryData}
-use Rattle.rp_query.specs.Keys.{KeysFit}
+use Rattle.rp_query.specs.Keys.{KeysFit, same_key}
 use Rattle.rp_feed.specs.declared.answer.Taken.{Taken}
 use Rattle.rp_feed.specs.declared.answer.Taken.TheVariants.{New, Repeat, Old}
 use Rattle.rp_feed.specs.Fed.{Fed, fed_from, front_of}
@@ -39,7 +39,7 @@ use Rattle.rp_partition.specs.declared.partition.Partition.{Partition}
 use Rattle.rp_partition.specs.PartRows.{known_by, known_count, end_of}
 use Rattle.rp_partition.specs.Joined.{Joined, Work, held_of, work_of}
 use Rattle.rp_node.specs.Keyed.{IsOfKey, IsPartition}
-use Rattle.rp_node.specs.NodeSeen.{Map, AllJoined, IsBounded, AreBounded, entries_by, node_by, same_key, entry_at, with_entry, or_no_work, work_at}
+use Rattle.rp_node.specs.NodeSeen.{Map, AllJoined, IsBounded, AreBounded, entries_by, node_by, entry_at, with_entry, or_no_work, work_at}
 use Rattle.rp_node.specs.declared.fault.NodeFault.TheVariants as node
 use Rattle.rp_node.specs.Bound.{KeyWorks}
 use Rattle.rp_node.specs.Accepting.{rows_taken, feed_answer, fed_with, packet_fault, packet_key, packet_answer, record_for, told, Accepted}

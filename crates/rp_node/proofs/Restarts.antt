@@ -7,12 +7,13 @@ use Rattle.std.specs.declared.alloc.Global.{Global}
 use Rattle.indexmap.specs.IndexMap.{insert_entry}
 use Rattle.rp_value.specs.declared.value.Value.{Value}
 use Rattle.rp_query.specs.declared.query.QueryData.{QueryData}
+use Rattle.rp_query.specs.Keys.{same_key}
 use Rattle.rp_checkpoint.specs.declared.node_data.PartitionData.{PartitionData}
 use Rattle.rp_schedules.specs.Records.{Held}
 use Rattle.rp_partition.specs.declared.partition.Partition.{Partition}
 use Rattle.rp_partition.specs.Joined.{held_of}
 use Rattle.rp_node.specs.Keyed.{IsPartition}
-use Rattle.rp_node.specs.NodeSeen.{Map, MapOf, AllJoined, entries_by, same_key, entry_at, with_entry}
+use Rattle.rp_node.specs.NodeSeen.{Map, MapOf, AllJoined, entries_by, entry_at, with_entry}
 use Rattle.rp_node.specs.Resuming.{is_restorable, Resumed}
 use Rattle.rp_node.specs.Restarting.{is_next, RestoredOne}
 use Rattle.rp_node.proofs.Entries.{insert_is}

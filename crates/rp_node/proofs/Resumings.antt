@@ -9,7 +9,7 @@ use Rattle.rp_value.specs.declared.row.RowFault.{RowFault}
 use Rattle.rp_value.specs.Rows.{row_fault}
 use Rattle.rp_value.specs.Tables.{kinds_of}
 use Rattle.rp_query.specs.declared.query.QueryData.{QueryData}
-use Rattle.rp_query.specs.Keys.{key_kinds, key_of}
+use Rattle.rp_query.specs.Keys.{key_kinds, key_of, same_key}
 use Rattle.rp_feed.specs.Limits.{greatest_number}
 use Rattle.rp_feed.specs.Fed.{Fed, AscendFrom, IsFeed, front_of}
 use Rattle.rp_feed.specs.Again.{AgainIsTheSame, fed_again}
@@ -25,7 +25,6 @@ use Rattle.rp_schedules.specs.Records.{Held}
 use Rattle.rp_partition.specs.declared.partition.Partition.{Partition}
 use Rattle.rp_partition.specs.Joined.{CanResume, Joined, held_of}
 use Rattle.rp_node.specs.Keyed.{IsPartition, RowsHaveKey}
-use Rattle.rp_node.specs.NodeSeen.{same_key}
 use Rattle.rp_node.specs.Resuming.{numbered, state_in, fed_in, held_in, feed_in, has_kinds, fits_table, fits_all, has_place, restorable_over, is_restorable}
 use Rattle.rp_node.proofs.Nodes.{SameKeys}
 

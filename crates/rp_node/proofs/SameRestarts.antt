@@ -5,7 +5,7 @@ use Rattle.rp_value.specs.declared.value.Value.{Value}
 use Rattle.rp_value.specs.Rows.{row_fault}
 use Rattle.rp_value.specs.Tables.{kinds_of}
 use Rattle.rp_query.specs.declared.query.QueryData.{QueryData}
-use Rattle.rp_query.specs.Keys.{key_of}
+use Rattle.rp_query.specs.Keys.{key_of, same_key}
 use Rattle.rp_same_query.specs.SameQuery.{IsSameQuery}
 use Rattle.rp_feed.specs.Fed.{Fed, front_of}
 use Rattle.rp_checkpoint.specs.Checkpoints.{restored}
@@ -19,7 +19,7 @@ use Rattle.rp_schedules.specs.SameKnown.{KeyIsSame, KindsAreSame, FirstReadIsSam
 use Rattle.rp_node.specs.declared.fault.RestartFault.{RestartFault}
 use Rattle.rp_node.specs.declared.fault.RestartFault.TheVariants as fault
 use Rattle.rp_node.specs.ClauseTexts.{without_blank_end}
-use Rattle.rp_node.specs.NodeSeen.{Entries, same_key, entry_at, with_entry}
+use Rattle.rp_node.specs.NodeSeen.{Entries, entry_at, with_entry}
 use Rattle.rp_node.specs.Resuming.{held_in, feed_in, has_kinds, has_place, fits_table, fits_all, restorable_over}
 use Rattle.rp_node.specs.Restarting.{is_next, records_from, IsOfQuery, RestartsTo, IsRefused}
 use Rattle.rp_node.specs.Events.{RestartsAreOne, RestartsAreSame, RestartsAreTaken}

@@ -14,7 +14,7 @@ use Rattle.rp_value.specs.contracts.value.ValuePartialEq.TheImpl.{eq-value}
 use Rattle.rp_value.specs.Rows.{row_fault}
 use Rattle.rp_value.specs.Tables.{kinds_of}
 use Rattle.rp_query.specs.declared.query.QueryData.{QueryData}
-use Rattle.rp_query.specs.Keys.{key_kinds, key_of}
+use Rattle.rp_query.specs.Keys.{key_kinds, key_of, same_key}
 use Rattle.rp_feed.specs.Limits.{greatest_number}
 use Rattle.rp_feed.specs.Fed.{Numbered, front_of}
 use Rattle.rp_feed.specs.Again.{FeedsAreTakenAgain, fed_again}
@@ -27,7 +27,7 @@ use Rattle.rp_partition.specs.declared.partition.Partition.{Partition}
 use Rattle.rp_partition.specs.PartRows.{known_by, known_count}
 use Rattle.rp_partition.specs.Joined.{held_of}
 use Rattle.rp_node.specs.Keyed.{IsPartition, RowsHaveKey}
-use Rattle.rp_node.specs.NodeSeen.{Entries, Map, AllJoined, entries_by, node_by, same_key, entry_at, with_entry}
+use Rattle.rp_node.specs.NodeSeen.{Entries, Map, AllJoined, entries_by, node_by, entry_at, with_entry}
 use Rattle.rp_node.specs.Keeping.{held_row, kept_of, partition_kept}
 use Rattle.rp_node.specs.Resuming.{numbered, held_in, feed_in, has_place, fits_all, restorable_over, is_restorable}
 use Rattle.rp_node.specs.Restarting.{RestartsTo, is_next, records_from}

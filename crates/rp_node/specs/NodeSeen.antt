@@ -1,16 +1,15 @@
 -- What contracts see of a node.
-use Rattle.std.specs.Prelude.{◌≤◌, ℕ, Bool, List, [], ◌∷◌, Option, None, Some, if◌then◌else◌, ⊤, refl}
+use Rattle.std.specs.Prelude.{◌≤◌, ℕ, List, [], ◌∷◌, Option, None, Some, if◌then◌else◌, ⊤, refl}
 use Rattle.std.specs.Coded.{Coded, code_by, coded×, coded_list, coded_ℕ, coded_option}
-use Rattle.std.specs.Cmp.Lexicographic.{pointwise}
 use Rattle.std.specs.declared.vec.Vec.{Vec}
 use Rattle.std.specs.declared.alloc.Global.{Global}
 use Rattle.rp_value.specs.declared.value.Value.{Value}
 use Rattle.rp_value.specs.contracts.value.Value.{the_row as value_row}
-use Rattle.rp_value.specs.contracts.value.ValuePartialEq.TheImpl.{eq-value}
 use Rattle.rp_words.specs.PatternForm.{form_of}
 use Rattle.rp_words.specs.Turns.{all_turns}
 use Rattle.rp_query.specs.declared.query.QueryData.{QueryData}
 use Rattle.rp_query.specs.contracts.query.QueryData.{the_row as query_row}
+use Rattle.rp_query.specs.Keys.{same_key}
 use Rattle.rp_feed.specs.Fed.{Fed, IsFeed, front_of}
 use Rattle.rp_walker.specs.Bound.{SearchSeen}
 use Rattle.rp_walker.specs.declared.record.MatcherState.{MatcherState}
@@ -24,10 +23,6 @@ use Rattle.rp_node.specs.Keyed.{IsPartition}
 -- something of each key, in order of first arrival
 abbrev pub Entries : Type 0 → Type 0
 Entries V = List (List Value × V)
-
--- whether two keys are the same: null is the same as null
-abbrev pub same_key : List Value → List Value → Bool
-same_key = pointwise eq-value.it
 
 -- what a key has
 abbrev pub entry_at : {V : Type 0} → Entries V → List Value → Option V

@@ -6,7 +6,7 @@ use Rattle.rp_value.specs.contracts.value.ValuePartialEq.TheImpl.{eq-value}
 use Rattle.rp_value.specs.Rows.{row_fault}
 use Rattle.rp_value.specs.Tables.{kinds_of}
 use Rattle.rp_query.specs.declared.query.QueryData.{QueryData}
-use Rattle.rp_query.specs.Keys.{key_kinds, key_of}
+use Rattle.rp_query.specs.Keys.{key_kinds, key_of, same_key}
 use Rattle.rp_feed.specs.Limits.{greatest_number}
 use Rattle.rp_feed.specs.Fed.{Fed, Numbered, front_of}
 use Rattle.rp_feed.specs.Again.{fed_again}
@@ -18,7 +18,6 @@ use Rattle.rp_schedules.specs.Records.{Held}
 use Rattle.rp_partition.specs.declared.partition.Partition.{Partition}
 use Rattle.rp_partition.specs.Joined.{held_of}
 use Rattle.rp_node.specs.Keyed.{IsPartition}
-use Rattle.rp_node.specs.NodeSeen.{same_key}
 
 -- ---- the record in what was kept
 

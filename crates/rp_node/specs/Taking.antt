@@ -7,6 +7,7 @@ use Rattle.std.specs.declared.alloc.AllocError.{AllocError}
 use Rattle.indexmap.specs.IndexMap.{insert_entry, set_value_at}
 use Rattle.rp_value.specs.declared.value.Value.{Value}
 use Rattle.rp_query.specs.declared.query.QueryData.{QueryData}
+use Rattle.rp_query.specs.Keys.{same_key}
 use Rattle.rp_feed.specs.declared.answer.Taken.TheVariants.{New}
 use Rattle.rp_feed.specs.Fed.{Numbered, fed_from}
 use Rattle.rp_feed.specs.Answers.{Answer, memory_aside}
@@ -21,7 +22,7 @@ use Rattle.rp_partition.specs.Joined.{Joined, Work, held_of, work_of}
 use Rattle.rp_node.specs.Keyed.{IsOfKey}
 use Rattle.rp_partition.specs.PartRows.{known_by}
 use Rattle.rp_partition.specs.Taking.{TakenBy}
-use Rattle.rp_node.specs.NodeSeen.{Map, AllJoined, entries_by, same_key, entry_at, with_entry, or_no_work}
+use Rattle.rp_node.specs.NodeSeen.{Map, AllJoined, entries_by, entry_at, with_entry, or_no_work}
 use Rattle.rp_node.specs.Accepting.{feed_answer, fed_with, packet_fault, packet_key, rows_taken}
 use Rattle.rp_partition.specs.Polling.{HoldsNoMore, PolledTo}
 

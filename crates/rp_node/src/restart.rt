@@ -2,9 +2,10 @@
 ghost use Rattle.std.specs.Prelude.{◌≡◌, ◌↔◌, Ok, IfErr, IfOk, IsTrue, OnOk, option_map};
 ghost use Rattle.indexmap.specs.IndexMap.{insert_entry};
 ghost use Rattle.rp_query.specs.QueryView.{data_of};
+ghost use Rattle.rp_query.specs.Keys.{same_key};
 ghost use Rattle.rp_checkpoint.specs.Checkpoints.{restored};
 ghost use Rattle.rp_partition.specs.Joined.{held_of};
-ghost use Rattle.rp_node.specs.NodeSeen.{AllJoined, entries_by, same_key};
+ghost use Rattle.rp_node.specs.NodeSeen.{AllJoined, entries_by};
 ghost use Rattle.rp_node.specs.Restarting.{IsOfQuery, IsRefused, RestartsTo, RestoredAll, RestoredOne};
 
 use crate::clause_text::are_one_clause;

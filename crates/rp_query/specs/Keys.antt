@@ -1,5 +1,6 @@
 -- The keys of partitions.
-use Rattle.std.specs.Prelude.{◌≡◌, ℕ, ◌-◌, List, map, All, Option, None, Some, slice_get, unwrap_or}
+use Rattle.std.specs.Prelude.{◌≡◌, ℕ, Bool, ◌-◌, List, map, All, Option, None, Some, slice_get, unwrap_or}
+use Rattle.rp_value.specs.contracts.cells.CellsPartialEq.TheImpl.{ghosts as cells}
 use Rattle.rp_value.specs.declared.table.Column.{Column}
 use Rattle.rp_value.specs.declared.value.Kind.{Kind}
 use Rattle.rp_value.specs.declared.value.Kind.TheVariants.{Int as IntKind}
@@ -24,6 +25,10 @@ values_in columns row = map (λ column. value_at column row) columns
 -- the key of a row: its values in the columns of PARTITION BY (ISO/IEC 9075-2:2016, 7.15)
 abbrev pub key_of : QueryData → List Value → List Value
 key_of q row = values_in q.partition.items row
+
+-- whether two keys are the same: null is the same as null
+abbrev pub same_key : List Value → List Value → Bool
+same_key = cells.eq
 
 abbrev pub kind_or : Option Column → Kind
 kind_or None = IntKind

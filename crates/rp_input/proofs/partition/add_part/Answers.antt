@@ -2,7 +2,7 @@ use Rattle.std.proofs.Common.{◌≡◌, ◌∙◌, ◌++◌, ◌∷◌, [], ap}
 use Rattle.indexmap.proofs.CallerLemmas.{insert_entry-new}
 use Rattle.rp_value.specs.RowLists.{rows_added}
 use Rattle.rp_input.specs.Gathering.{parts_added}
-use Rattle.rp_input.specs.Partitions.{same_key}
+use Rattle.rp_query.specs.Keys.{same_key}
 use Rattle.rp_input.proofs.Gathering.{parts_push}
 use Rattle.rp_input.proofs.partition.add_part.Goals as goal
 

@@ -2,7 +2,7 @@ use Rattle.std.proofs.Common.{◌≡◌, ◌∙◌, [], ◌<◌, ℕ, List, get_
 use Rattle.std.proofs.lemmas.List.Quantifiers.{position-Some}
 use Rattle.std.specs.Map.{keys_of, lookup}
 use Rattle.rp_value.specs.declared.value.Value.{Value}
-use Rattle.rp_input.specs.Partitions.{same_key}
+use Rattle.rp_query.specs.Keys.{same_key}
 use Rattle.rp_input.proofs.Gathering.{with_row_at, with_row_new}
 use Rattle.rp_input.proofs.partition.add_row.Goals as goal
 

@@ -3,8 +3,9 @@ use Rattle.std.proofs.lemmas.Grind.{common_steps}
 use Rattle.std.specs.Cmp.{IsEquivalence}
 use Rattle.std.specs.Vec.Iter.{into_iter_items}
 use Rattle.rp_value.specs.contracts.cells.CellsEq.TheImpl.Laws.{laws-law}
+use Rattle.rp_query.specs.Keys.{same_key}
 use Rattle.rp_input.specs.Gathering.{with_row}
-use Rattle.rp_input.specs.Partitions.{partitions, same_key}
+use Rattle.rp_input.specs.Partitions.{partitions}
 use Rattle.rp_input.proofs.Gathering.{partitions_more}
 use Rattle.rp_input.proofs.partition.gather.Goals as goal
 
