@@ -4,6 +4,7 @@ use Rattle.std.specs.Prelude.{slice_get, OnOk, OnErr, nat_le}
 use Rattle.std.proofs.lemmas.Bool.Decides.{nat_tests}
 use Rattle.rp_value.specs.declared.value.Value.{Value}
 use Rattle.rp_words.specs.declared.word.End.TheVariants.{Open as OpenEnd}
+use Rattle.rp_eval.specs.Dropped.{row_known}
 use Rattle.rp_eval.specs.Partition.{Rows, row_at, row_from}
 use Rattle.rp_known.specs.Known.{Known}
 use Rattle.rp_known.specs.WalkLaws.{Continues}
@@ -12,7 +13,7 @@ use Rattle.rp_walker.specs.declared.walker.Walker.{Walker}
 use Rattle.rp_walker.specs.Polls.{left_in, entered_by}
 use Rattle.rp_walker.specs.Walking.{record_of}
 use Rattle.rp_answer.specs.declared.kept.Kept.{Kept}
-use Rattle.rp_answer.specs.Kept.{kept_rows, row_known}
+use Rattle.rp_answer.specs.Kept.{kept_rows}
 use Rattle.rp_answer.specs.MatcherData.{MatcherData}
 use Rattle.rp_answer.specs.Matching.{known_by, matcher_by}
 

@@ -1,9 +1,8 @@
 -- What a condition comes to depends on the rows that it is said to look at.
-use Rattle.std.proofs.Common.{◌≡◌, ◌≢◌, ℕ, zero, suc, ◌+◌, ◌-◌, ◌<◌, ◌≤◌, max, true, false, cond, List, [], ◌∷◌, ◌++◌, length, take, Option, Some, None, IfSome, refl, sym, ap, ap₂, ◌∙◌, subst, arith}
-use Rattle.std.specs.Prelude.{◌==◌, slice_get}
+use Rattle.std.proofs.Common.{◌≡◌, ◌≢◌, ℕ, zero, suc, ◌+◌, ◌-◌, ◌<◌, ◌≤◌, max, true, false, List, [], ◌∷◌, ◌++◌, length, take, Option, Some, None, IfSome, refl, sym, ap, ap₂, ◌∙◌, subst, arith}
+use Rattle.std.specs.Prelude.{slice_get}
 use Rattle.std.specs.List.{AllByRecursion}
 use Rattle.std.proofs.lemmas.List.Elements.{All-from_recursion, All-contains}
-use Rattle.std.proofs.lemmas.Bool.Decides.{nat_tests}
 use Rattle.std.proofs.lemmas.Bool.{or_parts}
 use Rattle.std.proofs.lemmas.List.{length-take-le}
 use Rattle.rp_value.specs.declared.truth.Judged.{Judged}
@@ -26,6 +25,7 @@ use Rattle.rp_query.specs.QueryView.{totals_in}
 use Rattle.rp_query.specs.Formulas.{condition_formula}
 use Rattle.rp_query.specs.Locality.{is_local, IsLeaderOf}
 use Rattle.rp_query.specs.Reach.{condition_reach}
+use Rattle.rp_eval.specs.Dropped.{row_known}
 use Rattle.rp_eval.specs.GoesOn.{GoesOn}
 use Rattle.rp_eval.specs.Laws.{LiesOnRows, over, JudgementsStay}
 use Rattle.rp_eval.specs.Locality.{at_last, RowsDecide, LeadersDecide}
@@ -44,9 +44,6 @@ taken xs zero i less = absurd (omega (arith, less))
 taken [] (suc k) i less = refl
 taken (x ∷ xs) (suc k) zero less = refl
 taken (x ∷ xs) (suc k) (suc i) less = taken xs k i (omega (arith, less))
-
-row_known : (rows : Rows) (row : ℕ) → 1 ≤ row → row_at rows row ≡ slice_get rows (row - 1)
-row_known rows row one = let no : (row == 0) ≡ false = grind (arith, nat_tests) in ap (λ b. cond b None (slice_get rows (row - 1))) no
 
 row_taken : (p : Rows) (k row : ℕ) → 1 ≤ row → row ≤ k → row_at (take k p) row ≡ row_at p row
 row_taken p k row one within = row_known (take k p) row one ∙ taken p k (row - 1) (omega (arith, one, within)) ∙ sym (row_known p row one)

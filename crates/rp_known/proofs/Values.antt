@@ -1,9 +1,8 @@
 -- The values of measures, and the cells of a row, over rows that go on.
-use Rattle.std.proofs.Common.{◌≡◌, ℕ, zero, suc, ◌+◌, ◌-◌, ◌≤◌, max, List, [], ◌∷◌, ◌++◌, length, length-append, false, cond, Option, None, Some, refl, sym, ap, ◌∙◌, arith}
-use Rattle.std.specs.Prelude.{slice_get, ◌==◌}
+use Rattle.std.proofs.Common.{◌≡◌, ℕ, zero, suc, ◌+◌, ◌-◌, ◌≤◌, max, List, [], ◌∷◌, ◌++◌, length, length-append, Option, None, Some, refl, sym, ap, ◌∙◌, arith}
+use Rattle.std.specs.Prelude.{slice_get}
 use Rattle.std.proofs.lemmas.List.Elements.{All-get_or}
 use Rattle.std.proofs.lemmas.Option.{slice_get_within, get_or_from_slice_get}
-use Rattle.std.proofs.lemmas.Bool.Decides.{nat_tests}
 use Rattle.rp_value.specs.declared.value.Value.{Value}
 use Rattle.rp_words.specs.declared.word.End.{End}
 use Rattle.rp_words.specs.declared.word.End.TheVariants.{Open as OpenEnd, Closed as ClosedEnd}
@@ -17,6 +16,7 @@ use Rattle.rp_query.specs.Reach.{reach}
 use Rattle.rp_query.specs.Sound.{IsSound}
 use Rattle.rp_eval.specs.declared.cell.Cell.{Cell}
 use Rattle.rp_eval.specs.declared.cell.Cell.TheVariants.{Ready, Open}
+use Rattle.rp_eval.specs.Dropped.{row_known}
 use Rattle.rp_eval.specs.Partition.{Rows, row_at, cell_in, or_null}
 use Rattle.rp_eval.specs.ValueOf.{Setting}
 use Rattle.rp_eval.specs.Laws.{LiesOnRows, over, CellStays, ValuesStay}
@@ -39,9 +39,6 @@ get_append : (xs ys : Rows) (i : ℕ) → suc i ≤ length xs → slice_get (xs 
 get_append [] ys i h = absurd (omega (arith, h))
 get_append (x ∷ xs) ys zero h = refl
 get_append (x ∷ xs) ys (suc i) h = get_append xs ys i (omega (arith, h))
-
-row_known : (rows : Rows) (row : ℕ) → 1 ≤ row → row_at rows row ≡ slice_get rows (row - 1)
-row_known rows row one = let no : (row == 0) ≡ false = grind (arith, nat_tests) in ap (λ b. cond b None (slice_get rows (row - 1))) no
 
 row_append : (xs ys : Rows) (row : ℕ) → 1 ≤ row → row ≤ length xs → row_at (xs ++ ys) row ≡ row_at xs row
 row_append xs ys row one h = row_known (xs ++ ys) row one ∙ get_append xs ys (row - 1) (omega (arith, one, h)) ∙ sym (row_known xs row one)

@@ -3,8 +3,9 @@ use Rattle.std.proofs.Common.{◌≡◌, ℕ, zero, suc, ◌+◌, ◌-◌, ◌<�
 use Rattle.std.specs.Prelude.{slice_get, nat_le}
 use Rattle.std.proofs.lemmas.Bool.Decides.{nat_tests}
 use Rattle.rp_feed.specs.Fed.{Fed, Numbered, AscendFrom, IsOrdered, first_missing, front_of, row_at as held_at}
+use Rattle.rp_eval.specs.Dropped.{row_known}
 use Rattle.rp_eval.specs.Partition.{Rows, row_at, row_from}
-use Rattle.rp_partition.specs.PartRows.{run_from, run_length, known_rows, known_by, known_count, row_known, end_of}
+use Rattle.rp_partition.specs.PartRows.{run_from, run_length, known_rows, known_by, known_count, end_of}
 use Rattle.rp_known.specs.Known.{Known}
 use Rattle.rp_words.specs.declared.word.End.{End}
 

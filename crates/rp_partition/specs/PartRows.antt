@@ -1,13 +1,13 @@
 -- The rows of a feed up to its front, as a known partition. The lemmas stand here and not in proofs/, since what an impl owes its trait can only be cited from specs/.
-use Rattle.std.proofs.Common.{◌≡◌, ℕ, zero, suc, ◌+◌, ◌-◌, ◌^◌, ◌<◌, ◌≤◌, List, [], ◌∷◌, ◌++◌, length, length-append, replicate, Bool, true, false, cond, Option, None, Some, refl, ap, ◌∙◌, arith}
-use Rattle.std.specs.Prelude.{slice_get, ◌==◌, if◌then◌else◌}
+use Rattle.std.proofs.Common.{◌≡◌, ℕ, ◌+◌, ◌-◌, ◌^◌, ◌<◌, ◌≤◌, List, [], ◌∷◌, ◌++◌, length, length-append, replicate, Bool, true, false, cond, Option, None, Some, arith}
+use Rattle.std.specs.Prelude.{◌==◌, if◌then◌else◌}
 use Rattle.std.proofs.lemmas.List.{length-replicate}
-use Rattle.std.proofs.lemmas.Bool.Decides.{nat_tests}
 use Rattle.rp_value.specs.declared.value.Value.{Value}
 use Rattle.rp_words.specs.declared.word.End.{End}
 use Rattle.rp_words.specs.declared.word.End.TheVariants.{Open, Closed}
 use Rattle.rp_feed.specs.Limits.{greatest_number}
 use Rattle.rp_feed.specs.Fed.{Fed, Numbered, first_missing, front_of}
+use Rattle.rp_eval.specs.Dropped.{none_dropped as dropped}
 use Rattle.rp_eval.specs.Partition.{Rows, row_at, cell_in}
 use Rattle.rp_known.specs.Known.{Known}
 
@@ -48,20 +48,6 @@ known_count fed one = omega (arith, length-append (replicate {A = List Value} (f
 pub few_known : (fed : Fed) → 1 ≤ fed.first → front_of fed ≤ greatest_number → length (known_rows fed) < 2 ^ 64 - 1
 few_known fed one limit = omega (arith, known_count fed one, limit)
 
-no_cell : (b : Bool) (column : ℕ) (cells : List Value) → cells ≡ [] → cond b None (slice_get cells (column - 1)) ≡ None
-no_cell true column cells h = refl
-no_cell false column [] h = refl
-no_cell false column (c ∷ cs) h = cc
-
-no_cells : (n i column : ℕ) (rest : Rows) → i < n → cell_in (slice_get (replicate n [] ++ rest) i) column ≡ None
-no_cells zero i column rest h = absurd (omega (arith, h))
-no_cells (suc n) zero column rest h = no_cell (column == 0) column [] refl
-no_cells (suc n) (suc i) column rest h = no_cells n i column rest (omega (arith, h))
-
-pub row_known : (rows : Rows) (row : ℕ) → 1 ≤ row → row_at rows row ≡ slice_get rows (row - 1)
-row_known rows row one = let no : (row == 0) ≡ false = grind (arith, nat_tests) in ap (λ b. cond b None (slice_get rows (row - 1))) no
-
 pub none_dropped : (fed : Fed) (row column : ℕ) → row < fed.first → cell_in (row_at (known_rows fed) row) column ≡ None
 unfolding known_rows
-none_dropped fed zero column h = refl
-none_dropped fed (suc row) column h = ap (λ r. cell_in r column) (row_known (known_rows fed) (suc row) (omega arith)) ∙ no_cells (fed.first - 1) (suc row - 1) column (run_from fed.first fed.rows) (omega (arith, h))
+none_dropped fed row column h = dropped (fed.first - 1) row column (run_from fed.first fed.rows) (omega (arith, h))
