@@ -23,7 +23,8 @@ use Rattle.rp_pattern.specs.declared.machine.continuation.Choice.{Choice}
 use Rattle.rp_pattern.specs.declared.machine.split.Split.{Split}
 use Rattle.rp_pattern.specs.declared.machine.split.Expansion.{Expansion}
 use Rattle.rp_pattern.specs.declared.machine.split.Expansion.TheVariants.{Full as FullExpansion, Row as RowExpansion, Open as OpenExpansion, Split as SplitExpansion}
-use Rattle.rp_pattern.specs.Continuations.{links_from, reached_parts, links_parts, tail_links, tail_parts, continuation_parts, later_parts, form_part, chain_words, pushed, BeginsWithRow}
+use Rattle.rp_program.specs.Parts.{form_part}
+use Rattle.rp_pattern.specs.Continuations.{links_from, reached_parts, links_parts, tail_links, tail_parts, continuation_parts, later_parts, chain_words, pushed, BeginsWithRow}
 use Rattle.rp_pattern.specs.Splits.{StandsFor, Splits, TakenUp as PartsTakenUp}
 use Rattle.rp_pattern.proofs.Steps.{row_taken as takes_row, taken_as}
 use Rattle.rp_pattern.specs.Linked.{chain, tail_chain, linked_rest, linked_ways}

@@ -15,7 +15,8 @@ use Rattle.rp_words.specs.declared.word.Label.{Label}
 use Rattle.rp_words.specs.Words.{Mappings, words, words_step, one_row, followed, concatenation, exclusion, moves, only_past, optional, required, further, may_go_on}
 use Rattle.rp_words.specs.Turns.{WordsAndTurns, turns_after, chain_turns, past}
 use Rattle.rp_words.specs.Movement.{always_moves, movement_step}
-use Rattle.rp_pattern.specs.Continuations.{chain_words, form_part}
+use Rattle.rp_program.specs.Parts.{form_part}
+use Rattle.rp_pattern.specs.Continuations.{chain_words}
 use Rattle.rp_words.proofs.Lists.{All-append, All-map, All-flat_map}
 use Rattle.rp_words.proofs.Algebra.{preceded_nothing, concatenation_assoc, concatenation_same, moving_is}
 use Rattle.rp_words.proofs.TurnsTaken.{past_reached}

@@ -20,14 +20,15 @@ use Rattle.rp_words.specs.Permutations.{upto, factorial}
 use Rattle.rp_pattern.specs.PermutedParts.{layer_parts, permuted_parts}
 use Rattle.rp_words.specs.Words.{nothing_mapped, followed, concatenation, sequence, orders, picks, led, arrangements, permuted, words}
 use Rattle.rp_words.specs.Turns.{WordsAndTurns, one_turn, turns, words_of, orders_from, within, permuted_turns}
-use Rattle.rp_pattern.specs.Continuations.{form_part, chain_words, in_order, permuted_form_parts, IsNodeOf, tail_links, tail_parts, links_parts}
+use Rattle.rp_program.specs.Parts.{form_part, in_order}
+use Rattle.rp_pattern.specs.Continuations.{chain_words, permuted_form_parts, IsNodeOf, tail_links, tail_parts, links_parts}
 use Rattle.rp_pattern.specs.Splits.{StandsFor, SplitsAt}
 use Rattle.rp_words.proofs.Lists.{All-map, All-flat_map, map-map}
 use Rattle.rp_words.proofs.FormEquations.{words_permute}
 use Rattle.rp_words.proofs.TurnEquations.{whole_part, turns_permute}
 use Rattle.rp_words.proofs.OrdersAt.{length-orders, orders_at}
 use Rattle.rp_words.proofs.TurnsPermuted.{sequence-append, order_words, no_order_words, permuted_words, order_taken, no_order_taken, permuted_taken}
-use Rattle.rp_pattern.proofs.Expansions.{LeavesTwo}
+use Rattle.rp_program.proofs.Expansions.{LeavesTwo}
 use Rattle.rp_pattern.proofs.Steps.{node_as}
 
 -- ---- positions of an order

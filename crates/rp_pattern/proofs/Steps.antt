@@ -20,10 +20,11 @@ use Rattle.rp_pattern.proofs.Moves.{form_moves, again_words, again_turns}
 use Rattle.rp_words.specs.Turns.{WordsAndTurns, chain_turns, iterations, past}
 use Rattle.rp_words.specs.Later.{IsLater}
 use Rattle.rp_words.specs.Mapping.{preceded}
-use Rattle.rp_pattern.specs.Continuations.{part_as, form_part, node_part, iterations_part, still, tail_links, tail_parts, links_parts, guarded, continuation_parts, chain_words, IsNodeOf, AreIterationsOf, IsOneLess}
+use Rattle.rp_program.specs.Parts.{form_part}
+use Rattle.rp_pattern.specs.Continuations.{part_as, node_part, iterations_part, still, tail_links, tail_parts, links_parts, guarded, continuation_parts, chain_words, IsNodeOf, AreIterationsOf, IsOneLess}
 use Rattle.rp_pattern.specs.Splits.{StandsFor, Replaces, SplitsAt, AlwaysSplits, Splits, TakesRow, Waits, ComesAgain, repeated, TakenUp, option_words, split_turns}
 use Rattle.rp_words.proofs.TurnsTaken.{same_first}
-use Rattle.rp_pattern.proofs.Expansions.{no_words, some_turns, open_words, row_words, row_turns, variable_row, variable_open, variable_closed, variable_turns, Leaves, LeavesTwo, same_first_words, greedy_leaves, lazy_leaves, greedy_unbounded, lazy_unbounded, none_left_leaves, form_within}
+use Rattle.rp_program.proofs.Expansions.{no_words, some_turns, open_words, row_words, row_turns, variable_row, variable_open, variable_closed, variable_turns, Leaves, LeavesTwo, same_first_words, greedy_leaves, lazy_leaves, greedy_unbounded, lazy_unbounded, none_left_leaves, form_within}
 
 -- ---- parts that were copied or put together
 

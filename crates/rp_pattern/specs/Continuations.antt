@@ -1,11 +1,12 @@
 -- Inside: what is left of a pattern: parts one after another, each as its words and its turns.
-use Rattle.std.specs.Prelude.{◌≡◌, ℕ, suc, Bool, List, [], ◌∷◌, map, drop, get_or, Option, Some, None, IsTrue}
+use Rattle.std.specs.Prelude.{◌≡◌, ℕ, suc, Bool, List, [], ◌∷◌, map, drop, Option, Some, None, IsTrue}
 use Rattle.std.specs.declared.rc.Rc.{Rc}
 use Rattle.std.specs.declared.alloc.Global.{Global}
 use Rattle.rp_words.specs.declared.form.Form.{Form}
 use Rattle.rp_words.specs.declared.form.Form.TheVariants.{Variable}
 use Rattle.rp_words.specs.declared.word.End.{End}
 use Rattle.rp_words.specs.declared.word.Label.{Label}
+use Rattle.rp_program.specs.Parts.{form_part}
 use Rattle.rp_pattern.specs.declared.machine.node.Node.{Node}
 use Rattle.rp_pattern.specs.declared.machine.iterations.Iterations.{Iterations}
 use Rattle.rp_pattern.specs.declared.machine.link.Part.{Part}
@@ -19,12 +20,8 @@ use Rattle.rp_pattern.specs.declared.machine.continuation.Continuation.TheVarian
 use Rattle.rp_pattern.specs.declared.machine.continuation.Choice.{Choice}
 use Rattle.rp_words.specs.Movement.{always_moves}
 use Rattle.rp_pattern.specs.PermutedParts.{permuted_parts}
-use Rattle.rp_words.specs.Words.{Mappings, words, nothing_mapped, sequence}
-use Rattle.rp_words.specs.Turns.{WordsAndTurns, turns, one_turn, past, within, iterations, orders_from, words_of}
-
--- a part of a pattern, inside an exclusion or outside of one, as its words and its turns
-abbrev pub form_part : ℕ → End → Form → Bool → WordsAndTurns
-form_part n e f excluded = within excluded (words n e f, turns n e f)
+use Rattle.rp_words.specs.Words.{Mappings, sequence}
+use Rattle.rp_words.specs.Turns.{WordsAndTurns, past, iterations, orders_from, words_of}
 
 -- a node, as a part
 abbrev pub node_part : ℕ → End → Node → WordsAndTurns
@@ -42,10 +39,6 @@ iterations_part n e lower it = iterations lower (still n it.further) it.reluctan
 -- the parts of a PERMUTE
 abbrev pub permuted_form_parts : ℕ → End → Node → List WordsAndTurns
 permuted_form_parts n e node = map (λ f. form_part n e f node.excluded) (permuted_parts node.form.value)
-
--- parts at these places
-abbrev pub in_order : List WordsAndTurns → List ℕ → List WordsAndTurns
-in_order ps places = map (λ k. get_or ps k (nothing_mapped, one_turn)) places
 
 -- what is linked into a continuation, as a part
 abbrev pub part_as : ℕ → End → Part → WordsAndTurns

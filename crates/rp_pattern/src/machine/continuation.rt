@@ -2,7 +2,8 @@
 ghost use Rattle.std.specs.Prelude.{◌≡◌, ℕ, ◌∷◌, IfOk, IfSome, IsTrue, Some};
 ghost use Rattle.rp_words.specs.declared.word.End.{End};
 ghost use Rattle.rp_words.specs.Bounds.{is_allowed};
-ghost use Rattle.rp_pattern.specs.Continuations.{BeginsWithRow, continuation_parts, later_parts, form_part, tail_parts};
+ghost use Rattle.rp_program.specs.Parts.{form_part};
+ghost use Rattle.rp_pattern.specs.Continuations.{BeginsWithRow, continuation_parts, later_parts, tail_parts};
 ghost use Rattle.rp_pattern.specs.Splits.{Replaces, StandsFor, TakenUp};
 
 use crate::machine::link::{Link, Part, Tail, reach, reach_shared, share, take_reached};

@@ -31,7 +31,8 @@ impl Node {
     ghost use Rattle.rp_words.specs.Bounds.{is_allowed};
     ghost use Rattle.rp_pattern.specs.PermutedParts.{permuted_parts};
     ghost use Rattle.rp_words.specs.Variables.{all_true};
-    ghost use Rattle.rp_pattern.specs.Continuations.{IsNodeOf, IsSamePart, tail_parts, node_part, iterations_part, permuted_form_parts, in_order};
+    ghost use Rattle.rp_program.specs.Parts.{in_order};
+    ghost use Rattle.rp_pattern.specs.Continuations.{IsNodeOf, IsSamePart, tail_parts, node_part, iterations_part, permuted_form_parts};
     ghost use Rattle.rp_pattern.specs.Splits.{TakenUp, AlwaysSplits};
 
     /// A part, inside an exclusion or outside of one.

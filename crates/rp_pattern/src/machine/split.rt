@@ -1,7 +1,7 @@
 //! What a choice comes to when it is taken up.
 ghost use Rattle.std.specs.Prelude.{◌≡◌, ℕ, ◌∷◌, List};
 ghost use Rattle.rp_words.specs.declared.word.End.{End};
-ghost use Rattle.rp_pattern.specs.Continuations.{form_part};
+ghost use Rattle.rp_program.specs.Parts.{form_part};
 ghost use Rattle.rp_words.specs.Turns.{WordsAndTurns};
 ghost use Rattle.rp_pattern.specs.Splits.{TakenUp};
 

@@ -2,8 +2,9 @@ use Rattle.std.proofs.Common.{◌∷◌, ◌≡◌, List, Some, sym, ap, ◌∙�
 use Rattle.rp_words.specs.declared.form.Form.TheVariants.{Variable, Concatenation}
 use Rattle.rp_pattern.specs.declared.machine.continuation.Continuation.TheVariants.{Then, Row}
 use Rattle.rp_words.specs.Turns.{WordsAndTurns}
-use Rattle.rp_pattern.specs.Continuations.{form_part, continuation_parts, tail_parts}
-use Rattle.rp_pattern.proofs.Expansions.{Leaves, concatenation_leaves}
+use Rattle.rp_program.specs.Parts.{form_part}
+use Rattle.rp_pattern.specs.Continuations.{continuation_parts, tail_parts}
+use Rattle.rp_program.proofs.Expansions.{Leaves, concatenation_leaves}
 use Rattle.rp_pattern.proofs.Steps.{node_as, stands_as, leaves_replaces}
 use Rattle.rp_pattern.proofs.machine.continuation.before.Goals as goal
 

@@ -2,9 +2,10 @@ use Rattle.std.proofs.Common.{◌≡◌, ◌∷◌, ◌+◌, ℕ, suc, List, Non
 use Rattle.rp_words.specs.declared.word.End.{End}
 use Rattle.rp_pattern.specs.declared.machine.link.Part.TheVariants.{Times}
 use Rattle.rp_words.specs.Turns.{WordsAndTurns, iterations}
-use Rattle.rp_pattern.specs.Continuations.{form_part, iterations_part, node_part, still, tail_parts}
+use Rattle.rp_program.specs.Parts.{form_part}
+use Rattle.rp_pattern.specs.Continuations.{iterations_part, node_part, still, tail_parts}
 use Rattle.rp_pattern.specs.Splits.{AlwaysSplits, Replaces}
-use Rattle.rp_pattern.proofs.Expansions.{Leaves, required_leaves}
+use Rattle.rp_program.proofs.Expansions.{Leaves, required_leaves}
 use Rattle.rp_pattern.proofs.OrderRests.{IfOk-map}
 use Rattle.rp_pattern.proofs.Steps.{linked_parts, node_as, one_splits, replaces_as}
 use Rattle.rp_pattern.proofs.machine.iterations.Iterations.into_first.Goals as goal

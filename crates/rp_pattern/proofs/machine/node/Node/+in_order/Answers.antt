@@ -5,7 +5,8 @@ use Rattle.rp_words.specs.Bounds.{is_allowed}
 use Rattle.rp_pattern.specs.PermutedParts.{permuted_parts}
 use Rattle.rp_words.specs.declared.word.End.{End}
 use Rattle.rp_pattern.specs.declared.machine.link.Part.TheVariants.{Whole}
-use Rattle.rp_pattern.specs.Continuations.{permuted_form_parts, in_order, tail_parts, tail_links}
+use Rattle.rp_program.specs.Parts.{in_order}
+use Rattle.rp_pattern.specs.Continuations.{permuted_form_parts, tail_parts, tail_links}
 use Rattle.rp_pattern.proofs.OrderRests.{allowed_at, next_linked, IfOk-map}
 use Rattle.rp_pattern.proofs.machine.node.Node.+in_order.Goals as goal
 

@@ -4,9 +4,10 @@ use Rattle.rp_words.specs.declared.form.Form.TheVariants.{Variable}
 use Rattle.rp_pattern.specs.declared.machine.link.Part.TheVariants.{Whole}
 use Rattle.rp_pattern.specs.declared.machine.continuation.Continuation.TheVariants.{Then, Row}
 use Rattle.rp_words.specs.Turns.{WordsAndTurns}
-use Rattle.rp_pattern.specs.Continuations.{form_part, continuation_parts, node_part, tail_parts}
+use Rattle.rp_program.specs.Parts.{form_part}
+use Rattle.rp_pattern.specs.Continuations.{continuation_parts, node_part, tail_parts}
 use Rattle.rp_pattern.specs.Splits.{AlwaysSplits, Replaces}
-use Rattle.rp_pattern.proofs.Expansions.{Leaves, concatenation_leaves}
+use Rattle.rp_program.proofs.Expansions.{Leaves, concatenation_leaves}
 use Rattle.rp_pattern.proofs.OrderRests.{IfOk-map}
 use Rattle.rp_pattern.proofs.Steps.{node_as, linked_parts, then_parts, stands_as, one_splits, replaces, replaces_as}
 use Rattle.rp_pattern.proofs.machine.node.Node.first_part.Goals as goal

@@ -1,8 +1,9 @@
 use Rattle.std.proofs.Common.{sym, ap, ◌∙◌}
 use Rattle.rp_words.specs.Words.{further}
 use Rattle.rp_words.specs.Turns.{iterations}
-use Rattle.rp_pattern.specs.Continuations.{form_part, node_part}
-use Rattle.rp_pattern.proofs.Expansions.{quantified_words, quantified_turns}
+use Rattle.rp_program.specs.Parts.{form_part}
+use Rattle.rp_pattern.specs.Continuations.{node_part}
+use Rattle.rp_program.proofs.Expansions.{quantified_words, quantified_turns}
 use Rattle.rp_pattern.proofs.Steps.{node_as}
 use Rattle.rp_pattern.proofs.machine.node.Node.iterations.Goals as goal
 

@@ -1,7 +1,8 @@
 use Rattle.std.proofs.Common.{◌∷◌, List, Some, sym, subst}
 use Rattle.rp_words.specs.Turns.{WordsAndTurns}
-use Rattle.rp_pattern.specs.Continuations.{form_part, tail_parts}
-use Rattle.rp_pattern.proofs.Expansions.{LeavesTwo, alternation_leaves}
+use Rattle.rp_program.specs.Parts.{form_part}
+use Rattle.rp_pattern.specs.Continuations.{tail_parts}
+use Rattle.rp_program.proofs.Expansions.{LeavesTwo, alternation_leaves}
 use Rattle.rp_pattern.proofs.Steps.{two_splits, before_shared}
 use Rattle.rp_pattern.proofs.machine.node.Node.take_alternation.Goals as goal
 

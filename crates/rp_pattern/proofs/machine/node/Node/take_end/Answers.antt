@@ -1,6 +1,7 @@
 use Rattle.std.proofs.Common.{ap, ◌∙◌, ◌∷◌, arith}
-use Rattle.rp_pattern.specs.Continuations.{form_part, node_part, tail_parts}
-use Rattle.rp_pattern.proofs.Expansions.{passed, no_words, some_turns, open_words, end_words, end_open, end_none, end_turns}
+use Rattle.rp_program.specs.Parts.{form_part}
+use Rattle.rp_pattern.specs.Continuations.{node_part, tail_parts}
+use Rattle.rp_program.proofs.Expansions.{passed, no_words, some_turns, open_words, end_words, end_open, end_none, end_turns}
 use Rattle.rp_pattern.proofs.Steps.{one_splits, replaces, none_splits, later_splits}
 use Rattle.rp_pattern.proofs.machine.node.Node.take_end.Goals as goal
 

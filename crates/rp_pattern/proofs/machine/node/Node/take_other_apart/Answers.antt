@@ -1,5 +1,6 @@
 use Rattle.std.proofs.Common.{◌∷◌, ap, sym, ◌∙◌}
-use Rattle.rp_pattern.specs.Continuations.{form_part, node_part, iterations_part, tail_parts}
+use Rattle.rp_program.specs.Parts.{form_part}
+use Rattle.rp_pattern.specs.Continuations.{node_part, iterations_part, tail_parts}
 use Rattle.rp_pattern.proofs.Steps.{always_splits, same_splits, taken_as}
 use Rattle.rp_pattern.proofs.machine.node.Node.take_other_apart.Goals as goal
 

@@ -2,7 +2,8 @@ use Rattle.std.proofs.Common.{◌≡◌, ◌∷◌, ◌+◌, length, sym, ap, �
 use Rattle.std.proofs.lemmas.List.{length-map}
 use Rattle.rp_pattern.specs.PermutedParts.{permuted_parts}
 use Rattle.rp_words.specs.Permutations.{factorial}
-use Rattle.rp_pattern.specs.Continuations.{permuted_form_parts, links_parts, tail_parts, reached_parts, form_part}
+use Rattle.rp_program.specs.Parts.{form_part}
+use Rattle.rp_pattern.specs.Continuations.{permuted_form_parts, links_parts, tail_parts, reached_parts}
 use Rattle.rp_words.proofs.OrdersAt.{factorial_small}
 use Rattle.rp_pattern.proofs.OrderRests.{no_order, permuted_same}
 use Rattle.rp_pattern.proofs.Steps.{stands_as}

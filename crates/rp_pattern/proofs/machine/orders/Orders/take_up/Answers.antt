@@ -2,7 +2,8 @@ use Rattle.std.proofs.Common.{◌≡◌, ◌∷◌, ◌++◌, ◌+◌, length, s
 use Rattle.std.proofs.lemmas.List.{length-map}
 use Rattle.rp_pattern.specs.PermutedParts.{permuted_parts}
 use Rattle.rp_words.specs.Turns.{orders_from}
-use Rattle.rp_pattern.specs.Continuations.{permuted_form_parts, in_order, tail_parts, form_part}
+use Rattle.rp_program.specs.Parts.{in_order, form_part}
+use Rattle.rp_pattern.specs.Continuations.{permuted_form_parts, tail_parts}
 use Rattle.rp_pattern.specs.Splits.{StandsFor}
 use Rattle.rp_pattern.proofs.Steps.{two_splits, replaces}
 use Rattle.rp_pattern.proofs.OrderRests.{order_leaves}
