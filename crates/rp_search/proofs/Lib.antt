@@ -2,6 +2,7 @@ pub mod FoundLaws
 pub mod Tested
 pub mod ChoiceSteps
 pub mod TurnEnds
+pub mod TakingUp
 pub mod RunSoFar
 mod LeftAlike
 pub mod Agreement

@@ -1,6 +1,6 @@
 -- A search within a run, at the end of a turn.
 use Rattle.std.specs.List.{AllByRecursion}
-use Rattle.std.proofs.Common.{map, ◌≡◌, ℕ, zero, suc, ◌+◌, ◌<◌, ◌≤◌, List, [], ◌∷◌, ◌++◌, length, take, Option, Some, None, Bool, true, false, IsTrue, ◌↔◌, refl, sym, ap, ◌∙◌, subst, arith, length-append}
+use Rattle.std.proofs.Common.{map, ◌≡◌, ℕ, zero, suc, ◌+◌, ◌<◌, ◌≤◌, List, [], ◌∷◌, ◌++◌, length, take, Option, Some, None, Bool, true, false, IsTrue, ◌↔◌, ◌⊎◌, inl, inr, refl, sym, ap, ◌∙◌, subst, arith, length-append}
 use Rattle.std.proofs.lemmas.List.{take-append-le}
 use Rattle.std.proofs.lemmas.List.Elements.{All-from_recursion, recursion_from_All, All-nil, All-take, All-push}
 use Rattle.rp_words.specs.declared.word.Label.{Label}
@@ -17,13 +17,15 @@ use Rattle.rp_words.specs.Mapping.{preceded}
 use Rattle.rp_words.specs.Later.{IsLater}
 use Rattle.rp_words.specs.LabelLaws.{IsBelow}
 use Rattle.rp_pattern.specs.Choices.{start_of, entered, whole, whole_turns, whole_turns_from, remaining, turns_left, below, turns_left_below, after, turns_left_after, AreFirstOf, AreStrictlyFirstOf, IsSameWhole}
-use Rattle.rp_search.specs.Found.{Test, tested, found, Waits}
+use Rattle.rp_search.specs.declared.search.Outcome.{Outcome}
+use Rattle.rp_search.specs.declared.search.Outcome.TheVariants.{Match, NoMatch, Waits, Paused}
+use Rattle.rp_search.specs.Found.{Test, tested, found, Waits as FoundWaits}
 use Rattle.rp_search.specs.Asked.{Asked, AreBelow, rows_from}
-use Rattle.rp_search.specs.Search.{HasMoved, IsAtStart, labels_of_search, start_of_search, turns_from, most_turns}
+use Rattle.rp_search.specs.Search.{HasMoved, IsAtStart, found_by, labels_of_search, start_of_search, turns_from, most_turns}
 use Rattle.rp_search.specs.Fits.{ChoicesFit, StandsBy, StandsAtRow, StandsAtRowBy, Explores, AreAdmitted, ChoicesStand, LabelsStand, LabelsBelow, MarksStand, MemoStands, SearchStands, test_from, unless_open, left_given, left_by}
 use Rattle.rp_search.specs.Memo.{IsBlank}
 use Rattle.rp_search.specs.Work.{TakeLess}
-use Rattle.rp_search.specs.Turned.{AddsLabel, AreCutBack, Goes, GoesOn, IsOpenAt, IsWithinRun}
+use Rattle.rp_search.specs.Turned.{AddsLabel, AreCutBack, Goes, GoesOn, IsOpenAt, IsWithinRun, Settled, Turned}
 use Rattle.rp_search.proofs.ChoiceSteps.{GivesUp, now_later, finds_begun, goes_wordless, no_words}
 use Rattle.rp_search.proofs.Marks.{blank_remembers}
 
@@ -58,8 +60,15 @@ searches_plainly s asked start from none stands h below =
 pub goes_on : (old new : Choices) (asked : Asked) → start_of new ≡ start_of old → Goes old new asked.known asked.end (asked.outcome (start_of old)) → AreBelow asked.variables (entered new) → GoesOn old new asked
 goes_on old new asked from g below = record { goes = subst (λ i. Goes old new asked.known asked.end (asked.outcome i)) (sym from) g; below = below }
 
-pub searches_settled : (s : Search) (old : Choices) (asked : Asked) → s.outlook ≡ None → GoesOn old s.choices asked → IsWithinRun s asked
-searches_settled s old asked none g = searches_plainly s asked (start_of s.choices) refl none g.goes.stands g.goes.admitted g.below
+settled_goes : (old new : Choices) (asked : Asked) (seen : Seen) → (seen ≡ True) ⊎ (seen ≡ NotTrue) → Settled old new asked seen → GoesOn old new asked
+settled_goes old new asked seen (inl e) s = subst (Settled old new asked) e s
+settled_goes old new asked seen (inr e) s = subst (Settled old new asked) e s
+
+-- where a row was settled, by the same that is asked under another name
+pub searches_settled : (s : Search) (old : Choices) (asked asked' : Asked) (seen : Seen) → s.outlook ≡ None → asked' ≡ asked → (seen ≡ True) ⊎ (seen ≡ NotTrue) → Settled old s.choices asked' seen → IsWithinRun s asked
+searches_settled s old asked asked' seen none same is settled =
+    let g : GoesOn old s.choices asked = subst (GoesOn old s.choices) same (settled_goes old s.choices asked' seen is settled) in
+    searches_plainly s asked (start_of s.choices) refl none g.goes.stands g.goes.admitted g.below
 
 pub admitted_plainly : (c : Choices) (p : Option Outlook) (n : ℕ) (e : End) (test : Test) → p ≡ None → AreAdmitted p c n e test → tested test (entered c) ≡ True
 admitted_plainly c p n e test none h = subst (λ q. AreAdmitted q c n e test) none h
@@ -90,13 +99,20 @@ left_settled old new outlook p q n e test some none decided h =
     (subst (λ r. turns_left new n e ≤ left_given r old n e test) (sym some) (settled_in (test (entered old)) (turns_left new n e) (turns_left old n e) (turns_left_below old n e + turns_ahead outlook n e) decided h))
 
 -- a word would follow a row
-pub explored_word : (c : Choices) (outlook : Outlook) (n : ℕ) (e : End) (test : Test) → ChoicesFit c n e test → Explores c outlook n e test → test (entered c) ≡ OpenTest → 0 < words_ahead outlook n e → found test (whole c n e) ≡ Waits
+pub explored_word : (c : Choices) (outlook : Outlook) (n : ℕ) (e : End) (test : Test) → ChoicesFit c n e test → Explores c outlook n e test → test (entered c) ≡ OpenTest → 0 < words_ahead outlook n e → found test (whole c n e) ≡ FoundWaits
 explored_word c outlook n e test s x seen some = finds_begun c n e test s x.row seen ((x.words n e (now_later n e)).0 some)
 
 -- nothing would follow it
 pub explored_nothing : (c d : Choices) (outlook : Outlook) (n : ℕ) (e : End) (test : Test) → ChoicesFit c n e test → Explores c outlook n e test → ((n' : ℕ) (e' : End) → words_ahead outlook n' e' ≡ 0) → IsSameWhole c d → GivesUp c d → Goes c d n e test
 explored_nothing c d outlook n e test s x none keeps g =
     goes_wordless c d n e test s x.row (λ n' e' h. no_words (words_ahead outlook n' e') (after c n' e') (x.words n' e' h) (none n' e')) keeps g
+
+-- a turn that goes on from another search, which finds the same and has no more turns left
+pub turned_after : (o : Outcome) (old mid new : Search) (asked : Asked) (fewer most : ℕ) → found_by mid asked ≡ found_by old asked → fewer ≤ most → Turned 1 mid new asked fewer o → Turned 1 old new asked most o
+turned_after Match old mid new asked fewer most same le t = (sym same ∙ t.0, omega (arith, le, t.1))
+turned_after NoMatch old mid new asked fewer most same le t = (sym same ∙ t.0, omega (arith, le, t.1))
+turned_after Waits old mid new asked fewer most same le t = (sym same ∙ t.0, t.1, omega (arith, le, t.2))
+turned_after Paused old mid new asked fewer most same le t = omega (arith, le, t)
 
 -- ---- a label that is not tested
 

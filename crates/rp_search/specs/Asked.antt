@@ -1,5 +1,5 @@
 -- What a search asks of the rows of a partition.
-use Rattle.std.specs.Prelude.{◌≡◌, ℕ, suc, ◌-◌, ◌<◌, ◌≤◌, List, All, Option, OnSome, IsSome}
+use Rattle.std.specs.Prelude.{◌≡◌, ℕ, suc, ◌-◌, ◌<◌, ◌≤◌, List, All, Option, None, OnSome, IsSome}
 use Rattle.rp_words.specs.declared.form.Form.{Form}
 use Rattle.rp_words.specs.declared.word.Label.{Label}
 use Rattle.rp_words.specs.declared.word.End.{End}
@@ -40,3 +40,9 @@ pub record AskedExtend (start : ℕ) (old new : Asked) : Type 0 where
   pub stay : TestsStay (rows_from start old.known) (old.outcome start) (new.outcome start)
   pub variables : new.variables ≡ old.variables
   pub remembered : OnSome old.pattern (IsSome new.pattern × StayFromEach start old new)
+
+-- Where no pattern is named, what is asked from a start row on goes on as soon as what was decided from that row alone stays.
+abbrev pub UnnamedExtend : Type 0
+UnnamedExtend = (start : ℕ) (old new : Asked) → old.pattern ≡ None → IsLater old.known old.end new.known new.end →
+    TestsStay (rows_from start old.known) (old.outcome start) (new.outcome start) → new.variables ≡ old.variables →
+    AskedExtend start old new

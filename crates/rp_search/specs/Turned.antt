@@ -1,5 +1,5 @@
 -- Inside: what one turn of a search does, within a run.
-use Rattle.std.specs.Prelude.{◌≡◌, ℕ, ◌+◌, ◌<◌, ◌≤◌, List, [], ◌∷◌, ◌++◌, take, Option, Some, None, IfSome}
+use Rattle.std.specs.Prelude.{◌≡◌, ℕ, ◌+◌, ◌<◌, ◌≤◌, List, [], ◌∷◌, ◌++◌, take, Option, Some, None, IfSome, IsSome, OnSome}
 use Rattle.std.specs.List.{AllByRecursion}
 use Rattle.rp_words.specs.declared.word.Label.{Label}
 use Rattle.rp_words.specs.Mapping.{Mapping}
@@ -10,8 +10,10 @@ use Rattle.rp_words.specs.declared.word.Seen.TheVariants.{True, NotTrue, Open as
 use Rattle.rp_pattern.specs.declared.choices.Choices.{Choices}
 use Rattle.rp_pattern.specs.declared.outlook.Outlook.{Outlook}
 use Rattle.rp_words.specs.Later.{AtEachLater}
+use Rattle.rp_words.specs.Numbers.{most_u64}
 use Rattle.rp_words.specs.Words.{words}
 use Rattle.rp_pattern.specs.Choices.{start_of, entered, height, above, turns_left}
+use Rattle.rp_search.specs.declared.memo.Mark.{Mark}
 use Rattle.rp_search.specs.declared.search.Search.{Search}
 use Rattle.rp_search.specs.declared.search.Outcome.{Outcome}
 use Rattle.rp_search.specs.declared.search.Outcome.TheVariants.{Match as MatchOutcome, NoMatch as NoMatchOutcome, Waits as WaitsOutcome, Paused as PausedOutcome}
@@ -19,9 +21,10 @@ use Rattle.rp_search.specs.Found.{Test, tested, Match, NoMatch, Waits}
 use Rattle.rp_search.specs.Asked.{Asked, AreBelow, rows_from}
 use Rattle.rp_search.specs.Refused.{RefusedUpTo}
 use Rattle.rp_search.specs.Lasting.{IsPassed, OpensAlike}
-use Rattle.rp_search.specs.Memo.{MeantBy}
-use Rattle.rp_search.specs.Fits.{ChoicesFit, SearchStands, test_from, left_by}
+use Rattle.rp_search.specs.Memo.{IsMarkOfTop, MeantBy}
+use Rattle.rp_search.specs.Fits.{ChoicesFit, MarksStand, MemoStands, SearchStands, StandsBy, StandsAtRowBy, test_from, left_by}
 use Rattle.rp_search.specs.Search.{HasVariablesBelow, found_by, labels_of_search, start_of_search, words_from}
+use Rattle.rp_search.specs.Work.{IsFresh, LastsAll, NoneIsOpen, Spent, counted}
 
 -- What is asked covers a search: its start row is known, the labels of its words are of variables that are tested, and it is for the
 -- pattern that is asked of, if one is.
@@ -45,9 +48,25 @@ pub record AddsLabel (Entered : List Label → Type 0) (labels : List Label) : T
   pub label : Label
   pub added : labels ≡ take depth before ++ label ∷ []
 
--- the count of the rows entered never falls, and rises by so many at most
-abbrev pub EntersAtMost : ℕ → ℕ → ℕ → Type 0
-EntersAtMost most old new = (old ≤ new) × (new ≤ old + most)
+-- a count never falls, and rises by so much at most
+abbrev pub RisesAtMost : ℕ → ℕ → ℕ → Type 0
+RisesAtMost most old new = (old ≤ new) × (new ≤ old + most)
+
+-- The preferred choice maps a row that may be asked for: the start row is known, the labels are of variables that are tested, and
+-- they are those that were entered.
+pub record CanAsk (c : Choices) (asked : Asked) (Entered : ℕ → List Label → Type 0) : Type 0 where
+  pub known : start_of c ≤ asked.known
+  pub stands : StandsBy c asked
+  pub row : StandsAtRowBy c asked
+  pub below : AreBelow asked.variables (entered c)
+  pub labels : Entered (start_of c) (entered c)
+
+-- The preferred choice maps a new row: its label follows entered ones, of variables that are tested.
+pub record MapsNewRow (c : Choices) (asked : Asked) (Entered : ℕ → List Label → Type 0) : Type 0 where
+  pub stands : StandsBy c asked
+  pub row : StandsAtRowBy c asked
+  pub below : AddsLabel (AreBelow asked.variables) (entered c)
+  pub labels : AddsLabel (Entered (start_of c)) (entered c)
 
 -- Of the words above any height only such were passed over as are refused on known rows. The stack fell no further than
 -- to there.
@@ -85,6 +104,27 @@ pub record IsWithinRun (s : Search) (asked : Asked) : Type 0 where
   pub fits : SearchStands s asked
   pub is_open : IsOpenAt s.outlook s.choices (test_from s.choices asked)
 
+-- A search is running: it is within a run, what it remembers is so, its marks are left in time, and its labels are those that were
+-- entered.
+pub record IsRunning (s : Search) (asked : Asked) (Entered : ℕ → List Label → Type 0) : Type 0 where
+  pub searches : IsWithinRun s asked
+  pub memo : MemoStands s asked
+  pub marks : MarksStand s asked
+  pub entered : Entered (start_of_search s) (labels_of_search s)
+
+-- A search can take a turn: what is asked covers it, and it is running.
+pub record CanTurn (s : Search) (asked : Asked) (Entered : ℕ → List Label → Type 0) : Type 0 where
+  pub covers : Covers asked s
+  pub running : IsRunning s asked Entered
+
+-- The mark that the preferred choice may leave, if there is one: only tests that name their pattern have one, whose place hasn't failed
+-- at its row for ever. So far what fails above it fails for ever.
+pub record CanMark (mark : Option Mark) (s : Search) (asked : Asked) : Type 0 where
+  pub marked : IfSome mark (IsMarkOfTop s.choices)
+  pub named : OnSome mark (IsSome asked.pattern)
+  pub fresh : IsFresh s.memo mark
+  pub ever : IfSome mark (λ m. most_u64 ≤ m.until)
+
 -- the search with this outlook
 abbrev pub exploring : Search → Outlook → Search
 exploring s outlook = record s { outlook = Some outlook }
@@ -96,6 +136,18 @@ Turned taken old new asked before MatchOutcome = (found_by old asked ≡ Match (
 Turned taken old new asked before NoMatchOutcome = (found_by old asked ≡ NoMatch) × (left_by new asked ≤ before)
 Turned taken old new asked before WaitsOutcome = (found_by old asked ≡ Waits) × (asked.end ≡ OpenEnd) × (left_by new asked ≤ before)
 Turned taken old new asked before PausedOutcome = left_by new asked + taken ≤ before
+
+-- the work that is left to a search fell by so many turns, but for so much that splits added which aren't remembered
+abbrev pub SearchSpent : ℕ → ℕ → Search → Search → Asked → Type 0
+SearchSpent taken added old new asked = Spent taken added old.choices new.choices old.memo new.memo asked
+
+-- What a turn came to, whose splits that aren't remembered add so much at most. Where refusals last for ever, so does all that it
+-- remembers, and it is taken off the work that is left. Where no word is found, no place has a mark any more.
+pub record TookTurn (added : Choices → ℕ) (Always : Type 0) (old new : Search) (asked : Asked) (outcome : Outcome) : Type 0 where
+  pub turned : Turned 1 old new asked (left_by old asked) outcome
+  pub spent : Always → NoneIsOpen asked → SearchSpent (counted outcome) (added old.choices) old new asked
+  pub lasts : Always → LastsAll old.memo → LastsAll new.memo
+  pub held : outcome ≡ NoMatchOutcome → new.memo.marks ≡ []
 
 -- The turns taken are counted: one at least, and the whole budget where the search is paused.
 pub record CountsTurns (budget : ℕ) (outcome : Outcome) (taken steps steps' : ℕ) : Type 0 where

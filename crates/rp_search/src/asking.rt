@@ -3,11 +3,11 @@ ghost use Rattle.std.specs.Prelude.{◌≡◌, ℕ, ◌+◌, ◌<◌, ◌≤◌,
 ghost use Rattle.rp_words.specs.declared.word.Label.{Label};
 ghost use Rattle.rp_pattern.specs.Choices.{start_of, entered, IsSameWhole};
 ghost use Rattle.rp_search.specs.Asked.{AreBelow};
-ghost use Rattle.rp_search.specs.Fits.{StandsBy, StandsAtRowBy, test_from};
+ghost use Rattle.rp_search.specs.Fits.{test_from};
 ghost use Rattle.rp_words.specs.declared.word.Seen.TheVariants.{NotTrue};
 ghost use Rattle.rp_search.specs.Lasting.{LastsUntil, OfPattern, OpensAlike};
 ghost use Rattle.rp_search.specs.Memo.{AreOfPattern};
-ghost use Rattle.rp_search.specs.Turned.{AddsLabel, AreCutBack, EntersAtMost, Settled, SettledUntil};
+ghost use Rattle.rp_search.specs.Turned.{AddsLabel, AreCutBack, CanAsk, RisesAtMost, Settled, SettledUntil};
 ghost use Rattle.rp_search.specs.Work.{SettledCosts, SettledEver, Sinks};
 ghost use Rattle.rp_words.specs.Numbers.{most_u64};
 
@@ -35,7 +35,7 @@ pub(crate) fn enter_row<T: Tests>(choices: &Choices, tests: &mut T) -> Result<()
     requires below { AreBelow (T.asked (T.subject tests.old)).variables (entered choices.now) }
     requires new { AddsLabel (T.entered tests.old (start_of choices.now)) (entered choices.now) }
     ensures subject { T.subject tests.new ≡ T.subject tests.old }
-    ensures entries { EntersAtMost 1 (T.entries tests.old) (T.entries tests.new) }
+    ensures entries { RisesAtMost 1 (T.entries tests.old) (T.entries tests.new) }
     ensures entered { OnOk result (T.entered tests.new (start_of choices.now) (entered choices.now)) }
 {
     tests.cut(choices.labels().len() - 1);
@@ -54,11 +54,7 @@ pub(crate) fn is_tested<T: Tests>(choices: &Choices, tests: &T) -> bool
 
 /// Below which start row the last label is refused at its row: its own start row where that isn't known, or isn't wanted.
 fn lasts<T: Tests>(choices: &Choices, tests: &T, most: u64) -> u64
-    requires known { start_of choices.now ≤ (T.asked (T.subject tests.now)).known }
-    requires stands { StandsBy choices.now (T.asked (T.subject tests.now)) }
-    requires row { StandsAtRowBy choices.now (T.asked (T.subject tests.now)) }
-    requires below { AreBelow (T.asked (T.subject tests.now)).variables (entered choices.now) }
-    requires entered { T.entered tests.now (start_of choices.now) (entered choices.now) }
+    requires can_ask { CanAsk choices.now (T.asked (T.subject tests.now)) (T.entered tests.now) }
     requires refused { test_from choices.now (T.asked (T.subject tests.now)) (entered choices.now) ≡ NotTrue }
     ensures lasts { let a = T.asked (T.subject tests.now) in start_of choices.now < result →
         OpensAlike (OfPattern a.pattern) a × LastsUntil (OfPattern a.pattern) a (start_of choices.now) (entered choices.now) result }
@@ -81,11 +77,7 @@ pub(crate) fn settle<T: Tests>(
     tests: &mut T,
     until: &mut u64,
 ) -> Result<Seen, AllocError>
-    requires known { start_of choices.old ≤ (T.asked (T.subject tests.old)).known }
-    requires stands { StandsBy choices.old (T.asked (T.subject tests.old)) }
-    requires row { StandsAtRowBy choices.old (T.asked (T.subject tests.old)) }
-    requires below { AreBelow (T.asked (T.subject tests.old)).variables (entered choices.old) }
-    requires entered { T.entered tests.old (start_of choices.old) (entered choices.old) }
+    requires can_ask { CanAsk choices.old (T.asked (T.subject tests.old)) (T.entered tests.old) }
     requires pattern { AreOfPattern (T.asked (T.subject tests.old)).pattern choices.old }
     ensures same { IsSameWhole choices.old choices.new }
     ensures subject { T.subject tests.new ≡ T.subject tests.old }

@@ -1,6 +1,7 @@
 //! Laws of what is found among words, of searches over what goes on, and of tests that agree.
 //! A call does nothing, and its caller may then use them.
 ghost use Rattle.rp_search.specs.Agreement.{SameIsTested, SameIsTestedFirst, HeadedAgree, SameStatus, SameIsFound, LeaderFindsSame, LeaderHeads};
+ghost use Rattle.rp_search.specs.Asked.{UnnamedExtend};
 ghost use Rattle.rp_search.specs.Bound.{WorkGrows};
 ghost use Rattle.rp_search.specs.FoundLaws.{FoundStays, FoundResumes, ClosedDecides, MatchIsWord, RefusedStays, GoodStays};
 ghost use Rattle.rp_search.specs.Search.{SearchFitsStays, LeftIsBounded, LeftIsSame, VariablesAreBelow};
@@ -21,13 +22,15 @@ pub fn law_found()
 
 /// The laws of a search that fits what is asked. It fits all that extends it, and has no more turns left than its
 /// pattern takes from its start row and one for each word, and as many over what answers the same. The labels of its words
-/// are of the pattern's variables. With each row that becomes known no more is left to it than all places take at a row.
+/// are of the pattern's variables. With each row that becomes known no more is left to it than all places take at a row. Where no
+/// pattern is named, what extends what is asked need keep only what was decided from the search's own start row.
 pub fn law_search()
     ensures stays { SearchFitsStays }
     ensures bounded { LeftIsBounded }
     ensures same { LeftIsSame }
     ensures variables { VariablesAreBelow }
     ensures work { WorkGrows }
+    ensures unnamed { UnnamedExtend }
 {
     law_labels();
 }

@@ -4,7 +4,7 @@
 //! While the test of the last label's row is open, the labels before it are tested true, and the search keeps an outlook
 //! over what would follow that row: only if a word does is there anything to wait for. What is explored then counts as
 //! left in place of the choice itself. A later run asks the open test again first.
-ghost use Rattle.std.specs.Prelude.{◌≡◌, ◌-◌, ◌+◌, ◌<◌, ◌≤◌, [], None, IfOk, IfSome, IsSome, OnOk, OnErr, OnSome};
+ghost use Rattle.std.specs.Prelude.{◌≡◌, ◌-◌, ◌+◌, ◌<◌, ◌≤◌, [], None, IfOk, OnOk, OnErr};
 ghost use Rattle.rp_words.specs.PatternForm.{form_of};
 
 mod explore;
@@ -56,14 +56,13 @@ impl Search {
     ghost use Rattle.rp_words.specs.Numbers.{most_u64};
     ghost use Rattle.rp_pattern.specs.Choices.{kept, start_of, top_weight};
     ghost use Rattle.rp_pattern.specs.Ways.{IsNumbered, all_weight};
-    ghost use Rattle.rp_search.specs.Asked.{AreBelow};
     ghost use Rattle.rp_search.specs.Bound.{BeginsWork, LastsForEver, MovesWork, RunWorks, Works, turns_before};
-    ghost use Rattle.rp_search.specs.Fits.{MarksStand, MemoStands, SearchFits, left_by, StandsBy, StandsAtRowBy};
+    ghost use Rattle.rp_search.specs.Fits.{MarksStand, MemoStands, SearchFits, left_by};
     ghost use Rattle.rp_search.specs.Lasting.{OpensAlike};
-    ghost use Rattle.rp_search.specs.Memo.{IsDeadTop, IsMarkOfTop, MeantBy, Remembers};
+    ghost use Rattle.rp_search.specs.Memo.{IsDeadTop, MeantBy};
     ghost use Rattle.rp_search.specs.Search.{RunAnswers, CanRun, IsAtStart, HasMoved, IsSearchFor, IsForSamePattern, IsSameSearch, Lowers, TakesTurns, labels_of_search, start_of_search, turns_of_run};
-    ghost use Rattle.rp_search.specs.Turned.{AddsLabel, CountsTurns, Covers, EntersAtMost, IsWithinRun, Turned};
-    ghost use Rattle.rp_search.specs.Work.{IsFresh, LastsAll, NoneIsOpen, Spent, added_by, counted, unmarked};
+    ghost use Rattle.rp_search.specs.Turned.{CanMark, CanTurn, CountsTurns, Covers, IsRunning, MapsNewRow, RisesAtMost, SearchSpent, TookTurn};
+    ghost use Rattle.rp_search.specs.Work.{LastsAll, NoneIsOpen, added_by, unmarked};
 
     /// A search from the row `start`, which is at least 1.
     pub fn new(alloc: Global, pattern: &Pattern, start: u64) -> Result<Search, AllocError>
@@ -225,17 +224,15 @@ impl Search {
 
         ensures same { IsSameSearch self.old self.new }
         ensures subject { T.subject tests.new ≡ T.subject tests.old }
-        ensures entered { OnOk result (T.entered tests.new (start_of_search self.new) (labels_of_search self.new)) }
-        ensures fits { OnOk result (SearchFits self.new (T.asked (T.subject tests.old))) }
+        ensures running { OnOk result (IsRunning self.new (T.asked (T.subject tests.old)) (T.entered tests.new)) }
         ensures answers { IfOk result (λ r. RunAnswers self.old self.new (T.asked (T.subject tests.old)) r.0) }
         ensures left { IfOk result (λ r. Lowers r.1 self.old self.new (T.asked (T.subject tests.old)) r.0) }
         ensures counted { IfOk result (λ r. CountsTurns budget r.0 r.1 steps.old steps.new) }
-        ensures grows { steps.old ≤ steps.new }
-        ensures within { steps.new ≤ steps.old + budget }
+        ensures within { RisesAtMost budget steps.old steps.new }
         ensures entries { (T.entries tests.old ≤ T.entries tests.new)
             × (T.entries tests.new + steps.old ≤ T.entries tests.old + steps.new) }
-        ensures works { IfOk result (λ r. T.always (T.subject tests.old) → NoneIsOpen (T.asked (T.subject tests.old)) →
-            Works asleep r.1 self.old self.new (T.asked (T.subject tests.old)) r.0) }
+        ensures works { let s = T.subject tests.old in IfOk result (λ r. T.always s → NoneIsOpen (T.asked s) →
+            Works asleep r.1 self.old self.new (T.asked s) r.0) }
         ensures lasts { OnOk result (T.always (T.subject tests.old) → LastsAll self.old.memo → LastsAll self.new.memo) }
     {
         self.resume(tests)?;
@@ -257,14 +254,11 @@ impl Search {
         ensures same { IsSameSearch self.old self.new }
         ensures subject { T.subject tests.new ≡ T.subject tests.old }
         ensures entries { T.entries tests.new ≡ T.entries tests.old }
-        ensures entered { OnOk result (T.entered tests.new (start_of_search self.new) (labels_of_search self.new)) }
-        ensures searches { OnOk result (IsWithinRun self.new (T.asked (T.subject tests.old))) }
-        ensures memo { OnOk result (MemoStands self.new (T.asked (T.subject tests.old))) }
+        ensures running { OnOk result (IsRunning self.new (T.asked (T.subject tests.old)) (T.entered tests.new)) }
         ensures left { OnOk result
             (left_by self.new (T.asked (T.subject tests.old)) ≤ left_by self.old (T.asked (T.subject tests.old))) }
-        ensures marks { OnOk result (MarksStand self.new (T.asked (T.subject tests.old))) }
-        ensures spent { OnOk result (NoneIsOpen (T.asked (T.subject tests.old)) → Spent 0 0
-            self.old.choices self.new.choices self.old.memo self.new.memo (T.asked (T.subject tests.old))) }
+        ensures spent { let a = T.asked (T.subject tests.old) in
+            OnOk result (NoneIsOpen a → SearchSpent 0 0 self.old self.new a) }
         ensures lasts { OnOk result (T.always (T.subject tests.old) → LastsAll self.old.memo → LastsAll self.new.memo) }
     {
         let Some(outlook) = self.outlook.take() else {
@@ -286,26 +280,14 @@ impl Search {
 
     /// Takes up one choice. It answers `Paused` where the search isn't at its end.
     fn turn<T: Tests>(&mut self, remembers: bool, tests: &mut T) -> Result<Outcome, AllocError>
-        requires covers { Covers (T.asked (T.subject tests.old)) self.old }
-        requires searches { IsWithinRun self.old (T.asked (T.subject tests.old)) }
-        requires memo { MemoStands self.old (T.asked (T.subject tests.old)) }
-        requires entered { T.entered tests.old (start_of_search self.old) (labels_of_search self.old) }
-        requires marks { MarksStand self.old (T.asked (T.subject tests.old)) }
+        requires can_turn { CanTurn self.old (T.asked (T.subject tests.old)) (T.entered tests.old) }
 
         ensures same { IsSameSearch self.old self.new }
         ensures subject { T.subject tests.new ≡ T.subject tests.old }
-        ensures entries { EntersAtMost 1 (T.entries tests.old) (T.entries tests.new) }
-        ensures entered { OnOk result (T.entered tests.new (start_of_search self.new) (labels_of_search self.new)) }
-        ensures searches { OnOk result (IsWithinRun self.new (T.asked (T.subject tests.old))) }
-        ensures memo { OnOk result (MemoStands self.new (T.asked (T.subject tests.old))) }
-        ensures turned { IfOk result (Turned 1 self.old self.new
-            (T.asked (T.subject tests.old)) (left_by self.old (T.asked (T.subject tests.old)))) }
-        ensures marks { OnOk result (MarksStand self.new (T.asked (T.subject tests.old))) }
-        ensures spent { IfOk result (λ outcome. T.always (T.subject tests.old) → NoneIsOpen (T.asked (T.subject tests.old)) →
-            Spent (counted outcome) (added_by remembers self.old.choices)
-            self.old.choices self.new.choices self.old.memo self.new.memo (T.asked (T.subject tests.old))) }
-        ensures lasts { OnOk result (T.always (T.subject tests.old) → LastsAll self.old.memo → LastsAll self.new.memo) }
-        ensures held { IfOk result (λ outcome. outcome ≡ Outcome.NoMatch → self.new.memo.marks ≡ []) }
+        ensures entries { RisesAtMost 1 (T.entries tests.old) (T.entries tests.new) }
+        ensures running { OnOk result (IsRunning self.new (T.asked (T.subject tests.old)) (T.entered tests.new)) }
+        ensures took { let s = T.subject tests.old in
+            IfOk result (TookTurn (added_by remembers) (T.always s) self.old self.new (T.asked s)) }
     {
         // To take an outlook out moves it, so most turns only look whether there is one.
         if self.outlook.is_none() {
@@ -317,27 +299,15 @@ impl Search {
     /// Takes up the preferred choice.
     #[inline(always)]
     fn take_up<T: Tests>(&mut self, remembers: bool, tests: &mut T) -> Result<Outcome, AllocError>
-        requires covers { Covers (T.asked (T.subject tests.old)) self.old }
+        requires can_turn { CanTurn self.old (T.asked (T.subject tests.old)) (T.entered tests.old) }
         requires none { self.old.outlook ≡ None }
-        requires searches { IsWithinRun self.old (T.asked (T.subject tests.old)) }
-        requires memo { MemoStands self.old (T.asked (T.subject tests.old)) }
-        requires entered { T.entered tests.old (start_of_search self.old) (labels_of_search self.old) }
-        requires marks { MarksStand self.old (T.asked (T.subject tests.old)) }
 
         ensures same { IsSameSearch self.old self.new }
         ensures subject { T.subject tests.new ≡ T.subject tests.old }
-        ensures entries { EntersAtMost 1 (T.entries tests.old) (T.entries tests.new) }
-        ensures entered { OnOk result (T.entered tests.new (start_of_search self.new) (labels_of_search self.new)) }
-        ensures searches { OnOk result (IsWithinRun self.new (T.asked (T.subject tests.old))) }
-        ensures memo { OnOk result (MemoStands self.new (T.asked (T.subject tests.old))) }
-        ensures turned { IfOk result (Turned 1 self.old self.new
-            (T.asked (T.subject tests.old)) (left_by self.old (T.asked (T.subject tests.old)))) }
-        ensures marks { OnOk result (MarksStand self.new (T.asked (T.subject tests.old))) }
-        ensures spent { IfOk result (λ outcome. T.always (T.subject tests.old) → NoneIsOpen (T.asked (T.subject tests.old)) →
-            Spent (counted outcome) (added_by remembers self.old.choices)
-            self.old.choices self.new.choices self.old.memo self.new.memo (T.asked (T.subject tests.old))) }
-        ensures lasts { OnOk result (T.always (T.subject tests.old) → LastsAll self.old.memo → LastsAll self.new.memo) }
-        ensures held { IfOk result (λ outcome. outcome ≡ Outcome.NoMatch → self.new.memo.marks ≡ []) }
+        ensures entries { RisesAtMost 1 (T.entries tests.old) (T.entries tests.new) }
+        ensures running { OnOk result (IsRunning self.new (T.asked (T.subject tests.old)) (T.entered tests.new)) }
+        ensures took { let s = T.subject tests.old in
+            IfOk result (TookTurn (added_by remembers) (T.always s) self.old self.new (T.asked s)) }
     {
         let mark = mark_of(remembers, &self.choices, tests);
         let until = self.memo.failed_until(mark);
@@ -350,24 +320,17 @@ impl Search {
 
     /// Gives the preferred choice up, since each of its words is refused, as from each start row below that one.
     fn pass_over<T: Tests>(&mut self, until: u64, tests: &mut T)
+        requires can_turn { CanTurn self.old (T.asked (T.subject tests.old)) (T.entered tests.old) }
         requires none { self.old.outlook ≡ None }
         requires dead { IsDeadTop until self.old.choices (T.asked (T.subject tests.old)) }
         requires alike { OpensAlike (MeantBy self.old.choices) (T.asked (T.subject tests.old)) }
-        requires searches { IsWithinRun self.old (T.asked (T.subject tests.old)) }
-        requires memo { MemoStands self.old (T.asked (T.subject tests.old)) }
-        requires entered { T.entered tests.old (start_of_search self.old) (labels_of_search self.old) }
-        requires marks { MarksStand self.old (T.asked (T.subject tests.old)) }
 
         ensures same { IsSameSearch self.old self.new }
         ensures subject { T.subject tests.new ≡ T.subject tests.old }
         ensures entries { T.entries tests.new ≡ T.entries tests.old }
-        ensures entered { T.entered tests.new (start_of_search self.new) (labels_of_search self.new) }
-        ensures searches { IsWithinRun self.new (T.asked (T.subject tests.old)) }
-        ensures memo { MemoStands self.new (T.asked (T.subject tests.old)) }
+        ensures running { IsRunning self.new (T.asked (T.subject tests.old)) (T.entered tests.new) }
         ensures left { left_by self.new (T.asked (T.subject tests.old)) + 1 ≤ left_by self.old (T.asked (T.subject tests.old)) }
-        ensures marks { MarksStand self.new (T.asked (T.subject tests.old)) }
-        ensures spent { Spent 1 0
-            self.old.choices self.new.choices self.old.memo self.new.memo (T.asked (T.subject tests.old)) }
+        ensures spent { SearchSpent 1 0 self.old self.new (T.asked (T.subject tests.old)) }
         ensures lasts { start_of self.old.choices < most_u64 → most_u64 ≤ until → LastsAll self.old.memo → LastsAll self.new.memo }
     {
         self.choices.give_up();
@@ -382,32 +345,17 @@ impl Search {
         mark: Option<Mark>,
         tests: &mut T,
     ) -> Result<Outcome, AllocError>
-        requires covers { Covers (T.asked (T.subject tests.old)) self.old }
+        requires can_turn { CanTurn self.old (T.asked (T.subject tests.old)) (T.entered tests.old) }
         requires none { self.old.outlook ≡ None }
-        requires marked { IfSome mark (IsMarkOfTop self.old.choices) }
-        requires named { OnSome mark (IsSome (T.asked (T.subject tests.old)).pattern) }
-        requires searches { IsWithinRun self.old (T.asked (T.subject tests.old)) }
-        requires memo { MemoStands self.old (T.asked (T.subject tests.old)) }
-        requires entered { T.entered tests.old (start_of_search self.old) (labels_of_search self.old) }
-        requires marks { MarksStand self.old (T.asked (T.subject tests.old)) }
-        requires fresh { IsFresh self.old.memo mark }
+        requires can_mark { CanMark mark self.old (T.asked (T.subject tests.old)) }
 
         ensures same { IsSameSearch self.old self.new }
         ensures subject { T.subject tests.new ≡ T.subject tests.old }
-        ensures entries { EntersAtMost 1 (T.entries tests.old) (T.entries tests.new) }
-        ensures entered { OnOk result (T.entered tests.new (start_of_search self.new) (labels_of_search self.new)) }
-        ensures searches { OnOk result (IsWithinRun self.new (T.asked (T.subject tests.old))) }
-        ensures memo { OnOk result (MemoStands self.new (T.asked (T.subject tests.old))) }
-        ensures turned { IfOk result (Turned 1 self.old self.new
-            (T.asked (T.subject tests.old)) (left_by self.old (T.asked (T.subject tests.old)))) }
-        ensures marks { OnOk result (MarksStand self.new (T.asked (T.subject tests.old))) }
-        ensures spent { IfOk result (λ outcome. NoneIsOpen (T.asked (T.subject tests.old)) →
-            Spent (counted outcome) (unmarked mark self.old.choices)
-            self.old.choices self.new.choices self.old.memo self.new.memo (T.asked (T.subject tests.old))) }
+        ensures entries { RisesAtMost 1 (T.entries tests.old) (T.entries tests.new) }
+        ensures running { OnOk result (IsRunning self.new (T.asked (T.subject tests.old)) (T.entered tests.new)) }
+        ensures took { let s = T.subject tests.old in
+            IfOk result (TookTurn (unmarked mark) (T.always s) self.old self.new (T.asked s)) }
         ensures most { IsNumbered (kept self.old.choices) → top_weight self.old.choices ≤ all_weight (kept self.old.choices) }
-        ensures lasts { OnOk result (T.always (T.subject tests.old) → IfSome mark (λ m. most_u64 ≤ m.until) →
-            LastsAll self.old.memo → LastsAll self.new.memo) }
-        ensures held { IfOk result (λ outcome. outcome ≡ Outcome.NoMatch → self.new.memo.marks ≡ []) }
     {
         match self.choices.take_up(tests.known(), tests.end())? {
             Taken::Row => {
@@ -442,24 +390,18 @@ impl Search {
     fn map_row<T: Tests>(&mut self, tests: &mut T) -> Result<(), AllocError>
         requires covers { Covers (T.asked (T.subject tests.old)) self.old }
         requires none { self.old.outlook ≡ None }
-        requires stands { StandsBy self.old.choices (T.asked (T.subject tests.old)) }
-        requires row { StandsAtRowBy self.old.choices (T.asked (T.subject tests.old)) }
-        requires new { AddsLabel (T.entered tests.old (start_of_search self.old)) (labels_of_search self.old) }
-        requires below { AddsLabel (AreBelow (T.asked (T.subject tests.old)).variables) (labels_of_search self.old) }
+        requires maps { MapsNewRow self.old.choices (T.asked (T.subject tests.old)) (T.entered tests.old) }
         requires memo { MemoStands self.old (T.asked (T.subject tests.old)) }
         requires marks { MarksStand self.old (T.asked (T.subject tests.old)) }
 
         ensures same { IsSameSearch self.old self.new }
         ensures subject { T.subject tests.new ≡ T.subject tests.old }
-        ensures entries { EntersAtMost 1 (T.entries tests.old) (T.entries tests.new) }
-        ensures entered { OnOk result (T.entered tests.new (start_of_search self.new) (labels_of_search self.new)) }
-        ensures searches { OnOk result (IsWithinRun self.new (T.asked (T.subject tests.old))) }
-        ensures memo { OnOk result (MemoStands self.new (T.asked (T.subject tests.old))) }
+        ensures entries { RisesAtMost 1 (T.entries tests.old) (T.entries tests.new) }
+        ensures running { OnOk result (IsRunning self.new (T.asked (T.subject tests.old)) (T.entered tests.new)) }
         ensures left { OnOk result
             (left_by self.new (T.asked (T.subject tests.old)) + 1 ≤ left_by self.old (T.asked (T.subject tests.old))) }
-        ensures marks { OnOk result (MarksStand self.new (T.asked (T.subject tests.old))) }
-        ensures spent { OnOk result (NoneIsOpen (T.asked (T.subject tests.old)) → Spent 1 0
-            self.old.choices self.new.choices self.old.memo self.new.memo (T.asked (T.subject tests.old))) }
+        ensures spent { let a = T.asked (T.subject tests.old) in
+            OnOk result (NoneIsOpen a → SearchSpent 1 0 self.old self.new a) }
         ensures lasts { OnOk result (T.always (T.subject tests.old) → LastsAll self.old.memo → LastsAll self.new.memo) }
     {
         if !is_tested(&self.choices, tests) {

@@ -3,7 +3,7 @@
 //! It is looked for by an outlook, a stack of choices that keeps no labels: which word follows doesn't matter, only whether
 //! one does. Where none does, the choice that maps the row is given up and the next one taken up in the same turn, since
 //! the count of turns leaves none for finding that nothing is left.
-ghost use Rattle.std.specs.Prelude.{◌≡◌, ◌+◌, ◌≤◌, [], None, IfOk, OnOk};
+ghost use Rattle.std.specs.Prelude.{◌≡◌, None, IfOk, OnOk};
 
 use super::{Outcome, Search};
 use crate::asking::cut_back;
@@ -13,10 +13,9 @@ use std::alloc::AllocError;
 
 #[tactic(auto, unfolding(crate::specs::Search::start_of_search, crate::specs::Search::labels_of_search, crate::specs::Search::words_from, crate::specs::Search::turns_from, crate::specs::Fits::left_by, crate::specs::Fits::ChoicesStand, crate::specs::Fits::LabelsStand, crate::specs::Fits::LabelsBelow, crate::specs::Fits::MemoStands, crate::specs::Fits::MarksStand))]
 impl Search {
-    ghost use Rattle.rp_search.specs.Fits.{MarksStand, MemoStands, left_by};
-    ghost use Rattle.rp_search.specs.Search.{IsSameSearch, labels_of_search, start_of_search};
-    ghost use Rattle.rp_search.specs.Turned.{Covers, EntersAtMost, IsWithinRun, Turned, exploring};
-    ghost use Rattle.rp_search.specs.Work.{LastsAll, NoneIsOpen, Spent, added_by, counted};
+    ghost use Rattle.rp_search.specs.Search.{IsSameSearch};
+    ghost use Rattle.rp_search.specs.Turned.{CanTurn, IsRunning, RisesAtMost, TookTurn, exploring};
+    ghost use Rattle.rp_search.specs.Work.{added_by};
 
     /// Takes up what would follow a row whose test is open, if one is, and else the preferred choice.
     #[inline(never)]
@@ -25,26 +24,14 @@ impl Search {
         remembers: bool,
         tests: &mut T,
     ) -> Result<Outcome, AllocError>
-        requires covers { Covers (T.asked (T.subject tests.old)) self.old }
-        requires searches { IsWithinRun self.old (T.asked (T.subject tests.old)) }
-        requires memo { MemoStands self.old (T.asked (T.subject tests.old)) }
-        requires entered { T.entered tests.old (start_of_search self.old) (labels_of_search self.old) }
-        requires marks { MarksStand self.old (T.asked (T.subject tests.old)) }
+        requires can_turn { CanTurn self.old (T.asked (T.subject tests.old)) (T.entered tests.old) }
 
         ensures same { IsSameSearch self.old self.new }
         ensures subject { T.subject tests.new ≡ T.subject tests.old }
-        ensures entries { EntersAtMost 1 (T.entries tests.old) (T.entries tests.new) }
-        ensures entered { OnOk result (T.entered tests.new (start_of_search self.new) (labels_of_search self.new)) }
-        ensures searches { OnOk result (IsWithinRun self.new (T.asked (T.subject tests.old))) }
-        ensures memo { OnOk result (MemoStands self.new (T.asked (T.subject tests.old))) }
-        ensures turned { IfOk result (Turned 1 self.old self.new
-            (T.asked (T.subject tests.old)) (left_by self.old (T.asked (T.subject tests.old)))) }
-        ensures marks { OnOk result (MarksStand self.new (T.asked (T.subject tests.old))) }
-        ensures spent { IfOk result (λ outcome. T.always (T.subject tests.old) → NoneIsOpen (T.asked (T.subject tests.old)) →
-            Spent (counted outcome) (added_by remembers self.old.choices)
-            self.old.choices self.new.choices self.old.memo self.new.memo (T.asked (T.subject tests.old))) }
-        ensures lasts { OnOk result (T.always (T.subject tests.old) → LastsAll self.old.memo → LastsAll self.new.memo) }
-        ensures held { IfOk result (λ outcome. outcome ≡ Outcome.NoMatch → self.new.memo.marks ≡ []) }
+        ensures entries { RisesAtMost 1 (T.entries tests.old) (T.entries tests.new) }
+        ensures running { OnOk result (IsRunning self.new (T.asked (T.subject tests.old)) (T.entered tests.new)) }
+        ensures took { let s = T.subject tests.old in
+            IfOk result (TookTurn (added_by remembers) (T.always s) self.old self.new (T.asked s)) }
     {
         match self.outlook.take() {
             None => self.take_up(remembers, tests),
@@ -60,27 +47,15 @@ impl Search {
         remembers: bool,
         tests: &mut T,
     ) -> Result<Outcome, AllocError>
-        requires covers { Covers (T.asked (T.subject tests.old)) self.old }
         requires none { self.old.outlook ≡ None }
-        requires before { IsWithinRun (exploring self.old outlook) (T.asked (T.subject tests.old)) }
-        requires memo { MemoStands self.old (T.asked (T.subject tests.old)) }
-        requires entered { T.entered tests.old (start_of_search self.old) (labels_of_search self.old) }
-        requires marks { MarksStand self.old (T.asked (T.subject tests.old)) }
+        requires can_turn { CanTurn (exploring self.old outlook) (T.asked (T.subject tests.old)) (T.entered tests.old) }
 
         ensures same { IsSameSearch self.old self.new }
         ensures subject { T.subject tests.new ≡ T.subject tests.old }
-        ensures entries { EntersAtMost 1 (T.entries tests.old) (T.entries tests.new) }
-        ensures entered { OnOk result (T.entered tests.new (start_of_search self.new) (labels_of_search self.new)) }
-        ensures searches { OnOk result (IsWithinRun self.new (T.asked (T.subject tests.old))) }
-        ensures memo { OnOk result (MemoStands self.new (T.asked (T.subject tests.old))) }
-        ensures turned { IfOk result (Turned 1 self.old self.new
-            (T.asked (T.subject tests.old)) (left_by (exploring self.old outlook) (T.asked (T.subject tests.old)))) }
-        ensures marks { OnOk result (MarksStand self.new (T.asked (T.subject tests.old))) }
-        ensures spent { IfOk result (λ outcome. T.always (T.subject tests.old) → NoneIsOpen (T.asked (T.subject tests.old)) →
-            Spent (counted outcome) (added_by remembers self.old.choices)
-            self.old.choices self.new.choices self.old.memo self.new.memo (T.asked (T.subject tests.old))) }
-        ensures lasts { OnOk result (T.always (T.subject tests.old) → LastsAll self.old.memo → LastsAll self.new.memo) }
-        ensures held { IfOk result (λ outcome. outcome ≡ Outcome.NoMatch → self.new.memo.marks ≡ []) }
+        ensures entries { RisesAtMost 1 (T.entries tests.old) (T.entries tests.new) }
+        ensures running { OnOk result (IsRunning self.new (T.asked (T.subject tests.old)) (T.entered tests.new)) }
+        ensures took { let s = T.subject tests.old in
+            IfOk result (TookTurn (added_by remembers) (T.always s) (exploring self.old outlook) self.new (T.asked s)) }
     {
         match outlook.take_up(tests.known(), tests.end())? {
             Sight::Further => {

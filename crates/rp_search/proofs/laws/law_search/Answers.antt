@@ -1,4 +1,5 @@
 use Rattle.std.proofs.Common.{◌+◌, ◌≤◌, ℕ, Option, Some, None, arith, subst, sym}
+use Rattle.std.specs.Prelude.{IsSome, OnSome}
 use Rattle.std.specs.List.{AllByRecursion}
 use Rattle.rp_words.specs.LabelLaws.{IsBelow}
 use Rattle.rp_words.specs.declared.word.End.{End}
@@ -9,7 +10,7 @@ use Rattle.rp_pattern.specs.Choices.{start_of, entered, turns_left, whole_turns,
 use Rattle.rp_pattern.specs.declared.outlook.Outlook.{Outlook}
 use Rattle.rp_pattern.specs.Outlooks.{turns_ahead}
 use Rattle.rp_search.specs.Found.{Test}
-use Rattle.rp_search.specs.Asked.{Asked, AskedExtend, AreBelow, rows_from}
+use Rattle.rp_search.specs.Asked.{Asked, AskedExtend, AreBelow, StayFromEach, rows_from}
 use Rattle.rp_search.specs.Search.{start_of_search, turns_from}
 use Rattle.rp_search.specs.Fits.{ChoicesFit, AreAdmitted, unless_open, left_given, left_by, ChoicesStand, LabelsStand, LabelsBelow, MarksStand, MemoStands}
 use Rattle.rp_search.proofs.ChoiceSteps.{now_later, stands_later, true_later, explores_later}
@@ -59,3 +60,7 @@ returns-clause-variables c = λ form s k is below n e row.
 
 pub returns-clause-work : goal.returns-clause-work
 returns-clause-work c = work_grows
+
+pub returns-clause-unnamed : goal.returns-clause-unnamed
+returns-clause-unnamed c = λ start old new none later stay variables.
+    record { later = later; stay = stay; variables = variables; remembered = subst (λ p. OnSome p (IsSome new.pattern × StayFromEach start old new)) (sym none) tt }

@@ -17,8 +17,8 @@ returns-then-ne-clause-works g c = λ always none.
     let o = c.in_ok-outcome.outcome in
     let spent : Spent (counted o) (added_by remembers mid.choices) mid.choices new.choices mid.memo new.memo asked =
     subst (λ s. Spent (counted o) (added_by remembers mid.choices) mid.choices new.choices mid.memo new.memo (g.T.Tests.asked s)) so_far.1
-    (c.in_ok-outcome.ensures.spent (subst (λ s. g.T.Tests.always s) (sym so_far.1) always) (subst (λ s. NoneIsOpen (g.T.Tests.asked s)) (sym so_far.1) none)) in
-    run_ends c.args.asleep c.loop-turn.turn remembers c.args.self.now mid new asked c.is_awake-remembers.ensures (so_far.6 always none) o spent c.in_ok-outcome.ensures.held
+    (c.in_ok-outcome.ensures.took.spent (subst (λ s. g.T.Tests.always s) (sym so_far.1) always) (subst (λ s. NoneIsOpen (g.T.Tests.asked s)) (sym so_far.1) none)) in
+    run_ends c.args.asleep c.loop-turn.turn remembers c.args.self.now mid new asked c.is_awake-remembers.ensures (so_far.6 always none) o spent c.in_ok-outcome.ensures.took.held
 
 pub loop-turn-preserved : goal.loop-turn-preserved
 loop-turn-preserved g c =
@@ -37,10 +37,10 @@ loop-turn-preserved g c =
       λ always none.
           let spent =
           subst (λ s. Spent (counted c.in_ok-outcome.outcome) (added_by remembers mid.choices) mid.choices new.choices mid.memo new.memo (g.T.Tests.asked s)) so_far.1
-          (c.in_ok-outcome.ensures.spent (subst (λ s. g.T.Tests.always s) (sym so_far.1) always) (subst (λ s. NoneIsOpen (g.T.Tests.asked s)) (sym so_far.1) none)) in
+          (c.in_ok-outcome.ensures.took.spent (subst (λ s. g.T.Tests.always s) (sym so_far.1) always) (subst (λ s. NoneIsOpen (g.T.Tests.asked s)) (sym so_far.1) none)) in
           run_goes_on c.args.asleep c.loop-turn.turn remembers c.args.self.now mid new asked c.is_awake-remembers.ensures (so_far.6 always none)
           (subst (λ (o : Outcome). Spent (counted o) (added_by remembers mid.choices) mid.choices new.choices mid.memo new.memo asked) paused spent),
-      λ always lasts. c.in_ok-outcome.ensures.lasts (subst (λ s. g.T.Tests.always s) (sym so_far.1) always) (so_far.7 always lasts),
+      λ always lasts. c.in_ok-outcome.ensures.took.lasts (subst (λ s. g.T.Tests.always s) (sym so_far.1) always) (so_far.7 always lasts),
     )
 
 pub returns-clause-works : goal.returns-clause-works

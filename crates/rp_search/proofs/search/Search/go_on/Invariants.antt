@@ -1,5 +1,5 @@
 use Rattle.std.proofs.Common.{◌≡◌, ◌+◌, ◌≤◌}
-use Rattle.rp_search.specs.Search.{start_of_search, labels_of_search}
+use Rattle.rp_search.specs.Turned.{IsRunning}
 use Rattle.rp_search.specs.Work.{LastsAll, NoneIsOpen}
 use Rattle.rp_search.proofs.RunSoFar.{RunsFor, RunSpends}
 use Rattle.rp_search.proofs.search.Search.go_on.Given as goal
@@ -8,7 +8,7 @@ abbrev pub invariant-loop-turn : goal.invariant-loop-turn
 invariant-loop-turn g l =
     RunsFor l.turn l.fn.self l.self (g.T.Tests.asked (g.T.Tests.subject l.fn.tests))
     × (g.T.Tests.subject l.tests ≡ g.T.Tests.subject l.fn.tests)
-    × g.T.Tests.entered l.tests (start_of_search l.self) (labels_of_search l.self)
+    × IsRunning l.self (g.T.Tests.asked (g.T.Tests.subject l.fn.tests)) (g.T.Tests.entered l.tests)
     × (g.T.Tests.entries l.tests ≤ g.T.Tests.entries l.fn.tests + l.turn)
     × (g.T.Tests.entries l.fn.tests ≤ g.T.Tests.entries l.tests)
     × (l.steps ≡ l.fn.steps + l.turn)

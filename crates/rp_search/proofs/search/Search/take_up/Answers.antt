@@ -15,9 +15,9 @@ unfolding ChoicesStand LabelsStand MemoStands
 pass_over-requires-clause-dead g c =
     let asked : Asked = g.T.Tests.asked (g.T.Tests.subject c.args.tests.now) in
     let choices = c.args.self.now.choices in
-    let fits = c.requires.searches.fits in
+    let fits = c.requires.can_turn.running.searches.fits in
     let lt : start_of choices < c.failed_until-until.result = search rules in
-    dead_top (λ m. OpensAlike (OfPattern asked.pattern) asked) choices asked c.args.self.now.memo _ c.failed_until-until.result c.failed_until-until.ensures c.mark_of-mark.ensures.mark lt c.requires.memo
+    dead_top (λ m. OpensAlike (OfPattern asked.pattern) asked) choices asked c.args.self.now.memo _ c.failed_until-until.result c.failed_until-until.ensures c.mark_of-mark.ensures.mark lt c.requires.can_turn.running.memo
     fits.stands (admitted_plainly choices c.args.self.now.outlook _ _ _ c.requires.none fits.labels)
 
 pub pass_over-requires-clause-alike : goal.pass_over-requires-clause-alike
@@ -25,12 +25,17 @@ pass_over-requires-clause-alike g c =
     let asked : Asked = g.T.Tests.asked (g.T.Tests.subject c.args.tests.now) in
     let choices = c.args.self.now.choices in
     let lt : start_of choices < c.failed_until-until.result = search rules in
-    dead_alike (λ m. IsMarkOfTop choices m) asked.pattern choices asked c.args.self.now.memo _ c.failed_until-until.result c.failed_until-until.ensures c.mark_of-mark.ensures.mark lt (of_pattern asked.pattern c.args.self.now c.requires.covers.pattern)
+    dead_alike (λ m. IsMarkOfTop choices m) asked.pattern choices asked c.args.self.now.memo _ c.failed_until-until.result c.failed_until-until.ensures c.mark_of-mark.ensures.mark lt (of_pattern asked.pattern c.args.self.now c.requires.can_turn.covers.pattern)
 
-pub take_up_at-requires-clause-fresh : goal.take_up_at-requires-clause-fresh
+pub take_up_at-requires-clause-can_mark : goal.take_up_at-requires-clause-can_mark
 unfolding start_of_search
-take_up_at-requires-clause-fresh g c =
+take_up_at-requires-clause-can_mark g c =
     let choices = c.args.self.now.choices in
     let le : c.failed_until-until.result ≤ start_of choices = search rules in
-    fresh_top c.args.self.now.memo _ c.failed_until-until.result (start_of choices) c.failed_until-until.ensures le
-    (omega (arith, c.requires.covers.known, g.met.T.Tests.few c.args.tests.now))
+    record {
+      marked = search rules;
+      named = c.mark_of-mark.ensures.named;
+      fresh = fresh_top c.args.self.now.memo _ c.failed_until-until.result (start_of choices) c.failed_until-until.ensures le
+          (omega (arith, c.requires.can_turn.covers.known, g.met.T.Tests.few c.args.tests.now));
+      ever = c.mark_of-mark.ensures.ever;
+    }
