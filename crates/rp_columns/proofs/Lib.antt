@@ -2,6 +2,7 @@ mod Numbers
 mod Fractions
 mod Utf8
 mod ColumnsLaws
+mod Items
 mod Resolving
 mod OneText
 mod TableColumns

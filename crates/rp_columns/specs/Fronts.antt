@@ -48,10 +48,10 @@ abbrev pub after : ℕ → List ℕ → Result (List ℕ) ReadingFault
 after byte [] = Err Form
 after byte (b ∷ rest) = if b == byte then Ok rest else Err Form
 
--- the same where it has to stand there, and else all of the bytes
-abbrev pub after_if : Bool → ℕ → List ℕ → Result (List ℕ) ReadingFault
-after_if true byte bytes = after byte bytes
-after_if false byte bytes = Ok bytes
+-- two digits, behind this byte where it has to come first
+unfoldable pub two_digits_after : Bool → ℕ → List ℕ → Front ℕ
+two_digits_after true byte bytes = after byte bytes >>= two_digits
+two_digits_after false byte bytes = two_digits bytes
 
 -- a space or a tab
 abbrev pub is_blank : ℕ → Bool

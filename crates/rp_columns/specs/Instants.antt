@@ -4,7 +4,7 @@ use Rattle.std.specs.Prelude.{ℕ, ◌+◌, ◌*◌, ◌^◌, ◌==◌, ◌&&◌
 use Rattle.std.specs.Int.Digits.{number_from_digits}
 use Rattle.jiff_core.specs.Calendar.{days_from_civil, days_in_month}
 use Rattle.rp_columns.specs.Zones.{ahead_in}
-use Rattle.rp_columns.specs.Fronts.{Front, ◌>>=◌, after, after_if, begins_with, begins_with_digit, four_digits, leading_digits, placed, two_digits, whole, without_blanks}
+use Rattle.rp_columns.specs.Fronts.{Front, ◌>>=◌, after, begins_with, begins_with_digit, four_digits, leading_digits, placed, two_digits, two_digits_after, whole, without_blanks}
 use Rattle.rp_columns.specs.declared.fault.ReadingFault.{ReadingFault}
 use Rattle.rp_columns.specs.declared.fault.ReadingFault.TheVariants.{Form, NoSuchTime}
 use Rattle.rp_columns.specs.declared.reading.Unit.{Unit as Precision}
@@ -24,10 +24,8 @@ unfoldable pub date : List ℕ → Front (ℤ × Bool)
 date bytes = do
   y ← four_digits bytes
   let dashes = begins_with 45 y.1
-  a ← after_if dashes 45 y.1
-  m ← two_digits a
-  b ← after_if dashes 45 m.1
-  d ← two_digits b
+  m ← two_digits_after dashes 45 y.1
+  d ← two_digits_after dashes 45 m.1
   n ← day_number y.0 m.0 d.0
   Ok ((n, dashes), d.1)
 
@@ -59,7 +57,7 @@ has_seconds false bytes = begins_with_digit bytes
 unfoldable pub seconds : Bool → ℕ → List ℕ → Front (ℕ × ℕ)
 seconds colons places bytes =
     if has_seconds colons bytes
-    then (after_if colons 58 bytes >>= two_digits >>= (λ s. fraction places s.1 >>= (λ f. Ok ((s.0, f.0), f.1))))
+    then (two_digits_after colons 58 bytes >>= (λ s. fraction places s.1 >>= (λ f. Ok ((s.0, f.0), f.1))))
     else Ok ((0, 0), bytes)
 
 -- A time of day, `09:30`, `09:30:00.5` or `093000,5`, as its seconds since midnight and the first digits of a fraction. There is no 24:00, and no
@@ -68,8 +66,7 @@ unfoldable pub clock : ℕ → List ℕ → Front (ℕ × ℕ)
 clock places bytes = do
   h ← two_digits bytes
   let colons = begins_with 58 h.1
-  a ← after_if colons 58 h.1
-  m ← two_digits a
+  m ← two_digits_after colons 58 h.1
   s ← seconds colons places m.1
   if nat_lt h.0 24 && nat_lt m.0 60 && nat_lt s.0.0 60 then Ok ((h.0 * 3600 + m.0 * 60 + s.0.0, s.0.1), s.1) else Err NoSuchTime
 

@@ -128,17 +128,22 @@ decimal arguments =
     then decimal_with (number_in (slice_get arguments 0)) (mark_or arguments 1 None) (mark_or arguments 2 (Some 46))
     else None
 
+-- the reading that computes a number which a word calls, in upper case, with what it takes
+abbrev pub computed_by : List ℕ → List Argument → Option Reading
+computed_by word arguments =
+    if pointwise ◌==◌ word (codes "DATE") then day arguments
+    else (if pointwise ◌==◌ word (codes "SECONDS") then instant Second arguments
+    else (if pointwise ◌==◌ word (codes "MILLIS") then instant Millisecond arguments
+    else (if pointwise ◌==◌ word (codes "MICROS") then instant Microsecond arguments
+    else (if pointwise ◌==◌ word (codes "DECIMAL") then decimal arguments else None))))
+
 -- the reading that a word calls, in upper case, with what it takes
 abbrev pub reading_called : List ℕ → List Argument → Option Reading
 reading_called word arguments =
     if pointwise ◌==◌ word (codes "TEXT") || pointwise ◌==◌ word (codes "VARCHAR") then plain reading.Text arguments
     else (if pointwise ◌==◌ word (codes "LOWER") then plain reading.Lower arguments
     else (if pointwise ◌==◌ word (codes "INT") || pointwise ◌==◌ word (codes "INTEGER") || pointwise ◌==◌ word (codes "BIGINT") then plain reading.Int arguments
-    else (if pointwise ◌==◌ word (codes "DATE") then day arguments
-    else (if pointwise ◌==◌ word (codes "SECONDS") then instant Second arguments
-    else (if pointwise ◌==◌ word (codes "MILLIS") then instant Millisecond arguments
-    else (if pointwise ◌==◌ word (codes "MICROS") then instant Microsecond arguments
-    else (if pointwise ◌==◌ word (codes "DECIMAL") then decimal arguments else None)))))))
+    else computed_by word arguments))
 
 -- the reading that a word calls without a field
 abbrev pub numbering : List ℕ → List Argument → Option Reading

@@ -11,7 +11,7 @@ use std::alloc::{AllocError, Global};
 use std::marker::Model;
 
 /// A column: its name in clauses, how its fields are read, and the name under which they stand in the header.
-#[derive(Debug, Drop)]
+#[derive(Drop)]
 pub struct InputColumn {
     pub name: Text,
     pub reading: Reading,
@@ -19,7 +19,7 @@ pub struct InputColumn {
 }
 
 /// The columns of an input, in the order in which clauses see them. They make a table. Contracts see them as their list.
-#[derive(Debug, Drop)]
+#[derive(Drop)]
 pub struct Columns {
     columns: Vec<InputColumn>,
     table: Table,
@@ -77,9 +77,9 @@ impl Columns {
         ensures ok { IfOk result (λ c. AreLoaded self name.now bytes.now c) }
         ensures err { IfErr result (λ fault. fault ≡ ZoneFault.Tzif → AreNoRules bytes.now) }
     {
+        let Columns { columns, table } = self;
         let rules = Rules::read(alloc, bytes)?;
-        let columns = columns_with(alloc, self.columns.as_slice(), name, &rules)?;
-        let table = self.table.share()?;
+        let columns = columns_with(alloc, columns.as_slice(), name, &rules)?;
         Ok(Columns { columns, table })
     }
 
@@ -139,9 +139,9 @@ fn columns_with(
 {
     let mut with = Vec::with_capacity(alloc, columns.len())?;
     for column in columns {
-        let reading = column.reading.with_rules(region, rules)?;
         let name = column.name.share()?;
         let source = column.source.share()?;
+        let reading = column.reading.with_rules(region, rules)?;
         with.push(InputColumn {
             name,
             reading,

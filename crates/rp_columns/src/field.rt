@@ -46,7 +46,12 @@ pub fn read(
 fn is_null(nulls: &[Text], field: &[u8]) -> bool
     ensures { result ≡ spec.is_null nulls.now field.now }
 {
-    nulls.iter().any(|word| word.as_str().as_bytes() == field)
+    for word in nulls {
+        if word.as_str().as_bytes() == field {
+            return true;
+        }
+    }
+    false
 }
 
 /// The field as it is.

@@ -9,7 +9,7 @@ use std::marker::Model;
 use std::rc::Rc;
 
 /// A format as strptime has it. Contracts see it as its bytes.
-#[derive(Debug, Drop)]
+#[derive(Drop)]
 pub struct Format {
     text: Text,
     /// The same with minutes in the place of seconds.
@@ -156,7 +156,12 @@ pub(crate) fn say_day(letters: &[u8]) -> bool
 fn are_directives(letters: &[u8]) -> bool
     ensures { result ≡ list_all spec.is_directive letters.now }
 {
-    letters.iter().all(|letter| is_directive(*letter))
+    for letter in letters {
+        if !is_directive(*letter) {
+            return false;
+        }
+    }
+    true
 }
 
 fn is_directive(c: u8) -> bool
@@ -183,7 +188,7 @@ fn is_directive(c: u8) -> bool
 pub(crate) fn has(letter: u8, letters: &[u8]) -> bool
     ensures { result ≡ spec.has letter letters.now }
 {
-    letters.iter().any(|c| *c == letter)
+    letters.contains(&letter)
 }
 
 /// Both or neither.

@@ -70,14 +70,20 @@ pub(crate) fn after(bytes: &[u8], byte: u8) -> Result<&[u8], ReadingFault>
     }
 }
 
-/// The same where it has to stand there, and else all of the bytes.
-pub(crate) fn after_if(bytes: &[u8], wanted: bool, byte: u8) -> Result<&[u8], ReadingFault>
-    ensures { spec.rest_view result ≡ spec.after_if wanted byte bytes.now }
+/// Two digits, as their number, behind this byte where it has to come first.
+#[tactic(auto, unfolding(crate::specs::Fronts::two_digits_after))]
+pub(crate) fn two_digits_after(
+    bytes: &[u8],
+    wanted: bool,
+    byte: u8,
+) -> Result<(u32, &[u8]), ReadingFault>
+    ensures value { spec.front_view result ≡ spec.two_digits_after wanted byte bytes.now }
+    ensures bound { IfOk result (λ p. p.0 < 100) }
 {
     if wanted {
-        return after(bytes, byte);
+        return two_digits(after(bytes, byte)?);
     }
-    Ok(bytes)
+    two_digits(bytes)
 }
 
 /// The bytes behind the blanks that they begin with.

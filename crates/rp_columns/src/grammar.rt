@@ -1,14 +1,14 @@
 //! The columns that tokens derive.
 
-ghost use Rattle.std.specs.Prelude.{◌≡◌, ◌<◌, ◌≤◌, ◌∷◌, List, length, map, All, IfOk, [], string_bytes};
+ghost use Rattle.std.specs.Prelude.{◌≡◌, ◌<◌, ◌≤◌, ◌∷◌, List, length, map, All, IfOk, IfSome, Ok, [], is_some};
 ghost use Rattle.rp_lexer.specs.Lexes.{IsToken};
-ghost use Rattle.rp_grammar.specs.Reading.{Gives};
-ghost use Rattle.rp_columns.specs.ColumnsGrammar.{argument, arguments, called, called_tree, called_with, column, columns, field_operands, literal, operands, plain_name, written_tree};
+ghost use Rattle.rp_grammar.specs.Grammar.{word as spec_word};
+ghost use Rattle.rp_grammar.specs.Reading.{Gives, place as spec_place, starts};
+ghost use Rattle.rp_columns.specs.ColumnsGrammar.{argument, arguments, called, called_tree, called_with, column, columns, operands, plain_name, written_tree};
 
 use crate::written::{Argument, Called, Source, Written};
-use rp_grammar::{Name, ParseFault, begins, name, named, number, place, text_at, word};
-use rp_lexer::{Mark, Token, TokenKind};
-use rp_value::Text;
+use rp_grammar::{Name, ParseFault, begins, name, place, text_at, word};
+use rp_lexer::{Mark, Token, TokenKind, number_of};
 use std::alloc::Global;
 
 /// A plain name, and what follows it.
@@ -22,31 +22,10 @@ fn plain_name<'a>(
     ensures stands { IfOk result (λ x. All (IsToken text.now) x.1.now) }
     ensures shorter { IfOk result (λ x. length x.1.now < length tokens.now) }
 {
-    match tokens.split_first() {
-        Some((first, rest)) if first.kind == TokenKind::Name => {
-            Ok((named(alloc, text, *first)?, rest))
-        }
-        _ => Err(ParseFault::Expected(place(text, tokens))),
+    if begins(tokens, TokenKind::Name) {
+        return name(alloc, text, tokens);
     }
-}
-
-/// A text, and what follows it.
-fn literal<'a>(
-    alloc: Global,
-    text: &str,
-    tokens: &'a [Token],
-) -> Result<(Text, &'a [Token]), ParseFault>
-    requires stands { All (IsToken text.now) tokens.now }
-    ensures exact { Gives (λ x. (x.0, x.1.now)) result (literal.read text.now tokens.now) }
-    ensures stands { IfOk result (λ x. All (IsToken text.now) x.1.now) }
-    ensures shorter { IfOk result (λ x. length x.1.now < length tokens.now) }
-{
-    match tokens.split_first() {
-        Some((first, rest)) if first.kind == TokenKind::Text => {
-            Ok((text_at(alloc, text, *first)?, rest))
-        }
-        _ => Err(ParseFault::Expected(place(text, tokens))),
-    }
+    Err(ParseFault::Expected(place(text, tokens)))
 }
 
 /// What a reading takes, and what follows.
@@ -61,12 +40,15 @@ fn argument<'a>(
     ensures stands { IfOk result (λ x. All (IsToken text.now) x.1.now) }
     ensures shorter { IfOk result (λ x. length x.1.now < length tokens.now) }
 {
-    if begins(tokens, TokenKind::Number) {
-        let (value, rest) = number(text, tokens)?;
-        return Ok((Argument::Number(value), rest));
+    match tokens.split_first() {
+        Some((first, rest)) if first.kind == TokenKind::Number => {
+            Ok((Argument::Number(number_of(text, *first)), rest))
+        }
+        Some((first, rest)) if first.kind == TokenKind::Text => {
+            Ok((Argument::Text(text_at(alloc, text, *first)?), rest))
+        }
+        _ => Err(ParseFault::Expected(place(text, tokens))),
     }
-    let (literal, rest) = literal(alloc, text, tokens)?;
-    Ok((Argument::Text(literal), rest))
 }
 
 /// What a reading takes, each behind a comma, and what follows.
@@ -82,11 +64,10 @@ fn arguments<'a>(
 {
     let mut items = Vec::new(alloc);
     let mut rest = tokens;
-    'items: while begins(rest, TokenKind::Mark(Mark::Comma)) {
-        let (_, behind) = word(text, rest, TokenKind::Mark(Mark::Comma))?;
-        let (item, behind) = argument(alloc, text, behind)?;
+    'items: while let Some(next) = behind(text, rest, TokenKind::Mark(Mark::Comma)) {
+        let (item, left) = argument(alloc, text, next)?;
         items.push(item)?;
-        rest = behind;
+        rest = left;
     }
     Ok((items, rest))
 }
@@ -116,7 +97,7 @@ fn called_with<'a>(
 }
 
 /// What stands behind a reading's opening bracket, and what follows its closing one.
-#[tactic(auto, unfolding(crate::specs::ColumnsGrammar::operands))]
+#[tactic(auto, unfolding(crate::specs::ColumnsGrammar::operands, crate::specs::ColumnsGrammar::field_operands))]
 fn operands<'a>(
     alloc: Global,
     text: &str,
@@ -127,25 +108,9 @@ fn operands<'a>(
     ensures stands { IfOk result (λ x. All (IsToken text.now) x.1.now) }
     ensures shorter { IfOk result (λ x. length x.1.now < length tokens.now) }
 {
-    if begins(tokens, TokenKind::Mark(Mark::RightParenthesis)) {
-        let (_, rest) = word(text, tokens, TokenKind::Mark(Mark::RightParenthesis))?;
+    if let Some(rest) = behind(text, tokens, TokenKind::Mark(Mark::RightParenthesis)) {
         return Ok(((Source::Nothing, Vec::new(alloc)), rest));
     }
-    field_operands(alloc, text, tokens)
-}
-
-/// The field that a reading is called with and what else it takes, and what follows the closing bracket.
-#[tactic(auto, unfolding(crate::specs::ColumnsGrammar::field_operands))]
-fn field_operands<'a>(
-    alloc: Global,
-    text: &str,
-    tokens: &'a [Token],
-) -> Result<((Source, Vec<Argument>), &'a [Token]), ParseFault>
-    requires stands { All (IsToken text.now) tokens.now }
-    ensures exact { Gives (λ x. ((x.0.0, x.0.1.items), x.1.now)) result (field_operands.read text.now tokens.now) }
-    ensures stands { IfOk result (λ x. All (IsToken text.now) x.1.now) }
-    ensures shorter { IfOk result (λ x. length x.1.now < length tokens.now) }
-{
     let (source, rest) = name(alloc, text, tokens)?;
     let (arguments, rest) = arguments(alloc, text, rest)?;
     let (_, rest) = word(text, rest, TokenKind::Mark(Mark::RightParenthesis))?;
@@ -203,14 +168,28 @@ pub(crate) fn columns<'a>(
     ensures exact { Gives (λ x. (map written_tree x.0.items, x.1.now)) result (columns.read text.now tokens.now) }
     ensures stands { IfOk result (λ x. All (IsToken text.now) x.1.now) }
 {
-    let (first, mut rest) = column(alloc, text, tokens)?;
     let mut items = Vec::new(alloc);
-    items.push(first)?;
-    'items: while begins(rest, TokenKind::Mark(Mark::Comma)) {
-        let (_, behind) = word(text, rest, TokenKind::Mark(Mark::Comma))?;
-        let (item, behind) = column(alloc, text, behind)?;
+    let mut rest = tokens;
+    'items: loop {
+        let (item, left) = column(alloc, text, rest)?;
         items.push(item)?;
-        rest = behind;
+        match behind(text, left, TokenKind::Mark(Mark::Comma)) {
+            Some(next) => rest = next,
+            None => return Ok((items, left)),
+        }
     }
-    Ok((items, rest))
+}
+
+/// What follows a token of this kind, where one comes first.
+fn behind<'a>(text: &str, tokens: &'a [Token], kind: TokenKind) -> Option<&'a [Token]>
+    requires stands { All (IsToken text.now) tokens.now }
+    ensures starts { is_some result ≡ starts (kind ∷ []) tokens.now }
+    ensures exact { IfSome result (λ rest. (spec_word kind).read text.now tokens.now ≡ Ok (spec_place text.now tokens.now, rest.now)) }
+    ensures stands { IfSome result (λ rest. All (IsToken text.now) rest.now) }
+    ensures shorter { IfSome result (λ rest. length rest.now < length tokens.now) }
+{
+    match tokens.split_first() {
+        Some((first, rest)) if first.kind == kind => Some(rest),
+        _ => None,
+    }
 }

@@ -7,8 +7,8 @@ ghost use Rattle.rp_columns.specs.Instants as spec;
 
 use crate::fault::ReadingFault;
 use crate::fronts::{
-    after, after_if, are_blanks, begins_with, begins_with_digit, four_digits, leading_digits,
-    placed, two_digits, without_blanks,
+    after, are_blanks, begins_with, begins_with_digit, four_digits, leading_digits, placed,
+    two_digits, two_digits_after, without_blanks,
 };
 use crate::reading::Unit;
 use crate::zone::{Zone, ahead_in};
@@ -96,8 +96,8 @@ fn date(bytes: &[u8]) -> Result<((i32, bool), &[u8]), ReadingFault>
 {
     let (year, rest) = four_digits(bytes)?;
     let dashes = begins_with(rest, b'-');
-    let (month, rest) = two_digits(after_if(rest, dashes, b'-')?)?;
-    let (day, rest) = two_digits(after_if(rest, dashes, b'-')?)?;
+    let (month, rest) = two_digits_after(rest, dashes, b'-')?;
+    let (day, rest) = two_digits_after(rest, dashes, b'-')?;
     let day = day_number(year, month, day)?;
     Ok(((day, dashes), rest))
 }
@@ -137,7 +137,7 @@ fn clock(places: u8, bytes: &[u8]) -> Result<((u32, u32), &[u8]), ReadingFault>
 {
     let (hour, rest) = two_digits(bytes)?;
     let colons = begins_with(rest, b':');
-    let (minute, rest) = two_digits(after_if(rest, colons, b':')?)?;
+    let (minute, rest) = two_digits_after(rest, colons, b':')?;
     let ((second, fraction), rest) = seconds(colons, places, rest)?;
     if hour < 24 && minute < 60 && second < 60 {
         return Ok(((hour * 3600 + minute * 60 + second, fraction), rest));
@@ -156,7 +156,7 @@ fn seconds(colons: bool, places: u8, bytes: &[u8]) -> Result<((u32, u32), &[u8])
     if !has_seconds(colons, bytes) {
         return Ok(((0, 0), bytes));
     }
-    let (second, rest) = two_digits(after_if(bytes, colons, b':')?)?;
+    let (second, rest) = two_digits_after(bytes, colons, b':')?;
     let (fraction, rest) = fraction(places, rest)?;
     Ok(((second, fraction), rest))
 }

@@ -3,15 +3,14 @@ ghost use Rattle.std.specs.Prelude.{◌≡◌, IfOk, option_map};
 ghost use Rattle.rp_columns.specs.Headings.{reading_of};
 ghost use Rattle.rp_columns.specs.Loaded.{reading_with, zone_of};
 ghost use Rattle.rp_columns.specs.Readings.{kind_of, reads_field};
-ghost use Rattle.rp_columns.specs.Zones as spec;
 
 use crate::formats::Format;
-use crate::zone::{Rules, Zone};
+use crate::zone::{Rules, Zone, zone_shared, zone_with};
 use rp_value::Kind;
 use std::alloc::AllocError;
 
 /// The signs inside a decimal number, each an ASCII character.
-#[derive(Clone, Copy, Debug, PartialEq, Eq)]
+#[derive(Clone, Copy)]
 pub struct Marks {
     /// What may stand between thousands, as in `1,234,567`; none: nothing may.
     pub thousands: Option<u8>,
@@ -20,7 +19,7 @@ pub struct Marks {
 }
 
 /// The unit of an instant.
-#[derive(Clone, Copy, Debug, PartialEq, Eq)]
+#[derive(Clone, Copy)]
 pub enum Unit {
     Second,
     Millisecond,
@@ -28,7 +27,7 @@ pub enum Unit {
 }
 
 /// How a field becomes a value: what it means is `value_of` of `specs/Readings`.
-#[derive(Debug, Drop)]
+#[derive(Drop)]
 pub enum Reading {
     /// The field as it is.
     Text,
@@ -91,11 +90,11 @@ impl Reading {
             Reading::Lower => Ok(Reading::Lower),
             Reading::Int => Ok(Reading::Int),
             Reading::Decimal(places, marks) => Ok(Reading::Decimal(*places, *marks)),
-            Reading::Instant(unit, zone) => Ok(Reading::Instant(*unit, share_if_any(zone)?)),
+            Reading::Instant(unit, zone) => Ok(Reading::Instant(*unit, zone_shared(zone)?)),
             Reading::Day => Ok(Reading::Day),
             Reading::Formatted(unit, format, zone) => {
-                let zone = share_if_any(zone)?;
-                Ok(Reading::Formatted(*unit, format.share()?, zone))
+                let format = format.share()?;
+                Ok(Reading::Formatted(*unit, format, zone_shared(zone)?))
             }
             Reading::FormattedDay(format) => Ok(Reading::FormattedDay(format.share()?)),
             Reading::Record => Ok(Reading::Record),
@@ -111,8 +110,9 @@ impl Reading {
                 Ok(Reading::Instant(*unit, zone_with(zone, name, rules)?))
             }
             Reading::Formatted(unit, format, zone) => {
+                let format = format.share()?;
                 let zone = zone_with(zone, name, rules)?;
-                Ok(Reading::Formatted(*unit, format.share()?, zone))
+                Ok(Reading::Formatted(*unit, format, zone))
             }
             _ => self.share(),
         }
@@ -126,25 +126,5 @@ impl Reading {
             Kind::Text => Reading::Text,
             Kind::Int => Reading::Int,
         }
-    }
-}
-
-/// An equal zone, where there is one.
-fn share_if_any(zone: &Option<Zone>) -> Result<Option<Zone>, AllocError>
-    ensures { IfOk result (λ shared. shared ≡ zone.now) }
-{
-    match zone {
-        Some(zone) => Ok(Some(zone.share()?)),
-        None => Ok(None),
-    }
-}
-
-/// A zone with these rules, where it is the region of this name; none where there is none.
-fn zone_with(zone: &Option<Zone>, name: &str, rules: &Rules) -> Result<Option<Zone>, AllocError>
-    ensures { IfOk result (λ with. with ≡ option_map (spec.zone_with name.now rules.now) zone.now) }
-{
-    match zone {
-        Some(zone) => Ok(Some(zone.with_rules(name, rules)?)),
-        None => Ok(None),
     }
 }

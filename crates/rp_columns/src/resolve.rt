@@ -1,5 +1,5 @@
 //! What columns as they are written mean.
-ghost use Rattle.std.specs.Prelude.{◌≡◌, ◌<◌, ℕ, ◌==◌, IfOk, IfSome, MatchOption, Ok, Err, Some, None, length, map, slice_get};
+ghost use Rattle.std.specs.Prelude.{◌≡◌, IfOk, Some, slice_get};
 ghost use Rattle.std.specs.List.{list_all};
 ghost use Rattle.rp_columns.specs.ColumnsGrammar.{written_tree};
 ghost use Rattle.rp_columns.specs.Instants.{offset as spec_offset};
@@ -32,6 +32,17 @@ fn reading_called(
     if word == "INT" || word == "INTEGER" || word == "BIGINT" {
         return Ok(plain(Reading::Int, arguments));
     }
+    computed_by(alloc, word, arguments)
+}
+
+/// The reading that computes a number which a word calls, in upper case, with what it takes.
+fn computed_by(
+    alloc: Global,
+    word: &str,
+    arguments: &[Argument],
+) -> Result<Option<Reading>, AllocError>
+    ensures { IfOk result (λ reading. reading ≡ spec.computed_by word.now arguments.now) }
+{
     if word == "DATE" {
         return day(alloc, arguments);
     }
@@ -79,10 +90,7 @@ fn numbering(word: &str, arguments: &[Argument]) -> Option<Reading>
 fn plain(reading: Reading, arguments: &[Argument]) -> Option<Reading>
     ensures { result ≡ spec.plain reading arguments.now }
 {
-    if arguments.is_empty() {
-        return Some(reading);
-    }
-    None
+    arguments.is_empty().then_some(reading)
 }
 
 /// An instant, perhaps of a zone or by a format.
@@ -106,15 +114,9 @@ fn instant(alloc: Global, unit: Unit, arguments: &[Argument]) -> Result<Option<R
 fn instant_by(alloc: Global, unit: Unit, argument: &Argument) -> Result<Option<Reading>, AllocError>
     ensures { IfOk result (λ reading. reading ≡ spec.instant_by unit (spec.text_in (Some argument.now))) }
 {
-    match argument {
-        Argument::Text(text) => instant_of(alloc, unit, text),
-        Argument::Number(_) => Ok(None),
-    }
-}
-
-fn instant_of(alloc: Global, unit: Unit, text: &Text) -> Result<Option<Reading>, AllocError>
-    ensures { IfOk result (λ reading. reading ≡ spec.instant_by unit (Some text.now)) }
-{
+    let Argument::Text(text) = argument else {
+        return Ok(None);
+    };
     if has(b'%', text.as_str().as_bytes()) {
         return formatted_as(alloc, unit, text, None);
     }
@@ -169,15 +171,9 @@ fn day(alloc: Global, arguments: &[Argument]) -> Result<Option<Reading>, AllocEr
 fn day_by(alloc: Global, argument: &Argument) -> Result<Option<Reading>, AllocError>
     ensures { IfOk result (λ reading. reading ≡ spec.day_by (spec.text_in (Some argument.now))) }
 {
-    match argument {
-        Argument::Text(format) => formatted_day(alloc, format),
-        Argument::Number(_) => Ok(None),
-    }
-}
-
-fn formatted_day(alloc: Global, format: &Text) -> Result<Option<Reading>, AllocError>
-    ensures { IfOk result (λ reading. reading ≡ spec.day_by (Some format.now)) }
-{
+    let Argument::Text(format) = argument else {
+        return Ok(None);
+    };
     let letters = letters(alloc, format.as_str().as_bytes())?;
     if say_day(&letters) {
         let format = Format::new(alloc, format)?;
@@ -227,18 +223,9 @@ fn ahead(text: &[u8]) -> Option<i32>
     ensures { result ≡ spec.ahead (spec_offset text.now) }
 {
     match offset(text) {
-        Ok((seconds, rest)) => if_all(seconds, rest),
-        Err(_) => None,
+        Ok((seconds, rest)) if are_blanks(rest) => seconds,
+        _ => None,
     }
-}
-
-fn if_all(seconds: Option<i32>, rest: &[u8]) -> Option<i32>
-    ensures { result ≡ spec.ahead (Ok (seconds, rest.now)) }
-{
-    if are_blanks(rest) {
-        return seconds;
-    }
-    None
 }
 
 /// Whether a text is an identifier of the database of time zones.
@@ -254,7 +241,12 @@ fn is_identifier(text: &[u8]) -> bool
 fn are_in_identifiers(bytes: &[u8]) -> bool
     ensures { result ≡ list_all spec.is_in_identifier bytes.now }
 {
-    bytes.iter().all(|byte| is_in_identifier(*byte))
+    for byte in bytes {
+        if !is_in_identifier(*byte) {
+            return false;
+        }
+    }
+    true
 }
 
 /// Whether a byte is a letter, a digit, or one of `_`, `+`, `-` and `/`.
@@ -301,16 +293,10 @@ fn mark_or(arguments: &[Argument], place: usize, usual: Option<u8>) -> Option<Op
 fn mark(argument: &Argument) -> Option<Option<u8>>
     ensures { result ≡ spec.mark (spec.text_in (Some argument.now)) }
 {
-    match argument {
-        Argument::Text(text) => mark_in(text.as_str().as_bytes()),
-        Argument::Number(_) => None,
-    }
-}
-
-fn mark_in(text: &[u8]) -> Option<Option<u8>>
-    ensures { result ≡ spec.mark (Some text.now) }
-{
-    match text {
+    let Argument::Text(text) = argument else {
+        return None;
+    };
+    match text.as_str().as_bytes() {
         [] => Some(None),
         [byte] if is_mark(*byte) => Some(Some(*byte)),
         _ => None,
@@ -331,15 +317,9 @@ fn decimal_with(
 ) -> Option<Reading>
     ensures { result ≡ spec.decimal_with places thousands point }
 {
-    match (places, thousands, point) {
-        (Some(places), Some(thousands), Some(point)) => decimal_of(places, thousands, point),
-        _ => None,
-    }
-}
-
-fn decimal_of(places: u64, thousands: Option<u8>, point: Option<u8>) -> Option<Reading>
-    ensures { result ≡ spec.decimal_with (Some places) (Some thousands) (Some point) }
-{
+    let (Some(places), Some(thousands), Some(point)) = (places, thousands, point) else {
+        return None;
+    };
     if places <= 18 && differ(thousands, point) {
         return Some(Reading::Decimal(places as u8, Marks { thousands, point }));
     }
@@ -359,18 +339,16 @@ fn differ(thousands: Option<u8>, point: Option<u8>) -> bool
 pub(crate) fn column_of(alloc: Global, written: &Written) -> Result<Option<InputColumn>, AllocError>
     ensures { IfOk result (λ column. column ≡ spec.column_of (written_tree written.now)) }
 {
+    let source = source_of(written)?;
+    let name = written.name.text.share()?;
     let called = &written.called;
     let word = called.reading.text.as_str();
     match reading_by(alloc, &called.source, word, called.arguments.as_slice())? {
-        Some(reading) => {
-            let source = source_of(written)?;
-            let name = written.name.text.share()?;
-            Ok(Some(InputColumn {
-                name,
-                reading,
-                source,
-            }))
-        }
+        Some(reading) => Ok(Some(InputColumn {
+            name,
+            reading,
+            source,
+        })),
         None => Ok(None),
     }
 }

@@ -4,14 +4,14 @@ use rp_grammar::Name;
 use rp_value::Text;
 
 /// What a reading takes behind the name of the header.
-#[derive(Debug, Drop)]
+#[derive(Drop)]
 pub(crate) enum Argument {
     Number(u64),
     Text(Text),
 }
 
 /// Which field of the header a reading is called with.
-#[derive(Debug, Drop)]
+#[derive(Drop)]
 pub(crate) enum Source {
     /// Nothing is written, so it is the field of the column's own name.
     Own,
@@ -22,7 +22,7 @@ pub(crate) enum Source {
 }
 
 /// `reading(source, arguments)`, `reading()`, or `reading` alone.
-#[derive(Debug, Drop)]
+#[derive(Drop)]
 pub(crate) struct Called {
     pub reading: Name,
     pub source: Source,
@@ -30,7 +30,7 @@ pub(crate) struct Called {
 }
 
 /// `name = reading(source, arguments)`, `name = reading()`, or `name reading`, whose source is the name.
-#[derive(Debug, Drop)]
+#[derive(Drop)]
 pub(crate) struct Written {
     pub name: Name,
     pub called: Called,

@@ -1,5 +1,5 @@
 //! Time zones, and how far their clocks are ahead of UTC.
-ghost use Rattle.std.specs.Prelude.{◌≡◌, ◌<◌, ◌+ℤ◌, ◌*ℤ◌, pos, IfOk, IfErr};
+ghost use Rattle.std.specs.Prelude.{◌≡◌, ◌<◌, ◌+ℤ◌, ◌*ℤ◌, pos, IfOk, IfErr, option_map};
 ghost use Rattle.jiff_core.specs.Calendar.{IsEpochDay};
 ghost use Rattle.jiff_core.specs.DateTime.{civil_nanos, civil_seconds};
 ghost use Rattle.jiff_core.specs.Timestamp.{nanos_of_seconds};
@@ -15,7 +15,7 @@ use std::rc::Rc;
 use thiserror::Error;
 
 /// Where the clocks stand that show the times of a column.
-#[derive(Debug, Drop)]
+#[derive(Drop)]
 pub enum Zone {
     /// They are so many seconds ahead of UTC, always.
     Fixed(i32),
@@ -24,7 +24,7 @@ pub enum Zone {
 }
 
 /// A time zone of the IANA Time Zone Database, as `Europe/Berlin`.
-#[derive(Debug, Drop)]
+#[derive(Drop)]
 pub struct Region {
     /// Its identifier in the database.
     pub name: Text,
@@ -33,7 +33,7 @@ pub struct Region {
 }
 
 /// The rules of a region, which its columns share. Contracts see them as their table.
-#[derive(Debug, Drop)]
+#[derive(Drop)]
 pub struct Rules {
     table: Rc<Tzif>,
 }
@@ -182,28 +182,8 @@ fn share_if_any(rules: &Option<Rules>) -> Result<Option<Rules>, AllocError>
 }
 
 impl Zone {
-    ghost use Rattle.std.specs.Prelude.{◌≡◌, ◌<◌, ◌+ℤ◌, ◌*ℤ◌, pos, IfOk};
+    ghost use Rattle.std.specs.Prelude.{◌≡◌, ◌<◌, ◌+ℤ◌, ◌*ℤ◌, pos};
     ghost use Rattle.jiff_core.specs.Calendar.{IsEpochDay};
-
-    /// An equal zone, which shares its rules.
-    pub(crate) fn share(&self) -> Result<Zone, AllocError>
-        ensures { IfOk result (λ zone. zone ≡ self.now) }
-    {
-        match self {
-            Zone::Fixed(seconds) => Ok(Zone::Fixed(*seconds)),
-            Zone::Region(region) => Ok(Zone::Region(region.share()?)),
-        }
-    }
-
-    /// The zone with these rules, where it is the region of this name.
-    pub(crate) fn with_rules(&self, name: &str, rules: &Rules) -> Result<Zone, AllocError>
-        ensures { IfOk result (λ zone. zone ≡ spec.zone_with name.now rules.now self.now) }
-    {
-        match self {
-            Zone::Fixed(seconds) => Ok(Zone::Fixed(*seconds)),
-            Zone::Region(region) => Ok(Zone::Region(region.with_rules(name, rules)?)),
-        }
-    }
 
     /// The seconds by which clocks of the zone are ahead of UTC at a second of a day that they show.
     fn ahead(&self, day: i32, second: u32) -> Result<i32, ReadingFault>
@@ -218,6 +198,32 @@ impl Zone {
                 None => Err(ReadingFault::NoOffset),
             },
         }
+    }
+}
+
+/// An equal zone, where there is one. It shares its rules.
+pub(crate) fn zone_shared(zone: &Option<Zone>) -> Result<Option<Zone>, AllocError>
+    ensures { IfOk result (λ shared. shared ≡ zone.now) }
+{
+    match zone {
+        Some(Zone::Region(region)) => Ok(Some(Zone::Region(region.share()?))),
+        Some(Zone::Fixed(seconds)) => Ok(Some(Zone::Fixed(*seconds))),
+        None => Ok(None),
+    }
+}
+
+/// A zone with these rules, where it is the region of this name; none where there is none.
+pub(crate) fn zone_with(
+    zone: &Option<Zone>,
+    name: &str,
+    rules: &Rules,
+) -> Result<Option<Zone>, AllocError>
+    ensures { IfOk result (λ with. with ≡ option_map (spec.zone_with name.now rules.now) zone.now) }
+{
+    match zone {
+        Some(Zone::Region(region)) => Ok(Some(Zone::Region(region.with_rules(name, rules)?))),
+        Some(Zone::Fixed(seconds)) => Ok(Some(Zone::Fixed(*seconds))),
+        None => Ok(None),
     }
 }
 

@@ -10,6 +10,7 @@ ghost use Rattle.std.specs.Prelude.{◌<◌, IfOk};
 
 use crate::fault::EventFault;
 use crate::line::{Line, no_words};
+use crate::reading_text::reading_text;
 use crate::told::tell;
 use rp_columns::{
     Columns, ColumnsFault, InputColumn, ReadingFault, Texts, ZoneFault, read, read_columns,
@@ -154,9 +155,10 @@ impl InputPlayer {
 
 fn column_text(alloc: Global, column: &InputColumn) -> Result<String, AllocError> {
     let name = column.name.as_str();
-    let reading = &column.reading;
+    let reading = reading_text(alloc, &column.reading)?;
+    let reading = reading.as_str();
     let source = column.source.as_str();
-    format!(in alloc; "[{name} {reading:?} {source}]")
+    format!(in alloc; "[{name} {reading} {source}]")
 }
 
 fn field_text(

@@ -52,6 +52,7 @@ mod line;
 mod lines_player;
 mod matcher_player;
 mod node_player;
+mod reading_text;
 mod refusals;
 mod script;
 mod subject;

@@ -1,4 +1,4 @@
-use Rattle.std.proofs.Common.{rules, ◌∙◌, sym}
+use Rattle.std.proofs.Common.{rules, sym}
 use Rattle.rp_lexer.specs.declared.kind.TokenKind.TheVariants as kind
 use Rattle.rp_lexer.specs.declared.kind.Mark.TheVariants as mark
 use Rattle.rp_grammar.specs.Grammar.{◌then◌, gives, second, word}
@@ -17,13 +17,13 @@ pub items-preserved : goal.items-preserved
 items-preserved c = record {
   stands = search rules;
   shorter = search rules;
-  reads = list_goes_on c.args.text.now argument c.in_ok-push.ensures.items c.in_ok-behind.ensures.exact c.in_ok-item.ensures.exact (search rules) c.items.invariant.reads;
+  reads = list_goes_on c.args.text.now argument c.in_ok-push.ensures.items c.in-Some.ensures.exact c.in_ok-item.ensures.exact (search rules) c.items.invariant.reads;
 }
 
 pub returns-in_err-item-clause-exact : goal.returns-in_err-item-clause-exact
 returns-in_err-item-clause-exact c =
-    let none = list_refused c.args.text.now argument c.in_err-item.field-0.0 c.in_ok-behind.ensures.exact c.in_err-item.ensures.exact c.items.invariant.reads in
+    let none = list_refused c.args.text.now argument c.in_err-item.field-0.0 c.in-Some.ensures.exact c.in_err-item.ensures.exact c.items.invariant.reads in
     search (rules, none)
 
 pub returns-clause-exact : goal.returns-clause-exact
-returns-clause-exact c = list_ends c.args.text.now argument (sym c.begins.ensures ∙ c.items-test.false) c.items.invariant.reads
+returns-clause-exact c = list_ends c.args.text.now argument (sym c.in_default.ensures.starts) c.items.invariant.reads

@@ -1,8 +1,7 @@
-use Rattle.std.proofs.Common.{◌<◌, length, All, map}
+use Rattle.std.proofs.Common.{length, All, map}
 use Rattle.rp_lexer.specs.Lexes.{IsToken}
-use Rattle.rp_grammar.specs.Grammar.{listed}
-use Rattle.rp_grammar.proofs.Loops.{ListGoesOn}
-use Rattle.rp_columns.specs.ColumnsGrammar.{column, written_tree}
+use Rattle.rp_columns.specs.ColumnsGrammar.{column, columns, written_tree}
+use Rattle.rp_columns.proofs.Items.{NextItem}
 use Rattle.rp_columns.proofs.grammar.columns.Given as goal
 
 abbrev pub decreases-items : goal.decreases-items
@@ -11,6 +10,5 @@ decreases-items l = length l.rest
 abbrev pub invariant-items : goal.invariant-items
 invariant-items l = record {
   stands : All (IsToken l.text) l.rest;
-  shorter : length l.rest < length l.tokens;
-  reads : ListGoesOn l.text column (map written_tree l.items.items) l.rest ((listed column).read l.text l.tokens);
+  reads : NextItem l.text column (map written_tree l.items.items) l.rest (columns.read l.text l.tokens);
 }

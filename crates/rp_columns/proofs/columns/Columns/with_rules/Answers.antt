@@ -7,7 +7,7 @@ use Rattle.rp_columns.proofs.columns.Columns.with_rules.Goals as goal
 pub invariant_of-result : goal.invariant_of-result
 invariant_of-result c =
     let with : c.in_ok-columns.columns.items ≡ map (column_with c.args.name.now c.in_ok-rules.rules) c.args.self = search rules in
-    let table : c.in_ok-table.table ≡ headings c.args.self = search rules in
+    let table : c.self.inside.table ≡ headings c.args.self = search rules in
     table ∙ sym (ap headings with ∙ same_headings c.args.name.now c.in_ok-rules.rules c.args.self)
 
 pub returns-clause-ok : goal.returns-clause-ok
