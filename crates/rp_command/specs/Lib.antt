@@ -2,3 +2,4 @@
 pub mod Values
 pub mod Commands
 pub mod Jobs
+pub mod Listed

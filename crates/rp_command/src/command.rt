@@ -1,19 +1,15 @@
 //! The command line.
-ghost use Rattle.std.specs.Prelude.{◌≡◌, Some, IfOk, map, string_bytes, slice_get};
+ghost use Rattle.std.specs.Prelude.{◌≡◌, IfOk, map, slice_get, string_bytes, Some};
 ghost use Rattle.clap.specs.Words.{kind_of};
 ghost use Rattle.clap.specs.declared.error.kind.ErrorKind.TheVariants.{ValueValidation};
 ghost use Rattle.clap.specs.declared.error.Error.{Error};
-ghost use Rattle.rp_command.specs.Jobs.{IsCause, IsFaultless, IsRead, NamesJob, name_of};
+ghost use Rattle.rp_command.specs.Jobs.{IsCause, IsFaultless, IsRead, NamesJob, command_in, command_of, name_of};
 
 use crate::arguments::{error_of, line_fault};
-use crate::check::{check_command, read_check};
+use crate::commands::new_command;
 use crate::help;
-use crate::job::{Job, JobFault};
-use crate::node::{node_command, read_node};
-use crate::source::{read_source, source_command};
-use crate::trace::{read_trace, trace_command};
-use crate::whole::{read_whole, whole_command};
-use crate::why::{read_why, why_command};
+use crate::job::{CommandName, Job, JobFault};
+use crate::reading::read_job;
 use clap::error::ErrorKind;
 use clap::{Command, Error};
 use std::alloc::{AllocError, Global};
@@ -30,14 +26,40 @@ pub fn read_command(alloc: Global, words: &[String]) -> Result<Job, JobFault>
     ensures cause { (error : Error) → result ≡ Err (JobFault.Line error) → IsCause (map string_bytes words.now) error }
     ensures line { (error : Error) → result ≡ Err (JobFault.Line error) → NamesJob (map string_bytes words.now) → ⊥ }
 {
+    let Some(command) = first_command(words) else {
+        return Err(no_job(alloc, words));
+    };
+    read_job(alloc, command, words)
+}
+
+/// The command that the first of the words names.
+fn first_command(words: &[String]) -> Option<CommandName>
+    ensures { result ≡ command_in (map string_bytes words.now) }
+{
     match words.first() {
-        Some(name) if name.as_str() == "trace" => read_trace(alloc, words),
-        Some(name) if name.as_str() == "whole" => read_whole(alloc, words),
-        Some(name) if name.as_str() == "node" => read_node(alloc, words),
-        Some(name) if name.as_str() == "source" => read_source(alloc, words),
-        Some(name) if name.as_str() == "check" => read_check(alloc, words),
-        Some(name) if name.as_str() == "why" => read_why(alloc, words),
-        _ => Err(no_job(alloc, words)),
+        Some(name) => command_named(name.as_str()),
+        None => None,
+    }
+}
+
+/// The command of this name.
+fn command_named(name: &str) -> Option<CommandName>
+    ensures { result ≡ command_of name.now }
+{
+    if name == "trace" {
+        Some(CommandName::Trace)
+    } else if name == "whole" {
+        Some(CommandName::Whole)
+    } else if name == "node" {
+        Some(CommandName::Node)
+    } else if name == "source" {
+        Some(CommandName::Source)
+    } else if name == "check" {
+        Some(CommandName::Check)
+    } else if name == "why" {
+        Some(CommandName::Why)
+    } else {
+        None
     }
 }
 
@@ -71,7 +93,7 @@ fn no_job(alloc: Global, words: &[String]) -> JobFault {
 
 /// All commands together.
 fn program<'a>(alloc: Global) -> Result<Command<'a>, AllocError> {
-    let commands = commands(alloc)?;
+    let commands = new_commands(alloc, LISTED)?;
     let program = Command::new(alloc, "rowmatch").bin_name("rowmatch")?;
     program
         .version(VERSION)
@@ -81,25 +103,23 @@ fn program<'a>(alloc: Global) -> Result<Command<'a>, AllocError> {
         .subcommands(commands)
 }
 
-/// Each command, in the order in which help lists them.
-fn commands<'a>(alloc: Global) -> Result<Vec<Command<'a>>, AllocError> {
-    let mut commands = Vec::new(alloc);
-    add(&mut commands, trace_command(alloc))?;
-    add(&mut commands, whole_command(alloc))?;
-    add(&mut commands, node_command(alloc))?;
-    add(&mut commands, source_command(alloc))?;
-    add(&mut commands, check_command(alloc))?;
-    add(&mut commands, why_command(alloc))?;
-    Ok(commands)
-}
+/// The commands, in the order in which help lists them.
+const LISTED: &[CommandName] = &[
+    CommandName::Trace,
+    CommandName::Whole,
+    CommandName::Node,
+    CommandName::Source,
+    CommandName::Check,
+    CommandName::Why,
+];
 
-/// Adds the command, where it was made.
-fn add<'a>(
-    commands: &mut Vec<Command<'a>>,
-    command: Result<Command<'a>, AllocError>,
-) -> Result<(), AllocError> {
-    commands.push(command?)?;
-    Ok(())
+/// These commands.
+fn new_commands<'a>(alloc: Global, listed: &[CommandName]) -> Result<Vec<Command<'a>>, AllocError> {
+    let mut commands = Vec::new(alloc);
+    for command in listed {
+        commands.push(new_command(alloc, *command)?)?;
+    }
+    Ok(commands)
 }
 
 fn line_of_no_job(alloc: Global, words: &[String]) -> Result<Error, AllocError> {

@@ -20,6 +20,17 @@ pub enum Job {
     Why(WhyJob),
 }
 
+/// The commands, of which each has jobs of its own.
+#[derive(Clone, Copy)]
+pub(crate) enum CommandName {
+    Trace,
+    Whole,
+    Node,
+    Source,
+    Check,
+    Why,
+}
+
 /// An input, and how it is read.
 #[derive(Drop)]
 pub struct InputOptions {

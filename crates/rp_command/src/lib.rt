@@ -15,14 +15,18 @@
 //! `specs/Jobs`, by the words of `specs/Values`.
 #![tactic(auto)]
 
+mod argument;
 mod arguments;
 mod check;
 mod choices;
 mod command;
+mod commands;
 pub mod help;
 mod input;
 mod job;
 mod node;
+mod options;
+mod reading;
 mod source;
 mod trace;
 mod whole;

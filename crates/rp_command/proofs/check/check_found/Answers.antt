@@ -1,12 +1,15 @@
-use Rattle.std.proofs.Common.{inl, inr, rules}
-use Rattle.rp_command.proofs.Apps.{check_format, check_from}
+use Rattle.std.proofs.Common.{codes, inl, inr, refl, rules}
+use Rattle.rp_command.proofs.Apps.{has_value}
+use Rattle.rp_command.specs.Commands.{by_name_or, check_app}
 use Rattle.rp_command.proofs.check.check_found.Goals as goal
 
 pub input_of-requires : goal.input_of-requires
-input_of-requires c = check_from _ c.requires
+unfolding check_app
+input_of-requires c = has_value check_app (by_name_or (codes "from") (codes "csv")) _ refl refl c.requires
 
 pub report_of-requires : goal.report_of-requires
-report_of-requires c = check_format _ c.requires
+unfolding check_app
+report_of-requires c = has_value check_app (by_name_or (codes "format") (codes "text")) _ refl refl c.requires
 
 pub returns-in_err-from-clause-other : goal.returns-in_err-from-clause-other
 returns-in_err-from-clause-other c = λ error is.

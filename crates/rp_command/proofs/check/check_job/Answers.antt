@@ -1,5 +1,9 @@
-use Rattle.rp_command.proofs.Apps.{check_no_header}
+use Rattle.std.proofs.Common.{codes, refl}
+use Rattle.clap.specs.declared.builder.value_parser.ValueParser.TheVariants as parser
+use Rattle.rp_command.proofs.Apps.{passed}
+use Rattle.rp_command.specs.Commands.{by_flag, check_app}
 use Rattle.rp_command.proofs.check.check_job.Goals as goal
 
 pub input_options-requires-clause-header : goal.input_options-requires-clause-header
-input_options-requires-clause-header c = check_no_header _ c.requires.rules
+unfolding check_app
+input_options-requires-clause-header c = passed check_app (by_flag (codes "no-header")) parser.Bool _ refl refl c.requires.rules

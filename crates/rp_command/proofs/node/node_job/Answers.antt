@@ -1,26 +1,38 @@
-use Rattle.rp_command.proofs.Apps.{node_acknowledge, node_clause, node_connections, node_idle, node_listen, node_state, node_table, node_verbose}
+use Rattle.std.proofs.Common.{codes, refl}
+use Rattle.clap.specs.declared.builder.value_parser.ValueParser.TheVariants as parser
+use Rattle.rp_command.proofs.Apps.{has_value, passed}
+use Rattle.rp_command.specs.Commands.{by_flag, by_name, by_number, node_app}
+use Rattle.rp_command.specs.Values.{number_parser}
 use Rattle.rp_command.proofs.node.node_job.Goals as goal
 
 pub text_of-requires : goal.text_of-requires
-text_of-requires c = node_table _ c.requires
+unfolding node_app
+text_of-requires c = has_value node_app (by_name (codes "table")) _ refl refl c.requires
 
 pub text_of-requires-2 : goal.text_of-requires-2
-text_of-requires-2 c = node_clause _ c.requires
+unfolding node_app
+text_of-requires-2 c = has_value node_app (by_name (codes "clause")) _ refl refl c.requires
 
 pub text_of-requires-3 : goal.text_of-requires-3
-text_of-requires-3 c = node_listen _ c.requires
+unfolding node_app
+text_of-requires-3 c = has_value node_app (by_name (codes "listen")) _ refl refl c.requires
 
 pub text_of-requires-4 : goal.text_of-requires-4
-text_of-requires-4 c = node_state _ c.requires
+unfolding node_app
+text_of-requires-4 c = has_value node_app (by_name (codes "state")) _ refl refl c.requires
 
 pub number_of-requires : goal.number_of-requires
-number_of-requires c = node_connections _ c.requires
+unfolding node_app
+number_of-requires c = passed node_app (by_number (codes "connections")) number_parser _ refl refl c.requires
 
 pub number_of-requires-2 : goal.number_of-requires-2
-number_of-requires-2 c = node_idle _ c.requires
+unfolding node_app
+number_of-requires-2 c = passed node_app (by_number (codes "idle")) number_parser _ refl refl c.requires
 
 pub flag_of-requires : goal.flag_of-requires
-flag_of-requires c = node_acknowledge _ c.requires
+unfolding node_app
+flag_of-requires c = passed node_app (by_flag (codes "acknowledge")) parser.Bool _ refl refl c.requires
 
 pub flag_of-requires-2 : goal.flag_of-requires-2
-flag_of-requires-2 c = node_verbose _ c.requires
+unfolding node_app
+flag_of-requires-2 c = passed node_app (by_flag (codes "verbose")) parser.Bool _ refl refl c.requires

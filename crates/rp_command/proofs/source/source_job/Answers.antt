@@ -1,23 +1,36 @@
-use Rattle.rp_command.proofs.Apps.{source_acknowledge, source_addr, source_budget, source_budget_numeric, source_clause, source_idle, source_no_header, source_verbose}
+use Rattle.std.proofs.Common.{◌∷◌, [], codes, refl}
+use Rattle.clap.specs.declared.builder.value_parser.ValueParser.TheVariants as parser
+use Rattle.rp_command.proofs.Apps.{has_value, passed}
+use Rattle.rp_command.specs.Commands.{by_flag, by_name, by_number, by_places, source_app}
+use Rattle.rp_command.specs.Values.{number_parser}
 use Rattle.rp_command.proofs.source.source_job.Goals as goal
 
 pub input_options-requires-clause-header : goal.input_options-requires-clause-header
-input_options-requires-clause-header c = source_no_header _ c.requires.rules
+unfolding source_app
+input_options-requires-clause-header c = passed source_app (by_flag (codes "no-header")) parser.Bool _ refl refl c.requires.rules
 
 pub text_of-requires : goal.text_of-requires
-text_of-requires c = source_clause _ c.requires.rules
-
-pub count_of-requires : goal.count_of-requires
-count_of-requires c = record { value = source_budget _ c.requires.rules; number = source_budget_numeric _ c.requires.rules }
+unfolding source_app
+text_of-requires c = has_value source_app (by_name (codes "clause")) _ refl refl c.requires.rules
 
 pub number_of-requires : goal.number_of-requires
-number_of-requires c = source_idle _ c.requires.rules
+unfolding source_app
+number_of-requires c = passed source_app (by_number (codes "idle")) number_parser _ refl refl c.requires.rules
 
 pub flag_of-requires : goal.flag_of-requires
-flag_of-requires c = source_acknowledge _ c.requires.rules
+unfolding source_app
+flag_of-requires c = passed source_app (by_flag (codes "acknowledge")) parser.Bool _ refl refl c.requires.rules
 
 pub flag_of-requires-2 : goal.flag_of-requires-2
-flag_of-requires-2 c = source_verbose _ c.requires.rules
+unfolding source_app
+flag_of-requires-2 c = passed source_app (by_flag (codes "verbose")) parser.Bool _ refl refl c.requires.rules
 
 pub texts_of-requires : goal.texts_of-requires
-texts_of-requires c = source_addr _ c.requires.rules
+unfolding source_app
+texts_of-requires c = has_value source_app (by_places (codes "ADDR")) _ refl refl c.requires.rules
+
+pub count_of-requires : goal.count_of-requires
+unfolding source_app
+count_of-requires c =
+    let budget = record (by_number (codes "budget")) { defaults = codes "100000" ∷ [] } in
+    record { value = has_value source_app budget _ refl refl c.requires.rules; number = passed source_app budget number_parser _ refl refl c.requires.rules }
