@@ -1,5 +1,5 @@
 -- A command with the arguments that were added to it.
-use Rattle.std.proofs.Common.{◌≡◌, ◌∙◌, ◌&&◌, Bool, not, true, false, List, [], ◌∷◌, is_some, map, ap, refl, sym}
+use Rattle.std.proofs.Common.{◌≡◌, ◌∙◌, not, true, false, List, [], ◌∷◌, is_some, map, ap, refl, sym}
 use Rattle.std.specs.List.{list_all}
 use Rattle.clap.proofs.SimpleLemmas.{is_false}
 use Rattle.clap.proofs.WalkLemmas.{both}

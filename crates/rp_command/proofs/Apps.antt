@@ -1,5 +1,5 @@
 -- What holds of each command's arguments.
-use Rattle.std.proofs.Common.{◌≡◌, ◌<◌, Bool, cond, true, false, zero, suc, ℕ, List, [], ◌∷◌, Option, Some, None, length, refl, arith, ap, sym, subst}
+use Rattle.std.proofs.Common.{◌≡◌, Bool, cond, true, false, suc, List, [], ◌∷◌, Option, Some, refl, arith, ap, subst}
 use Rattle.std.specs.Prelude.{unwrap_or}
 use Rattle.std.specs.List.{All, find}
 use Rattle.std.specs.Str.{bytes_eq}

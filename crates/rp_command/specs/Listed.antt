@@ -1,5 +1,5 @@
 -- What clap has of an argument that is listed among those of a command.
-use Rattle.std.specs.Prelude.{true, List, [], ◌∷◌, map}
+use Rattle.std.specs.Prelude.{true, [], ◌∷◌, map}
 use Rattle.clap.specs.Words.{App, Rule, Text, new_app}
 use Rattle.rp_command.specs.Commands.{by_each_name, by_flag, by_name_if_any, by_number, by_place_if_any, by_places_if_any, with_rules}
 use Rattle.rp_command.specs.declared.argument.Argument.{Argument}

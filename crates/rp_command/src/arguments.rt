@@ -1,5 +1,5 @@
 //! What clap makes of the words, and the values that it finds.
-ghost use Rattle.std.specs.Prelude.{◌≡◌, false, true, [], IfOk, OnOk, codes, map, option_map, string_bytes};
+ghost use Rattle.std.specs.Prelude.{◌≡◌, false, true, [], IfOk, OnOk, map, option_map, string_bytes};
 ghost use Rattle.clap.specs.Words.{IsAmong, IsParsedFrom, app_of, found_of, is_simple, kind_of, rows_of};
 ghost use Rattle.clap.specs.declared.error.kind.ErrorKind.TheVariants.{OutOfMemory};
 ghost use Rattle.clap.specs.declared.builder.value_parser.ValueParser.TheVariants as parser;
@@ -7,7 +7,7 @@ ghost use Rattle.clap.specs.declared.error.Error.{Error};
 ghost use Rattle.rp_command.specs.Commands.{are_taken, faults_by, is_ruled, rows_by};
 ghost use Rattle.rp_command.specs.Values.{HasFlag, HasNumber, HasNumberIfAny, HasText, HasTextIfAny, HasTexts, HasTextsIfAny, HasValue, Passes, number_parser};
 
-use crate::job::JobFault;
+use crate::job::{Job, JobFault};
 use clap::error::ErrorKind;
 use clap::{ArgMatches, Command, Error};
 use std::alloc::{AllocError, Global};
@@ -35,63 +35,121 @@ pub(crate) fn matched<'a>(
     }
 }
 
-/// The value of an argument that has one.
+/// The value of an argument that has one, among the words.
 #[tactic(auto, using(crate::proofs::Getters::first_rows))]
-pub(crate) fn text_of(alloc: Global, matches: &ArgMatches, id: &str) -> Result<String, AllocError>
+pub(crate) fn given_word<'a>(matches: &ArgMatches<'a>, id: &str) -> &'a str
     requires { HasValue id.now matches.now }
-    ensures { IfOk result (λ text. HasText (rows_of (found_of matches.now)) id.now (string_bytes text)) }
+    ensures { HasText (rows_of (found_of matches.now)) id.now result.now }
 {
-    let Some(text) = matches.get_str(id) else {
+    let Some(word) = matches.get_str(id) else {
         unreachable!()
     };
-    String::from_str(alloc, text)
+    word
 }
 
-/// The value of an argument, or None where the argument has no value.
-#[tactic(auto, using(crate::proofs::Getters::first_rows))]
-pub(crate) fn text_if_any(
+/// Memory for texts. Once it is refused, texts are empty, and `finish` says so.
+#[derive(Drop)]
+pub(crate) struct Memory {
     alloc: Global,
-    matches: &ArgMatches,
-    id: &str,
-) -> Result<Option<String>, AllocError>
-    ensures { IfOk result (λ text.
-        HasTextIfAny (rows_of (found_of matches.now)) id.now (option_map string_bytes text)) }
-{
-    let Some(text) = matches.get_str(id) else {
-        return Ok(None);
-    };
-    let owned = String::from_str(alloc, text)?;
-    Ok(Some(owned))
+    is_refused: bool,
 }
 
-/// The values of an argument that has some.
-pub(crate) fn texts_of(
-    alloc: Global,
-    matches: &ArgMatches,
-    id: &str,
-) -> Result<Vec<String>, AllocError>
+impl Memory {
+    /// Memory that wasn't refused yet.
+    pub(crate) fn new(alloc: Global) -> Memory
+        ensures { result.is_refused ≡ false }
+    {
+        Memory {
+            alloc,
+            is_refused: false,
+        }
+    }
+
+    /// The job, unless memory was refused.
+    pub(crate) fn finish(self, job: Job) -> Result<Job, JobFault>
+        ensures value { IfOk result (λ made. (self.is_refused ≡ false) × (made ≡ job)) }
+        ensures other { (error : Error) → result ≡ Err (JobFault.Line error) → ⊥ }
+    {
+        if self.is_refused {
+            Err(JobFault::OutOfMemory)
+        } else {
+            Ok(job)
+        }
+    }
+
+    /// The text with memory of its own.
+    fn text(&mut self, word: &str) -> String
+        ensures same { self.new.is_refused ≡ false → string_bytes result ≡ word.now }
+        ensures refused { self.new.is_refused ≡ false → self.old.is_refused ≡ false }
+    {
+        match String::from_str(self.alloc, word) {
+            Ok(text) => text,
+            Err(_) => {
+                self.is_refused = true;
+                String::new(self.alloc)
+            }
+        }
+    }
+
+    /// The texts, each with memory of its own.
+    fn texts(&mut self, words: &[&str]) -> Vec<String>
+        ensures same { self.new.is_refused ≡ false → map string_bytes result.items ≡ map (λ word. word.now) words.now }
+        ensures refused { self.new.is_refused ≡ false → self.old.is_refused ≡ false }
+    {
+        match owned(self.alloc, words) {
+            Ok(texts) => texts,
+            Err(_) => {
+                self.is_refused = true;
+                Vec::new(self.alloc)
+            }
+        }
+    }
+}
+
+/// The value of an argument that has one, unless memory is refused.
+pub(crate) fn text_of(memory: &mut Memory, matches: &ArgMatches, id: &str) -> String
     requires { HasValue id.now matches.now }
-    ensures { IfOk result (λ texts.
-        HasTexts (rows_of (found_of matches.now)) id.now (map string_bytes texts.items)) }
+    ensures value { memory.new.is_refused ≡ false → HasText (rows_of (found_of matches.now)) id.now (string_bytes result) }
+    ensures refused { memory.new.is_refused ≡ false → memory.old.is_refused ≡ false }
+{
+    memory.text(given_word(matches, id))
+}
+
+/// The value of an argument, or None where the argument has no value, unless memory is refused.
+#[tactic(auto, using(crate::proofs::Getters::first_rows))]
+pub(crate) fn text_if_any(memory: &mut Memory, matches: &ArgMatches, id: &str) -> Option<String>
+    ensures value { memory.new.is_refused ≡ false →
+        HasTextIfAny (rows_of (found_of matches.now)) id.now (option_map string_bytes result) }
+    ensures refused { memory.new.is_refused ≡ false → memory.old.is_refused ≡ false }
+{
+    match matches.get_str(id) {
+        Some(word) => Some(memory.text(word)),
+        None => None,
+    }
+}
+
+/// The values of an argument that has some, unless memory is refused.
+pub(crate) fn texts_of(memory: &mut Memory, matches: &ArgMatches, id: &str) -> Vec<String>
+    requires { HasValue id.now matches.now }
+    ensures value { memory.new.is_refused ≡ false →
+        HasTexts (rows_of (found_of matches.now)) id.now (map string_bytes result.items) }
+    ensures refused { memory.new.is_refused ≡ false → memory.old.is_refused ≡ false }
 {
     let Some(words) = matches.get_strs(id) else {
         unreachable!()
     };
-    owned(alloc, words)
+    memory.texts(words)
 }
 
-/// The values of an argument, none where it has none.
-pub(crate) fn texts_if_any(
-    alloc: Global,
-    matches: &ArgMatches,
-    id: &str,
-) -> Result<Vec<String>, AllocError>
-    ensures { IfOk result (λ texts.
-        HasTextsIfAny (rows_of (found_of matches.now)) id.now (map string_bytes texts.items)) }
+/// The values of an argument, none where it has none, unless memory is refused.
+pub(crate) fn texts_if_any(memory: &mut Memory, matches: &ArgMatches, id: &str) -> Vec<String>
+    ensures value { memory.new.is_refused ≡ false →
+        HasTextsIfAny (rows_of (found_of matches.now)) id.now (map string_bytes result.items) }
+    ensures refused { memory.new.is_refused ≡ false → memory.old.is_refused ≡ false }
 {
     match matches.get_strs(id) {
-        Some(words) => owned(alloc, words),
-        None => Ok(Vec::new(alloc)),
+        Some(words) => memory.texts(words),
+        None => Vec::new(memory.alloc),
     }
 }
 

@@ -1,5 +1,5 @@
 //! The command `check`.
-ghost use Rattle.std.specs.Prelude.{◌≡◌, IfOk, IfSome, codes};
+ghost use Rattle.std.specs.Prelude.{◌≡◌, false, IfOk, IfSome, codes};
 ghost use Rattle.clap.specs.Words.{found_of, kind_of, rows_of};
 ghost use Rattle.clap.specs.declared.error.Error.{Error};
 ghost use Rattle.clap.specs.declared.error.kind.ErrorKind.TheVariants.{InvalidValue};
@@ -9,12 +9,12 @@ ghost use Rattle.rp_command.specs.declared.job.CommandName.TheVariants as comman
 ghost use Rattle.rp_command.specs.Values.{HasOther, HasText, HasValue, MeetsRules};
 ghost use Rattle.rp_command.specs.declared.job.ReportFormat.{ReportFormat as Named};
 
-use crate::arguments::{text_if_any, text_of};
+use crate::arguments::{Memory, given_word, text_if_any};
 use crate::choices::no_such_word;
 use crate::input::{input_of, input_options};
 use crate::job::{CheckJob, CommandName, InputFormat, Job, JobFault, ReportFormat};
 use clap::ArgMatches;
-use std::alloc::{AllocError, Global};
+use std::alloc::Global;
 
 /// The words that `--format` takes.
 const REPORTS: &str = "text, json";
@@ -28,31 +28,33 @@ pub(crate) fn check_found(alloc: Global, matches: &ArgMatches) -> Result<Job, Jo
 {
     let from = input_of(alloc, matches, CommandName::Check)?;
     let format = report_of(alloc, matches, CommandName::Check)?;
-    let job = check_job(alloc, matches, from, format)?;
-    Ok(Job::Check(job))
+    let mut memory = Memory::new(alloc);
+    let job = check_job(&mut memory, matches, from, format);
+    memory.finish(Job::Check(job))
 }
 
 /// The values that clap found, beside what the input is and how what is found is printed.
 fn check_job(
-    alloc: Global,
+    memory: &mut Memory,
     matches: &ArgMatches,
     from: InputFormat,
     format: ReportFormat,
-) -> Result<CheckJob, AllocError>
+) -> CheckJob
     requires rules { MeetsRules check_app matches.now }
     requires from { HasText (rows_of (found_of matches.now)) (codes "from") (input_word from) }
     requires format { HasText (rows_of (found_of matches.now)) (codes "format") (report_word format) }
-    ensures { IfOk result (HasCheck (rows_of (found_of matches.now))) }
+    ensures value { memory.new.is_refused ≡ false → HasCheck (rows_of (found_of matches.now)) result }
+    ensures refused { memory.new.is_refused ≡ false → memory.old.is_refused ≡ false }
 {
-    let clause = text_if_any(alloc, matches, "clause")?;
-    let file = text_if_any(alloc, matches, "FILE")?;
-    let input = input_options(alloc, matches, from)?;
-    Ok(CheckJob {
+    let clause = text_if_any(memory, matches, "clause");
+    let file = text_if_any(memory, matches, "FILE");
+    let input = input_options(memory, matches, from);
+    CheckJob {
         input,
         clause,
         format,
         file,
-    })
+    }
 }
 
 /// How what is found is printed, as the command's option says.
@@ -66,10 +68,10 @@ pub(crate) fn report_of(
     ensures other { (error : Error) → result ≡ Err (JobFault.Line error) →
         (kind_of error ≡ InvalidValue) × HasOther (rows_of (found_of matches.now)) (codes "format") report_word }
 {
-    let word = text_of(alloc, matches, "format")?;
-    match report_named(word.as_str()) {
+    let word = given_word(matches, "format");
+    match report_named(word) {
         Some(format) => Ok(format),
-        None => Err(no_such_word(alloc, command, "--format <FORMAT>", REPORTS, word.as_str())),
+        None => Err(no_such_word(alloc, command, "--format <FORMAT>", REPORTS, word)),
     }
 }
 

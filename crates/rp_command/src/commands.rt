@@ -24,7 +24,7 @@ pub(crate) struct CommandText {
     pub(crate) arguments: &'static [Argument],
 }
 
-const TRACE: CommandText = CommandText {
+static TRACE: CommandText = CommandText {
     name: "trace",
     usage_name: "rowmatch trace",
     summary: "Prints the variables of each line's match, a row for each letter",
@@ -32,7 +32,7 @@ const TRACE: CommandText = CommandText {
     arguments: options::TRACE,
 };
 
-const WHOLE: CommandText = CommandText {
+static WHOLE: CommandText = CommandText {
     name: "whole",
     usage_name: "rowmatch whole",
     summary: "Prints the answer of a clause over a file, partition by partition",
@@ -40,7 +40,7 @@ const WHOLE: CommandText = CommandText {
     arguments: options::WHOLE,
 };
 
-const NODE: CommandText = CommandText {
+static NODE: CommandText = CommandText {
     name: "node",
     usage_name: "rowmatch node",
     summary: "Takes rows over connections, and gives the items of their answers",
@@ -48,7 +48,7 @@ const NODE: CommandText = CommandText {
     arguments: options::NODE,
 };
 
-const SOURCE: CommandText = CommandText {
+static SOURCE: CommandText = CommandText {
     name: "source",
     usage_name: "rowmatch source",
     summary: "Hands the rows of an input to nodes, and prints the items that they give",
@@ -56,7 +56,7 @@ const SOURCE: CommandText = CommandText {
     arguments: options::SOURCE,
 };
 
-const CHECK: CommandText = CommandText {
+static CHECK: CommandText = CommandText {
     name: "check",
     usage_name: "rowmatch check",
     summary: "Says what is wrong with a table, a clause or a file",
@@ -64,7 +64,7 @@ const CHECK: CommandText = CommandText {
     arguments: options::CHECK,
 };
 
-const WHY: CommandText = CommandText {
+static WHY: CommandText = CommandText {
     name: "why",
     usage_name: "rowmatch why",
     summary: "Says why there is no match, partition by partition",

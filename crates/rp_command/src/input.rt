@@ -8,11 +8,11 @@ ghost use Rattle.rp_command.specs.Jobs.{HasInput, input_word};
 ghost use Rattle.rp_command.specs.Values.{HasOther, HasText, HasValue, Passes};
 ghost use Rattle.rp_command.specs.declared.job.InputFormat.{InputFormat as Named};
 
-use crate::arguments::{flag_of, text_if_any, text_of, texts_if_any};
+use crate::arguments::{Memory, flag_of, given_word, text_if_any, texts_if_any};
 use crate::choices::no_such_word;
 use crate::job::{CommandName, InputFormat, InputOptions, JobFault};
 use clap::ArgMatches;
-use std::alloc::{AllocError, Global};
+use std::alloc::Global;
 
 /// The words that `--from` takes.
 const INPUTS: &str = "csv, jsonl";
@@ -28,31 +28,32 @@ pub(crate) fn input_of(
     ensures other { (error : Error) → result ≡ Err (JobFault.Line error) →
         (kind_of error ≡ InvalidValue) × HasOther (rows_of (found_of matches.now)) (codes "from") input_word }
 {
-    let word = text_of(alloc, matches, "from")?;
-    match input_named(word.as_str()) {
+    let word = given_word(matches, "from");
+    match input_named(word) {
         Some(from) => Ok(from),
-        None => Err(no_such_word(alloc, command, "--from <FORMAT>", INPUTS, word.as_str())),
+        None => Err(no_such_word(alloc, command, "--from <FORMAT>", INPUTS, word)),
     }
 }
 
-/// The values that clap found of these options, beside what the input is.
+/// The values that clap found of these options, beside what the input is, unless memory is refused.
 pub(crate) fn input_options(
-    alloc: Global,
+    memory: &mut Memory,
     matches: &ArgMatches,
     from: InputFormat,
-) -> Result<InputOptions, AllocError>
+) -> InputOptions
     requires header { Passes false parser.Bool (codes "no-header") matches.now }
     requires from { HasText (rows_of (found_of matches.now)) (codes "from") (input_word from) }
-    ensures { IfOk result (HasInput (rows_of (found_of matches.now))) }
+    ensures value { memory.new.is_refused ≡ false → HasInput (rows_of (found_of matches.now)) result }
+    ensures refused { memory.new.is_refused ≡ false → memory.old.is_refused ≡ false }
 {
-    Ok(InputOptions {
-        table: text_if_any(alloc, matches, "table")?,
-        columns: text_if_any(alloc, matches, "columns")?,
-        delimiter: text_if_any(alloc, matches, "delimiter")?,
-        nulls: texts_if_any(alloc, matches, "null")?,
+    InputOptions {
+        table: text_if_any(memory, matches, "table"),
+        columns: text_if_any(memory, matches, "columns"),
+        delimiter: text_if_any(memory, matches, "delimiter"),
+        nulls: texts_if_any(memory, matches, "null"),
         no_header: flag_of(matches, "no-header"),
         from,
-    })
+    }
 }
 
 /// What the input is that the word is for.

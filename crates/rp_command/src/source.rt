@@ -1,5 +1,5 @@
 //! The command `source`.
-ghost use Rattle.std.specs.Prelude.{◌≡◌, IfOk, codes};
+ghost use Rattle.std.specs.Prelude.{◌≡◌, false, IfOk, codes};
 ghost use Rattle.clap.specs.Words.{found_of, rows_of};
 ghost use Rattle.clap.specs.declared.error.Error.{Error};
 ghost use Rattle.rp_command.specs.Commands.{source_app};
@@ -7,11 +7,11 @@ ghost use Rattle.rp_command.specs.Jobs.{HasSource, IsJobOf, IsNoSuchWord, input_
 ghost use Rattle.rp_command.specs.declared.job.CommandName.TheVariants as command_name;
 ghost use Rattle.rp_command.specs.Values.{HasText, MeetsRules};
 
-use crate::arguments::{count_of, flag_of, number_of, text_of, texts_of};
+use crate::arguments::{Memory, count_of, flag_of, number_of, text_of, texts_of};
 use crate::input::{input_of, input_options};
 use crate::job::{CommandName, InputFormat, Job, JobFault, SourceJob};
 use clap::ArgMatches;
-use std::alloc::{AllocError, Global};
+use std::alloc::Global;
 
 /// The job of what clap found.
 pub(crate) fn source_found(alloc: Global, matches: &ArgMatches) -> Result<Job, JobFault>
@@ -21,24 +21,22 @@ pub(crate) fn source_found(alloc: Global, matches: &ArgMatches) -> Result<Job, J
         IsNoSuchWord command_name.Source (rows_of (found_of matches.now)) error }
 {
     let from = input_of(alloc, matches, CommandName::Source)?;
-    let job = source_job(alloc, matches, from)?;
-    Ok(Job::Source(job))
+    let mut memory = Memory::new(alloc);
+    let job = source_job(&mut memory, matches, from);
+    memory.finish(Job::Source(job))
 }
 
 /// The values that clap found, beside what the input is.
-fn source_job(
-    alloc: Global,
-    matches: &ArgMatches,
-    from: InputFormat,
-) -> Result<SourceJob, AllocError>
+fn source_job(memory: &mut Memory, matches: &ArgMatches, from: InputFormat) -> SourceJob
     requires rules { MeetsRules source_app matches.now }
     requires from { HasText (rows_of (found_of matches.now)) (codes "from") (input_word from) }
-    ensures { IfOk result (HasSource (rows_of (found_of matches.now))) }
+    ensures value { memory.new.is_refused ≡ false → HasSource (rows_of (found_of matches.now)) result }
+    ensures refused { memory.new.is_refused ≡ false → memory.old.is_refused ≡ false }
 {
-    let clause = text_of(alloc, matches, "clause")?;
-    let addresses = texts_of(alloc, matches, "ADDR")?;
-    let input = input_options(alloc, matches, from)?;
-    Ok(SourceJob {
+    let clause = text_of(memory, matches, "clause");
+    let addresses = texts_of(memory, matches, "ADDR");
+    let input = input_options(memory, matches, from);
+    SourceJob {
         input,
         clause,
         budget: count_of(matches, "budget"),
@@ -46,5 +44,5 @@ fn source_job(
         acknowledge: flag_of(matches, "acknowledge"),
         verbose: flag_of(matches, "verbose"),
         addresses,
-    })
+    }
 }

@@ -7,7 +7,7 @@ ghost use Rattle.rp_command.specs.Jobs.{IsJobOf};
 ghost use Rattle.rp_command.specs.Values.{MeetsRules};
 ghost use Rattle.rp_command.specs.declared.job.CommandName.TheVariants as command_name;
 
-use crate::arguments::text_of;
+use crate::arguments::{Memory, text_of};
 use crate::job::{Job, JobFault};
 use clap::ArgMatches;
 use std::alloc::Global;
@@ -18,6 +18,7 @@ pub(crate) fn trace_found(alloc: Global, matches: &ArgMatches) -> Result<Job, Jo
     ensures value { IfOk result (IsJobOf command_name.Trace (rows_of (found_of matches.now))) }
     ensures other { (error : Error) → result ≡ Err (JobFault.Line error) → ⊥ }
 {
-    let pattern = text_of(alloc, matches, "PATTERN")?;
-    Ok(Job::Trace { pattern })
+    let mut memory = Memory::new(alloc);
+    let pattern = text_of(&mut memory, matches, "PATTERN");
+    memory.finish(Job::Trace { pattern })
 }

@@ -1,5 +1,5 @@
 //! The command `whole`.
-ghost use Rattle.std.specs.Prelude.{◌≡◌, IfOk, IfSome, codes};
+ghost use Rattle.std.specs.Prelude.{◌≡◌, false, IfOk, IfSome, codes};
 ghost use Rattle.clap.specs.Words.{found_of, kind_of, rows_of};
 ghost use Rattle.clap.specs.declared.error.Error.{Error};
 ghost use Rattle.clap.specs.declared.error.kind.ErrorKind.TheVariants.{InvalidValue};
@@ -9,12 +9,14 @@ ghost use Rattle.rp_command.specs.declared.job.CommandName.TheVariants as comman
 ghost use Rattle.rp_command.specs.Values.{HasOther, HasText, HasValue, MeetsRules};
 ghost use Rattle.rp_command.specs.declared.job.AnswerFormat.{AnswerFormat as Named};
 
-use crate::arguments::{flag_of, number_of, text_if_any, text_of, texts_if_any};
+use crate::arguments::{
+    Memory, flag_of, given_word, number_of, text_if_any, text_of, texts_if_any,
+};
 use crate::choices::no_such_word;
 use crate::input::{input_of, input_options};
 use crate::job::{AnswerFormat, CommandName, InputFormat, Job, JobFault, WholeJob};
 use clap::ArgMatches;
-use std::alloc::{AllocError, Global};
+use std::alloc::Global;
 
 /// The words that `--format` takes.
 const ANSWERS: &str = "lines, csv, objects";
@@ -28,27 +30,29 @@ pub(crate) fn whole_found(alloc: Global, matches: &ArgMatches) -> Result<Job, Jo
 {
     let from = input_of(alloc, matches, CommandName::Whole)?;
     let format = answer_of(alloc, matches)?;
-    let job = whole_job(alloc, matches, from, format)?;
-    Ok(Job::Whole(job))
+    let mut memory = Memory::new(alloc);
+    let job = whole_job(&mut memory, matches, from, format);
+    memory.finish(Job::Whole(job))
 }
 
 /// The values that clap found, beside what the input is and how the answer is printed.
 fn whole_job(
-    alloc: Global,
+    memory: &mut Memory,
     matches: &ArgMatches,
     from: InputFormat,
     format: AnswerFormat,
-) -> Result<WholeJob, AllocError>
+) -> WholeJob
     requires rules { MeetsRules whole_app matches.now }
     requires from { HasText (rows_of (found_of matches.now)) (codes "from") (input_word from) }
     requires format { HasText (rows_of (found_of matches.now)) (codes "format") (answer_word format) }
-    ensures { IfOk result (HasWhole (rows_of (found_of matches.now))) }
+    ensures value { memory.new.is_refused ≡ false → HasWhole (rows_of (found_of matches.now)) result }
+    ensures refused { memory.new.is_refused ≡ false → memory.old.is_refused ≡ false }
 {
-    let clause = text_of(alloc, matches, "clause")?;
-    let filter = text_if_any(alloc, matches, "where")?;
-    let files = texts_if_any(alloc, matches, "FILE")?;
-    let input = input_options(alloc, matches, from)?;
-    Ok(WholeJob {
+    let clause = text_of(memory, matches, "clause");
+    let filter = text_if_any(memory, matches, "where");
+    let files = texts_if_any(memory, matches, "FILE");
+    let input = input_options(memory, matches, from);
+    WholeJob {
         input,
         clause,
         format,
@@ -56,7 +60,7 @@ fn whole_job(
         filter,
         most_turns: number_of(matches, "most-turns"),
         files,
-    })
+    }
 }
 
 /// How the answer is printed, as the option says.
@@ -66,15 +70,15 @@ fn answer_of(alloc: Global, matches: &ArgMatches) -> Result<AnswerFormat, JobFau
     ensures other { (error : Error) → result ≡ Err (JobFault.Line error) →
         (kind_of error ≡ InvalidValue) × HasOther (rows_of (found_of matches.now)) (codes "format") answer_word }
 {
-    let word = text_of(alloc, matches, "format")?;
-    match answer_named(word.as_str()) {
+    let word = given_word(matches, "format");
+    match answer_named(word) {
         Some(format) => Ok(format),
         None => Err(no_such_word(
             alloc,
             CommandName::Whole,
             "--format <FORMAT>",
             ANSWERS,
-            word.as_str(),
+            word,
         )),
     }
 }

@@ -4,6 +4,6 @@ use Rattle.rp_command.proofs.Apps.{passed}
 use Rattle.rp_command.specs.Commands.{by_flag, check_app}
 use Rattle.rp_command.proofs.check.check_job.Goals as goal
 
-pub input_options-requires-clause-header : goal.input_options-requires-clause-header
+pub input_options-input-requires-clause-header : goal.input_options-input-requires-clause-header
 unfolding check_app
-input_options-requires-clause-header c = passed check_app (by_flag (codes "no-header")) parser.Bool _ refl refl c.requires.rules
+input_options-input-requires-clause-header c = passed check_app (by_flag (codes "no-header")) parser.Bool _ refl refl c.requires.rules

@@ -4,8 +4,8 @@ use Rattle.rp_command.proofs.Words.{is_other}
 use Rattle.rp_command.specs.Jobs.{input_word}
 use Rattle.rp_command.proofs.input.input_of.Goals as goal
 
-pub returns-clause-other : goal.returns-clause-other
-returns-clause-other c = λ error is. (
+pub returns-in-None-clause-other : goal.returns-in-None-clause-other
+returns-in-None-clause-other c = λ error is. (
   c.no_such_word.ensures error (search rules),
-  is_other input_word (codes "from") (rows_of (found_of c.args.matches.now)) _ c.in_ok-word.ensures (λ one same. c.in-None.ensures.other (search rules) one (search rules)),
+  is_other input_word (codes "from") (rows_of (found_of c.args.matches.now)) _ c.given_word-word.ensures (λ one same. c.in-None.ensures.other (search rules) one (search rules)),
 )

@@ -5,13 +5,13 @@ use Rattle.rp_command.specs.Commands.{by_flag, by_name, by_number, by_places, so
 use Rattle.rp_command.specs.Values.{number_parser}
 use Rattle.rp_command.proofs.source.source_job.Goals as goal
 
-pub input_options-requires-clause-header : goal.input_options-requires-clause-header
+pub input_options-input-requires-clause-header : goal.input_options-input-requires-clause-header
 unfolding source_app
-input_options-requires-clause-header c = passed source_app (by_flag (codes "no-header")) parser.Bool _ refl refl c.requires.rules
+input_options-input-requires-clause-header c = passed source_app (by_flag (codes "no-header")) parser.Bool _ refl refl c.requires.rules
 
-pub text_of-requires : goal.text_of-requires
+pub text_of-clause-requires : goal.text_of-clause-requires
 unfolding source_app
-text_of-requires c = has_value source_app (by_name (codes "clause")) _ refl refl c.requires.rules
+text_of-clause-requires c = has_value source_app (by_name (codes "clause")) _ refl refl c.requires.rules
 
 pub number_of-requires : goal.number_of-requires
 unfolding source_app
@@ -25,9 +25,9 @@ pub flag_of-requires-2 : goal.flag_of-requires-2
 unfolding source_app
 flag_of-requires-2 c = passed source_app (by_flag (codes "verbose")) parser.Bool _ refl refl c.requires.rules
 
-pub texts_of-requires : goal.texts_of-requires
+pub texts_of-addresses-requires : goal.texts_of-addresses-requires
 unfolding source_app
-texts_of-requires c = has_value source_app (by_places (codes "ADDR")) _ refl refl c.requires.rules
+texts_of-addresses-requires c = has_value source_app (by_places (codes "ADDR")) _ refl refl c.requires.rules
 
 pub count_of-requires : goal.count_of-requires
 unfolding source_app

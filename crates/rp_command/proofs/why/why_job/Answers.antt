@@ -5,13 +5,13 @@ use Rattle.rp_command.specs.Commands.{by_flag, by_name, by_number, why_app}
 use Rattle.rp_command.specs.Values.{number_parser}
 use Rattle.rp_command.proofs.why.why_job.Goals as goal
 
-pub input_options-requires-clause-header : goal.input_options-requires-clause-header
+pub input_options-input-requires-clause-header : goal.input_options-input-requires-clause-header
 unfolding why_app
-input_options-requires-clause-header c = passed why_app (by_flag (codes "no-header")) parser.Bool _ refl refl c.requires.rules
+input_options-input-requires-clause-header c = passed why_app (by_flag (codes "no-header")) parser.Bool _ refl refl c.requires.rules
 
-pub text_of-requires : goal.text_of-requires
+pub text_of-clause-requires : goal.text_of-clause-requires
 unfolding why_app
-text_of-requires c = has_value why_app (by_name (codes "clause")) _ refl refl c.requires.rules
+text_of-clause-requires c = has_value why_app (by_name (codes "clause")) _ refl refl c.requires.rules
 
 pub number_of-requires : goal.number_of-requires
 unfolding why_app
