@@ -1,7 +1,6 @@
 //! A matcher over the rows of one partition.
 ghost use Rattle.std.specs.Prelude.{◌≡◌, ◌+◌, ◌-◌, ◌^◌, ◌<◌, ◌≤◌, length, ◌++◌, ◌∷◌, [], true, false, ◌↔◌, IsTrue, OnOk, OnErr, IfErr, IfOk};
 ghost use Rattle.rp_words.specs.declared.word.End.TheVariants.{Open, Closed};
-ghost use Rattle.rp_query.specs.QueryView.{data_of};
 ghost use Rattle.rp_known.specs.Known.{Known, count};
 ghost use Rattle.rp_walker.specs.FitLaws.{AgreesFrom};
 ghost use Rattle.rp_walker.specs.Polls.{left_in, entered_by};
@@ -31,7 +30,6 @@ pub struct Matcher {
 }
 
 impl Model for Matcher {
-    ghost use Rattle.rp_query.specs.QueryView.{data_of};
     ghost use Rattle.rp_answer.specs.MatcherData.{MatcherData, matcher_code};
     ghost use Rattle.rp_answer.specs.Matching.{matcher_by, Ready};
 
@@ -39,9 +37,9 @@ impl Model for Matcher {
 
     ghost coded = { matcher_code };
 
-    ghost view = { λ m. matcher_by (data_of m.query) m.rows m.walker };
+    ghost view = { λ m. matcher_by m.query m.rows m.walker };
 
-    ghost invariant = { λ m. Ready (data_of m.query) m.rows m.walker };
+    ghost invariant = { λ m. Ready m.query m.rows m.walker };
 }
 
 impl Matcher {
@@ -54,7 +52,7 @@ impl Matcher {
 
     /// A matcher of no row yet.
     pub fn new(alloc: Global, query: Query) -> Matcher
-        ensures query { result.query ≡ data_of query }
+        ensures query { result.query ≡ query }
         ensures state { result.state ≡ first_state }
         ensures entered { result.entered ≡ 0 }
         ensures count { count result.known ≡ 0 }
@@ -73,8 +71,8 @@ impl Matcher {
     ///     let mut matcher = Matcher::resume(rt.alloc(), query, state);
     pub fn resume(alloc: Global, query: Query, state: MatcherState) -> Matcher
         requires one { 1 ≤ state.first }
-        requires can { CanGoOn (data_of query) state }
-        ensures query { result.query ≡ data_of query }
+        requires can { CanGoOn query state }
+        ensures query { result.query ≡ query }
         ensures state { result.state ≡ state }
         ensures entered { result.entered ≡ 0 }
         ensures count { count result.known ≡ state.first - 1 }
@@ -232,17 +230,17 @@ impl Matcher {
 
 /// Drops the rows below the horizon.
 fn drop_rows(query: &Query, rows: &mut Kept, walker: &mut Walker)
-    requires { Ready (data_of query.now) rows.old walker.old }
-    ensures ready { Ready (data_of query.now) rows.new walker.new }
+    requires { Ready query.now rows.old walker.old }
+    ensures ready { Ready query.now rows.new walker.new }
     ensures record { record_of walker.new ≡ record (record_of walker.old) { first = rows.new.first } }
     ensures count { count (known_by rows.new) ≡ count (known_by rows.old) }
     ensures end { rows.new.end ≡ rows.old.end }
     ensures agrees { AgreesFrom rows.new.first (known_by rows.old) (known_by rows.new) }
-    ensures held { HoldsNoMore (data_of query.now) (known_by rows.new) (record_of walker.new) }
+    ensures held { HoldsNoMore query.now (known_by rows.new) (record_of walker.new) }
     ensures low { rows.old.first ≤ rows.new.first }
     ensures entered { entered_by walker.new ≡ entered_by walker.old }
-    ensures left { left_in (data_of query.now) (known_by rows.new) walker.new
-        ≡ left_in (data_of query.now) (known_by rows.old) walker.old }
+    ensures left { left_in query.now (known_by rows.new) walker.new
+        ≡ left_in query.now (known_by rows.old) walker.old }
 {
     law_walkers();
     rp_walker::law_left();

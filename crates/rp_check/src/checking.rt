@@ -6,7 +6,6 @@ ghost use Rattle.rp_tree.specs.Clauses.{clause_tree};
 ghost use Rattle.rp_check.specs.Checked.{FirstFaultOr, Tells};
 ghost use Rattle.rp_check.specs.ClauseFaults.{faults, name_faults, listing_faults, expression_faults, shown_faults, unmatched_faults};
 ghost use Rattle.rp_check.specs.QueryOf.{IsQueryOf};
-ghost use Rattle.rp_query.specs.QueryView.{data_of};
 ghost use Rattle.rp_check.specs.Queries.{rows_shown};
 ghost use Rattle.rp_check.specs.Checking.{IsNamed, ArePlaces, IsPlanned, IsMadeOf, spoken};
 ghost use Rattle.rp_tree.specs.Tree.{tree_of};
@@ -204,7 +203,7 @@ fn allow_output(columns: &[Column], clause: &Clause) -> Result<(), CheckFault>
 /// the names of measures. `OutOfMemory` may come before any of them.
 pub fn check(alloc: Global, clause: Clause, table: &Table) -> Result<Query, CheckFault>
     ensures clean { IfOk result (λ query. faults (clause_tree clause) table.now ≡ []) }
-    ensures query { IfOk result (λ query. IsQueryOf (clause_tree clause) clause.text table.now (data_of query)) }
+    ensures query { IfOk result (λ query. IsQueryOf (clause_tree clause) clause.text table.now query) }
     ensures refused { IfErr result (λ fault. Tells fault (faults (clause_tree clause) table.now)) }
 {
     query_of(alloc, &clause, table)
@@ -213,7 +212,7 @@ pub fn check(alloc: Global, clause: Clause, table: &Table) -> Result<Query, Chec
 /// The same, of a clause that is lent.
 fn query_of(alloc: Global, clause: &Clause, table: &Table) -> Result<Query, CheckFault>
     ensures { FirstFaultOr (faults (clause_tree clause.now) table.now)
-        (λ query. IsQueryOf (clause_tree clause.now) clause.now.text table.now (data_of query)) result }
+        (λ query. IsQueryOf (clause_tree clause.now) clause.now.text table.now query) result }
 {
     let data = checked(alloc, clause, table)?;
     let query = Query::new(alloc, data)?;

@@ -6,7 +6,6 @@ ghost use Rattle.rp_lexer.specs.Lexes.{IsToken, Lexes};
 ghost use Rattle.rp_tree.specs.Clauses.{clause_tree};
 ghost use Rattle.rp_syntax.specs.ClauseGrammar.{Derives};
 ghost use Rattle.rp_compile.specs.Compiled.{IsCompiled, IsCompileFault, told_check, told_lex, told_parse};
-ghost use Rattle.rp_query.specs.QueryView.{data_of};
 
 use rp_check::{CheckFault, Fault, check};
 use rp_grammar::ParseFault;
@@ -103,7 +102,7 @@ impl<T: Drop> From<AllocFailed<T>> for CompileFault {
 ///
 /// `OutOfMemory` may come before any of them.
 pub fn compile(alloc: Global, text: &str, table: &Table) -> Result<Query, CompileFault>
-    ensures query { IfOk result (λ query. IsCompiled text.now table.now (data_of query)) }
+    ensures query { IfOk result (λ query. IsCompiled text.now table.now query) }
     ensures fault { IfErr result (λ fault. IsCompileFault text.now table.now fault) }
 {
     let tokens = lex(alloc, text)?;

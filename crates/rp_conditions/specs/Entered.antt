@@ -1,7 +1,6 @@
 -- Inside: what a tester is of, and which labels it has entered.
 use Rattle.std.specs.Prelude.{ℕ, ◌-◌, ◌^◌, ◌<◌, List, length}
 use Rattle.rp_words.specs.declared.word.Label.{Label}
-use Rattle.rp_query.specs.QueryView.{data_of}
 use Rattle.rp_eval.specs.declared.rows.Rows.{Ghosts}
 use Rattle.rp_eval.specs.Entered.{AreTotals}
 use Rattle.rp_conditions.specs.declared.tester.Tester.{Tester}
@@ -10,7 +9,7 @@ use Rattle.rp_conditions.specs.Tested.{Tested, asked_of}
 module _ {R : Type 0} {g : Ghosts R} where
   -- the rows and the query that it borrows
   unfoldable pub tested_by : Tester R g → Tested
-  tested_by t = record { rows = g.known t.rows.now; ending = g.ending t.rows.now; query = data_of t.query.now }
+  tested_by t = record { rows = g.known t.rows.now; ending = g.ending t.rows.now; query = t.query.now }
 
   -- its totals are those of these labels, from this start row on
   unfoldable pub HasEntered : Tester R g → ℕ → List Label → Type 0

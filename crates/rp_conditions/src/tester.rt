@@ -1,6 +1,5 @@
 //! A query's conditions as the tests of a search.
 ghost use Rattle.std.specs.Prelude.{◌≡◌, ◌+◌, ◌<◌, ◌≤◌, length};
-ghost use Rattle.rp_query.specs.QueryView.{data_of};
 ghost use Rattle.rp_eval.specs.Entered.{plan_of};
 ghost use Rattle.rp_query.specs.QueryView.{totals_in};
 
@@ -19,7 +18,7 @@ pub struct Tester<'a, R: Rows> {
     query: &'a Query,
     totals: Totals,
     entries: Entries,
-    ghost for_query: { plan_of totals ≡ totals_in (data_of query.now) },
+    ghost for_query: { plan_of totals ≡ totals_in query.now },
 }
 
 #[tactic(auto, unfolding(crate::specs::Entered::tested_by, crate::specs::Entered::HasEntered, crate::specs::Entered::entries_of))]
@@ -33,9 +32,9 @@ impl<'a, R: Rows> Tester<'a, R> {
 
     /// Tests by totals of the query's plan. The labels of the totals are entered, and further ones are counted.
     pub fn new(rows: &'a R, query: &'a Query, totals: Totals, entries: Entries) -> Tester<'a, R>
-        requires totals { plan_of totals ≡ totals_in (data_of query.now) }
+        requires totals { plan_of totals ≡ totals_in query.now }
         ensures subject { tested_by result ≡
-            record { rows = R.known rows.now; ending = R.ending rows.now; query = data_of query.now } }
+            record { rows = R.known rows.now; ending = R.ending rows.now; query = query.now } }
         ensures entered { (start : ℕ) (labels : List Marked) →
             AreTotals totals (R.known rows.now) start labels → HasEntered result start labels }
         ensures counted { entries_of result ≡ entries }

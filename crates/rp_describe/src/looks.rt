@@ -3,7 +3,7 @@ ghost use Rattle.std.specs.Prelude.{◌≡◌, ℕ, IfSome, None, Some};
 ghost use Rattle.rp_query.specs.Definitions.{definition_of};
 ghost use Rattle.rp_query.specs.Formulas.{condition_formula, value_formula};
 ghost use Rattle.rp_query.specs.Locality.{IsLeaderOf};
-ghost use Rattle.rp_query.specs.QueryView.{data_of, totals_in};
+ghost use Rattle.rp_query.specs.QueryView.{totals_in};
 ghost use Rattle.rp_words.specs.PatternForm.{form_of};
 ghost use Rattle.rp_query.specs.declared.plan.Condition.{Condition as Defined};
 ghost use Rattle.rp_describe.specs.Looks.{together, looks_of, looks_by, looks_from, leads_to};
@@ -65,10 +65,10 @@ impl Looks {
 
 /// Which rows the condition of a variable looks at; none: it has no condition.
 pub fn looks_at(query: &Query, variable: usize) -> Option<Looks>
-    ensures undefined { result ≡ None → definition_of (data_of query.now).plan variable ≡ None }
+    ensures undefined { result ≡ None → definition_of query.now.plan variable ≡ None }
     ensures said { IfSome result (λ looks.
-        (c : Defined) → definition_of (data_of query.now).plan variable ≡ Some c →
-        IsSaidOf (data_of query.now) variable c looks) }
+        (c : Defined) → definition_of query.now.plan variable ≡ Some c →
+        IsSaidOf query.now variable c looks) }
 {
     law_leaders();
     law_locality();
@@ -79,7 +79,7 @@ pub fn looks_at(query: &Query, variable: usize) -> Option<Looks>
 
 /// Which rows all conditions look at together.
 pub fn all_looks(query: &Query) -> Looks
-    ensures { ConditionsAreSaid (data_of query.now) result }
+    ensures { ConditionsAreSaid query.now result }
 {
     let mut all = OWN_ROW;
     for number in 0..query.plan().definitions.len() {
@@ -91,9 +91,9 @@ pub fn all_looks(query: &Query) -> Looks
 /// Which rows the condition of a variable looks at together with others.
 fn with_variable(query: &Query, variable: usize, others: Looks) -> Looks
     ensures kept { (v : ℕ) (c : Defined) →
-        IsSaidOf (data_of query.now) v c others → IsSaidOf (data_of query.now) v c result }
-    ensures said { (c : Defined) → definition_of (data_of query.now).plan variable ≡ Some c →
-        IsSaidOf (data_of query.now) variable c result }
+        IsSaidOf query.now v c others → IsSaidOf query.now v c result }
+    ensures said { (c : Defined) → definition_of query.now.plan variable ≡ Some c →
+        IsSaidOf query.now variable c result }
 {
     match looks_at(query, variable) {
         None => others,
@@ -104,9 +104,9 @@ fn with_variable(query: &Query, variable: usize, others: Looks) -> Looks
 /// What there is of a query, for the condition of a variable.
 pub(crate) fn looker_of(query: &Query, variable: usize) -> Looker<'_>
     ensures variable { result.variable ≡ variable }
-    ensures leader { IfSome result.leader (IsLeaderOf (form_of (data_of query.now).pattern)) }
-    ensures totals { result.totals.now ≡ totals_in (data_of query.now) }
-    ensures form { result.form.now ≡ form_of (data_of query.now).pattern }
+    ensures leader { IfSome result.leader (IsLeaderOf (form_of query.now.pattern)) }
+    ensures totals { result.totals.now ≡ totals_in query.now }
+    ensures form { result.form.now ≡ form_of query.now.pattern }
 {
     Looker {
         variable,

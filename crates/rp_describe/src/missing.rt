@@ -2,7 +2,7 @@
 ghost use Rattle.std.specs.Prelude.{◌≡◌, IfSome, Some, true, option_copied};
 ghost use Rattle.std.specs.List.{AllByRecursion};
 ghost use Rattle.rp_words.specs.PatternForm.{form_of};
-ghost use Rattle.rp_query.specs.QueryView.{data_of, totals_in};
+ghost use Rattle.rp_query.specs.QueryView.{totals_in};
 ghost use Rattle.rp_query.specs.Definitions.{definition_of};
 ghost use Rattle.rp_query.specs.Formulas.{condition_formula, value_formula};
 ghost use Rattle.rp_query.specs.declared.plan.Condition.{Condition as Defined};
@@ -15,8 +15,8 @@ use rp_query::{Condition, Expr, Navigation, Query, RowsOf, Total, Variables, goe
 /// A variable whose rows the condition of another looks at, and of which none comes before the other's in any word of the
 /// pattern. The first of a union, where that holds of each.
 pub fn missing_variable(query: &Query, variable: usize) -> Option<usize>
-    ensures { IfSome result (λ other. (c : Defined) → definition_of (data_of query.now).plan variable ≡ Some c →
-        LooksAtMissing (form_of (data_of query.now).pattern) (totals_in (data_of query.now)) variable
+    ensures { IfSome result (λ other. (c : Defined) → definition_of query.now.plan variable ≡ Some c →
+        LooksAtMissing (form_of query.now.pattern) (totals_in query.now) variable
         (condition_formula c) other) }
 {
     let condition = query.definition(variable)?;

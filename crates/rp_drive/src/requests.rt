@@ -1,6 +1,5 @@
 //! The lines that are sent, and the key that a packet is polled by.
 ghost use Rattle.std.specs.Prelude.{◌≡◌, IfOk};
-ghost use Rattle.rp_query.specs.QueryView.{data_of};
 ghost use Rattle.rp_drive.specs.Keys.{packet_key};
 ghost use Rattle.rp_drive.specs.Lines.{line_of};
 ghost use Rattle.rp_protocol.specs.declared.request.Request.TheVariants as request;
@@ -31,7 +30,7 @@ pub(crate) fn poll_request(alloc: Global, key: &Cells, budget: u32) -> Result<Ve
 
 /// The key of the partition that a packet is of.
 pub(crate) fn packet_key(alloc: Global, query: &Query, packet: &Packet) -> Result<Cells, AllocError>
-    ensures { IfOk result (λ key. key ≡ packet_key (data_of query.now) packet.now) }
+    ensures { IfOk result (λ key. key ≡ packet_key query.now packet.now) }
 {
     match packet {
         Packet::Row { cells, .. } => query.key(alloc, cells),

@@ -2,7 +2,7 @@
 ghost use Rattle.std.specs.Prelude.{◌≡◌, ◌≤◌, ◌∷◌, ◌++◌, [], IfOk, OnOk, cond, length};
 ghost use Rattle.std.specs.List.{filter};
 ghost use Rattle.rp_words.specs.declared.word.End.TheVariants.{Closed};
-ghost use Rattle.rp_query.specs.QueryView.{data_of, totals_in};
+ghost use Rattle.rp_query.specs.QueryView.{totals_in};
 ghost use Rattle.rp_eval.specs.Entered.{AreTotals, plan_of};
 ghost use Rattle.rp_filter.specs.Meets.{meets, only_label, was_true};
 
@@ -28,7 +28,7 @@ const ONLY_LABEL: Label = Label {
 impl Filter {
     /// The rows that meet the condition, in their order.
     pub fn keep(&self, alloc: Global, rows: Vec<Row>) -> Result<Vec<Row>, AllocError>
-        ensures { IfOk result (λ kept. kept.items ≡ filter (meets (data_of self.now.query)) rows.items) }
+        ensures { IfOk result (λ kept. kept.items ≡ filter (meets self.now.query) rows.items) }
     {
         let mut kept = Vec::new(alloc);
         for row in rows {
@@ -40,7 +40,7 @@ impl Filter {
 
     /// Whether a row meets the condition.
     fn is_met(&self, alloc: Global, row: &Row) -> Result<bool, AllocError>
-        ensures { IfOk result (λ met. met ≡ meets (data_of self.now.query) row.now) }
+        ensures { IfOk result (λ met. met ≡ meets self.now.query row.now) }
     {
         let Some(defined) = self.query.definition(0) else {
             return Ok(true);
@@ -95,7 +95,7 @@ fn totals_of(
 ) -> Result<Totals, AllocError>
     requires only { labels.now ≡ only_label ∷ [] }
     requires some { 1 ≤ length rows.now.rows.items }
-    ensures plan { IfOk result (λ totals. plan_of totals ≡ totals_in (data_of query.now)) }
+    ensures plan { IfOk result (λ totals. plan_of totals ≡ totals_in query.now) }
     ensures entered { IfOk result (λ totals. AreTotals totals rows.now.rows.items 1 labels.now) }
 {
     let mut totals = Totals::new(alloc, query)?;

@@ -1,6 +1,5 @@
 //! From the text of a condition to a filter.
 ghost use Rattle.std.specs.Prelude.{◌≡◌, IfOk, OnOk, string_bytes};
-ghost use Rattle.rp_query.specs.QueryView.{data_of};
 ghost use Rattle.rp_query.specs.Locality.{ConditionsAreLocal};
 ghost use Rattle.rp_query.specs.LooksBack.{ConditionsLookBack};
 ghost use Rattle.rp_query.specs.declared.locality.Locality.TheVariants.{Row};
@@ -21,10 +20,10 @@ const FRONT: &str = "PATTERN (R) DEFINE R AS (";
 
 /// The filter of a condition over a table. A fault's offset is that in the condition; where the condition ends too early, its length.
 pub fn read_filter(alloc: Global, text: &str, table: &Table) -> Result<Filter, FilterFault>
-    ensures query { IfOk result (λ filter. IsCompiled (clause_of text.now) table.now (data_of filter.query)) }
-    ensures local { IfOk result (λ filter. ConditionsAreLocal Row (data_of filter.query).plan) }
-    ensures ahead { IfOk result (λ filter. ConditionsLookBack (data_of filter.query).plan) }
-    ensures back { IfOk result (λ filter. (data_of filter.query).reach ≡ 0) }
+    ensures query { IfOk result (λ filter. IsCompiled (clause_of text.now) table.now filter.query) }
+    ensures local { IfOk result (λ filter. ConditionsAreLocal Row filter.query.plan) }
+    ensures ahead { IfOk result (λ filter. ConditionsLookBack filter.query.plan) }
+    ensures back { IfOk result (λ filter. filter.query.reach ≡ 0) }
 {
     let clause = clause_text(alloc, text)?;
     match compile(alloc, clause.as_str(), table) {

@@ -1,6 +1,5 @@
 //! Rows as the packets of their partitions.
 ghost use Rattle.std.specs.Prelude.{◌≡◌, ◌++◌, ◌∷◌, [], IfOk, OnOk};
-ghost use Rattle.rp_query.specs.QueryView.{data_of};
 ghost use Rattle.rp_input.specs.Numbered.{AreNumbered, part_packets};
 
 use crate::order::order_rows;
@@ -21,7 +20,7 @@ pub fn number_rows(
     rows: Vec<Row>,
     hasher: RandomState,
 ) -> Result<Vec<Packet>, AllocError>
-    ensures { IfOk result (λ packets. AreNumbered (data_of query.now).partition.items (data_of query.now).order.items
+    ensures { IfOk result (λ packets. AreNumbered query.now.partition.items query.now.order.items
         rows.items packets.items) }
 {
     let mut packets = Vec::new(alloc);

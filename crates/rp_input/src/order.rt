@@ -2,7 +2,6 @@
 ghost use Rattle.std.specs.Prelude.{◌≡◌, OnErr, OnOk, option_copied, unwrap_or};
 ghost use Rattle.rp_value.specs.Order.{value_order};
 ghost use Rattle.rp_value.specs.declared.value.Value.TheVariants.{Null};
-ghost use Rattle.rp_query.specs.QueryView.{data_of};
 ghost use Rattle.rp_input.specs.Orders.{IsOrdered, OrderExists, column_order, rows_order};
 
 use rp_query::{OrderColumn, Query};
@@ -12,7 +11,7 @@ use std::cmp::Ordering;
 
 /// Puts the rows of a partition into the query's order. Rows that tie stay as they came.
 pub fn order_rows(query: &Query, rows: &mut Vec<Row>) -> Result<(), AllocError>
-    ensures ok { OnOk result (IsOrdered (data_of query.now).order.items rows.old.items rows.new.items) }
+    ensures ok { OnOk result (IsOrdered query.now.order.items rows.old.items rows.new.items) }
     ensures err { OnErr result (rows.new.items ≡ rows.old.items) }
 {
     // Values are in one order, so that the comparison of rows is a strict weak order, as sorting wants it.

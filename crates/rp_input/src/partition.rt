@@ -1,7 +1,6 @@
 //! The partitions of rows.
 ghost use Rattle.std.specs.Prelude.{◌≡◌, ◌++◌, ◌∷◌, [], None, IfOk, OnOk};
 ghost use Rattle.indexmap.specs.IndexMap.{get};
-ghost use Rattle.rp_query.specs.QueryView.{data_of};
 ghost use Rattle.rp_input.specs.Partitions.{partitions as partitions_are};
 ghost use Rattle.rp_input.specs.Gathering.{parts_added, parts_of, with_row};
 
@@ -35,7 +34,7 @@ pub fn partitions(
     hasher: RandomState,
 ) -> Result<Vec<Part>, AllocError>
     ensures { IfOk result (λ parts. parts_of parts.items ≡
-        partitions_are (data_of query.now).partition.items rows.items) }
+        partitions_are query.now.partition.items rows.items) }
 {
     let parts = gather(alloc, query.partition(), rows, hasher)?;
     let lists = parts.into_iter().collect(alloc)?;

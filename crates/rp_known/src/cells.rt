@@ -1,6 +1,5 @@
 //! The cells of an item.
 ghost use Rattle.std.specs.Prelude.{◌≡◌, ◌++◌, Some, None, option_map, option_copied, IfOk, OnOk, if◌then◌else◌};
-ghost use Rattle.rp_query.specs.QueryView.{data_of};
 ghost use Rattle.rp_eval.specs.Looks.{setting_of, Looks};
 ghost use Rattle.rp_eval.specs.Partition.{cell};
 ghost use Rattle.rp_known.specs.Plans.{cells_alone, cells_in, measured, shown_alone, shown_in};
@@ -68,7 +67,7 @@ fn shown_in<'a, R: Rows>(
 ) -> Result<Cell, AllocError>
     requires { Looks R.known view.now }
     ensures { IfOk result (λ cell.
-        cell ≡ shown_in (data_of query.now) (setting_of R.known R.ending view.now) from) }
+        cell ≡ shown_in query.now (setting_of R.known R.ending view.now) from) }
 {
     match from {
         Source::Column(column) => Ok(Cell::Ready(cell(view.rows, view.current, column)?)),
@@ -86,7 +85,7 @@ pub(crate) fn add_shown<'a, R: Rows>(
     requires { Looks R.known view.now }
     ensures { IfOk result (λ ready.
         option_map (λ vs. cells.old.items ++ vs)
-        (cells_in (data_of query.now) (setting_of R.known R.ending view.now) columns.now)
+        (cells_in query.now (setting_of R.known R.ending view.now) columns.now)
         ≡ (if ready then Some cells.new.items else None)) }
 {
     for column in columns {

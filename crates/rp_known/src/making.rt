@@ -1,6 +1,5 @@
 //! Items are made one at a time.
 ghost use Rattle.std.specs.Prelude.{◌≡◌, ◌+◌, ◌-◌, ◌^◌, ◌≤◌, ◌<◌, length, IfOk, Some};
-ghost use Rattle.rp_query.specs.QueryView.{data_of};
 ghost use Rattle.rp_search.specs.Found.{Match, NoMatch};
 ghost use Rattle.rp_eval.specs.Entered.{AreTotals, plan_of};
 ghost use Rattle.rp_query.specs.QueryView.{totals_in};
@@ -24,7 +23,7 @@ pub fn unmatched_item<R: Rows>(
     row: u64,
 ) -> Result<Item, AllocError>
     ensures { IfOk result (λ item.
-        item_at (data_of query.now) (known_in R.known R.ending rows.now) place NoMatch row ≡ Some item) }
+        item_at query.now (known_in R.known R.ending rows.now) place NoMatch row ≡ Some item) }
 {
     let mut cells = Vec::with_capacity(alloc, query.output().len())?;
     add_alone(&mut cells, query.output(), rows, row)?;
@@ -48,10 +47,10 @@ pub fn match_item<R: Rows>(
     requires on_rows { place.start + length labels.now ≤ length (R.known rows.now) + 1 }
     requires current { place.start ≤ row }
     requires few { place.matches < 2 ^ 64 - 1 }
-    requires plan { plan_of totals.now ≡ totals_in (data_of query.now) }
+    requires plan { plan_of totals.now ≡ totals_in query.now }
     requires totals { AreTotals totals.now (R.known rows.now) place.start labels.now }
     ensures { IfOk result (λ item.
-        item ≡ item_at (data_of query.now) (known_in R.known R.ending rows.now) place (Match labels.now) row) }
+        item ≡ item_at query.now (known_in R.known R.ending rows.now) place (Match labels.now) row) }
 {
     let number = place.matches + 1;
     let view = View {

@@ -1,7 +1,6 @@
 //! Where a node begins: at what was saved of it, or with nothing.
 ghost use Rattle.std.specs.Prelude.{◌≡◌, [], IfOk, IfErr, OnOk};
 ghost use Rattle.std.specs.Option.{ForSome};
-ghost use Rattle.rp_query.specs.QueryView.{data_of};
 ghost use Rattle.rp_node.specs.NodeSeen.{AllBounded};
 ghost use Rattle.rp_node.specs.Restarting.{IsRefused, RestartsTo};
 ghost use Rattle.rp_serve.specs.Rounds.{kept_bytes};
@@ -32,7 +31,7 @@ pub fn begin(
     hasher: RandomState,
     saved: Option<Vec<u8>>,
 ) -> Result<Begun, AllocError>
-    ensures begins { IfOk result (λ begun. Begins (data_of query) (kept_bytes saved) begun.refused
+    ensures begins { IfOk result (λ begun. Begins query (kept_bytes saved) begun.refused
         begun.node (kept_bytes begun.saved)) }
     ensures again { IfOk result (λ begun. ForSome begun.saved (λ bytes. CanRestart begun.node.query bytes.items)) }
     ensures bounded { IfOk result (λ begun. AllBounded begun.node) }
@@ -50,7 +49,7 @@ fn go_on(
     hasher: RandomState,
     bytes: Vec<u8>,
 ) -> Result<Begun, AllocError>
-    ensures begins { IfOk result (λ begun. Begins (data_of query) (Some bytes.items) begun.refused
+    ensures begins { IfOk result (λ begun. Begins query (Some bytes.items) begun.refused
         begun.node (kept_bytes begun.saved)) }
     ensures again { IfOk result (λ begun. ForSome begun.saved (λ bytes. CanRestart begun.node.query bytes.items)) }
     ensures bounded { IfOk result (λ begun. AllBounded begun.node) }
@@ -72,7 +71,7 @@ fn with_nothing(
     hasher: RandomState,
     refused: Option<RestartFault>,
 ) -> Begun
-    ensures query { result.node.query ≡ data_of query }
+    ensures query { result.node.query ≡ query }
     ensures none { result.node.records ≡ [] }
     ensures bounded { AllBounded result.node }
     ensures saved { result.saved ≡ None }

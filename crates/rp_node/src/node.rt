@@ -2,7 +2,6 @@
 ghost use Rattle.std.specs.Prelude.{◌≡◌, ◌≢◌, ◌⊎◌, ◌+◌, ◌-◌, ◌<◌, ◌≤◌, List, [], Ok, Err, Some, IfErr, IfOk, OnOk};
 ghost use Rattle.indexmap.specs.IndexMap.{index_map_len};
 ghost use Rattle.rp_value.specs.declared.value.Value.{Value as Cell};
-ghost use Rattle.rp_query.specs.QueryView.{data_of};
 ghost use Rattle.rp_feed.specs.declared.answer.Taken.TheVariants.{New};
 ghost use Rattle.rp_feed.specs.declared.packet.Packet.TheVariants.{Row as RowPacket, Close as ClosePacket};
 ghost use Rattle.rp_walker.specs.Polls.{PollLowers, PollTakes, TurnsAreCounted};
@@ -44,22 +43,21 @@ pub struct Node {
 }
 
 impl Model for Node {
-    ghost use Rattle.rp_query.specs.QueryView.{data_of};
     ghost use Rattle.rp_node.specs.NodeSeen.{AllJoined, NodeSeen, node_by, node_code};
 
     ghost Value = { NodeSeen };
 
     ghost coded = { node_code };
 
-    ghost view = { λ n. node_by (data_of n.query) n.partitions.entries };
+    ghost view = { λ n. node_by n.query n.partitions.entries };
 
-    ghost invariant = { λ n. AllJoined (data_of n.query) n.partitions.entries };
+    ghost invariant = { λ n. AllJoined n.query n.partitions.entries };
 }
 
 impl Node {
     /// A node of which nothing was taken. The hasher finds the partition of a key: what the node answers is the same with any.
     pub fn new(alloc: Global, query: Query, hasher: RandomState) -> Node
-        ensures query { result.query ≡ data_of query }
+        ensures query { result.query ≡ query }
         ensures none { result.records ≡ [] }
         ensures no_work { result.work ≡ [] }
         ensures bounded { AllBounded result }
@@ -99,10 +97,10 @@ impl Node {
         hasher: RandomState,
         bytes: &[u8],
     ) -> Result<Node, RestartRefused>
-        ensures query { IfOk result (λ node. node.query ≡ data_of query) }
-        ensures restarts { IfOk result (λ node. RestartsTo (data_of query) bytes.now node.records) }
+        ensures query { IfOk result (λ node. node.query ≡ query) }
+        ensures restarts { IfOk result (λ node. RestartsTo query bytes.now node.records) }
         ensures bounded { IfOk result AllBounded }
-        ensures refused { IfErr result (λ refused. IsRefused (data_of query) bytes.now refused.fault) }
+        ensures refused { IfErr result (λ refused. IsRefused query bytes.now refused.fault) }
         ensures returned { IfErr result (λ refused. refused.query ≡ query) }
     {
         rp_walker::law_left();
@@ -129,7 +127,7 @@ impl Node {
 
     /// The query, as it was given.
     pub fn into_query(self) -> Query
-        ensures { data_of result ≡ self.query }
+        ensures { result ≡ self.query }
     {
         self.query
     }
@@ -287,8 +285,8 @@ fn take_row(
     number: u64,
     row: Row,
 ) -> Result<Taken, FeedFault>
-    requires joined { AllJoined (data_of query.now) partitions.old.entries }
-    ensures takes { MapTakes (data_of query.now) (RowPacket number row) key.items partitions.old.entries
+    requires joined { AllJoined query.now partitions.old.entries }
+    ensures takes { MapTakes query.now (RowPacket number row) key.items partitions.old.entries
         partitions.new.entries result }
 {
     rp_feed::law_same_rows();
@@ -308,8 +306,8 @@ fn take_row_at(
     row: Row,
 ) -> Result<Taken, FeedFault>
     requires within { place < index_map_len partitions.old }
-    requires joined { IsJoinedAt (data_of query.now) partitions.old.entries place }
-    ensures takes { TakenAt (data_of query.now) (RowPacket number row) partitions.old.entries place
+    requires joined { IsJoinedAt query.now partitions.old.entries place }
+    ensures takes { TakenAt query.now (RowPacket number row) partitions.old.entries place
         partitions.new.entries result }
 {
     match partitions.get_index_mut(place) {
@@ -327,7 +325,7 @@ fn add_row(
     number: u64,
     row: Row,
 ) -> Result<Taken, FeedFault>
-    ensures added { AddedAs (data_of query.now) (RowPacket number row) partitions.old.entries key
+    ensures added { AddedAs query.now (RowPacket number row) partitions.old.entries key
         partitions.new.entries result }
 {
     let mut partition = Partition::new(alloc);
@@ -346,8 +344,8 @@ fn take_close(
     key: Vec<Value>,
     count: u64,
 ) -> Result<Taken, FeedFault>
-    requires joined { AllJoined (data_of query.now) partitions.old.entries }
-    ensures takes { MapTakes (data_of query.now) (ClosePacket key.items count) key.items partitions.old.entries
+    requires joined { AllJoined query.now partitions.old.entries }
+    ensures takes { MapTakes query.now (ClosePacket key.items count) key.items partitions.old.entries
         partitions.new.entries result }
 {
     rp_feed::law_same_rows();
@@ -366,8 +364,8 @@ fn take_close_at(
     count: u64,
 ) -> Result<Taken, FeedFault>
     requires within { place < index_map_len partitions.old }
-    requires joined { IsJoinedAt (data_of query.now) partitions.old.entries place }
-    ensures takes { (key : List Cell) → TakenAt (data_of query.now) (ClosePacket key count)
+    requires joined { IsJoinedAt query.now partitions.old.entries place }
+    ensures takes { (key : List Cell) → TakenAt query.now (ClosePacket key count)
         partitions.old.entries place partitions.new.entries result }
 {
     match partitions.get_index_mut(place) {
@@ -384,7 +382,7 @@ fn add_close(
     key: Vec<Value>,
     count: u64,
 ) -> Result<Taken, FeedFault>
-    ensures added { AddedAs (data_of query.now) (ClosePacket key.items count) partitions.old.entries key
+    ensures added { AddedAs query.now (ClosePacket key.items count) partitions.old.entries key
         partitions.new.entries result }
 {
     let mut partition = Partition::new(alloc);
@@ -404,8 +402,8 @@ fn poll_at<L: Ledger>(
     steps: &mut Steps<L>,
 ) -> Result<Poll, AllocError>
     requires within { place < index_map_len partitions.old }
-    requires joined { IsJoinedAt (data_of query.now) partitions.old.entries place }
-    ensures polled { PolledPlace (data_of query.now) partitions.old.entries place partitions.new.entries budget
+    requires joined { IsJoinedAt query.now partitions.old.entries place }
+    ensures polled { PolledPlace query.now partitions.old.entries place partitions.new.entries budget
         steps.old steps.new result }
 {
     match partitions.get_index_mut(place) {

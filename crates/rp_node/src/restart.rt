@@ -1,7 +1,6 @@
 //! From bytes to partitions.
 ghost use Rattle.std.specs.Prelude.{◌≡◌, ◌↔◌, Ok, IfErr, IfOk, IsTrue, OnOk, option_map};
 ghost use Rattle.indexmap.specs.IndexMap.{insert_entry};
-ghost use Rattle.rp_query.specs.QueryView.{data_of};
 ghost use Rattle.rp_query.specs.Keys.{same_key};
 ghost use Rattle.rp_checkpoint.specs.Checkpoints.{restored};
 ghost use Rattle.rp_partition.specs.Joined.{held_of};
@@ -27,9 +26,9 @@ pub(crate) fn restored(
     hasher: RandomState,
     bytes: &[u8],
 ) -> Result<Partitions, RestartFault>
-    ensures ok { IfOk result (λ m. RestartsTo (data_of query.now) bytes.now (entries_by held_of m.entries)
-        × AllJoined (data_of query.now) m.entries) }
-    ensures err { IfErr result (IsRefused (data_of query.now) bytes.now) }
+    ensures ok { IfOk result (λ m. RestartsTo query.now bytes.now (entries_by held_of m.entries)
+        × AllJoined query.now m.entries) }
+    ensures err { IfErr result (IsRefused query.now bytes.now) }
 {
     match read_checkpoint(alloc, bytes) {
         Ok(kept) => restored_from(alloc, query, hasher, bytes, &kept),
@@ -46,9 +45,9 @@ fn restored_from(
     kept: &NodeData,
 ) -> Result<Partitions, RestartFault>
     requires { restored bytes.now ≡ Ok kept.now }
-    ensures ok { IfOk result (λ m. RestartsTo (data_of query.now) bytes.now (entries_by held_of m.entries)
-        × AllJoined (data_of query.now) m.entries) }
-    ensures err { IfErr result (IsRefused (data_of query.now) bytes.now) }
+    ensures ok { IfOk result (λ m. RestartsTo query.now bytes.now (entries_by held_of m.entries)
+        × AllJoined query.now m.entries) }
+    ensures err { IfErr result (IsRefused query.now bytes.now) }
 {
     // The contract speaks of the bytes, and the code doesn't.
     let _bytes = bytes;
@@ -63,7 +62,7 @@ fn restored_from(
 
 /// Whether the clause and the table are the query's.
 fn is_of(query: &Query, kept: &NodeData) -> bool
-    ensures { IsTrue result ↔ IsOfQuery (data_of query.now) kept.now }
+    ensures { IsTrue result ↔ IsOfQuery query.now kept.now }
 {
     are_one_clause(
         kept.clause.as_str().as_bytes(),
@@ -84,7 +83,7 @@ fn restore_all(
     hasher: RandomState,
     kept: &[PartitionData],
 ) -> Result<Option<Partitions>, AllocError>
-    ensures { IfOk result (λ all. RestoredAll (data_of query.now) kept.now (option_map (λ m. m.entries) all)) }
+    ensures { IfOk result (λ all. RestoredAll query.now kept.now (option_map (λ m. m.entries) all)) }
 {
     let mut partitions = IndexMap::with_hasher(alloc, hasher);
     for one in kept {
@@ -102,8 +101,8 @@ fn restore_one(
     partitions: &mut Partitions,
     kept: &PartitionData,
 ) -> Result<bool, AllocError>
-    requires joined { AllJoined (data_of query.now) partitions.old.entries }
-    ensures { IfOk result (RestoredOne (data_of query.now) partitions.old.entries kept.now partitions.new.entries) }
+    requires joined { AllJoined query.now partitions.old.entries }
+    ensures { IfOk result (RestoredOne query.now partitions.old.entries kept.now partitions.new.entries) }
 {
     if partitions.contains_key(kept.key.as_slice()) {
         return Ok(false);

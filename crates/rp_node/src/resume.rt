@@ -1,6 +1,5 @@
 //! From what was kept of a partition to the partition.
 ghost use Rattle.std.specs.Prelude.{◌≡◌, ◌≤◌, true, IfOk, Some, map};
-ghost use Rattle.rp_query.specs.QueryView.{data_of};
 ghost use Rattle.rp_feed.specs.Fed.{front_of, with_taken};
 ghost use Rattle.rp_feed.specs.Limits.{greatest_number};
 ghost use Rattle.rp_feed.specs.Answers.{row_answer};
@@ -21,7 +20,7 @@ pub(crate) fn resume(
     query: &Query,
     kept: &PartitionData,
 ) -> Result<Option<Partition>, AllocError>
-    ensures { IfOk result (Resumed (data_of query.now) kept.now) }
+    ensures { IfOk result (Resumed query.now kept.now) }
 {
     match feed_of(alloc, kept)? {
         None => Ok(None),
@@ -37,7 +36,7 @@ fn resume_over(
     feed: Feed,
 ) -> Result<Option<Partition>, AllocError>
     requires { feed_in kept.now ≡ Some feed }
-    ensures { IfOk result (Resumed (data_of query.now) kept.now) }
+    ensures { IfOk result (Resumed query.now kept.now) }
 {
     rp_feed::law_again();
     rp_feed::law_same_rows();
@@ -55,7 +54,7 @@ fn resume_over(
 
 /// Whether the key has the kinds of the columns of PARTITION BY.
 fn has_kinds(query: &Query, kept: &PartitionData) -> bool
-    ensures { result ≡ has_kinds (data_of query.now) kept.now }
+    ensures { result ≡ has_kinds query.now kept.now }
 {
     query.key_fault(kept.key.as_slice()).is_none()
 }
@@ -63,7 +62,7 @@ fn has_kinds(query: &Query, kept: &PartitionData) -> bool
 /// Whether what was given and covered is in bounds, and the walk stands in the rows while the answer goes on.
 fn has_place(query: &Query, kept: &PartitionData, front: u64) -> bool
     requires { front ≤ greatest_number }
-    ensures { result ≡ has_place (data_of query.now) front kept.now }
+    ensures { result ≡ has_place query.now front kept.now }
 {
     kept.here as u128 <= kept.given
         && kept.covered <= front
@@ -76,7 +75,7 @@ fn has_place(query: &Query, kept: &PartitionData, front: u64) -> bool
 
 /// Whether each row fits the table and has the key in the columns of PARTITION BY.
 fn fits_all(alloc: Global, query: &Query, kept: &PartitionData) -> Result<bool, AllocError>
-    ensures { IfOk result (λ fit. fit ≡ fits_all (data_of query.now) kept.now.key kept.now.rows) }
+    ensures { IfOk result (λ fit. fit ≡ fits_all query.now kept.now.key kept.now.rows) }
 {
     for row in kept.rows.as_slice() {
         if !fits_table(alloc, query, kept, row)? {
@@ -92,7 +91,7 @@ fn fits_table(
     kept: &PartitionData,
     row: &HeldRow,
 ) -> Result<bool, AllocError>
-    ensures { IfOk result (λ fits. fits ≡ fits_table (data_of query.now) kept.now.key row.now) }
+    ensures { IfOk result (λ fits. fits ≡ fits_table query.now kept.now.key row.now) }
 {
     if query.table().row_fault(row.cells.cells()).is_some() {
         return Ok(false);

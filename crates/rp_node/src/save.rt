@@ -1,6 +1,5 @@
 //! From a node to what a checkpoint keeps of it.
 ghost use Rattle.std.specs.Prelude.{◌≡◌, IfOk, map};
-ghost use Rattle.rp_query.specs.QueryView.{data_of};
 ghost use Rattle.rp_partition.specs.Joined.{held_of};
 ghost use Rattle.rp_node.specs.NodeSeen.{AllJoined, node_by};
 ghost use Rattle.rp_node.specs.Keeping.{held_row, kept_of, partition_kept};
@@ -15,8 +14,8 @@ use std::alloc::{AllocError, Global};
 
 /// What is kept of a node of these partitions.
 pub(crate) fn kept(alloc: Global, query: &Query, partitions: &Parts) -> Result<NodeData, AllocError>
-    requires joined { AllJoined (data_of query.now) partitions.now.entries }
-    ensures { IfOk result (λ kept. kept ≡ kept_of (node_by (data_of query.now) partitions.now.entries)) }
+    requires joined { AllJoined query.now partitions.now.entries }
+    ensures { IfOk result (λ kept. kept ≡ kept_of (node_by query.now partitions.now.entries)) }
 {
     let clause = query.text().share()?;
     let columns = query.table().to_columns(alloc)?;
@@ -30,7 +29,7 @@ pub(crate) fn kept(alloc: Global, query: &Query, partitions: &Parts) -> Result<N
 }
 
 fn all_kept(alloc: Global, query: &Query, partitions: &Parts) -> Result<Partitions, AllocError>
-    requires joined { AllJoined (data_of query.now) partitions.now.entries }
+    requires joined { AllJoined query.now partitions.now.entries }
     ensures { IfOk result (λ kept. kept ≡ map (λ e. partition_kept e.0.items (held_of e.1)) partitions.now.entries) }
 {
     // The contract speaks of the query, and the code doesn't.

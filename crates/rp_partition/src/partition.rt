@@ -1,7 +1,6 @@
 //! A partition: a feed, and the walk over its rows.
 ghost use Rattle.std.specs.Prelude.{◌≡◌, ◌-◌, ◌≤◌, true, false, None, List, OnOk, IfOk};
 ghost use Rattle.rp_value.specs.declared.value.Value.{Value as Cell};
-ghost use Rattle.rp_query.specs.QueryView.{data_of};
 ghost use Rattle.rp_query.specs.declared.query.QueryData.{QueryData};
 ghost use Rattle.rp_feed.specs.Answers.{close_answer, row_answer};
 ghost use Rattle.rp_feed.specs.Fed.{with_close, with_taken};
@@ -72,8 +71,8 @@ impl Partition {
 
     /// Takes a row, as its feed does. What isn't `New` changes nothing.
     pub fn take(&mut self, query: &Query, number: u64, row: Row) -> Result<Taken, FeedFault>
-        requires joined { Joined (data_of query.now) self.old }
-        ensures taken { TakenBy (data_of query.now)
+        requires joined { Joined query.now self.old }
+        ensures taken { TakenBy query.now
             (row_answer ⟦<Row as PartialEq>⟧.eq (held_of self.old).feed number row)
             (with_taken number row (held_of self.old).feed) self.old self.new result }
     {
@@ -92,8 +91,8 @@ impl Partition {
 
     /// Takes the close, which says how many rows the partition has, as its feed does.
     pub fn close(&mut self, query: &Query, count: u64) -> Result<Taken, FeedFault>
-        requires joined { Joined (data_of query.now) self.old }
-        ensures taken { TakenBy (data_of query.now) (close_answer (held_of self.old).feed count)
+        requires joined { Joined query.now self.old }
+        ensures taken { TakenBy query.now (close_answer (held_of self.old).feed count)
             (with_close count (held_of self.old).feed) self.old self.new result }
     {
         rp_feed::law_new();
@@ -117,16 +116,16 @@ impl Partition {
         budget: u32,
         steps: &mut Steps<L>,
     ) -> Result<Poll, AllocError>
-        requires joined { Joined (data_of query.now) self.old }
-        ensures joined { Joined (data_of query.now) self.new }
-        ensures polled { PolledTo (data_of query.now) (held_of self.old) (held_of self.new) result }
-        ensures lowers { IfOk result (PollLowers budget (work_of (data_of query.now) self.old).left
-            (work_of (data_of query.now) self.new).left) }
-        ensures turns { TurnsAreCounted budget steps.old steps.new (work_of (data_of query.now) self.old).entered
-            (work_of (data_of query.now) self.new).entered }
+        requires joined { Joined query.now self.old }
+        ensures joined { Joined query.now self.new }
+        ensures polled { PolledTo query.now (held_of self.old) (held_of self.new) result }
+        ensures lowers { IfOk result (PollLowers budget (work_of query.now self.old).left
+            (work_of query.now self.new).left) }
+        ensures turns { TurnsAreCounted budget steps.old steps.new (work_of query.now self.old).entered
+            (work_of query.now self.new).entered }
         ensures takes { IfOk result (PollTakes budget steps.old steps.new) }
-        ensures works { IfOk result (WorksBy (data_of query.now) (steps.new - steps.old) self.old self.new) }
-        ensures held { OnOk result (1 ≤ budget → HoldsNoMore (data_of query.now) (held_of self.new)) }
+        ensures works { IfOk result (WorksBy query.now (steps.new - steps.old) self.old self.new) }
+        ensures held { OnOk result (1 ≤ budget → HoldsNoMore query.now (held_of self.new)) }
         ensures nothing { budget ≡ 0 → (result ≡ Ok Poll.Paused) × (self.new ≡ self.old) × (steps.new ≡ steps.old) }
     {
         if budget == 0 {
@@ -147,19 +146,19 @@ impl Partition {
 
     /// Drops the rows below the horizon.
     fn drop_rows(&mut self, query: &Query)
-        requires joined { Joined (data_of query.now) self.old }
-        ensures joined { Joined (data_of query.now) self.new }
+        requires joined { Joined query.now self.old }
+        ensures joined { Joined query.now self.new }
         ensures state { record_of self.new.walker
             ≡ record (record_of self.old.walker) { first = self.new.feed.first } }
         ensures drops { OnlyDrops self.old.feed self.new.feed }
-        ensures fits { (whole : List (List Cell)) → Fits (data_of query.now) whole (held_of self.old) →
-            Fits (data_of query.now) whole (held_of self.new) }
-        ensures left { (work_of (data_of query.now) self.new).left ≡ (work_of (data_of query.now) self.old).left }
+        ensures fits { (whole : List (List Cell)) → Fits query.now whole (held_of self.old) →
+            Fits query.now whole (held_of self.new) }
+        ensures left { (work_of query.now self.new).left ≡ (work_of query.now self.old).left }
         ensures entered { entered_by self.new.walker ≡ entered_by self.old.walker }
         ensures search { (record_of self.old.walker).over ≡ false →
-            (work_of (data_of query.now) self.new).search ≡ (work_of (data_of query.now) self.old).search }
-        ensures let_go { (record_of self.old.walker).over ≡ true → (work_of (data_of query.now) self.new).search ≡ None }
-        ensures held { HoldsNoMore (data_of query.now) (held_of self.new) }
+            (work_of query.now self.new).search ≡ (work_of query.now self.old).search }
+        ensures let_go { (record_of self.old.walker).over ≡ true → (work_of query.now self.new).search ≡ None }
+        ensures held { HoldsNoMore query.now (held_of self.new) }
     {
         law_walkers();
         law_work();

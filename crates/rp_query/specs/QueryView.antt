@@ -1,11 +1,7 @@
 -- What contracts see of a query.
 use Rattle.std.specs.Prelude.{List}
 use Rattle.rp_query.specs.declared.plan.Total.{Total}
-use Rattle.rp_query.specs.declared.query.Query.{Query}
 use Rattle.rp_query.specs.declared.query.QueryData.{QueryData}
-
-unfoldable pub data_of : Query → QueryData
-data_of q = q.parts.value
 
 -- the totals of a query's plan
 abbrev pub totals_in : QueryData → List Total

@@ -2,7 +2,6 @@
 ghost use Rattle.std.specs.Prelude.{◌≡◌, ◌<◌, IfOk, IfSome, length, map, not, position, zip};
 ghost use Rattle.rp_value.specs.Rows.{admits, row_fault};
 ghost use Rattle.rp_query.specs.Keys.{key_kinds, key_of as key_is, kind_at, value_at as value_is, values_in as values_are};
-ghost use Rattle.rp_query.specs.QueryView.{data_of};
 
 use crate::Query;
 use rp_value::{Cells, Column, Kind, Row, RowFault, Value};
@@ -12,7 +11,7 @@ impl Query {
     /// The key of the partition that a row belongs to: its values in the columns of PARTITION BY, in that order, and null
     /// where the row lacks a column. Without PARTITION BY it has no values. No text is copied.
     pub fn key(&self, alloc: Global, row: &Row) -> Result<Cells, AllocError>
-        ensures { IfOk result (λ key. key ≡ key_is (data_of self.now) row.now) }
+        ensures { IfOk result (λ key. key ≡ key_is self.now row.now) }
     {
         let columns = self.partition();
         values_in(Vec::with_capacity(alloc, columns.len())?, columns, row)
@@ -21,7 +20,7 @@ impl Query {
     /// Why these are no values of a key: `Width` where they are not as many as PARTITION BY has columns, else `Kind` of the
     /// first value, from 1, that its column may not hold.
     pub fn key_fault(&self, key: &[Value]) -> Option<RowFault>
-        ensures { result ≡ row_fault (key_kinds (data_of self.now)) key.now }
+        ensures { result ≡ row_fault (key_kinds self.now) key.now }
     {
         fault_in(self.table().columns(), self.partition(), key)
     }

@@ -4,7 +4,6 @@ ghost use Rattle.std.specs.List.{list_all};
 ghost use Rattle.rp_words.specs.PatternForm.{form_of};
 ghost use Rattle.rp_query.specs.Formulas.{value_formula, condition_formula};
 ghost use Rattle.rp_query.specs.Locality.{ConditionsAreLocal, IsLeaderOf, judges_locally, is_local, navigates_in, navigates_in_span, aggregates_in, goes_from_own_row, goes_from_leader, has_own_row, has_no_other, is_first, is_last, is_of_every_row, is_of_only, is_only, lists_rows_of};
-ghost use Rattle.rp_query.specs.QueryView.{data_of};
 
 use crate::plan::{Condition, Edge, Expr, Function, Navigation, RowsOf, Total, Variables};
 use crate::query::{Plan, Query, QueryData};
@@ -38,7 +37,7 @@ pub struct Leader {
 impl Query {
     /// Whether no condition of DEFINE depends on more.
     pub fn is_local(&self, locality: Locality) -> bool
-        ensures { IsTrue result ↔ ConditionsAreLocal locality (data_of self.now).plan }
+        ensures { IsTrue result ↔ ConditionsAreLocal locality self.now.plan }
     {
         self.plan().is_local(locality)
     }

@@ -17,6 +17,7 @@ use rp_pattern::Prepared;
 use rp_value::{Kind, Table, Text};
 use rp_words::Pattern;
 use std::alloc::{AllocError, Global};
+use std::marker::Model;
 use std::rc::Rc;
 
 /// Which rows a match gives.
@@ -115,6 +116,7 @@ pub struct QueryData {
 }
 
 /// A clause that was checked against a table, its names resolved. A further owner costs a count.
+/// Contracts see it as the data that it is made of.
 #[derive(Drop)]
 pub struct Query {
     parts: Rc<QueryData>,
@@ -150,11 +152,21 @@ impl Plan {
     }
 }
 
-#[tactic(auto, unfolding(crate::specs::QueryView::data_of))]
+impl Model for Query {
+    ghost use Rattle.rp_query.specs.declared.query.QueryData.{QueryData};
+    ghost use Rattle.rp_query.specs.contracts.query.QueryData.{the_row};
+
+    ghost Value = { QueryData };
+
+    ghost coded = { the_row.coded };
+
+    ghost view = { λ q. q.parts.value };
+}
+
 impl Query {
     ghost use Rattle.std.specs.Prelude.{◌≡◌, IfOk, option_map};
     ghost use Rattle.rp_query.specs.Definitions.{definition_of};
-    ghost use Rattle.rp_query.specs.QueryView.{data_of, totals_in};
+    ghost use Rattle.rp_query.specs.QueryView.{totals_in};
 
     /// The query of this data. The error says that no memory was left.
     ///
@@ -162,7 +174,7 @@ impl Query {
     /// such data of a text; data that is put together by hand must be proved to be so.
     pub fn new(alloc: Global, parts: QueryData) -> Result<Query, AllocError>
         requires { IsSound parts }
-        ensures { IfOk result (λ query. data_of query ≡ parts) }
+        ensures { IfOk result (λ query. query ≡ parts) }
     {
         let prepared = Prepared::new(alloc, &parts.pattern)?;
         let judges_rows = parts.plan.is_local(Locality::Row);
@@ -182,120 +194,120 @@ impl Query {
 
     /// The text of the clause, as it was compiled.
     pub fn text(&self) -> &Text
-        ensures { result.now ≡ (data_of self.now).text }
+        ensures { result.now ≡ self.now.text }
     {
         &self.parts.text
     }
 
     /// The table that it was checked against.
     pub fn table(&self) -> &Table
-        ensures { result.now ≡ (data_of self.now).table }
+        ensures { result.now ≡ self.now.table }
     {
         &self.parts.table
     }
 
     /// The row pattern. Its variables are numbered from 0 by first appearance.
     pub fn pattern(&self) -> &Pattern
-        ensures { result.now ≡ (data_of self.now).pattern }
+        ensures { result.now ≡ self.now.pattern }
     {
         &self.parts.pattern
     }
 
     /// The row pattern, made ready for searches, which share it.
     pub fn prepared(&self) -> &Prepared
-        ensures { Prepares (form_of (data_of self.now).pattern) result.now }
+        ensures { Prepares (form_of self.now.pattern) result.now }
     {
         &self.prepared
     }
 
     /// The names of the pattern variables, by number.
     pub fn variables(&self) -> &[Text]
-        ensures { result.now ≡ (data_of self.now).variables.items }
+        ensures { result.now ≡ self.now.variables.items }
     {
         self.parts.variables.as_slice()
     }
 
     /// The output columns, in order.
     pub fn output(&self) -> &[OutputColumn]
-        ensures { result.now ≡ (data_of self.now).output.items }
+        ensures { result.now ≡ self.now.output.items }
     {
         self.parts.output.as_slice()
     }
 
     /// The greatest offset of PREV, 0 where there is none: so many rows before a match may be read.
     pub fn reach(&self) -> u64
-        ensures { result ≡ (data_of self.now).reach }
+        ensures { result ≡ self.now.reach }
     {
         self.parts.reach
     }
 
     /// The columns of PARTITION BY, by number from 1.
     pub fn partition(&self) -> &[usize]
-        ensures { result.now ≡ (data_of self.now).partition.items }
+        ensures { result.now ≡ self.now.partition.items }
     {
         self.parts.partition.as_slice()
     }
 
     /// The columns of ORDER BY, by number from 1, each with its direction.
     pub fn order(&self) -> &[OrderColumn]
-        ensures { result.now ≡ (data_of self.now).order.items }
+        ensures { result.now ≡ self.now.order.items }
     {
         self.parts.order.as_slice()
     }
 
     /// The measures, rows per match, the skip rule and the variables' definitions.
     pub fn plan(&self) -> &Plan
-        ensures plan { result.now ≡ (data_of self.now).plan }
-        ensures sound { IsSound (data_of self.now) }
+        ensures plan { result.now ≡ self.now.plan }
+        ensures sound { IsSound self.now }
     {
         &self.parts.plan
     }
 
     /// The condition that DEFINE gives the pattern variable of this number; none: it admits every row.
     pub fn definition(&self, variable: usize) -> Option<&Condition>
-        ensures { option_map (λ c. c.now) result ≡ definition_of (data_of self.now).plan variable }
+        ensures { option_map (λ c. c.now) result ≡ definition_of self.now.plan variable }
     {
         self.parts.plan.definition(variable)
     }
 
     /// Whether no condition depends on more than the row that it judges.
     pub fn judges_rows(&self) -> bool
-        ensures { IsTrue result ↔ ConditionsAreLocal Row (data_of self.now).plan }
+        ensures { IsTrue result ↔ ConditionsAreLocal Row self.now.plan }
     {
         self.judges_rows
     }
 
     /// Whether it is known that no condition looks at a row after one that it goes from.
     pub fn looks_back(&self) -> bool
-        ensures { IsTrue result → ConditionsLookBack (data_of self.now).plan }
+        ensures { IsTrue result → ConditionsLookBack self.now.plan }
     {
         self.looks_back
     }
 
     /// A variable that each match begins with, and whether no other row is mapped to it. None: no such variable is known.
     pub fn lead(&self) -> Option<Leader>
-        ensures { IfSome result (IsLeaderOf (form_of (data_of self.now).pattern)) }
+        ensures { IfSome result (IsLeaderOf (form_of self.now.pattern)) }
     {
         self.lead
     }
 
     /// What is kept of the rows for navigation and aggregates.
     pub fn totals(&self) -> &Rc<Vec<Total>>
-        ensures { result.now ≡ (data_of self.now).plan.totals }
+        ensures { result.now ≡ self.now.plan.totals }
     {
         &self.parts.plan.totals
     }
 
     /// What a row of a match changes of these, by the variable that it is mapped to.
     pub fn changes(&self) -> &Rc<Changes>
-        ensures { AreChangesOf (totals_in (data_of self.now)) result.now.value }
+        ensures { AreChangesOf (totals_in self.now) result.now.value }
     {
         &self.changes
     }
 
     /// An equal query: a further owner of the same data. The error says that the count of owners is full.
     pub fn share(&self) -> Result<Query, AllocError>
-        ensures { IfOk result (λ query. data_of query ≡ data_of self.now) }
+        ensures { IfOk result (λ query. query ≡ self.now) }
     {
         let parts = self.parts.clone()?;
         let prepared = self.prepared.share()?;

@@ -1,6 +1,5 @@
 //! The items of a search that has ended.
 ghost use Rattle.std.specs.Prelude.{◌≡◌, ℕ, suc, ◌+◌, ◌^◌, ◌≤◌, ◌<◌, ◌-◌, IfOk, slice_get, length, max};
-ghost use Rattle.rp_query.specs.QueryView.{data_of};
 ghost use Rattle.rp_search.specs.Found.{Match};
 ghost use Rattle.rp_search.specs.Search.{labels_of_search};
 ghost use Rattle.rp_known.specs.Known.{known_in, count};
@@ -38,7 +37,7 @@ pub(crate) fn place_of(state: &MatcherState) -> Place
 #[inline(always)]
 pub(crate) fn is_hidden(query: &Query, start: u64, found: &Ended, row: u64) -> bool
     requires { start ≤ row }
-    ensures { result ≡ is_hidden (data_of query.now).plan.rows start (result_of found.now) row }
+    ensures { result ≡ is_hidden query.now.plan.rows start (result_of found.now) row }
 {
     if query.plan().rows == RowsPerMatch::One {
         return false;
@@ -72,9 +71,9 @@ pub(crate) fn make_item<R: Rows>(
     requires few { place.matches < 2 ^ 64 - 1 }
     requires low { place.start ≤ row }
     requires in_rows { AreKnown place.start (length (R.known rows.now)) (result_of found.now) }
-    requires totals { MatchTotalled (data_of query.now) (known_in R.known R.ending rows.now) place.start found.now }
+    requires totals { MatchTotalled query.now (known_in R.known R.ending rows.now) place.start found.now }
     ensures { IfOk result (λ item.
-        item ≡ item_at (data_of query.now) (known_in R.known R.ending rows.now) place (result_of found.now) row) }
+        item ≡ item_at query.now (known_in R.known R.ending rows.now) place (result_of found.now) row) }
 {
     match found {
         Ended::NoMatch(_) => {
@@ -104,8 +103,8 @@ pub(crate) fn ahead_of(query: &Query, place: Place, last: u64, found: &Ended) ->
     ensures ordered { result.next ≤ result.end }
     ensures high { result.end ≤ last + 1 }
     ensures short { IsShort found.now result }
-    ensures rows { item_rows (data_of query.now).plan.rows place (result_of found.now)
-        ≡ rows_ahead (data_of query.now) place.start (result_of found.now) result }
+    ensures rows { item_rows query.now.plan.rows place (result_of found.now)
+        ≡ rows_ahead query.now place.start (result_of found.now) result }
 {
     match found {
         Ended::NoMatch(_) => {
@@ -126,8 +125,8 @@ fn ahead_in(query: &Query, place: Place, labels: &[Label]) -> Ahead
     ensures low { place.start ≤ result.next }
     ensures ordered { result.next ≤ result.end }
     ensures high { result.end ≤ max (place.start + 1) (place.start + length labels.now) }
-    ensures rows { item_rows (data_of query.now).plan.rows place (Match labels.now)
-        ≡ rows_ahead (data_of query.now) place.start (Match labels.now) result }
+    ensures rows { item_rows query.now.plan.rows place (Match labels.now)
+        ≡ rows_ahead query.now place.start (Match labels.now) result }
 {
     let rows = labels.len() as u64;
     if rows == 0 {
@@ -167,7 +166,7 @@ pub(crate) fn next_of(
     requires known { place.start ≤ last }
     requires fewer { place.matches < place.start }
     requires in_rows { AreKnown place.start last (result_of found.now) }
-    ensures { after_found (data_of query.now) place (result_of found.now) ≡ leg_by result }
+    ensures { after_found query.now place (result_of found.now) ≡ leg_by result }
 {
     match found {
         Ended::NoMatch(_) => Ok(Place {
@@ -184,7 +183,7 @@ fn after_match(query: &Query, place: Place, labels: &[Label]) -> Result<Place, S
     requires few { place.start + length labels.now < 2 ^ 64 }
     requires start { place.start < 2 ^ 64 - 1 }
     requires fewer { place.matches < place.start }
-    ensures { after_found (data_of query.now) place (Match labels.now) ≡ leg_by result }
+    ensures { after_found query.now place (Match labels.now) ≡ leg_by result }
 {
     match next_start(&query.plan().skip, place.start, labels) {
         Err(fault) => Err(fault),

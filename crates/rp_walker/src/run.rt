@@ -1,6 +1,5 @@
 //! Searches over lent rows.
 ghost use Rattle.std.specs.Prelude.{◌≡◌, ℕ, ◌+◌, ◌<◌, ◌≤◌, length, IfOk, OnOk, IsOk, IsSome};
-ghost use Rattle.rp_query.specs.QueryView.{data_of};
 ghost use Rattle.rp_query.specs.declared.query.QueryData.{QueryData};
 ghost use Rattle.rp_known.specs.Known.{Known, known_in, count};
 ghost use Rattle.rp_walker.specs.Stages.{Searches, Serves, IsReady, IsSpare};
@@ -36,8 +35,8 @@ pub(crate) fn begin<R: Rows>(
 ) -> Result<Run, AllocError>
     requires one { 1 ≤ start }
     requires known { start ≤ length (R.known rows.now) }
-    requires spare { IsSpare (data_of query.now) (known_in R.known R.ending rows.now) start spare }
-    ensures searches { IfOk result (Searches (data_of query.now) (known_in R.known R.ending rows.now) start) }
+    requires spare { IsSpare query.now (known_in R.known R.ending rows.now) start spare }
+    ensures searches { IfOk result (Searches query.now (known_in R.known R.ending rows.now) start) }
     ensures reuses { IsSome spare → IsOk result }
     ensures works { IfOk result (BeginsBy spare) }
 {
@@ -94,9 +93,9 @@ pub(crate) fn run_on<R: Rows, L: Ledger>(
     steps: &mut Steps<L>,
 ) -> Result<(Outcome, Run), AllocError>
     requires some { 0 < budget }
-    requires searches { Searches (data_of query.now) (known_in R.known R.ending rows.now) start run }
-    ensures ran { IfOk result (λ r. Ran (data_of query.now) (known_in R.known R.ending rows.now) start run r.1 r.0) }
-    ensures works { IfOk result (λ r. RunSpends (data_of query.now) (known_in R.known R.ending rows.now) run r.1 r.0) }
+    requires searches { Searches query.now (known_in R.known R.ending rows.now) start run }
+    ensures ran { IfOk result (λ r. Ran query.now (known_in R.known R.ending rows.now) start run r.1 r.0) }
+    ensures works { IfOk result (λ r. RunSpends query.now (known_in R.known R.ending rows.now) run r.1 r.0) }
     ensures taken { IfOk result (λ r. steps.new ≡ steps.old + turns_of_run r.1.search.value) }
     ensures some { OnOk result (steps.old < steps.new) }
     ensures turns { TurnsAreCounted budget steps.old steps.new entered.old entered.new }

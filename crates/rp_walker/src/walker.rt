@@ -1,6 +1,5 @@
 //! A walker gives the items of a partition's known answer, one after another, over rows that are lent.
 ghost use Rattle.std.specs.Prelude.{◌≡◌, ◌≢◌, ◌+◌, ◌-◌, ◌^◌, ◌<◌, ◌≤◌, ℕ, Bool, true, false, length, Some, None, OnOk, OnErr, IfOk};
-ghost use Rattle.rp_query.specs.QueryView.{data_of};
 ghost use Rattle.rp_query.specs.declared.query.QueryData.{QueryData};
 ghost use Rattle.rp_known.specs.Known.{Known, count, known_in};
 ghost use Rattle.rp_known.specs.Plans.{first_read};
@@ -119,7 +118,7 @@ impl Walker {
     /// The first row that is still read.
     pub fn horizon<R: Rows>(&self, query: &Query, rows: &R) -> u64
         ensures { result
-            ≡ horizon_of (data_of query.now) (known_in R.known R.ending rows.now) (record_of self.now) }
+            ≡ horizon_of query.now (known_in R.known R.ending rows.now) (record_of self.now) }
     {
         if self.state.over {
             return rows.last() + 1;
@@ -141,25 +140,25 @@ impl Walker {
         budget: u32,
         steps: &mut Steps<L>,
     ) -> Result<Poll, AllocError>
-        requires stands { Stands (data_of query.now) (known_in R.known R.ending rows.now) self.old }
-        ensures stands { Stands (data_of query.now) (known_in R.known R.ending rows.now) self.new }
-        ensures answers { IfOk result (Answers (data_of query.now) (known_in R.known R.ending rows.now)
+        requires stands { Stands query.now (known_in R.known R.ending rows.now) self.old }
+        ensures stands { Stands query.now (known_in R.known R.ending rows.now) self.new }
+        ensures answers { IfOk result (Answers query.now (known_in R.known R.ending rows.now)
             (record_of self.old) (record_of self.new)) }
-        ensures moves { GoesAlong (data_of query.now) (known_in R.known R.ending rows.now)
+        ensures moves { GoesAlong query.now (known_in R.known R.ending rows.now)
             (record_of self.old) (record_of self.new) }
-        ensures stops { IfOk result (StopsAtLast (data_of query.now) (known_in R.known R.ending rows.now)
+        ensures stops { IfOk result (StopsAtLast query.now (known_in R.known R.ending rows.now)
             (record_of self.old) (record_of self.new)) }
         ensures stays { StaysInRows (known_in R.known R.ending rows.now)
             (record_of self.old) (record_of self.new) }
         ensures given { IfOk result (GivenBy (record_of self.old) (record_of self.new)) }
-        ensures out_of_memory { OnErr result (StartsAgain (data_of query.now) (known_in R.known R.ending rows.now)
+        ensures out_of_memory { OnErr result (StartsAgain query.now (known_in R.known R.ending rows.now)
             (record_of self.old).given (record_of self.new)
-            (left_in (data_of query.now) (known_in R.known R.ending rows.now) self.new)) }
+            (left_in query.now (known_in R.known R.ending rows.now) self.new)) }
         ensures lowers { IfOk result (PollLowers budget
-            (left_in (data_of query.now) (known_in R.known R.ending rows.now) self.old)
-            (left_in (data_of query.now) (known_in R.known R.ending rows.now) self.new)) }
+            (left_in query.now (known_in R.known R.ending rows.now) self.old)
+            (left_in query.now (known_in R.known R.ending rows.now) self.new)) }
         ensures works { IfOk result (PollWorks (steps.new - steps.old)
-            (data_of query.now) (known_in R.known R.ending rows.now) self.old self.new) }
+            query.now (known_in R.known R.ending rows.now) self.old self.new) }
         ensures turns { TurnsAreCounted budget steps.old steps.new (entered_by self.old) (entered_by self.new) }
         ensures takes { IfOk result (PollTakes budget steps.old steps.new) }
         ensures idles { IfOk result (IdleTakes (record_of self.old) steps.old steps.new) }
@@ -211,22 +210,22 @@ impl Walker {
         found: Ended,
         ahead: Ahead,
     ) -> Result<Step, AllocError>
-        requires going { IsGoing (data_of query.now) self.old.state }
-        requires gives { Gives (data_of query.now) (known_in R.known R.ending rows.now)
+        requires going { IsGoing query.now self.old.state }
+        requires gives { Gives query.now (known_in R.known R.ending rows.now)
             (place_of self.old.state) (result_of found) ahead }
-        requires totals { MatchTotalled (data_of query.now) (known_in R.known R.ending rows.now)
+        requires totals { MatchTotalled query.now (known_in R.known R.ending rows.now)
             self.old.state.at found }
-        requires serves { Serves (data_of query.now) (known_in R.known R.ending rows.now)
+        requires serves { Serves query.now (known_in R.known R.ending rows.now)
             self.old.state.at (run_of found) }
         requires due { ahead.seen ≡ self.old.state.here }
         requires more { ahead.next < ahead.end }
-        requires shown { is_hidden (data_of query.now).plan.rows self.old.state.at (result_of found) ahead.next
+        requires shown { is_hidden query.now.plan.rows self.old.state.at (result_of found) ahead.next
             ≡ false }
         requires few { self.old.state.given < 2 ^ 128 - 1 }
         ensures kept { OnErr result (self.new ≡ self.old) }
-        ensures keeps { IfOk result (KeepsGoing 1 (data_of query.now) (known_in R.known R.ending rows.now)
+        ensures keeps { IfOk result (KeepsGoing 1 query.now (known_in R.known R.ending rows.now)
             self.old.state (GivingStage found ahead) self.new) }
-        ensures works { IfOk result (StepSpends 1 (data_of query.now) (known_in R.known R.ending rows.now)
+        ensures works { IfOk result (StepSpends 1 query.now (known_in R.known R.ending rows.now)
             self.old.state (GivingStage found ahead) self.new) }
     {
         // It brings in that row numbers have room for one more.
@@ -258,17 +257,17 @@ impl Walker {
     /// The present start row has ended.
     #[inline(always)]
     fn end_row<R: Rows>(&mut self, query: &Query, rows: &R, found: Ended, ahead: Ahead) -> Step
-        requires going { IsGoing (data_of query.now) self.old.state }
-        requires gives { Gives (data_of query.now) (known_in R.known R.ending rows.now)
+        requires going { IsGoing query.now self.old.state }
+        requires gives { Gives query.now (known_in R.known R.ending rows.now)
             (place_of self.old.state) (result_of found) ahead }
-        requires serves { Serves (data_of query.now) (known_in R.known R.ending rows.now)
+        requires serves { Serves query.now (known_in R.known R.ending rows.now)
             self.old.state.at (run_of found) }
         requires not_past { ahead.seen ≤ self.old.state.here }
         requires all { ahead.next ≡ ahead.end }
         requires few { self.old.state.given < 2 ^ 128 - 1 }
-        ensures keeps { KeepsGoing 1 (data_of query.now) (known_in R.known R.ending rows.now)
+        ensures keeps { KeepsGoing 1 query.now (known_in R.known R.ending rows.now)
             self.old.state (GivingStage found ahead) self.new result }
-        ensures works { StepSpends 1 (data_of query.now) (known_in R.known R.ending rows.now)
+        ensures works { StepSpends 1 query.now (known_in R.known R.ending rows.now)
             self.old.state (GivingStage found ahead) self.new result }
     {
         rp_known::law_legs();
@@ -328,19 +327,19 @@ impl Walker {
         ahead: Ahead,
         steps: &mut Steps<L>,
     ) -> Result<Step, AllocError>
-        requires going { IsGoing (data_of query.now) self.old.state }
-        requires gives { Gives (data_of query.now) (known_in R.known R.ending rows.now)
+        requires going { IsGoing query.now self.old.state }
+        requires gives { Gives query.now (known_in R.known R.ending rows.now)
             (place_of self.old.state) (result_of found) ahead }
-        requires totals { MatchTotalled (data_of query.now) (known_in R.known R.ending rows.now)
+        requires totals { MatchTotalled query.now (known_in R.known R.ending rows.now)
             self.old.state.at found }
-        requires serves { Serves (data_of query.now) (known_in R.known R.ending rows.now)
+        requires serves { Serves query.now (known_in R.known R.ending rows.now)
             self.old.state.at (run_of found) }
         requires not_past { ahead.seen ≤ self.old.state.here }
         requires few { self.old.state.given < 2 ^ 128 - 1 }
         ensures kept { OnErr result (self.new ≡ self.old) }
-        ensures keeps { IfOk result (KeepsGoing 1 (data_of query.now) (known_in R.known R.ending rows.now)
+        ensures keeps { IfOk result (KeepsGoing 1 query.now (known_in R.known R.ending rows.now)
             self.old.state (GivingStage found ahead) self.new) }
-        ensures works { IfOk result (StepSpends 1 (data_of query.now) (known_in R.known R.ending rows.now)
+        ensures works { IfOk result (StepSpends 1 query.now (known_in R.known R.ending rows.now)
             self.old.state (GivingStage found ahead) self.new) }
         ensures steps { steps.new ≡ steps.old + 1 }
     {
@@ -362,17 +361,17 @@ impl Walker {
     /// The search has ended.
     #[inline(always)]
     fn begin_giving<R: Rows>(&mut self, query: &Query, rows: &R, found: Ended) -> Step
-        requires going { IsGoing (data_of query.now) self.old.state }
+        requires going { IsGoing query.now self.old.state }
         requires known { self.old.state.at ≤ length (R.known rows.now) }
-        requires found { found_at (data_of query.now) (known_in R.known R.ending rows.now) self.old.state.at
+        requires found { found_at query.now (known_in R.known R.ending rows.now) self.old.state.at
             ≡ result_of found }
-        requires totals { MatchTotalled (data_of query.now) (known_in R.known R.ending rows.now)
+        requires totals { MatchTotalled query.now (known_in R.known R.ending rows.now)
             self.old.state.at found }
-        requires serves { Serves (data_of query.now) (known_in R.known R.ending rows.now)
+        requires serves { Serves query.now (known_in R.known R.ending rows.now)
             self.old.state.at (run_of found) }
         ensures keeps { (run : Run) (taken : ℕ) →
-            taken ≤ left_by run.search.value (asked_by (data_of query.now) (known_in R.known R.ending rows.now)) + 1 →
-            KeepsGoing taken (data_of query.now) (known_in R.known R.ending rows.now)
+            taken ≤ left_by run.search.value (asked_by query.now (known_in R.known R.ending rows.now)) + 1 →
+            KeepsGoing taken query.now (known_in R.known R.ending rows.now)
             self.old.state (SearchingStage run) self.new result }
         ensures went { result ≡ Step.Went }
         ensures gives { BeginsGiving (known_in R.known R.ending rows.now) found self.old self.new }
@@ -396,12 +395,12 @@ impl Walker {
         steps: &mut Steps<L>,
     ) -> Result<(Step, u32), AllocError>
         requires some { 0 < budget }
-        requires going { IsGoing (data_of query.now) self.old.state }
-        requires searches { Searches (data_of query.now) (known_in R.known R.ending rows.now) self.old.state.at run }
+        requires going { IsGoing query.now self.old.state }
+        requires searches { Searches query.now (known_in R.known R.ending rows.now) self.old.state.at run }
         ensures kept { OnErr result (self.new ≡ self.old) }
-        ensures keeps { IfOk result (λ r. KeepsGoing r.1 (data_of query.now) (known_in R.known R.ending rows.now)
+        ensures keeps { IfOk result (λ r. KeepsGoing r.1 query.now (known_in R.known R.ending rows.now)
             self.old.state (SearchingStage run) self.new r.0) }
-        ensures works { IfOk result (λ r. StepSpends r.1 (data_of query.now) (known_in R.known R.ending rows.now)
+        ensures works { IfOk result (λ r. StepSpends r.1 query.now (known_in R.known R.ending rows.now)
             self.old.state (SearchingStage run) self.new r.0) }
         ensures taken { IfOk result (λ r. (0 < r.1) × (steps.new ≡ steps.old + r.1)) }
         ensures turns { TurnsAreCounted budget steps.old steps.new entered.old entered.new }
@@ -424,14 +423,14 @@ impl Walker {
 
     /// Past the last start row.
     fn at_last<R: Rows>(&mut self, query: &Query, rows: &R) -> Step
-        requires going { IsGoing (data_of query.now) self.old.state }
-        requires stands { StageStands (data_of query.now) (known_in R.known R.ending rows.now)
+        requires going { IsGoing query.now self.old.state }
+        requires stands { StageStands query.now (known_in R.known R.ending rows.now)
             self.old.state self.old.stage }
         requires past { length (R.known rows.now) < self.old.state.at }
         requires few { self.old.state.given < 2 ^ 128 - 1 }
-        ensures keeps { KeepsGoing 1 (data_of query.now) (known_in R.known R.ending rows.now)
+        ensures keeps { KeepsGoing 1 query.now (known_in R.known R.ending rows.now)
             self.old.state self.old.stage self.new result }
-        ensures works { StepSpends 1 (data_of query.now) (known_in R.known R.ending rows.now)
+        ensures works { StepSpends 1 query.now (known_in R.known R.ending rows.now)
             self.old.state self.old.stage self.new result }
     {
         match rows.end() {
@@ -452,14 +451,14 @@ impl Walker {
         steps: &mut Steps<L>,
     ) -> Result<(Step, u32), AllocError>
         requires some { 0 < budget }
-        requires going { IsGoing (data_of query.now) self.old.state }
+        requires going { IsGoing query.now self.old.state }
         requires stage { self.old.stage ≡ BeginStage None }
-        requires spare { IsSpare (data_of query.now) (known_in R.known R.ending rows.now) self.old.state.at spare }
+        requires spare { IsSpare query.now (known_in R.known R.ending rows.now) self.old.state.at spare }
         requires few { self.old.state.given < 2 ^ 128 - 1 }
         ensures kept { OnErr result (self.new ≡ self.old) }
-        ensures keeps { IfOk result (λ r. KeepsGoing r.1 (data_of query.now) (known_in R.known R.ending rows.now)
+        ensures keeps { IfOk result (λ r. KeepsGoing r.1 query.now (known_in R.known R.ending rows.now)
             self.old.state (BeginStage spare) self.new r.0) }
-        ensures works { IfOk result (λ r. StepSpends r.1 (data_of query.now) (known_in R.known R.ending rows.now)
+        ensures works { IfOk result (λ r. StepSpends r.1 query.now (known_in R.known R.ending rows.now)
             self.old.state (BeginStage spare) self.new r.0) }
         ensures taken { IfOk result (λ r. (0 < r.1) × (steps.new ≡ steps.old + r.1)) }
         ensures turns { TurnsAreCounted budget steps.old steps.new entered.old entered.new }
@@ -486,12 +485,12 @@ impl Walker {
         steps: &mut Steps<L>,
     ) -> Result<(Step, u32), AllocError>
         requires some { 0 < budget }
-        requires stands { GoesOnWell (data_of query.now) (known_in R.known R.ending rows.now) self.old }
+        requires stands { GoesOnWell query.now (known_in R.known R.ending rows.now) self.old }
         requires few { self.old.state.given < 2 ^ 128 - 1 }
         ensures kept { OnErr result (self.new ≡ record self.old { stage = BeginStage None }) }
-        ensures keeps { IfOk result (λ r. KeepsGoing r.1 (data_of query.now) (known_in R.known R.ending rows.now)
+        ensures keeps { IfOk result (λ r. KeepsGoing r.1 query.now (known_in R.known R.ending rows.now)
             self.old.state self.old.stage self.new r.0) }
-        ensures works { IfOk result (λ r. StepSpends r.1 (data_of query.now) (known_in R.known R.ending rows.now)
+        ensures works { IfOk result (λ r. StepSpends r.1 query.now (known_in R.known R.ending rows.now)
             self.old.state self.old.stage self.new r.0) }
         ensures taken { IfOk result (λ r. (0 < r.1) × (steps.new ≡ steps.old + r.1)) }
         ensures turns { TurnsAreCounted budget steps.old steps.new entered.old entered.new }
@@ -515,24 +514,24 @@ impl Walker {
         entered: &mut Entries,
         steps: &mut Steps<L>,
     ) -> Result<Poll, AllocError>
-        requires stands { GoesOnWell (data_of query.now) (known_in R.known R.ending rows.now) self.old }
+        requires stands { GoesOnWell query.now (known_in R.known R.ending rows.now) self.old }
         ensures stands { stands_by self.new.state.over
-            (data_of query.now) (known_in R.known R.ending rows.now) self.new }
+            query.now (known_in R.known R.ending rows.now) self.new }
         ensures in_rows { PlaceStays (known_in R.known R.ending rows.now) self.old.state self.new.state }
         ensures first { self.new.state.first ≡ self.old.state.first }
         ensures given { IfOk result (GivenBy self.old.state self.new.state) }
         ensures kept { OnErr result
             ((self.new.state.given ≡ self.old.state.given) × (self.new.stage ≡ BeginStage None)) }
         ensures lowers { IfOk result (PollLowers budget
-            (left_with (data_of query.now) (known_in R.known R.ending rows.now) self.old.state self.old.stage)
-            (left_with (data_of query.now) (known_in R.known R.ending rows.now) self.new.state self.new.stage)) }
+            (left_with query.now (known_in R.known R.ending rows.now) self.old.state self.old.stage)
+            (left_with query.now (known_in R.known R.ending rows.now) self.new.state self.new.stage)) }
         ensures polled { IfOk result (λ answer.
-            IsWithin (data_of query.now) (known_in R.known R.ending rows.now) self.old.state →
-            Polled (data_of query.now) (known_in R.known R.ending rows.now) self.old.state self.new.state answer) }
-        ensures moves { IsWithin (data_of query.now) (known_in R.known R.ending rows.now) self.old.state →
-            Moves (data_of query.now) (known_in R.known R.ending rows.now) self.old.state self.new.state }
+            IsWithin query.now (known_in R.known R.ending rows.now) self.old.state →
+            Polled query.now (known_in R.known R.ending rows.now) self.old.state self.new.state answer) }
+        ensures moves { IsWithin query.now (known_in R.known R.ending rows.now) self.old.state →
+            Moves query.now (known_in R.known R.ending rows.now) self.old.state self.new.state }
         ensures works { IfOk result (λ answer. Spends (steps.new - steps.old) (last_turn answer)
-            (data_of query.now) (known_in R.known R.ending rows.now)
+            query.now (known_in R.known R.ending rows.now)
             self.old.state self.old.stage self.new.state self.new.stage) }
         ensures turns { TurnsAreCounted budget steps.old steps.new entered.old entered.new }
         ensures takes { IfOk result (PollTakes budget steps.old steps.new) }

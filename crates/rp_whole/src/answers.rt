@@ -1,6 +1,5 @@
 //! The answers over rows, written in a form.
 ghost use Rattle.std.specs.Prelude.{[], is_some, IfErr, IfOk, OnErr};
-ghost use Rattle.rp_query.specs.QueryView.{data_of};
 ghost use Rattle.rp_whole.specs.Answers.{WritesFrontWithin, WritesWithin};
 ghost use Rattle.rp_whole.specs.AnswerLines.{line_form};
 ghost use Rattle.rp_whole.specs.AnswerObjects.{object_form};
@@ -58,9 +57,9 @@ pub fn write_lines<W: Outlet, V: Watch>(
     watch: &mut V,
     hasher: RandomState,
 ) -> Result<Vec<Halted>, WholeFault>
-    ensures written { IfOk result (λ halted. WritesWithin (is_some limit) line_form (data_of query.now) rows.items
+    ensures written { IfOk result (λ halted. WritesWithin (is_some limit) line_form query.now rows.items
         (W.contents writer.old) (W.contents writer.new) [] halted.items) }
-    ensures front { OnErr result (WritesFrontWithin (is_some limit) line_form (data_of query.now) rows.items
+    ensures front { OnErr result (WritesFrontWithin (is_some limit) line_form query.now rows.items
         (W.contents writer.old) (W.contents writer.new)) }
     ensures fault { IfErr result IsOfOutput }
     ensures write { TellsWrite result (W.failures writer.old) (W.failures writer.new) }
@@ -87,9 +86,9 @@ pub fn write_csv<W: Outlet, V: Watch>(
     watch: &mut V,
     hasher: RandomState,
 ) -> Result<EndedEarly, WholeFault>
-    ensures written { IfOk result (λ early. WritesWithin (is_some limit) record_form (data_of query.now) rows.items
+    ensures written { IfOk result (λ early. WritesWithin (is_some limit) record_form query.now rows.items
         (W.contents writer.old) (W.contents writer.new) early.stopped.items early.halted.items) }
-    ensures front { OnErr result (WritesFrontWithin (is_some limit) record_form (data_of query.now) rows.items
+    ensures front { OnErr result (WritesFrontWithin (is_some limit) record_form query.now rows.items
         (W.contents writer.old) (W.contents writer.new)) }
     ensures fault { IfErr result IsOfOutput }
     ensures write { TellsWrite result (W.failures writer.old) (W.failures writer.new) }
@@ -116,9 +115,9 @@ pub fn write_objects<W: Outlet, V: Watch>(
     watch: &mut V,
     hasher: RandomState,
 ) -> Result<EndedEarly, WholeFault>
-    ensures written { IfOk result (λ early. WritesWithin (is_some limit) object_form (data_of query.now) rows.items
+    ensures written { IfOk result (λ early. WritesWithin (is_some limit) object_form query.now rows.items
         (W.contents writer.old) (W.contents writer.new) early.stopped.items early.halted.items) }
-    ensures front { OnErr result (WritesFrontWithin (is_some limit) object_form (data_of query.now) rows.items
+    ensures front { OnErr result (WritesFrontWithin (is_some limit) object_form query.now rows.items
         (W.contents writer.old) (W.contents writer.new)) }
     ensures fault { IfErr result IsOfOutput }
     ensures write { TellsWrite result (W.failures writer.old) (W.failures writer.new) }
@@ -136,9 +135,9 @@ pub(crate) fn write_answers<W: Outlet, G: Gathered, V: Watch>(
     watch: &mut V,
     hasher: RandomState,
 ) -> Result<EndedEarly, WholeFault>
-    ensures written { IfOk result (λ early. WritesWithin (is_some limit) G.form (data_of query.now) rows.items
+    ensures written { IfOk result (λ early. WritesWithin (is_some limit) G.form query.now rows.items
         (W.contents writer.old) (W.contents writer.new) early.stopped.items early.halted.items) }
-    ensures front { OnErr result (WritesFrontWithin (is_some limit) G.form (data_of query.now) rows.items
+    ensures front { OnErr result (WritesFrontWithin (is_some limit) G.form query.now rows.items
         (W.contents writer.old) (W.contents writer.new)) }
     ensures fault { IfErr result IsOfOutput }
     ensures write { TellsWrite result (W.failures writer.old) (W.failures writer.new) }

@@ -3,7 +3,6 @@ ghost use Rattle.std.specs.Prelude.{◌≡◌, ℕ, List, [], ◌++◌, IfErr, I
 ghost use Rattle.std.specs.Io.KnownBytes.{Appends};
 ghost use Rattle.rp_io.specs.Devices.{AppendsFront, Moves};
 ghost use Rattle.rp_whole.specs.Faults.{IsOfOutput, TellsWrite};
-ghost use Rattle.rp_query.specs.QueryView.{data_of};
 ghost use Rattle.rp_whole.specs.Answers.{Form};
 ghost use Rattle.rp_whole.specs.declared.stopped.Stopped.{Stopped as StoppedPart};
 
@@ -30,7 +29,7 @@ pub(crate) trait Gathered: Sized + Drop {
 
     /// What stands before the answers of a query.
     fn begin(alloc: Global, query: &Query) -> Result<Self, AllocError>
-        ensures bytes { IfOk result (λ gathered. bytes gathered ≡ form.head (data_of query.now)) }
+        ensures bytes { IfOk result (λ gathered. bytes gathered ≡ form.head query.now) }
         ensures stopped { IfOk result (λ gathered. stopped gathered ≡ []) };
 
     /// Adds an item of the query's answer in the partition of this key.
@@ -42,7 +41,7 @@ pub(crate) trait Gathered: Sized + Drop {
         item: &Item,
     ) -> Result<(), AllocError>
         ensures bytes { OnOk result
-            (bytes self.new ≡ bytes self.old ++ form.bytes (data_of query.now) key.now place item.now) }
+            (bytes self.new ≡ bytes self.old ++ form.bytes query.now key.now place item.now) }
         ensures stopped { OnOk result (stopped self.new ≡ stopped self.old ++ form.stops key.now item.now) };
 
     /// Whether there is a block to be written. A few bytes may not be counted yet.

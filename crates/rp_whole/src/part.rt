@@ -1,6 +1,5 @@
 //! The items of one partition's answer.
 ghost use Rattle.std.specs.Prelude.{◌≡◌, ◌<◌, ◌++◌, is_some, IfErr, IfOk, OnErr, OnOk};
-ghost use Rattle.rp_query.specs.QueryView.{data_of};
 ghost use Rattle.rp_io.specs.Devices.{AppendsFront};
 ghost use Rattle.rp_walker.specs.Polls.{left_in};
 ghost use Rattle.rp_walker.specs.Records.{Fits};
@@ -34,10 +33,10 @@ pub(crate) fn write_part<W: Outlet, G: Gathered, V: Watch, L: Ledger>(
     turns: &mut Turns<L>,
 ) -> Result<Option<u64>, WholeFault>
     ensures written { IfOk result (λ given_up. PartIsWritten G.form G.bytes G.stopped (is_some turns.old.limit)
-        (data_of query.now) (part_of part.now) given_up (W.contents writer.old) gathered.old
+        query.now (part_of part.now) given_up (W.contents writer.old) gathered.old
         (W.contents writer.new) gathered.new) }
     ensures front { OnErr result (AppendsFront (W.contents writer.old) (W.contents writer.new)
-        (G.bytes gathered.old ++ part_bytes G.form (data_of query.now) (part_of part.now))) }
+        (G.bytes gathered.old ++ part_bytes G.form query.now (part_of part.now))) }
     ensures limit { turns.new.limit ≡ turns.old.limit }
     ensures fault { IfErr result IsOfOutput }
     ensures failures { TellsWrite result (W.failures writer.old) (W.failures writer.new) }
@@ -66,19 +65,19 @@ fn write_next<W: Outlet, G: Gathered, V: Watch, L: Ledger>(
     watch: &mut V,
     turns: &mut Turns<L>,
 ) -> Result<Next, WholeFault>
-    requires stands { Stands (data_of query.now) (closed part.now.rows.items) walker.old }
-    requires fits { Fits (data_of query.now) (record_of walker.old) (closed part.now.rows.items) }
-    ensures stands { Stands (data_of query.now) (closed part.now.rows.items) walker.new }
-    ensures fits { OnOk result (Fits (data_of query.now) (record_of walker.new) (closed part.now.rows.items)) }
-    ensures written { OnOk result (NextIsWritten G.form G.bytes G.stopped (data_of query.now) (part_of part.now)
+    requires stands { Stands query.now (closed part.now.rows.items) walker.old }
+    requires fits { Fits query.now (record_of walker.old) (closed part.now.rows.items) }
+    ensures stands { Stands query.now (closed part.now.rows.items) walker.new }
+    ensures fits { OnOk result (Fits query.now (record_of walker.new) (closed part.now.rows.items)) }
+    ensures written { OnOk result (NextIsWritten G.form G.bytes G.stopped query.now (part_of part.now)
         (record_of walker.old) (record_of walker.new) (W.contents writer.old) gathered.old
         (W.contents writer.new) gathered.new) }
     ensures front { OnErr result (AppendsFront (W.contents writer.old) (W.contents writer.new)
-        (G.bytes gathered.old ++ bytes_to_come G.form (data_of query.now) (part_of part.now) (record_of walker.old))) }
-    ensures falls { result ≡ Ok Next.More → left_in (data_of query.now) (closed part.now.rows.items) walker.new
-        < left_in (data_of query.now) (closed part.now.rows.items) walker.old }
+        (G.bytes gathered.old ++ bytes_to_come G.form query.now (part_of part.now) (record_of walker.old))) }
+    ensures falls { result ≡ Ok Next.More → left_in query.now (closed part.now.rows.items) walker.new
+        < left_in query.now (closed part.now.rows.items) walker.old }
     ensures all { result ≡ Ok Next.All →
-        NoneToCome G.form (data_of query.now) (part_of part.now) (record_of walker.new) }
+        NoneToCome G.form query.now (part_of part.now) (record_of walker.new) }
     ensures by_limit { IfOk result (IsByLimit (is_some turns.old.limit)) }
     ensures limit { turns.new.limit ≡ turns.old.limit }
     ensures fault { IfErr result IsOfOutput }

@@ -1,6 +1,5 @@
 //! Items as records of CSV.
 ghost use Rattle.std.specs.Prelude.{◌≡◌, IfOk};
-ghost use Rattle.rp_query.specs.QueryView.{data_of};
 ghost use Rattle.rp_whole.specs.AnswerRecords.{header_text};
 ghost use Rattle.rp_whole.specs.AnswerRows.{output_names};
 
@@ -21,7 +20,7 @@ pub(crate) struct RowRecords {
 
 /// The names of the output columns.
 fn output_names(alloc: Global, query: &Query) -> Result<Vec<Text>, AllocError>
-    ensures { IfOk result (λ names. names.items ≡ output_names (data_of query.now)) }
+    ensures { IfOk result (λ names. names.items ≡ output_names query.now) }
 {
     let mut names = Vec::new(alloc);
     for column in query.output() {
@@ -32,7 +31,7 @@ fn output_names(alloc: Global, query: &Query) -> Result<Vec<Text>, AllocError>
 
 /// The header alone: the names of the output columns.
 fn header(alloc: Global, query: &Query) -> Result<Records, AllocError>
-    ensures { IfOk result (λ records. records ≡ header_text (data_of query.now)) }
+    ensures { IfOk result (λ records. records ≡ header_text query.now) }
 {
     let mut records = Records::new(alloc);
     let names = output_names(alloc, query)?;

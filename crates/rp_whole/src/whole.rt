@@ -1,6 +1,5 @@
 //! From a CSV input to its answers.
 ghost use Rattle.std.specs.Prelude.{◌≡◌, IfErr, IfOk, OnOk};
-ghost use Rattle.rp_query.specs.QueryView.{data_of};
 ghost use Rattle.rp_io.specs.Reading.{ReadsWithin};
 ghost use Rattle.rp_whole.specs.Answers.{WritesOf};
 ghost use Rattle.rp_whole.specs.AnswerLines.{WritesLines};
@@ -34,9 +33,9 @@ pub fn run_whole<R: Intake, W: Outlet, V: Watch>(
     hasher: RandomState,
 ) -> Result<(), WholeFault>
     ensures written { OnOk result
-        (WritesLines (data_of query) (R.seen reader.old).remaining (W.contents writer.old) (W.contents writer.new)) }
+        (WritesLines query (R.seen reader.old).remaining (W.contents writer.old) (W.contents writer.new)) }
     ensures front { IfErr result
-        (LeavesFront (data_of query) (R.seen reader.old).remaining (W.contents writer.old) (W.contents writer.new)) }
+        (LeavesFront query (R.seen reader.old).remaining (W.contents writer.old) (W.contents writer.new)) }
     ensures reads { ReadsWithin reads (whole_told result) (R.seen reader.old) (R.seen reader.new) }
     ensures write { TellsWrite result (W.failures writer.old) (W.failures writer.new) }
 {
@@ -65,10 +64,10 @@ pub fn run_whole_csv<R: Intake, W: Outlet, V: Watch>(
     reads: u64,
     hasher: RandomState,
 ) -> Result<Vec<Stopped>, WholeFault>
-    ensures written { IfOk result (λ stopped. WritesRecords (data_of query) (R.seen reader.old).remaining
+    ensures written { IfOk result (λ stopped. WritesRecords query (R.seen reader.old).remaining
         (W.contents writer.old) (W.contents writer.new) stopped.items) }
     ensures front { IfErr result
-        (LeavesRecords (data_of query) (R.seen reader.old).remaining (W.contents writer.old) (W.contents writer.new)) }
+        (LeavesRecords query (R.seen reader.old).remaining (W.contents writer.old) (W.contents writer.new)) }
     ensures reads { ReadsWithin reads (whole_told result) (R.seen reader.old) (R.seen reader.new) }
     ensures write { TellsWrite result (W.failures writer.old) (W.failures writer.new) }
 {
@@ -85,9 +84,9 @@ fn run_answers<R: Intake, W: Outlet, G: Gathered, V: Watch>(
     reads: u64,
     hasher: RandomState,
 ) -> Result<Vec<Stopped>, WholeFault>
-    ensures written { IfOk result (λ stopped. WritesOf G.form (data_of query) (R.seen reader.old).remaining
+    ensures written { IfOk result (λ stopped. WritesOf G.form query (R.seen reader.old).remaining
         (W.contents writer.old) (W.contents writer.new) stopped.items) }
-    ensures front { IfErr result (LeavesOf G.form (data_of query) (R.seen reader.old).remaining
+    ensures front { IfErr result (LeavesOf G.form query (R.seen reader.old).remaining
         (W.contents writer.old) (W.contents writer.new)) }
     ensures reads { ReadsWithin reads (whole_told result) (R.seen reader.old) (R.seen reader.new) }
     ensures write { TellsWrite result (W.failures writer.old) (W.failures writer.new) }

@@ -1,6 +1,5 @@
 //! Why there is no match.
 ghost use Rattle.std.specs.Prelude.{IfOk};
-ghost use Rattle.rp_query.specs.QueryView.{data_of};
 ghost use Rattle.rp_why.specs.Seeking.{closed_by};
 ghost use Rattle.rp_why.specs.Sought.{IsFinding};
 
@@ -73,7 +72,7 @@ pub fn why(
     rows: Vec<Row>,
     wanted: Wanted,
 ) -> Result<Finding, AllocError>
-    ensures { IfOk result (IsFinding (data_of query.now) (closed_by rows.items) wanted) }
+    ensures { IfOk result (IsFinding query.now (closed_by rows.items) wanted) }
 {
     let rows = AllRows {
         rows,

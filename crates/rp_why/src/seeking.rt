@@ -1,7 +1,6 @@
 //! Searches from one start row after another.
 ghost use Rattle.std.specs.Prelude.{◌≡◌, ℕ, ◌+◌, ◌<◌, ◌≤◌, false, [], length, IfOk, OnOk};
 ghost use Rattle.rp_words.specs.declared.word.End.TheVariants.{Closed};
-ghost use Rattle.rp_query.specs.QueryView.{data_of};
 ghost use Rattle.rp_query.specs.declared.query.QueryData.{QueryData};
 ghost use Rattle.rp_known.specs.Known.{Known};
 ghost use Rattle.rp_search.specs.Search.{start_of_search, turns_of_run};
@@ -76,7 +75,7 @@ pub(crate) fn seek(
     wanted: Wanted,
 ) -> Result<Sought, AllocError>
     requires closed { rows.now.end ≡ Closed }
-    ensures { IfOk result (IsSought (data_of query.now) (closed_by rows.now.rows.items) wanted) }
+    ensures { IfOk result (IsSought query.now (closed_by rows.now.rows.items) wanted) }
 {
     if wanted.first == 0 || wanted.last > rows.last() {
         return Ok(Sought::GivenUp);
@@ -98,7 +97,7 @@ fn counted<L: Ledger>(
     requires closed { rows.now.end ≡ Closed }
     requires one { 1 ≤ wanted.first }
     requires known { wanted.last ≤ length rows.now.rows.items }
-    ensures { IfOk result (IsSought (data_of query.now) (closed_by rows.now.rows.items) wanted) }
+    ensures { IfOk result (IsSought query.now (closed_by rows.now.rows.items) wanted) }
 {
     let mut steps = Steps::<L>::new(blank);
     if wanted.first > wanted.last {
@@ -145,7 +144,7 @@ fn copied(alloc: Global, labels: &[Label]) -> Result<Vec<Label>, AllocError>
 /// A search for the query's pattern from a row.
 fn begin(alloc: Global, query: &Query, start: u64) -> Result<Run, AllocError>
     requires { 1 ≤ start }
-    ensures { IfOk result (λ run. (p : Known) → start ≤ length p.rows → Searches (data_of query.now) p start run) }
+    ensures { IfOk result (λ run. (p : Known) → start ≤ length p.rows → Searches query.now p start run) }
 {
     let search = Search::of(alloc, query.prepared(), start)?;
     let totals = Totals::new(alloc, query)?;
@@ -176,9 +175,9 @@ fn look_from<L: Ledger>(
     steps: &mut Steps<L>,
 ) -> Result<(Look, Run), AllocError>
     requires closed { rows.now.end ≡ Closed }
-    requires searches { Searches (data_of query.now) (closed_by rows.now.rows.items) start run }
-    ensures serves { IfOk result (λ r. Serves (data_of query.now) (closed_by rows.now.rows.items) start r.1) }
-    ensures looked { IfOk result (λ r. LooksAt (data_of query.now) (closed_by rows.now.rows.items) start with_rows r.1 r.0) }
+    requires searches { Searches query.now (closed_by rows.now.rows.items) start run }
+    ensures serves { IfOk result (λ r. Serves query.now (closed_by rows.now.rows.items) start r.1) }
+    ensures looked { IfOk result (λ r. LooksAt query.now (closed_by rows.now.rows.items) start with_rows r.1 r.0) }
 {
     let (outcome, ran) = run_on(query, rows, start, run, budget, steps)?;
     let look = look_of(outcome, with_rows, ran.search.labels());
@@ -212,9 +211,9 @@ fn run_on<L: Ledger>(
     steps: &mut Steps<L>,
 ) -> Result<(Outcome, Run), AllocError>
     requires closed { rows.now.end ≡ Closed }
-    requires searches { Searches (data_of query.now) (closed_by rows.now.rows.items) start run }
-    ensures serves { IfOk result (λ r. Serves (data_of query.now) (closed_by rows.now.rows.items) start r.1) }
-    ensures came { IfOk result (λ r. CameTo (data_of query.now) (closed_by rows.now.rows.items) start r.1 r.0) }
+    requires searches { Searches query.now (closed_by rows.now.rows.items) start run }
+    ensures serves { IfOk result (λ r. Serves query.now (closed_by rows.now.rows.items) start r.1) }
+    ensures came { IfOk result (λ r. CameTo query.now (closed_by rows.now.rows.items) start r.1 r.0) }
 {
     rp_search::law_search();
     // It brings in that the query is sound.

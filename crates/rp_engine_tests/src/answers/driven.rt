@@ -1,7 +1,6 @@
 //! A matcher and its last row.
 ghost use Rattle.std.specs.Prelude.{◌≡◌, ◌^◌, ◌<◌, ◌≤◌, false, IsTrue};
 ghost use Rattle.rp_words.specs.declared.word.End.TheVariants.{Open};
-ghost use Rattle.rp_query.specs.QueryView.{data_of};
 ghost use Rattle.rp_known.specs.Known.{count};
 ghost use Rattle.rp_walker.specs.Walking.{CanGoOn};
 
@@ -139,7 +138,7 @@ impl Driven {
 /// The conditions of a matcher that begins from a record.
 fn can_go_on(query: &Query, state: &MatcherState) -> bool
     ensures one { IsTrue result → 1 ≤ state.now.first }
-    ensures can { IsTrue result → CanGoOn (data_of query.now) state.now }
+    ensures can { IsTrue result → CanGoOn query.now state.now }
 {
     if state.first == 0 {
         return false;

@@ -1,7 +1,6 @@
 //! A search that goes on as rows come, by totals that go on with it.
 ghost use Rattle.std.specs.Prelude.{◌≡◌, ◌<◌, List, length, IfOk};
 ghost use Rattle.rp_words.specs.declared.word.End.{End as Ending};
-ghost use Rattle.rp_query.specs.QueryView.{data_of};
 ghost use Rattle.rp_eval.specs.Partition.{Rows as Known};
 ghost use Rattle.rp_engine_tests.specs.Searched.{StandsOver};
 
@@ -65,7 +64,7 @@ fn counted<L: Ledger>(
 
 /// A search from row 1, and the totals of no label.
 fn begun(alloc: Global, query: &Query) -> Result<(Search, Totals), AllocError>
-    ensures { IfOk result (λ r. (p : Known) (e : Ending) → StandsOver p e (data_of query.now) r.0 r.1) }
+    ensures { IfOk result (λ r. (p : Known) (e : Ending) → StandsOver p e query.now r.0 r.1) }
 {
     law_search();
     let _sound = query.plan();
@@ -85,9 +84,9 @@ fn run<L: Ledger>(
     told: &mut String,
 ) -> Result<Totals, AllocError>
     requires some { 0 < length rows.now.rows.items }
-    requires stands { StandsOver rows.now.rows.items rows.now.end (data_of query.now) search.old totals }
+    requires stands { StandsOver rows.now.rows.items rows.now.end query.now search.old totals }
     ensures { IfOk result (λ totals.
-        StandsOver rows.now.rows.items rows.now.end (data_of query.now) search.new totals) }
+        StandsOver rows.now.rows.items rows.now.end query.now search.new totals) }
 {
     let mut tester = Tester::new(rows, query, totals, Entries::new());
     let outcome = search.run(&mut tester, 1_000, steps)?;

@@ -1,5 +1,4 @@
 use Rattle.std.proofs.Common.{◌≡◌, ◌≤◌, false, sym, ap, ◌∙◌, subst}
-use Rattle.rp_query.specs.QueryView.{data_of}
 use Rattle.rp_known.specs.Plans.{first_read}
 use Rattle.rp_walker.specs.declared.record.MatcherState.{MatcherState}
 use Rattle.rp_walker.specs.Walking.{record_of}
@@ -21,12 +20,12 @@ returns-clause-held c =
     let n = c.forget.new.self in
     let e = c.forget.ensures in
     let r : MatcherState = record_of c.args.walker.now in
-    holds_no_more (data_of c.args.query.now) k n r (record_of c.keep_from.new.self) c.horizon-horizon.result (c.keep_from.ensures.«record» ∙ ap (λ f. record r { first = f }) c.first.ensures) (same_count k n e.low e.rows e.last e.end)
+    holds_no_more c.args.query.now k n r (record_of c.keep_from.new.self) c.horizon-horizon.result (c.keep_from.ensures.«record» ∙ ap (λ f. record r { first = f }) c.first.ensures) (same_count k n e.low e.rows e.last e.end)
     c.horizon-horizon.ensures e.all
 
 pub returns-clause-ready : goal.returns-clause-ready
 returns-clause-ready c =
-    let q = data_of c.args.query.now in
+    let q = c.args.query.now in
     let k = c.args.rows.now in
     let n = c.forget.new.self in
     let e = c.forget.ensures in
@@ -48,7 +47,7 @@ returns-clause-ready c =
 
 pub returns-clause-left : goal.returns-clause-left
 returns-clause-left c =
-    let q = data_of c.args.query.now in
+    let q = c.args.query.now in
     let k = c.args.rows.now in
     let n = c.forget.new.self in
     let e = c.forget.ensures in

@@ -2,7 +2,6 @@ use Rattle.std.proofs.Common.{◌≡◌, subst, rules}
 use Rattle.rp_tree.specs.Clauses.{clause_tree}
 use Rattle.rp_compile.specs.Compiled.{IsClauseOf}
 use Rattle.rp_check.specs.QueryOf.{IsQueryOf}
-use Rattle.rp_query.specs.QueryView.{data_of}
 use Rattle.rp_compile.proofs.Refusing.{clause_of, checking_fails}
 use Rattle.rp_compile.proofs.compiling.compile.Goals as goal
 
@@ -23,5 +22,5 @@ returns-clause-query c =
       clause = tree;
       written = clause_of c.args.text.now c.in_ok-tokens.tokens.items c.as_slice.result.now tree same c.in_ok-tokens.ensures.tokens c.in_ok-clause.ensures.derived c.in_ok-clause.ensures.only;
       clean = c.in_ok-query.ensures.clean;
-      is = subst (λ w. IsQueryOf tree w c.args.table.now (data_of c.in_ok-query.query)) c.in_ok-clause.ensures.text c.in_ok-query.ensures.query;
+      is = subst (λ w. IsQueryOf tree w c.args.table.now c.in_ok-query.query) c.in_ok-clause.ensures.text c.in_ok-query.ensures.query;
     }

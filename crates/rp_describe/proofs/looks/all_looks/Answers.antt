@@ -4,7 +4,6 @@ use Rattle.std.proofs.lemmas.Bool.Decides.{nat_tests}
 use Rattle.rp_query.specs.declared.plan.Condition.{Condition}
 use Rattle.rp_query.specs.declared.query.Plan.{Plan}
 use Rattle.rp_query.specs.Definitions.{condition_at, definition_of}
-use Rattle.rp_query.specs.QueryView.{data_of}
 use Rattle.rp_describe.specs.Said.{IsSaidOf}
 use Rattle.rp_describe.proofs.looks.all_looks.Goals as goal
 
@@ -29,19 +28,19 @@ below_next P k below here v less = go (nat_lt v k) refl
 
 pub loop-number-preserved : goal.loop-number-preserved
 loop-number-preserved c =
-    let q = data_of c.args.query.now in
+    let q = c.args.query.now in
     below_next (λ v. (d : Condition) → definition_of q.plan v ≡ Some d → IsSaidOf q v d c.with_variable-all.result) c.loop-number.number
     (λ v less d defined. c.with_variable-all.ensures.kept v d (c.loop-number.invariant v less d defined)) c.with_variable-all.ensures.said
 
 pub returns : goal.returns
 returns c = λ v d defined.
-    let q = data_of c.args.query.now in
+    let q = c.args.query.now in
     let size : c.len-number-end.result ≡ length q.plan.definitions.items =
     c.len-number-end.ensures ∙ ap (λ plan. vec_len plan.definitions) c.plan.ensures.plan ∙ q.plan.definitions.ok.0 in
     let long : length q.plan.definitions.items ≤ c.loop-number.number = omega (arith, size, c.loop-number-test.false) in
     go v d defined long (nat_lt v c.loop-number.number) refl
   where
-    go : (v : ℕ) (d : Condition) → definition_of (data_of c.args.query.now).plan v ≡ Some d → length (data_of c.args.query.now).plan.definitions.items ≤ c.loop-number.number →
-        (b : Bool) → nat_lt v c.loop-number.number ≡ b → IsSaidOf (data_of c.args.query.now) v d c.loop-number.all
+    go : (v : ℕ) (d : Condition) → definition_of c.args.query.now.plan v ≡ Some d → length c.args.query.now.plan.definitions.items ≤ c.loop-number.number →
+        (b : Bool) → nat_lt v c.loop-number.number ≡ b → IsSaidOf c.args.query.now v d c.loop-number.all
     go v d defined long true e = c.loop-number.invariant v (grind (arith, nat_tests)) d defined
-    go v d defined long false e = absurd (let far : length (data_of c.args.query.now).plan.definitions.items ≤ v = grind (arith, nat_tests) in let near = none_past (data_of c.args.query.now).plan v d far defined in omega (arith, far, near))
+    go v d defined long false e = absurd (let far : length c.args.query.now.plan.definitions.items ≤ v = grind (arith, nat_tests) in let near = none_past c.args.query.now.plan v d far defined in omega (arith, far, near))

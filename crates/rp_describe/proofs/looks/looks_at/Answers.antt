@@ -1,7 +1,7 @@
 use Rattle.std.proofs.Common.{rules, ◌≡◌, Some, sym, ap, ◌∙◌, subst}
 use Rattle.rp_query.specs.Definitions.{definition_of}
 use Rattle.rp_query.specs.Formulas.{condition_formula}
-use Rattle.rp_query.specs.QueryView.{data_of, totals_in}
+use Rattle.rp_query.specs.QueryView.{totals_in}
 use Rattle.rp_describe.specs.Looks.{looks_of}
 use Rattle.rp_describe.specs.Said.{IsSaidOf}
 use Rattle.rp_describe.proofs.Depending.{is_said}
@@ -12,7 +12,7 @@ same_value x y e = cc
 
 pub returns-clause-said : goal.returns-clause-said
 returns-clause-said c = λ d defined.
-    let q = data_of c.args.query.now in
+    let q = c.args.query.now in
     let there : Some c.in_ok-condition.condition.now ≡ definition_of q.plan c.args.variable = search rules in
     let same = same_value c.in_ok-condition.condition.now d (there ∙ defined) in
     let looks : c.looks_of.result ≡ looks_of c.looker_of.result.leader (totals_in q) c.args.variable (condition_formula d) =

@@ -1,7 +1,6 @@
 use Rattle.std.proofs.Common.{◌≡◌, ◌∙◌, List, ◌++◌, ◌∷◌, [], sym, ap, subst, arith, append-nil}
 use Rattle.std.proofs.lemmas.Grind.{common_steps}
 use Rattle.std.specs.Vec.Iter.{into_iter_items}
-use Rattle.rp_query.specs.QueryView.{data_of}
 use Rattle.rp_input.specs.Gathering.{parts_of}
 use Rattle.rp_input.specs.Numbered.{AreOrdered, AreOrderedParts, part_packets}
 use Rattle.rp_input.specs.Partitions.{Part}
@@ -10,7 +9,7 @@ use Rattle.rp_input.proofs.number.number_rows.Goals as goal
 
 pub loop-key-preserved : goal.loop-key-preserved
 loop-key-preserved c =
-    let query = data_of c.args.query.now in
+    let query = c.args.query.now in
     let inv = c.loop-key.invariant in
     let ordered = c.order_rows.new.rows.items in
     let left = into_iter_items c.next.new.self in
@@ -24,7 +23,7 @@ loop-key-preserved c =
 
 pub returns : goal.returns
 returns c =
-    let query = data_of c.args.query.now in
+    let query = c.args.query.now in
     let inv = c.loop-key.invariant in
     let none : into_iter_items c.loop-key.key-iterator ≡ [] = grind (arith, common_steps, c.in-None.ensures.steps) in
     let all = inv.2 [] (subst (λ parts. AreOrdered query.order.items (parts_of parts) []) (sym none) tt) in

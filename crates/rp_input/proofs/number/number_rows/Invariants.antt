@@ -1,7 +1,6 @@
 use Rattle.std.proofs.Common.{◌≡◌, List, ◌++◌}
 use Rattle.std.specs.List.{flat_map}
 use Rattle.std.specs.Vec.Iter.{into_iter_items}
-use Rattle.rp_query.specs.QueryView.{data_of}
 use Rattle.rp_input.specs.Gathering.{parts_of}
 use Rattle.rp_input.specs.Numbered.{AreOrdered, AreOrderedParts, part_packets}
 use Rattle.rp_input.specs.Partitions.{Part}
@@ -11,5 +10,5 @@ use Rattle.rp_input.proofs.number.number_rows.Given as goal
 abbrev pub invariant-loop-key : goal.invariant-loop-key
 invariant-loop-key l =
     (done : List Part) × (l.packets.items ≡ flat_map part_packets done)
-    × ((later : List Part) → AreOrdered (data_of l.query).order.items (parts_of (into_iter_items l.key-iterator)) later
-    → AreOrderedParts (data_of l.fn.query).partition.items (data_of l.fn.query).order.items l.fn.rows.items (done ++ later))
+    × ((later : List Part) → AreOrdered l.query.order.items (parts_of (into_iter_items l.key-iterator)) later
+    → AreOrderedParts l.fn.query.partition.items l.fn.query.order.items l.fn.rows.items (done ++ later))

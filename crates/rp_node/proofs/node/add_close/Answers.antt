@@ -1,12 +1,11 @@
-use Rattle.rp_query.specs.QueryView.{data_of}
 use Rattle.rp_feed.specs.declared.packet.Packet.TheVariants.{Close as ClosePacket}
 use Rattle.rp_node.proofs.Nodes.{added_ok}
 use Rattle.rp_node.proofs.node.add_close.Goals as goal
 
 pub returns-in-Ok : goal.returns-in-Ok
 returns-in-Ok c = record {
-  added = added_ok (data_of c.args.query.now) (ClosePacket c.args.key.items c.args.count) c.args.partitions.now.entries c.args.key c.new-partition.result c.close.new.self c.new-partition.ensures.held
-      c.insert.new.self.entries c.in_ok-taken.taken (c.new-partition.ensures.entered (data_of c.args.query.now)) (c.new-partition.ensures.no_search (data_of c.args.query.now))
+  added = added_ok c.args.query.now (ClosePacket c.args.key.items c.args.count) c.args.partitions.now.entries c.args.key c.new-partition.result c.close.new.self c.new-partition.ensures.held
+      c.insert.new.self.entries c.in_ok-taken.taken (c.new-partition.ensures.entered c.args.query.now) (c.new-partition.ensures.no_search c.args.query.now)
       c.in_ok-taken.ensures.taken
       c.in-Ok.ensures.entries;
 }

@@ -1,7 +1,6 @@
 use Rattle.std.proofs.Common.{◌≡◌, drop}
-use Rattle.rp_query.specs.QueryView.{data_of}
 use Rattle.rp_node.specs.Resuming.{fits_all}
 use Rattle.rp_node.proofs.resume.fits_all.Given as goal
 
 abbrev pub invariant-loop-row : goal.invariant-loop-row
-invariant-loop-row l = fits_all (data_of l.query) l.kept.key l.kept.rows ≡ fits_all (data_of l.query) l.kept.key (drop l.row-index l.kept.rows)
+invariant-loop-row l = fits_all l.query l.kept.key l.kept.rows ≡ fits_all l.query l.kept.key (drop l.row-index l.kept.rows)

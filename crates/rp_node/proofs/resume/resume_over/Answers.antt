@@ -1,5 +1,4 @@
 use Rattle.std.proofs.Common.{◌≡◌, ℕ, true, sym, ◌∙◌, subst}
-use Rattle.rp_query.specs.QueryView.{data_of}
 use Rattle.rp_walker.specs.declared.record.MatcherState.{MatcherState}
 use Rattle.rp_partition.specs.Joined.{held_of}
 use Rattle.rp_node.specs.Resuming.{has_place}
@@ -8,7 +7,7 @@ use Rattle.rp_node.proofs.resume.resume_over.Goals as goal
 
 pub returns : goal.returns
 returns c =
-    let q = data_of c.args.query.now in
+    let q = c.args.query.now in
     let p = c.args.kept.now in
     resumed c.law_again.ensures.same c.law_same_rows.ensures q p c.args.feed c.resume.result c.requires
     c.as_slice-rows.ensures.ascend

@@ -1,5 +1,4 @@
 use Rattle.std.proofs.Common.{◌≡◌, ◌+◌, length, ap, ◌∙◌, arith}
-use Rattle.rp_query.specs.QueryView.{data_of}
 use Rattle.rp_query.specs.declared.query.Plan.{Plan}
 use Rattle.rp_walker.proofs.Begins.{all_ahead}
 use Rattle.rp_walker.proofs.giving.ahead_in.Goals as goal
@@ -15,5 +14,5 @@ returns-in_default c =
       low = omega (arith, next);
       ordered = omega (arith, next, end);
       high = omega (arith, end);
-      rows = all_ahead (data_of c.args.query.now) c.args.place c.args.labels.now c.rows_from-in_default.result (omega (arith, some)) (λ k. c.in_default.not-One (ap (λ (plan : Plan). plan.rows) c.plan-2.ensures.plan ∙ k)) next end;
+      rows = all_ahead c.args.query.now c.args.place c.args.labels.now c.rows_from-in_default.result (omega (arith, some)) (λ k. c.in_default.not-One (ap (λ (plan : Plan). plan.rows) c.plan-2.ensures.plan ∙ k)) next end;
     }

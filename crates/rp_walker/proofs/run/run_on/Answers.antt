@@ -9,7 +9,6 @@ use Rattle.rp_search.specs.Search.{CanRun, HasVariablesBelow, IsSearchFor, label
 use Rattle.rp_search.specs.Work.{NoneIsOpen}
 use Rattle.rp_query.specs.declared.locality.Locality.TheVariants.{Row}
 use Rattle.rp_query.specs.Locality.{ConditionsAreLocal}
-use Rattle.rp_query.specs.QueryView.{data_of}
 use Rattle.rp_eval.specs.Entered.{AreTotals}
 use Rattle.rp_query.specs.QueryView.{totals_in}
 use Rattle.rp_conditions.specs.Tested.{Tested, asked_of}
@@ -22,7 +21,7 @@ use Rattle.rp_walker.proofs.run.run_on.Goals as goal
 
 pub run-ran-requires : goal.run-ran-requires
 run-ran-requires g c =
-    let q = data_of c.args.query.now in
+    let q = c.args.query.now in
     let p = known_in g.R.Rows.known g.R.Rows.ending c.args.rows.now in
     let s = c.args.run.search.value in
     let h = c.requires.searches in
@@ -44,7 +43,7 @@ returns-clause-taken g c = c.in_ok-outcome.ensures.taken c.requires.some
 
 pub returns-clause-ran : goal.returns-clause-ran
 returns-clause-ran g c =
-    let q = data_of c.args.query.now in
+    let q = c.args.query.now in
     let p = known_in g.R.Rows.known g.R.Rows.ending c.args.rows.now in
     let s = c.run-ran.new.self in
     let is : c.deref_mut.result.now ≡ c.args.run.search.value = c.deref_mut.ensures.value in
@@ -61,7 +60,7 @@ returns-clause-ran g c =
 
 pub returns-clause-works : goal.returns-clause-works
 returns-clause-works g c = λ alone decided.
-    let q = data_of c.args.query.now in
+    let q = c.args.query.now in
     let p = known_in g.R.Rows.known g.R.Rows.ending c.args.rows.now in
     let s = c.run-ran.new.self in
     let o = c.in_ok-outcome.outcome in

@@ -1,6 +1,5 @@
 use Rattle.std.proofs.Common.{◌≡◌, [], subst}
 use Rattle.std.specs.Prelude.{is_some}
-use Rattle.rp_query.specs.QueryView.{data_of}
 use Rattle.rp_io.proofs.Cutting.{on_err_from}
 use Rattle.rp_input.specs.Gathering.{parts_of}
 use Rattle.rp_input.specs.Partitions.{partitions}
@@ -12,7 +11,7 @@ pub returns-clause-written : goal.returns-clause-written
 returns-clause-written g c =
     let limited = is_some c.args.limit in
     let form = g.G.Gathered.form in
-    let q = data_of c.args.query.now in
+    let q = c.args.query.now in
     let rows = c.args.rows.items in
     let parts = parts_of c.in_ok-parts.parts.items in
     let are : parts ≡ partitions q.partition.items rows = c.in_ok-parts.ensures in
@@ -31,7 +30,7 @@ pub returns-in_err-halted-clause-front : goal.returns-in_err-halted-clause-front
 returns-in_err-halted-clause-front g c =
     let limited = is_some c.args.limit in
     let form = g.G.Gathered.form in
-    let q = data_of c.args.query.now in
+    let q = c.args.query.now in
     let parts = parts_of c.in_ok-parts.parts.items in
     let are : parts ≡ partitions q.partition.items c.args.rows.items = c.in_ok-parts.ensures in
     let old = g.W.Outlet.contents c.args.writer.now in
@@ -44,8 +43,8 @@ returns-in_err-halted-clause-front g c =
 
 pub returns-in_err-parts-clause-front : goal.returns-in_err-parts-clause-front
 returns-in_err-parts-clause-front g c =
-    on_err_from _ (none_within c.law_orders.ensures (is_some c.args.limit) g.G.Gathered.form (data_of c.args.query.now) c.args.rows.items (g.W.Outlet.contents c.args.writer.now))
+    on_err_from _ (none_within c.law_orders.ensures (is_some c.args.limit) g.G.Gathered.form c.args.query.now c.args.rows.items (g.W.Outlet.contents c.args.writer.now))
 
 pub returns-in_err-gathered-clause-front : goal.returns-in_err-gathered-clause-front
 returns-in_err-gathered-clause-front g c =
-    on_err_from _ (none_within c.law_orders.ensures (is_some c.args.limit) g.G.Gathered.form (data_of c.args.query.now) c.args.rows.items (g.W.Outlet.contents c.args.writer.now))
+    on_err_from _ (none_within c.law_orders.ensures (is_some c.args.limit) g.G.Gathered.form c.args.query.now c.args.rows.items (g.W.Outlet.contents c.args.writer.now))

@@ -1,5 +1,4 @@
 use Rattle.std.proofs.Common.{◌++◌, subst, sym}
-use Rattle.rp_query.specs.QueryView.{data_of}
 use Rattle.rp_io.proofs.Cutting.{on_err_from}
 use Rattle.rp_io.proofs.Writes.{front_longer, front_none}
 use Rattle.rp_io.specs.Devices.{Moves}
@@ -14,7 +13,7 @@ use Rattle.rp_whole.proofs.part.write_next.Goals as goal
 
 pub returns-in_err-write_block-in-Item-clause-front : goal.returns-in_err-write_block-in-Item-clause-front
 returns-in_err-write_block-in-Item-clause-front g c =
-    let q = data_of c.args.query.now in
+    let q = c.args.query.now in
     let p = closed c.args.part.now.rows.items in
     let old = record_of c.args.walker.now in
     let new = record_of c.poll.new.self in
@@ -26,7 +25,7 @@ returns-in_err-write_block-in-Item-clause-front g c =
 
 pub returns-in_ok-write_block-in-Item-clause-written : goal.returns-in_ok-write_block-in-Item-clause-written
 returns-in_ok-write_block-in-Item-clause-written g c =
-    let q = data_of c.args.query.now in
+    let q = c.args.query.now in
     let p = closed c.args.part.now.rows.items in
     let old = record_of c.args.walker.now in
     let new = record_of c.poll.new.self in
@@ -40,13 +39,13 @@ returns-in_ok-write_block-in-Item-clause-written g c =
 
 pub returns-in_err-write_gathered-in-Paused-clause-front : goal.returns-in_err-write_gathered-in-Paused-clause-front
 returns-in_err-write_gathered-in-Paused-clause-front g c =
-    let come = bytes_to_come g.G.Gathered.form (data_of c.args.query.now) (part_of c.args.part.now) (record_of c.args.walker.now) in
+    let come = bytes_to_come g.G.Gathered.form c.args.query.now (part_of c.args.part.now) (record_of c.args.walker.now) in
     on_err_from _ (front_longer (g.W.Outlet.contents c.args.writer.now) (g.W.Outlet.contents c.write_gathered.new.writer)
     (g.G.Gathered.bytes c.args.gathered.now) come c.in_err-write_gathered-in-Paused.ensures.front)
 
 pub returns-in_ok-write_gathered-in-Paused-clause-written : goal.returns-in_ok-write_gathered-in-Paused-clause-written
 returns-in_ok-write_gathered-in-Paused-clause-written g c =
-    let q = data_of c.args.query.now in
+    let q = c.args.query.now in
     let p = closed c.args.part.now.rows.items in
     let old = record_of c.args.walker.now in
     let new = record_of c.poll.new.self in
@@ -65,9 +64,9 @@ returns-in_ok-write_gathered-in-Paused-clause-written g c =
 pub returns-in_err-place-clause-front : goal.returns-in_err-place-clause-front
 returns-in_err-place-clause-front g c =
     on_err_from _ (front_none (g.W.Outlet.contents c.args.writer.now) (g.G.Gathered.bytes c.args.gathered.now
-    ++ bytes_to_come g.G.Gathered.form (data_of c.args.query.now) (part_of c.args.part.now) (record_of c.args.walker.now)))
+    ++ bytes_to_come g.G.Gathered.form c.args.query.now (part_of c.args.part.now) (record_of c.args.walker.now)))
 
 pub returns-in_err-push-in-Item-clause-front : goal.returns-in_err-push-in-Item-clause-front
 returns-in_err-push-in-Item-clause-front g c =
     on_err_from _ (front_none (g.W.Outlet.contents c.args.writer.now) (g.G.Gathered.bytes c.args.gathered.now
-    ++ bytes_to_come g.G.Gathered.form (data_of c.args.query.now) (part_of c.args.part.now) (record_of c.args.walker.now)))
+    ++ bytes_to_come g.G.Gathered.form c.args.query.now (part_of c.args.part.now) (record_of c.args.walker.now)))

@@ -1,6 +1,5 @@
 use Rattle.std.proofs.Common.{rules, ◌≡◌, ◌∙◌, true, refl, sym, ap, subst}
 use Rattle.std.specs.Prelude.{is_some}
-use Rattle.rp_query.specs.QueryView.{data_of}
 use Rattle.rp_io.proofs.Cutting.{on_err_from}
 use Rattle.rp_walker.specs.Records.{Fits, first_state}
 use Rattle.rp_walker.specs.Walking.{record_of}
@@ -13,7 +12,7 @@ use Rattle.rp_whole.proofs.part.write_part.Goals as goal
 
 pub items-init : goal.items-init
 items-init g c =
-    let q = data_of c.args.query.now in
+    let q = c.args.query.now in
     let p = closed c.args.part.now.rows.items in
     let first : record_of c.new-walker.result ≡ first_state = c.new-walker.ensures.record in
     record {
@@ -27,7 +26,7 @@ items-init g c =
 
 pub returns-in_err-write_next-clause-front : goal.returns-in_err-write_next-clause-front
 returns-in_err-write_next-clause-front g c =
-    on_err_from _ (written_front g.G.Gathered.form (data_of c.args.query.now) (part_of c.args.part.now) first_state (record_of c.items.walker)
+    on_err_from _ (written_front g.G.Gathered.form c.args.query.now (part_of c.args.part.now) first_state (record_of c.items.walker)
     (g.W.Outlet.contents c.args.writer.now) (g.W.Outlet.contents c.items.writer) (g.W.Outlet.contents c.write_next.new.writer)
     (g.G.Gathered.bytes c.args.gathered.now) (g.G.Gathered.bytes c.items.gathered) (g.G.Gathered.stopped c.args.gathered.now) (g.G.Gathered.stopped c.items.gathered)
     c.items.invariant.writes c.in_err-write_next.ensures.front)
@@ -36,7 +35,7 @@ pub items-preserved : goal.items-preserved
 items-preserved g c = record {
   stands = c.in_ok-write_next.ensures.stands;
   fits = c.in_ok-write_next.ensures.fits;
-  writes = written_more g.G.Gathered.form (data_of c.args.query.now) (part_of c.args.part.now) first_state (record_of c.items.walker) (record_of c.write_next.new.walker)
+  writes = written_more g.G.Gathered.form c.args.query.now (part_of c.args.part.now) first_state (record_of c.items.walker) (record_of c.write_next.new.walker)
       (g.W.Outlet.contents c.args.writer.now) (g.W.Outlet.contents c.items.writer) (g.W.Outlet.contents c.write_next.new.writer)
       (g.G.Gathered.bytes c.args.gathered.now) (g.G.Gathered.bytes c.items.gathered) (g.G.Gathered.bytes c.write_next.new.gathered)
       (g.G.Gathered.stopped c.args.gathered.now) (g.G.Gathered.stopped c.items.gathered) (g.G.Gathered.stopped c.write_next.new.gathered)
@@ -47,7 +46,7 @@ items-preserved g c = record {
 
 pub returns-in-All-clause-written : goal.returns-in-All-clause-written
 returns-in-All-clause-written g c =
-    let q = data_of c.args.query.now in
+    let q = c.args.query.now in
     let last = record_of c.write_next.new.walker in
     let all = written_more g.G.Gathered.form q (part_of c.args.part.now) first_state (record_of c.items.walker) last
     (g.W.Outlet.contents c.args.writer.now) (g.W.Outlet.contents c.items.writer) (g.W.Outlet.contents c.write_next.new.writer)
@@ -61,7 +60,7 @@ returns-in-All-clause-written g c =
 
 pub returns-in-GivenUp-clause-written : goal.returns-in-GivenUp-clause-written
 returns-in-GivenUp-clause-written g c =
-    let q = data_of c.args.query.now in
+    let q = c.args.query.now in
     let last = record_of c.write_next.new.walker in
     let all = written_more g.G.Gathered.form q (part_of c.args.part.now) first_state (record_of c.items.walker) last
     (g.W.Outlet.contents c.args.writer.now) (g.W.Outlet.contents c.items.writer) (g.W.Outlet.contents c.write_next.new.writer)

@@ -1,5 +1,4 @@
 use Rattle.std.proofs.Common.{◌≡◌}
-use Rattle.rp_query.specs.QueryView.{data_of}
 use Rattle.rp_walker.specs.Polls.{left_in}
 use Rattle.rp_walker.specs.Records.{Fits, first_state}
 use Rattle.rp_walker.specs.Walking.{Stands, record_of}
@@ -9,9 +8,9 @@ use Rattle.rp_whole.proofs.part.write_part.Given as goal
 
 abbrev pub invariant-items : goal.invariant-items
 invariant-items g l = record {
-  stands : Stands (data_of l.query) (closed l.part.rows.items) l.walker;
-  fits : Fits (data_of l.query) (record_of l.walker) (closed l.part.rows.items);
-  writes : WritesOn g.G.Gathered.form (data_of l.query) (part_of l.part) first_state (record_of l.walker)
+  stands : Stands l.query (closed l.part.rows.items) l.walker;
+  fits : Fits l.query (record_of l.walker) (closed l.part.rows.items);
+  writes : WritesOn g.G.Gathered.form l.query (part_of l.part) first_state (record_of l.walker)
       (g.W.Outlet.contents l.fn.writer) (g.G.Gathered.bytes l.fn.gathered) (g.W.Outlet.contents l.writer) (g.G.Gathered.bytes l.gathered)
       (g.G.Gathered.stopped l.fn.gathered) (g.G.Gathered.stopped l.gathered);
   limit : l.turns.limit ≡ l.fn.turns.limit;
@@ -19,4 +18,4 @@ invariant-items g l = record {
 }
 
 abbrev pub decreases-items : goal.decreases-items
-decreases-items g l = left_in (data_of l.query) (closed l.part.rows.items) l.walker
+decreases-items g l = left_in l.query (closed l.part.rows.items) l.walker

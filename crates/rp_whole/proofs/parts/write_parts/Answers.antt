@@ -2,7 +2,6 @@ use Rattle.std.proofs.Common.{◌≡◌, ◌∙◌, [], ◌∷◌, ◌++◌, ref
 use Rattle.std.proofs.lemmas.Grind.{common_steps}
 use Rattle.std.specs.Prelude.{is_some}
 use Rattle.std.specs.Vec.Iter.{into_iter_items}
-use Rattle.rp_query.specs.QueryView.{data_of}
 use Rattle.rp_io.proofs.Cutting.{on_err_from}
 use Rattle.rp_input.specs.Gathering.{parts_of}
 use Rattle.rp_input.specs.declared.partition.Part.{Part as Kept}
@@ -15,7 +14,7 @@ pub loop-key-init : goal.loop-key-init
 loop-key-init g c =
     let limited = is_some c.args.counting.limit in
     let form = g.G.Gathered.form in
-    let q = data_of c.args.query.now in
+    let q = c.args.query.now in
     let a = g.W.Outlet.contents c.args.writer.now in
     let all = parts_of c.args.parts.items in
     let start = g.G.Gathered.bytes c.args.gathered.now in
@@ -31,7 +30,7 @@ loop-key-init g c =
 
 pub returns-in_err-order_rows-clause-front : goal.returns-in_err-order_rows-clause-front
 returns-in_err-order_rows-clause-front g c =
-    on_err_from _ (stopped_front (is_some c.args.counting.limit) g.G.Gathered.form (data_of c.args.query.now) (parts_of c.args.parts.items) (g.W.Outlet.contents c.args.writer.now) (g.G.Gathered.bytes c.args.gathered.now)
+    on_err_from _ (stopped_front (is_some c.args.counting.limit) g.G.Gathered.form c.args.query.now (parts_of c.args.parts.items) (g.W.Outlet.contents c.args.writer.now) (g.G.Gathered.bytes c.args.gathered.now)
     (parts_of (into_iter_items c.loop-key.key-iterator)) (g.G.Gathered.stopped c.args.gathered.now)
     (g.W.Outlet.contents c.loop-key.writer) (g.G.Gathered.bytes c.loop-key.gathered) (g.G.Gathered.stopped c.loop-key.gathered) c.loop-key.halted.items c.loop-key.invariant.written c.law_orders.ensures)
 
@@ -39,7 +38,7 @@ pub returns-in_err-given_up-clause-front : goal.returns-in_err-given_up-clause-f
 returns-in_err-given_up-clause-front g c =
     let limited = is_some c.args.counting.limit in
     let form = g.G.Gathered.form in
-    let q = data_of c.args.query.now in
+    let q = c.args.query.now in
     let all = parts_of c.args.parts.items in
     let a = g.W.Outlet.contents c.args.writer.now in
     let b = g.W.Outlet.contents c.loop-key.writer in
@@ -60,7 +59,7 @@ pub returns-in_err-push_halted-clause-front : goal.returns-in_err-push_halted-cl
 returns-in_err-push_halted-clause-front g c =
     let limited = is_some c.args.counting.limit in
     let form = g.G.Gathered.form in
-    let q = data_of c.args.query.now in
+    let q = c.args.query.now in
     let all = parts_of c.args.parts.items in
     let a = g.W.Outlet.contents c.args.writer.now in
     let b = g.W.Outlet.contents c.loop-key.writer in
@@ -88,7 +87,7 @@ pub loop-key-preserved : goal.loop-key-preserved
 loop-key-preserved g c =
     let limited = is_some c.args.counting.limit in
     let form = g.G.Gathered.form in
-    let q = data_of c.args.query.now in
+    let q = c.args.query.now in
     let all = parts_of c.args.parts.items in
     let a = g.W.Outlet.contents c.args.writer.now in
     let b = g.W.Outlet.contents c.loop-key.writer in
@@ -118,7 +117,7 @@ pub returns-in_err-write_gathered-clause-front : goal.returns-in_err-write_gathe
 returns-in_err-write_gathered-clause-front g c =
     let limited = is_some c.args.counting.limit in
     let form = g.G.Gathered.form in
-    let q = data_of c.args.query.now in
+    let q = c.args.query.now in
     let all = parts_of c.args.parts.items in
     let a = g.W.Outlet.contents c.args.writer.now in
     let b = g.W.Outlet.contents c.loop-key.writer in
@@ -135,7 +134,7 @@ pub returns-clause-written : goal.returns-clause-written
 returns-clause-written g c =
     let limited = is_some c.args.counting.limit in
     let form = g.G.Gathered.form in
-    let q = data_of c.args.query.now in
+    let q = c.args.query.now in
     let all = parts_of c.args.parts.items in
     let a = g.W.Outlet.contents c.args.writer.now in
     let b = g.W.Outlet.contents c.loop-key.writer in

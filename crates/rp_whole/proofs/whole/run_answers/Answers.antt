@@ -1,5 +1,4 @@
 use Rattle.std.proofs.Common.{◌≡◌, Err, IfSome, rules, subst}
-use Rattle.rp_query.specs.QueryView.{data_of}
 use Rattle.rp_input.specs.CsvRows.{AreRowsOf}
 use Rattle.rp_whole.specs.Answers.{WritesFrontOf}
 use Rattle.rp_whole.specs.Faults.{told_csv}
@@ -10,7 +9,7 @@ use Rattle.rp_whole.proofs.whole.run_answers.Goals as goal
 pub returns-clause-written : goal.returns-clause-written
 returns-clause-written g c =
     let form = g.G.Gathered.form in
-    let q = data_of c.args.query in
+    let q = c.args.query in
     let input = (g.R.Intake.seen c.args.reader.now).remaining in
     let old = g.W.Outlet.contents c.args.writer.now in
     let new = g.W.Outlet.contents c.write_answers.new.writer in
@@ -22,7 +21,7 @@ returns-clause-written g c =
 pub returns-in_err-ended-clause-front : goal.returns-in_err-ended-clause-front
 returns-in_err-ended-clause-front g c =
     let form = g.G.Gathered.form in
-    let q = data_of c.args.query in
+    let q = c.args.query in
     let input = (g.R.Intake.seen c.args.reader.now).remaining in
     let old = g.W.Outlet.contents c.args.writer.now in
     let new = g.W.Outlet.contents c.write_answers.new.writer in

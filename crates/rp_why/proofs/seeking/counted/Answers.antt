@@ -1,5 +1,4 @@
 use Rattle.std.proofs.Common.{◌≡◌, ◌+◌, ◌≤◌, false, IfOk, subst, arith}
-use Rattle.rp_query.specs.QueryView.{data_of}
 use Rattle.rp_known.specs.Walk.{found_at}
 use Rattle.rp_search.specs.Search.{labels_of_search}
 use Rattle.rp_why.specs.Seeking.{IsFoundAt, LooksAt, closed_by}
@@ -15,12 +14,12 @@ rows-init g c =
       begun = omega arith;
       within = within;
       searches = c.in_ok-run.ensures p (omega (arith, within, c.requires.known));
-      none = none_yet (data_of c.args.query.now) p c.args.wanted.with_rows c.args.wanted.first;
+      none = none_yet c.args.query.now p c.args.wanted.with_rows c.args.wanted.first;
     }
 
 pub returns-in-Wanted : goal.returns-in-Wanted
 returns-in-Wanted g c =
-    let q = data_of c.args.query.now in
+    let q = c.args.query.now in
     let p = closed_by c.args.rows.now.rows.items in
     let looked = subst (λ look. LooksAt q p c.rows.start c.args.wanted.with_rows c.in_ok-look.ran look) c.in-Wanted.is c.in_ok-look.ensures.looked in
     sought_of q p c.args.wanted c.rows.start (labels_of_search c.in_ok-look.ran.search) c.found.result looked.0 looked.1
@@ -29,7 +28,7 @@ returns-in-Wanted g c =
 
 pub returns-then-start-wanted : goal.returns-then-start-wanted
 returns-then-start-wanted g c =
-    let q = data_of c.args.query.now in
+    let q = c.args.query.now in
     let p = closed_by c.args.rows.now.rows.items in
     let w = c.args.wanted in
     let here : is_wanted w.with_rows (found_at q p c.rows.start) ≡ false =
@@ -39,7 +38,7 @@ returns-then-start-wanted g c =
 
 pub rows-preserved : goal.rows-preserved
 rows-preserved g c =
-    let q = data_of c.args.query.now in
+    let q = c.args.query.now in
     let p = closed_by c.args.rows.now.rows.items in
     let w = c.args.wanted in
     let here : is_wanted w.with_rows (found_at q p c.rows.start) ≡ false =

@@ -2,7 +2,6 @@ use Rattle.std.proofs.Common.{◌≡◌, ◌≤◌, sym, subst, ap, ◌∙◌, a
 use Rattle.rp_words.specs.PatternForm.{form_of}
 use Rattle.rp_search.specs.Fits.{SearchFits}
 use Rattle.rp_search.specs.Search.{HasVariablesBelow, IsSearchFor, RunAnswers, labels_of_search, start_of_search}
-use Rattle.rp_query.specs.QueryView.{data_of}
 use Rattle.rp_eval.specs.Entered.{AreTotals}
 use Rattle.rp_conditions.specs.Tested.{Tested, asked_of}
 use Rattle.rp_conditions.specs.Entered.{tested_by as tester_of}
@@ -13,7 +12,7 @@ use Rattle.rp_why.proofs.seeking.run_on.Goals as goal
 
 pub run-ran-requires : goal.run-ran-requires
 run-ran-requires g c =
-    let q = data_of c.args.query.now in
+    let q = c.args.query.now in
     let p = closed_by c.args.rows.now.rows.items in
     let s = c.args.run.search in
     let h = c.requires.searches in
@@ -31,7 +30,7 @@ run-ran-requires g c =
 
 pub returns-clause-came : goal.returns-clause-came
 returns-clause-came g c =
-    let q = data_of c.args.query.now in
+    let q = c.args.query.now in
     let p = closed_by c.args.rows.now.rows.items in
     let s = c.args.run.search in
     let h = c.requires.searches.serves in

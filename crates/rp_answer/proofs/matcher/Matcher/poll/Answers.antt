@@ -1,5 +1,4 @@
 use Rattle.std.proofs.Common.{sym, subst}
-use Rattle.rp_query.specs.QueryView.{data_of}
 use Rattle.rp_walker.specs.FitLaws.{AgreesFrom}
 use Rattle.rp_walker.specs.Polls.{left_in, PollLowers}
 use Rattle.rp_walker.specs.Walking.{record_of}
@@ -14,7 +13,7 @@ returns-then-budget-eq0-clause-moves g c = let m = c.args.self.now in stays_alon
 pub invariant_of-self : goal.invariant_of-self
 invariant_of-self g c =
     let m = c.self.inside in
-    ready_still c.law_walkers.ensures.can (data_of m.query) m.rows m.walker c.poll.new.self c.poll.ensures.stands c.poll.ensures.stays.first c.self.invariant
+    ready_still c.law_walkers.ensures.can m.query m.rows m.walker c.poll.new.self c.poll.ensures.stands c.poll.ensures.stays.first c.self.invariant
 
 pub returns-in_err-answer-clause-rows : goal.returns-in_err-answer-clause-rows
 returns-in_err-answer-clause-rows g c =
@@ -27,12 +26,12 @@ returns-in_err-answer-clause-out_of_memory g c =
 pub drop_rows-requires : goal.drop_rows-requires
 drop_rows-requires g c =
     let m = c.self.inside in
-    ready_still c.law_walkers.ensures.can (data_of m.query) m.rows m.walker c.poll.new.self c.poll.ensures.stands c.poll.ensures.stays.first c.self.invariant
+    ready_still c.law_walkers.ensures.can m.query m.rows m.walker c.poll.new.self c.poll.ensures.stands c.poll.ensures.stays.first c.self.invariant
 
 pub returns-clause-answers : goal.returns-clause-answers
 returns-clause-answers g c =
     let m = c.self.inside in
-    let q = data_of m.query in
+    let q = m.query in
     let n = c.drop_rows.new.rows in
     let w = c.drop_rows.new.walker in
     let e = c.drop_rows.ensures in
@@ -43,7 +42,7 @@ returns-clause-answers g c =
 pub returns-clause-moves : goal.returns-clause-moves
 returns-clause-moves g c =
     let m = c.self.inside in
-    let q = data_of m.query in
+    let q = m.query in
     let n = c.drop_rows.new.rows in
     let w = c.drop_rows.new.walker in
     let e = c.drop_rows.ensures in
@@ -58,4 +57,4 @@ returns-clause-rows g c =
 pub returns-clause-lowers : goal.returns-clause-lowers
 returns-clause-lowers g c =
     let m = c.self.inside in
-    rw (← c.self.view_is) (subst (λ i. PollLowers c.args.budget (left_in (data_of m.query) (known_by m.rows) m.walker) i c.in_ok-answer.answer) (sym c.drop_rows.ensures.left) c.in_ok-answer.ensures.lowers)
+    rw (← c.self.view_is) (subst (λ i. PollLowers c.args.budget (left_in m.query (known_by m.rows) m.walker) i c.in_ok-answer.answer) (sym c.drop_rows.ensures.left) c.in_ok-answer.ensures.lowers)

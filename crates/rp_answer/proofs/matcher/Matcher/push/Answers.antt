@@ -1,6 +1,5 @@
 use Rattle.std.proofs.Common.{◌≡◌, ◌-◌, ◌^◌, ◌<◌, length, ap, ◌∙◌, subst, sym, arith}
 use Rattle.rp_words.specs.declared.word.End.TheVariants.{Open}
-use Rattle.rp_query.specs.QueryView.{data_of}
 use Rattle.rp_answer.specs.MatcherData.{MatcherData}
 use Rattle.rp_answer.specs.Kept.{kept_rows, kept_count}
 use Rattle.rp_answer.proofs.Keeping.{pushed_on, pushed_rows, refused_matcher}
@@ -17,7 +16,7 @@ pub invariant_of-self : goal.invariant_of-self
 invariant_of-self c =
     let m = c.self.inside in
     let is_open : m.rows.end ≡ Open = ap (λ (d : MatcherData). d.known.end) c.self.view_is ∙ c.requires.open in
-    ready_on c.law_walkers.ensures.stay c.law_legs.ensures.continuing (data_of m.query) m.rows c.push.new.self m.walker c.plan-plan.ensures.sound c.push.ensures.first
+    ready_on c.law_walkers.ensures.stay c.law_legs.ensures.continuing m.query m.rows c.push.new.self m.walker c.plan-plan.ensures.sound c.push.ensures.first
     (pushed_on m.rows c.push.new.self c.args.row c.push.result is_open c.push.ensures.first c.push.ensures.pushed c.push.ensures.out_of_memory) c.self.invariant
 
 pub returns-clause-pushed : goal.returns-clause-pushed
@@ -28,4 +27,4 @@ pub returns-clause-out_of_memory : goal.returns-clause-out_of_memory
 returns-clause-out_of_memory c =
     let m = c.self.inside in
     let e = c.push.ensures in
-    rw (← c.self.view_is) (refused_matcher (data_of m.query) m.rows c.push.new.self m.walker c.push.result e.first e.end e.out_of_memory)
+    rw (← c.self.view_is) (refused_matcher m.query m.rows c.push.new.self m.walker c.push.result e.first e.end e.out_of_memory)

@@ -1,5 +1,4 @@
 use Rattle.std.proofs.Common.{sym, ap, ◌∙◌, subst, arith}
-use Rattle.rp_query.specs.QueryView.{data_of}
 use Rattle.rp_walker.specs.Walking.{CanGoOn}
 use Rattle.rp_walker.specs.declared.record.MatcherState.{MatcherState}
 use Rattle.rp_answer.specs.Matching.{known_by}
@@ -14,9 +13,9 @@ returns-clause-one c =
 pub returns-clause-can : goal.returns-clause-can
 returns-clause-can c =
     let m = c.self.inside in
-    rw (← c.self.view_is) (subst (λ r. CanGoOn (data_of m.query) r) (sym c.state.ensures) (c.law_walkers.ensures.can (data_of m.query) (known_by m.rows) m.walker c.self.invariant.stands))
+    rw (← c.self.view_is) (subst (λ r. CanGoOn m.query r) (sym c.state.ensures) (c.law_walkers.ensures.can m.query (known_by m.rows) m.walker c.self.invariant.stands))
 
 pub returns-clause-bounded : goal.returns-clause-bounded
 returns-clause-bounded c =
     let m = c.self.inside in
-    rw (← c.self.view_is) (c.law_left.ensures.bounded (data_of m.query) (known_by m.rows) m.walker c.self.invariant.stands)
+    rw (← c.self.view_is) (c.law_left.ensures.bounded m.query (known_by m.rows) m.walker c.self.invariant.stands)

@@ -1,6 +1,5 @@
 use Rattle.std.proofs.Common.{rules, ◌≡◌, ◌∙◌, ◌∷◌, [], Result, ap, sym, subst, refl, List, ℕ, ◌+◌, suc, drop, length, false, None, Ok, Err, arith, add-one, drop-cons}
 use Rattle.std.proofs.lemmas.List.{drop_all}
-use Rattle.rp_query.specs.QueryView.{data_of}
 use Rattle.rp_feed.specs.declared.packet.Packet.{Packet}
 use Rattle.rp_io.proofs.Cutting.{on_err_from}
 use Rattle.rp_io.specs.Pending.{pending_of}
@@ -31,7 +30,7 @@ pub loop-packet-init : goal.loop-packet-init
 loop-packet-init g c =
     let input = (g.R.Intake.seen c.args.reader.now).remaining in
     record {
-      goes = goes_none (data_of c.args.self.now.query.now) c.args.self.now.budget c.args.self.now.node_number (Packets c.args.self.now.packets.now) (replies_within c.args.limit input) (replies_left c.new-replies.result (g.R.Intake.seen c.args.reader.now))
+      goes = goes_none c.args.self.now.query.now c.args.self.now.budget c.args.self.now.node_number (Packets c.args.self.now.packets.now) (replies_within c.args.limit input) (replies_left c.new-replies.result (g.R.Intake.seen c.args.reader.now))
           (g.W.Outlet.contents c.args.writer.now) (g.O.Outlet.contents c.args.out.now)
           (left_start c.args.limit c.new-replies.result.limit c.new-replies.result.over (pending_of c.new-replies.result.lines) input c.new-replies.ensures.limit c.new-replies.ensures.over c.new-replies.ensures.pending);
       at = c.requires.place;
@@ -42,7 +41,7 @@ loop-packet-init g c =
 
 pub returns-in_err-hand_over-clause-stops : goal.returns-in_err-hand_over-clause-stops
 returns-in_err-hand_over-clause-stops g c =
-    let q = data_of c.args.self.now.query.now in
+    let q = c.args.self.now.query.now in
     let packets = c.args.self.now.packets.now in
     let i = c.loop-packet.packet-index in
     let input = (g.R.Intake.seen c.args.reader.now).remaining in
@@ -65,7 +64,7 @@ returns-in_err-hand_over-clause-stops g c =
 
 pub returns-in_err-hand_over-clause-front : goal.returns-in_err-hand_over-clause-front
 returns-in_err-hand_over-clause-front g c =
-    let q = data_of c.args.self.now.query.now in
+    let q = c.args.self.now.query.now in
     let packets = c.args.self.now.packets.now in
     let i = c.loop-packet.packet-index in
     let input = (g.R.Intake.seen c.args.reader.now).remaining in
@@ -87,7 +86,7 @@ returns-in_err-hand_over-clause-front g c =
 
 pub returns-in_err-hand_over-clause-at : goal.returns-in_err-hand_over-clause-at
 returns-in_err-hand_over-clause-at g c =
-    let q = data_of c.args.self.now.query.now in
+    let q = c.args.self.now.query.now in
     let packets = c.args.self.now.packets.now in
     let i = c.loop-packet.packet-index in
     let input = (g.R.Intake.seen c.args.reader.now).remaining in
@@ -118,7 +117,7 @@ returns-in_err-hand_over-clause-at g c =
 
 pub loop-packet-preserved : goal.loop-packet-preserved
 loop-packet-preserved g c =
-    let q = data_of c.args.self.now.query.now in
+    let q = c.args.self.now.query.now in
     let packets = c.args.self.now.packets.now in
     let i = c.loop-packet.packet-index in
     let input = (g.R.Intake.seen c.args.reader.now).remaining in
@@ -144,7 +143,7 @@ loop-packet-preserved g c =
 
 pub returns-clause-done : goal.returns-clause-done
 returns-clause-done g c =
-    let q = data_of c.args.self.now.query.now in
+    let q = c.args.self.now.query.now in
     let packets = c.args.self.now.packets.now in
     let input = (g.R.Intake.seen c.args.reader.now).remaining in
     let mid = replies_left c.loop-packet.replies (g.R.Intake.seen c.loop-packet.reader) in

@@ -1,5 +1,4 @@
 use Rattle.std.proofs.Common.{◌≡◌, drop, false, None}
-use Rattle.rp_query.specs.QueryView.{data_of}
 use Rattle.rp_drive.specs.Exchanged.{GoesOn}
 use Rattle.rp_drive.specs.Lines.{replies_within}
 use Rattle.rp_drive.specs.Listening.{HearsBy, replies_left}
@@ -8,7 +7,7 @@ use Rattle.rp_drive.proofs.conversation.Conversation.hand_all.Given as goal
 
 abbrev pub invariant-loop-packet : goal.invariant-loop-packet
 invariant-loop-packet g l = record {
-  goes : GoesOn (data_of l.self.query.now) l.self.budget l.self.node_number (Packets l.self.packets.now) (Packets (drop l.packet-index l.self.packets.now))
+  goes : GoesOn l.self.query.now l.self.budget l.self.node_number (Packets l.self.packets.now) (Packets (drop l.packet-index l.self.packets.now))
       (replies_within l.limit (g.R.Intake.seen l.fn.reader).remaining) (replies_left l.replies (g.R.Intake.seen l.reader))
       (g.W.Outlet.contents l.fn.writer) (g.W.Outlet.contents l.writer) (g.O.Outlet.contents l.fn.out) (g.O.Outlet.contents l.out);
   at : l.place ≡ l.packet-index;

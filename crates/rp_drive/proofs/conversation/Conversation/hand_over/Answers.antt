@@ -1,6 +1,5 @@
 use Rattle.std.proofs.Common.{rules, ◌≡◌, ◌∙◌, ◌∷◌, subst, refl, Err, None}
 use Rattle.std.specs.Io.KnownBytes.{Appends}
-use Rattle.rp_query.specs.QueryView.{data_of}
 use Rattle.rp_protocol.specs.declared.request.Request.TheVariants as request
 use Rattle.rp_drive.specs.Exchange.{Packets, Poll}
 use Rattle.rp_drive.specs.Exchanged.{GoesOn, SendsLine, StopsBy}
@@ -16,7 +15,7 @@ use Rattle.rp_drive.proofs.conversation.Conversation.hand_over.Goals as goal
 
 pub returns-in_err-key-clause-stops : goal.returns-in_err-key-clause-stops
 returns-in_err-key-clause-stops g c =
-    let q = data_of c.args.self.now.query.now in
+    let q = c.args.self.now.query.now in
     let all = replies_left c.args.replies.now (g.R.Intake.seen c.args.reader.now) in
     let is : c.from_residual.result ≡ Err OutOfMemory = search rules in
     if_err_is c.from_residual.result OutOfMemory _ is
@@ -24,7 +23,7 @@ returns-in_err-key-clause-stops g c =
 
 pub returns-in_err-line-clause-stops : goal.returns-in_err-line-clause-stops
 returns-in_err-line-clause-stops g c =
-    let q = data_of c.args.self.now.query.now in
+    let q = c.args.self.now.query.now in
     let all = replies_left c.args.replies.now (g.R.Intake.seen c.args.reader.now) in
     let is : c.from_residual-in_err-line.result ≡ Err OutOfMemory = search rules in
     if_err_is c.from_residual-in_err-line.result OutOfMemory _ is
@@ -32,7 +31,7 @@ returns-in_err-line-clause-stops g c =
 
 pub returns-in_err-sent-clause-stops : goal.returns-in_err-sent-clause-stops
 returns-in_err-sent-clause-stops g c =
-    let q = data_of c.args.self.now.query.now in
+    let q = c.args.self.now.query.now in
     let all = replies_left c.args.replies.now (g.R.Intake.seen c.args.reader.now) in
     let is : c.from_residual-in_err-sent.result ≡ Err OutOfMemory = search rules in
     if_err_is c.from_residual-in_err-sent.result OutOfMemory _ is
@@ -40,7 +39,7 @@ returns-in_err-sent-clause-stops g c =
 
 pub returns-in_err-reply-clause-stops : goal.returns-in_err-reply-clause-stops
 returns-in_err-reply-clause-stops g c =
-    let q = data_of c.args.self.now.query.now in
+    let q = c.args.self.now.query.now in
     let all = replies_left c.args.replies.now (g.R.Intake.seen c.args.reader.now) in
     let left = replies_left c.ask.new.replies (g.R.Intake.seen c.ask.new.reader) in
     let w = g.W.Outlet.contents c.args.writer.now in
@@ -55,7 +54,7 @@ returns-in_err-reply-clause-stops g c =
 
 pub returns-in_err-must_be_taken-clause-stops : goal.returns-in_err-must_be_taken-clause-stops
 returns-in_err-must_be_taken-clause-stops g c =
-    let q = data_of c.args.self.now.query.now in
+    let q = c.args.self.now.query.now in
     let all = replies_left c.args.replies.now (g.R.Intake.seen c.args.reader.now) in
     let left = replies_left c.ask.new.replies (g.R.Intake.seen c.ask.new.reader) in
     let w = g.W.Outlet.contents c.args.writer.now in
@@ -77,7 +76,7 @@ polls-init g c =
     let line : c.as_slice.result.now ≡ line_of (request.Packet c.args.packet.now) = c.as_slice.ensures.value ∙ c.in_ok-sent.ensures in
     let sent = subst (Appends w w') line c.in_ok-reply.ensures.asked in
     record {
-      goes = λ rest. send_goes (data_of c.args.self.now.query.now) c.args.self.now.budget c.args.self.now.node_number all left w w' c.args.packet.now rest (g.O.Outlet.contents c.args.out.now) c.in_ok-reply.reply
+      goes = λ rest. send_goes c.args.self.now.query.now c.args.self.now.budget c.args.self.now.node_number all left w w' c.args.packet.now rest (g.O.Outlet.contents c.args.out.now) c.in_ok-reply.reply
           c.in_ok-must_be_taken.ensures.taken c.in_ok-reply.ensures.came sent;
       write = c.in_ok-reply.ensures.write;
       told = refl;
@@ -86,7 +85,7 @@ polls-init g c =
 
 pub returns-in_err-poll-clause-stops : goal.returns-in_err-poll-clause-stops
 returns-in_err-poll-clause-stops g c =
-    let q = data_of c.args.self.now.query.now in
+    let q = c.args.self.now.query.now in
     let all = replies_left c.args.replies.now (g.R.Intake.seen c.args.reader.now) in
     let mid = replies_left c.polls.replies (g.R.Intake.seen c.polls.reader) in
     let w = g.W.Outlet.contents c.args.writer.now in
@@ -105,7 +104,7 @@ returns-in_err-poll-clause-stops g c =
 
 pub polls-preserved : goal.polls-preserved
 polls-preserved g c =
-    let q = data_of c.args.self.now.query.now in
+    let q = c.args.self.now.query.now in
     let all = replies_left c.args.replies.now (g.R.Intake.seen c.args.reader.now) in
     let mid = replies_left c.polls.replies (g.R.Intake.seen c.polls.reader) in
     let left = replies_left c.poll.new.replies (g.R.Intake.seen c.poll.new.reader) in
@@ -127,7 +126,7 @@ polls-preserved g c =
 
 pub returns-clause-goes : goal.returns-clause-goes
 returns-clause-goes g c = λ rest.
-    let q = data_of c.args.self.now.query.now in
+    let q = c.args.self.now.query.now in
     let all = replies_left c.args.replies.now (g.R.Intake.seen c.args.reader.now) in
     let mid = replies_left c.polls.replies (g.R.Intake.seen c.polls.reader) in
     let left = replies_left c.poll.new.replies (g.R.Intake.seen c.poll.new.reader) in

@@ -1,7 +1,6 @@
 use Rattle.std.proofs.Common.{rules, ◌≡◌, subst, refl, Some, None, IfErr, Err}
 use Rattle.std.proofs.lemmas.Result.{IfErr-weaker}
 use Rattle.std.specs.Io.KnownBytes.{Appends}
-use Rattle.rp_query.specs.QueryView.{data_of}
 use Rattle.rp_protocol.specs.declared.reply.Reply.TheVariants as reply
 use Rattle.rp_drive.specs.Faults.{IsOfWriting}
 use Rattle.rp_drive.specs.Exchanged.{SendsLine}
@@ -13,7 +12,7 @@ use Rattle.rp_drive.proofs.conversation.Conversation.poll.Goals as goal
 
 pub returns-in_err-key-clause-stops : goal.returns-in_err-key-clause-stops
 returns-in_err-key-clause-stops g c =
-    let q = data_of c.args.self.now.query.now in
+    let q = c.args.self.now.query.now in
     let all = replies_left c.args.replies.now (g.R.Intake.seen c.args.reader.now) in
     let left = replies_left c.ask.new.replies (g.R.Intake.seen c.ask.new.reader) in
     let w = g.W.Outlet.contents c.args.writer.now in
@@ -27,7 +26,7 @@ returns-in_err-key-clause-stops g c =
 
 pub returns-in_err-write_item-in-Some-Item-clause-stops : goal.returns-in_err-write_item-in-Some-Item-clause-stops
 returns-in_err-write_item-in-Some-Item-clause-stops g c =
-    let q = data_of c.args.self.now.query.now in
+    let q = c.args.self.now.query.now in
     let all = replies_left c.args.replies.now (g.R.Intake.seen c.args.reader.now) in
     let left = replies_left c.ask.new.replies (g.R.Intake.seen c.ask.new.reader) in
     let w = g.W.Outlet.contents c.args.writer.now in
@@ -44,7 +43,7 @@ returns-in_err-write_item-in-Some-Item-clause-stops g c =
 
 pub returns-in-Some-Item-clause-again : goal.returns-in-Some-Item-clause-again
 returns-in-Some-Item-clause-again g c = λ ok rest.
-    let q = data_of c.args.self.now.query.now in
+    let q = c.args.self.now.query.now in
     let all = replies_left c.args.replies.now (g.R.Intake.seen c.args.reader.now) in
     let left = replies_left c.ask.new.replies (g.R.Intake.seen c.ask.new.reader) in
     let w = g.W.Outlet.contents c.args.writer.now in
@@ -65,7 +64,7 @@ returns-in-Some-Paused-clause-again g c = λ ok rest.
     let sent = subst (Appends w w') c.requires c.in_ok-key.ensures.asked in
     let is : c.in_ok-key.field-0 ≡ Some (reply.Paused c.in-Some-Paused.field-0-0) = search rules in
     let comes = subst (Comes all left) is c.in_ok-key.ensures.came in
-    poll_paused (data_of c.args.self.now.query.now) c.args.self.now.budget c.args.self.now.node_number all left w w' c.args.key.now rest (g.O.Outlet.contents c.args.out.now) c.in-Some-Paused.field-0-0 comes sent
+    poll_paused c.args.self.now.query.now c.args.self.now.budget c.args.self.now.node_number all left w w' c.args.key.now rest (g.O.Outlet.contents c.args.out.now) c.in-Some-Paused.field-0-0 comes sent
 
 pub returns-in-Some-Idle-clause-idle : goal.returns-in-Some-Idle-clause-idle
 returns-in-Some-Idle-clause-idle g c = λ ok rest.
@@ -76,7 +75,7 @@ returns-in-Some-Idle-clause-idle g c = λ ok rest.
     let sent = subst (Appends w w') c.requires c.in_ok-key.ensures.asked in
     let is : c.in_ok-key.field-0 ≡ Some (reply.Idle c.in-Some-Idle.field-0-0) = search rules in
     let comes = subst (Comes all left) is c.in_ok-key.ensures.came in
-    poll_idle (data_of c.args.self.now.query.now) c.args.self.now.budget c.args.self.now.node_number all left w w' c.args.key.now rest (g.O.Outlet.contents c.args.out.now) c.in-Some-Idle.field-0-0 comes sent
+    poll_idle c.args.self.now.query.now c.args.self.now.budget c.args.self.now.node_number all left w w' c.args.key.now rest (g.O.Outlet.contents c.args.out.now) c.in-Some-Idle.field-0-0 comes sent
 
 pub returns-in-Some-Refused-clause-stops : goal.returns-in-Some-Refused-clause-stops
 returns-in-Some-Refused-clause-stops g c = λ rest.
@@ -87,7 +86,7 @@ returns-in-Some-Refused-clause-stops g c = λ rest.
     let sent = subst (Appends w w') c.requires c.in_ok-key.ensures.asked in
     let is : c.in_ok-key.field-0 ≡ Some (reply.Refused c.in-Some-Refused.why) = search rules in
     let comes = subst (Comes all left) is c.in_ok-key.ensures.came in
-    (c.in-Some-Refused.why, refl, poll_refused (data_of c.args.self.now.query.now) c.args.self.now.budget c.args.self.now.node_number all left w w' c.args.key.now rest (g.O.Outlet.contents c.args.out.now) c.in-Some-Refused.why comes sent)
+    (c.in-Some-Refused.why, refl, poll_refused c.args.self.now.query.now c.args.self.now.budget c.args.self.now.node_number all left w w' c.args.key.now rest (g.O.Outlet.contents c.args.out.now) c.in-Some-Refused.why comes sent)
 
 pub returns-in-Some-Taken-clause-stops : goal.returns-in-Some-Taken-clause-stops
 returns-in-Some-Taken-clause-stops g c = λ rest.
@@ -98,7 +97,7 @@ returns-in-Some-Taken-clause-stops g c = λ rest.
     let sent = subst (Appends w w') c.requires c.in_ok-key.ensures.asked in
     let is : c.in_ok-key.field-0 ≡ Some (reply.Taken c.in-Some-Taken.field-0-0) = search rules in
     let comes = subst (Comes all left) is c.in_ok-key.ensures.came in
-    poll_taken (data_of c.args.self.now.query.now) c.args.self.now.budget c.args.self.now.node_number all left w w' c.args.key.now rest (g.O.Outlet.contents c.args.out.now) c.in-Some-Taken.field-0-0 comes sent
+    poll_taken c.args.self.now.query.now c.args.self.now.budget c.args.self.now.node_number all left w w' c.args.key.now rest (g.O.Outlet.contents c.args.out.now) c.in-Some-Taken.field-0-0 comes sent
 
 pub returns-clause-stops : goal.returns-clause-stops
 returns-clause-stops g c = λ rest.
@@ -109,4 +108,4 @@ returns-clause-stops g c = λ rest.
     let sent = subst (Appends w w') c.requires c.in_ok-key.ensures.asked in
     let is : c.in_ok-key.field-0 ≡ None = search rules in
     let comes = subst (Comes all left) is c.in_ok-key.ensures.came in
-    poll_none (data_of c.args.self.now.query.now) c.args.self.now.budget c.args.self.now.node_number all left w w' c.args.key.now rest (g.O.Outlet.contents c.args.out.now) comes sent
+    poll_none c.args.self.now.query.now c.args.self.now.budget c.args.self.now.node_number all left w w' c.args.key.now rest (g.O.Outlet.contents c.args.out.now) comes sent

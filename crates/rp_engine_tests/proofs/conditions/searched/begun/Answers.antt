@@ -1,7 +1,6 @@
 use Rattle.std.proofs.Common.{◌≡◌, length, sym, ap, subst, ◌∙◌, true}
 use Rattle.rp_words.specs.PatternForm.{form_of}
 use Rattle.rp_words.specs.Variables.{are_below}
-use Rattle.rp_query.specs.QueryView.{data_of}
 use Rattle.rp_eval.specs.Entered.{AreTotals}
 use Rattle.rp_search.specs.Search.{IsSearchFor}
 use Rattle.rp_conditions.specs.Tested.{asked_of}
@@ -9,7 +8,7 @@ use Rattle.rp_engine_tests.proofs.conditions.searched.begun.Goals as goal
 
 pub returns : goal.returns
 returns c = λ p e.
-    let q = data_of c.args.query.now in
+    let q = c.args.query.now in
     let s = c.in_ok-search.search in
     let t = c.in_ok-totals.totals in
     let k = length q.plan.definitions.items in

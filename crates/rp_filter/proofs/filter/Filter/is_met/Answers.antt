@@ -1,7 +1,6 @@
 use Rattle.std.proofs.Common.{◌≡◌, ◌∙◌, ◌∷◌, [], ap, sym, Some}
 use Rattle.std.specs.Prelude.{option_map}
 use Rattle.rp_query.specs.Definitions.{definition_of}
-use Rattle.rp_query.specs.QueryView.{data_of}
 use Rattle.rp_eval.specs.Entered.{plan_of}
 use Rattle.rp_eval.specs.ValueOf.{Setting, judged, seen_as}
 use Rattle.rp_filter.specs.Meets.{alone, meets_condition, only_label, was_true}
@@ -9,7 +8,7 @@ use Rattle.rp_filter.proofs.filter.Filter.is_met.Goals as goal
 
 pub returns : goal.returns
 returns c =
-    let q = data_of c.args.self.now.query in
+    let q = c.args.self.now.query in
     let row = c.args.row.now in
     let all = c.in_ok-rows.rows in
     let defined : definition_of q.plan 0 ≡ Some c.in-Some.defined.now = sym c.definition.ensures ∙ ap (option_map (λ x. x.now)) c.in-Some.is in

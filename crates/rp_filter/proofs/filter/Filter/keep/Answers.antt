@@ -3,13 +3,12 @@ use Rattle.std.proofs.lemmas.Grind.{common_steps}
 use Rattle.std.proofs.lemmas.List.Elements.{filter-append}
 use Rattle.std.specs.List.{filter}
 use Rattle.std.specs.Vec.Iter.{into_iter_items}
-use Rattle.rp_query.specs.QueryView.{data_of}
 use Rattle.rp_filter.specs.Meets.{meets}
 use Rattle.rp_filter.proofs.filter.Filter.keep.Goals as goal
 
 pub loop-row-preserved : goal.loop-row-preserved
 loop-row-preserved c =
-    let test = meets (data_of c.args.self.now.query) in
+    let test = meets c.args.self.now.query in
     let inv = c.loop-row.invariant in
     let before = c.loop-row.yielded in
     let row = c.in-Some.row in

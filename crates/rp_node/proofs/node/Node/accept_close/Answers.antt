@@ -1,7 +1,6 @@
 use Rattle.std.proofs.Common.{◌≡◌, None, List, refl, sym, ap, ◌∙◌, subst}
 use Rattle.rp_value.specs.declared.value.Value.{Value}
 use Rattle.rp_value.specs.Rows.{row_fault}
-use Rattle.rp_query.specs.QueryView.{data_of}
 use Rattle.rp_query.specs.declared.query.QueryData.{QueryData}
 use Rattle.rp_query.specs.Keys.{key_kinds}
 use Rattle.rp_feed.specs.declared.packet.Packet.{Packet}
@@ -13,11 +12,11 @@ use Rattle.rp_node.proofs.Nodes.{all_bounded, accept_taken}
 use Rattle.rp_node.proofs.node.Node.accept_close.Goals as goal
 
 pub returns-in-Some-clause-bounded : goal.returns-in-Some-clause-bounded
-returns-in-Some-clause-bounded c = rw (← c.self.view_is) (all_bounded c.law_left.ensures.bounded (data_of c.self.inside.query) c.self.inside.partitions.entries c.self.invariant)
+returns-in-Some-clause-bounded c = rw (← c.self.view_is) (all_bounded c.law_left.ensures.bounded c.self.inside.query c.self.inside.partitions.entries c.self.invariant)
 
 module _ (c : goal.After-told) where
   abbrev q : QueryData
-  q = data_of c.self.inside.query
+  q = c.self.inside.query
 
   abbrev packet : Packet
   packet = ClosePacket c.args.key c.args.count

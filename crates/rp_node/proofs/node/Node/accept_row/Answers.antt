@@ -1,6 +1,5 @@
 use Rattle.std.proofs.Common.{◌≡◌, None, List, refl, sym, ◌∙◌, subst}
 use Rattle.rp_value.specs.declared.value.Value.{Value}
-use Rattle.rp_query.specs.QueryView.{data_of}
 use Rattle.rp_query.specs.declared.query.QueryData.{QueryData}
 use Rattle.rp_feed.specs.declared.packet.Packet.{Packet}
 use Rattle.rp_feed.specs.declared.packet.Packet.TheVariants.{Row as RowPacket}
@@ -11,14 +10,14 @@ use Rattle.rp_node.proofs.Nodes.{all_bounded, accept_taken, row_fits}
 use Rattle.rp_node.proofs.node.Node.accept_row.Goals as goal
 
 pub returns-in-Some-clause-bounded : goal.returns-in-Some-clause-bounded
-returns-in-Some-clause-bounded c = rw (← c.self.view_is) (all_bounded c.law_left.ensures.bounded (data_of c.self.inside.query) c.self.inside.partitions.entries c.self.invariant)
+returns-in-Some-clause-bounded c = rw (← c.self.view_is) (all_bounded c.law_left.ensures.bounded c.self.inside.query c.self.inside.partitions.entries c.self.invariant)
 
 pub returns-in_err-key-clause-bounded : goal.returns-in_err-key-clause-bounded
-returns-in_err-key-clause-bounded c = rw (← c.self.view_is) (all_bounded c.law_left.ensures.bounded (data_of c.self.inside.query) c.self.inside.partitions.entries c.self.invariant)
+returns-in_err-key-clause-bounded c = rw (← c.self.view_is) (all_bounded c.law_left.ensures.bounded c.self.inside.query c.self.inside.partitions.entries c.self.invariant)
 
 module _ (c : goal.After-told) where
   abbrev q : QueryData
-  q = data_of c.self.inside.query
+  q = c.self.inside.query
 
   abbrev packet : Packet
   packet = RowPacket c.args.number c.args.row

@@ -1,5 +1,4 @@
 use Rattle.std.proofs.Common.{ℕ, ◌-◌, inl, ◌∙◌, ◌≤◌, Result, IfOk, OnOk, refl, sym, subst}
-use Rattle.rp_query.specs.QueryView.{data_of}
 use Rattle.rp_walker.specs.declared.poll.Poll.{Poll}
 use Rattle.rp_walker.specs.Polls.{PollLowers}
 use Rattle.rp_node.specs.declared.fault.NodeFault.{NodeFault}
@@ -10,22 +9,22 @@ use Rattle.rp_node.proofs.Nodes.{joined_at, all_bounded, poll_unknown, poll_join
 use Rattle.rp_node.proofs.node.Node.poll.Goals as goal
 
 pub poll_at-answer-requires-clause-joined : goal.poll_at-answer-requires-clause-joined
-poll_at-answer-requires-clause-joined g c = λ p h. joined_at (data_of c.self.inside.query) c.self.inside.partitions.entries c.in-Some.place p c.self.invariant h
+poll_at-answer-requires-clause-joined g c = λ p h. joined_at c.self.inside.query c.self.inside.partitions.entries c.in-Some.place p c.self.invariant h
 
 pub invariant_of-self : goal.invariant_of-self
 invariant_of-self g c =
-    poll_joined (data_of c.self.inside.query) c.args.key.now c.self.inside.partitions.entries c.poll_at-answer.new.partitions.entries c.in-Some.place c.self.invariant (sym c.in-Some.ensures.index)
+    poll_joined c.self.inside.query c.args.key.now c.self.inside.partitions.entries c.poll_at-answer.new.partitions.entries c.in-Some.place c.self.invariant (sym c.in-Some.ensures.index)
     ((c.law_same_rows.ensures c.args.key.now c.args.key.now).1 refl) c.args.budget c.args.steps.now c.poll_at-answer.new.steps c.poll_at-answer.result c.poll_at-answer.ensures.polled
 
 pub returns-in-None-clause-polls : goal.returns-in-None-clause-polls
-returns-in-None-clause-polls g c = rw (← c.self.view_is) (poll_unknown (data_of c.self.inside.query) c.args.key.now c.self.inside.partitions.entries (sym c.in-None.ensures.found))
+returns-in-None-clause-polls g c = rw (← c.self.view_is) (poll_unknown c.self.inside.query c.args.key.now c.self.inside.partitions.entries (sym c.in-None.ensures.found))
 
 pub returns-in-None-clause-bounded : goal.returns-in-None-clause-bounded
-returns-in-None-clause-bounded g c = rw (← c.self.view_is) (all_bounded c.law_left.ensures.bounded (data_of c.self.inside.query) c.self.inside.partitions.entries c.self.invariant)
+returns-in-None-clause-bounded g c = rw (← c.self.view_is) (all_bounded c.law_left.ensures.bounded c.self.inside.query c.self.inside.partitions.entries c.self.invariant)
 
 pub returns-in-Some-clause-polls : goal.returns-in-Some-clause-polls
 returns-in-Some-clause-polls g c =
-    let q = data_of c.self.inside.query in
+    let q = c.self.inside.query in
     let es = c.self.inside.partitions.entries in
     let new = c.poll_at-answer.new.partitions.entries in
     rw (← c.self.view_is) (subst (λ (r : Result Poll NodeFault). NodePolls (node_by q es) (node_by q new) c.args.key.now r) (sym c.told_poll.ensures)
@@ -34,7 +33,7 @@ returns-in-Some-clause-polls g c =
 
 pub returns-in-Some-clause-lowers : goal.returns-in-Some-clause-lowers
 returns-in-Some-clause-lowers g c =
-    let q = data_of c.self.inside.query in
+    let q = c.self.inside.query in
     let es = c.self.inside.partitions.entries in
     let new = c.poll_at-answer.new.partitions.entries in
     rw (← c.self.view_is) (subst (λ (r : Result Poll NodeFault). IfOk r (PollLowers c.args.budget (work_at (node_by q es) c.args.key.now).left (work_at (node_by q new) c.args.key.now).left)) (sym c.told_poll.ensures)
@@ -43,7 +42,7 @@ returns-in-Some-clause-lowers g c =
 
 pub returns-in-Some-clause-bounded : goal.returns-in-Some-clause-bounded
 returns-in-Some-clause-bounded g c =
-    let q = data_of c.self.inside.query in
+    let q = c.self.inside.query in
     let new = c.poll_at-answer.new.partitions.entries in
     all_bounded c.law_left.ensures.bounded q new
     (poll_joined q c.args.key.now c.self.inside.partitions.entries new c.in-Some.place c.self.invariant (sym c.in-Some.ensures.index)
@@ -51,7 +50,7 @@ returns-in-Some-clause-bounded g c =
 
 pub returns-in-Some-clause-turns : goal.returns-in-Some-clause-turns
 returns-in-Some-clause-turns g c =
-    let q = data_of c.self.inside.query in
+    let q = c.self.inside.query in
     let es = c.self.inside.partitions.entries in
     let new = c.poll_at-answer.new.partitions.entries in
     rw (← c.self.view_is)
@@ -60,7 +59,7 @@ returns-in-Some-clause-turns g c =
 
 pub returns-in-Some-clause-nothing : goal.returns-in-Some-clause-nothing
 returns-in-Some-clause-nothing g c =
-    let q = data_of c.self.inside.query in
+    let q = c.self.inside.query in
     let es = c.self.inside.partitions.entries in
     let new = c.poll_at-answer.new.partitions.entries in
     rw (← c.self.view_is)
@@ -69,7 +68,7 @@ returns-in-Some-clause-nothing g c =
 
 pub returns-in-Some-clause-held : goal.returns-in-Some-clause-held
 returns-in-Some-clause-held g c =
-    let q = data_of c.self.inside.query in
+    let q = c.self.inside.query in
     let es = c.self.inside.partitions.entries in
     let new = c.poll_at-answer.new.partitions.entries in
     subst (λ (r : Result Poll NodeFault). OnOk r (1 ≤ c.args.budget → HoldsNoMoreAt (node_by q new) c.args.key.now)) (sym c.told_poll.ensures)
@@ -78,12 +77,12 @@ returns-in-Some-clause-held g c =
 
 pub returns-in-Some-clause-paused : goal.returns-in-Some-clause-paused
 returns-in-Some-clause-paused g c = λ z. inl (c.told_poll.ensures
-    ∙ poll_paused (data_of c.self.inside.query) c.args.key.now c.self.inside.partitions.entries c.poll_at-answer.new.partitions.entries c.in-Some.place c.self.invariant (sym c.in-Some.ensures.index)
+    ∙ poll_paused c.self.inside.query c.args.key.now c.self.inside.partitions.entries c.poll_at-answer.new.partitions.entries c.in-Some.place c.self.invariant (sym c.in-Some.ensures.index)
     ((c.law_same_rows.ensures c.args.key.now c.args.key.now).1 refl) c.args.budget c.args.steps.now c.poll_at-answer.new.steps c.poll_at-answer.result c.poll_at-answer.ensures.polled z)
 
 pub returns-in-Some-clause-works : goal.returns-in-Some-clause-works
 returns-in-Some-clause-works g c =
-    let q = data_of c.self.inside.query in
+    let q = c.self.inside.query in
     let es = c.self.inside.partitions.entries in
     let new = c.poll_at-answer.new.partitions.entries in
     let taken : ℕ = c.poll_at-answer.new.steps - c.args.steps.now in

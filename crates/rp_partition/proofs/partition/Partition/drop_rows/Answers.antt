@@ -1,6 +1,5 @@
 use Rattle.std.proofs.Common.{◌≡◌, ◌≤◌, ◌+◌, min, false, sym, ap, ◌∙◌, subst}
 use Rattle.rp_query.specs.declared.query.QueryData.{QueryData}
-use Rattle.rp_query.specs.QueryView.{data_of}
 use Rattle.rp_feed.specs.Fed.{Fed, IsOrdered, front_of}
 use Rattle.rp_known.specs.Plans.{first_read}
 use Rattle.rp_walker.specs.declared.record.MatcherState.{MatcherState}
@@ -27,7 +26,7 @@ feeds c = record {
 
 module _ (c : goal.After-keep_from) where
   abbrev q : QueryData
-  q = data_of c.args.query.now
+  q = c.args.query.now
 
   abbrev fed : Fed
   fed = c.args.self.now.feed

@@ -1,5 +1,4 @@
 use Rattle.std.proofs.Common.{ℕ, ◌-◌, ap, arith, subst}
-use Rattle.rp_query.specs.QueryView.{data_of}
 use Rattle.rp_known.specs.Known.{Known}
 use Rattle.rp_walker.specs.declared.record.MatcherState.{MatcherState}
 use Rattle.rp_walker.specs.Bound.{PollWorks, search_seen}
@@ -14,11 +13,11 @@ use Rattle.rp_partition.proofs.Dropping.{still_polled, polled_err, polled_ok}
 use Rattle.rp_partition.proofs.partition.Partition.poll.Goals as goal
 
 pub returns-then-budget-eq0-clause-polled : goal.returns-then-budget-eq0-clause-polled
-returns-then-budget-eq0-clause-polled g c = still_polled (data_of c.args.query.now) (held_of c.args.self.now) c.requires.joined.feed.ordered
+returns-then-budget-eq0-clause-polled g c = still_polled c.args.query.now (held_of c.args.self.now) c.requires.joined.feed.ordered
 
 pub returns-in_err-answer-clause-polled : goal.returns-in_err-answer-clause-polled
 returns-in_err-answer-clause-polled g c =
-    let q = data_of c.args.query.now in
+    let q = c.args.query.now in
     let fed = c.args.self.now.feed in
     let laws : Feeds = record {
       added = c.law_rows.ensures.added;
@@ -38,7 +37,7 @@ returns-in_err-answer-clause-polled g c =
 
 pub returns-clause-polled : goal.returns-clause-polled
 returns-clause-polled g c =
-    let q = data_of c.args.query.now in
+    let q = c.args.query.now in
     let fed = c.args.self.now.feed in
     let laws : Feeds = record {
       added = c.law_rows.ensures.added;
@@ -61,7 +60,7 @@ returns-clause-polled g c =
 
 pub returns-clause-works : goal.returns-clause-works
 returns-clause-works g c =
-    let q = data_of c.args.query.now in
+    let q = c.args.query.now in
     let fed = c.args.self.now.feed in
     let w = c.args.self.now.walker in
     let mid = c.poll.new.self in
@@ -76,6 +75,6 @@ returns-clause-works g c =
 
 pub returns-then-budget-eq0-clause-works : goal.returns-then-budget-eq0-clause-works
 returns-then-budget-eq0-clause-works g c =
-    let q = data_of c.args.query.now in
+    let q = c.args.query.now in
     let fed = c.args.self.now.feed in
     none_works (c.args.steps.now - c.args.steps.now) q (known_by fed) (search_seen q (known_by fed) c.args.self.now.walker) (record_of c.args.self.now.walker) (omega arith)

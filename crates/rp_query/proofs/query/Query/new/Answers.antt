@@ -12,12 +12,19 @@ use Rattle.rp_query.proofs.query.Query.new.Goals as goal
 
 pub invariant_of-result : goal.invariant_of-result
 invariant_of-result c =
-    let same = sym c.in_ok-parts.ensures.ok in
-    record {
-      sound = subst IsSound same c.requires;
-      ready = subst (λ (d : QueryData). Prepares (form_of d.pattern) c.in_ok-prepared.prepared) same c.in_ok-prepared.ensures;
-      alone = subst (λ (d : QueryData). IsTrue c.is_local-judges_rows.result ↔ ConditionsAreLocal Row d.plan) same c.is_local-judges_rows.ensures;
-      back = λ is. subst (λ (d : QueryData). ConditionsLookBack d.plan) same (c.looks_back-looks_back.ensures.0 is);
-      changed = subst (λ (d : QueryData). AreChangesOf d.plan.totals.value.items c.in_ok-changes.changes.value) same (search rules);
-      led = λ l is. subst (λ (d : QueryData). IsLeaderOf (form_of d.pattern) l) same (subst (λ o. IfSome o (IsLeaderOf (form_of c.args.parts.pattern))) is c.leader_of-lead.ensures);
-    }
+    let same = sym c.in_ok-parts.ensures.ok in (
+      subst IsSound same c.requires,
+      (
+        subst (λ (d : QueryData). Prepares (form_of d.pattern) c.in_ok-prepared.prepared) same c.in_ok-prepared.ensures,
+        (
+          subst (λ (d : QueryData). IsTrue c.is_local-judges_rows.result ↔ ConditionsAreLocal Row d.plan) same c.is_local-judges_rows.ensures,
+          (
+            (λ is. subst (λ (d : QueryData). ConditionsLookBack d.plan) same (c.looks_back-looks_back.ensures.0 is)),
+            (
+              (λ l is. subst (λ (d : QueryData). IsLeaderOf (form_of d.pattern) l) same (subst (λ o. IfSome o (IsLeaderOf (form_of c.args.parts.pattern))) is c.leader_of-lead.ensures)),
+              (subst (λ (d : QueryData). AreChangesOf d.plan.totals.value.items c.in_ok-changes.changes.value) same (search rules), tt),
+            ),
+          ),
+        ),
+      ),
+    )

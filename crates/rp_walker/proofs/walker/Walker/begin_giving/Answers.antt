@@ -1,5 +1,4 @@
 use Rattle.std.proofs.Common.{◌≡◌, sym, ap, ◌∙◌, subst, arith}
-use Rattle.rp_query.specs.QueryView.{data_of}
 use Rattle.rp_known.specs.declared.place.Place.{Place}
 use Rattle.rp_known.specs.Known.{known_in, count}
 use Rattle.rp_known.specs.Walk.{found_at}
@@ -12,7 +11,7 @@ use Rattle.rp_walker.proofs.walker.Walker.begin_giving.Goals as goal
 
 pub ahead_of-ahead-requires-clause-in_rows : goal.ahead_of-ahead-requires-clause-in_rows
 ahead_of-ahead-requires-clause-in_rows g c =
-    let q = data_of c.args.query.now in
+    let q = c.args.query.now in
     let p = known_in g.R.Rows.known g.R.Rows.ending c.args.rows.now in
     let r = c.args.self.now.state in
     let known : AreKnown r.at (count p) (result_of c.args.found) = subst (AreKnown r.at (count p)) c.requires.found (c.law_legs.ensures.known q p r.at c.requires.known) in
@@ -20,7 +19,7 @@ ahead_of-ahead-requires-clause-in_rows g c =
 
 pub returns-clause-keeps : goal.returns-clause-keeps
 returns-clause-keeps g c = λ run taken few.
-    let q = data_of c.args.query.now in
+    let q = c.args.query.now in
     let p = known_in g.R.Rows.known g.R.Rows.ending c.args.rows.now in
     let w = c.args.self.now in
     let known : AreKnown w.state.at (count p) (result_of c.args.found) = subst (AreKnown w.state.at (count p)) c.requires.found (c.law_legs.ensures.known q p w.state.at c.requires.known) in

@@ -1,4 +1,3 @@
-use Rattle.rp_query.specs.QueryView.{data_of}
 use Rattle.rp_known.specs.Known.{known_in}
 use Rattle.rp_walker.specs.declared.stage.Stage.TheVariants.{Begin, Searching}
 use Rattle.rp_walker.specs.Bound.{StepSpends, last_step}
@@ -10,7 +9,7 @@ use Rattle.rp_walker.proofs.walker.Walker.begin_row.Goals as goal
 pub returns-clause-keeps : goal.returns-clause-keeps
 returns-clause-keeps g c =
     let w = c.args.self.now in
-    let q = data_of c.args.query.now in
+    let q = c.args.query.now in
     let p = known_in g.R.Rows.known g.R.Rows.ending c.args.rows.now in
     let run = c.in_ok-run.run' in
     if_ok_map (λ r. KeepsGoing r.1 q p w.state (Searching run) c.search.new.self r.0) (λ r. KeepsGoing r.1 q p w.state (Begin c.args.spare) c.search.new.self r.0) c.search.result
@@ -19,7 +18,7 @@ returns-clause-keeps g c =
 pub returns-clause-works : goal.returns-clause-works
 returns-clause-works g c =
     let w = c.args.self.now in
-    let q = data_of c.args.query.now in
+    let q = c.args.query.now in
     let p = known_in g.R.Rows.known g.R.Rows.ending c.args.rows.now in
     let run = c.in_ok-run.run' in
     let new = c.search.new.self in

@@ -1,6 +1,5 @@
 use Rattle.std.proofs.Common.{Some, refl, sym, ap, ◌∙◌, subst, arith}
 use Rattle.rp_search.specs.Bound.{MovesWork}
-use Rattle.rp_query.specs.QueryView.{data_of}
 use Rattle.rp_query.specs.declared.item.Item.TheVariants.{Fault as FaultItem}
 use Rattle.rp_known.specs.declared.place.Place.{Place}
 use Rattle.rp_known.specs.Known.{known_in}
@@ -21,14 +20,14 @@ use Rattle.rp_walker.proofs.walker.Walker.end_row.Goals as goal
 pub move_to-run-requires : goal.move_to-run-requires
 move_to-run-requires g c =
     let w = c.args.self.now in
-    let q = data_of c.args.query.now in
+    let q = c.args.query.now in
     let follows = ap (λ (x : Place). after_found q x (result_of c.args.found)) (sym c.place_of-place.ensures) ∙ c.in-Ok.ensures in
     omega (arith, leads_later c.law_legs.ensures.searches q w.state (result_of c.args.found) c.in-Ok.next follows)
 
 pub returns-in-Ok-clause-keeps : goal.returns-in-Ok-clause-keeps
 returns-in-Ok-clause-keeps g c =
     let w = c.args.self.now in
-    let q = data_of c.args.query.now in
+    let q = c.args.query.now in
     let p = known_in g.R.Rows.known g.R.Rows.ending c.args.rows.now in
     let follows = ap (λ (x : Place). after_found q x (result_of c.args.found)) (sym c.place_of-place.ensures) ∙ c.in-Ok.ensures in
     subst (λ s. KeepsGoing 1 q p w.state (GivingStage c.args.found c.args.ahead) c.go_to.new.self s) (sym c.go_to.ensures.went)
@@ -39,7 +38,7 @@ returns-in-Ok-clause-keeps g c =
 pub returns-in-Err-clause-keeps : goal.returns-in-Err-clause-keeps
 returns-in-Err-clause-keeps g c =
     let w = c.args.self.now in
-    let q = data_of c.args.query.now in
+    let q = c.args.query.now in
     let p = known_in g.R.Rows.known g.R.Rows.ending c.args.rows.now in
     let a = c.args.ahead in
     let x = FaultItem c.in-Err.fault in
@@ -53,7 +52,7 @@ returns-in-Err-clause-keeps g c =
 pub returns-in-Ok-clause-works : goal.returns-in-Ok-clause-works
 returns-in-Ok-clause-works g c =
     let w = c.args.self.now in
-    let q = data_of c.args.query.now in
+    let q = c.args.query.now in
     let p = known_in g.R.Rows.known g.R.Rows.ending c.args.rows.now in
     let next = c.in-Ok.next in
     let run = c.move_to-run.result in
@@ -67,7 +66,7 @@ returns-in-Ok-clause-works g c =
 pub returns-in-Err-clause-works : goal.returns-in-Err-clause-works
 returns-in-Err-clause-works g c =
     let w = c.args.self.now in
-    let q = data_of c.args.query.now in
+    let q = c.args.query.now in
     let p = known_in g.R.Rows.known g.R.Rows.ending c.args.rows.now in
     let run = c.into_run-in-Err in
     last_spends q p w c.end_with.new.self (GivingStage c.args.found c.args.ahead) (BeginStage (Some run.result)) (FaultItem c.in-Err.fault) c.args.ahead.seen c.end_with.result c.requires.going.going

@@ -1,5 +1,4 @@
 use Rattle.std.proofs.Common.{◌≡◌, ◌+◌, Some, None, refl, sym, ap, ◌∙◌, subst, arith}
-use Rattle.rp_query.specs.QueryView.{data_of}
 use Rattle.rp_known.specs.declared.place.Place.{Place}
 use Rattle.rp_known.specs.Items.{item_at}
 use Rattle.rp_known.specs.Known.{known_in}
@@ -19,7 +18,7 @@ returns-in-None-clause-keeps g c =
     let w = c.args.self.now in
     let h = c.requires.going in
     let a = c.args.ahead in
-    let q = data_of c.args.query.now in
+    let q = c.args.query.now in
     let p = known_in g.R.Rows.known g.R.Rows.ending c.args.rows.now in
     let result = result_of c.args.found in
     let none : item_at q p (place_of w.state) result a.next ≡ None = ap (λ (x : Place). item_at q p x result a.next) (sym c.place_of-place.ensures) ∙ sym c.in_ok-make_item.ensures ∙ c.in-None.is in
@@ -38,7 +37,7 @@ returns-in-Some-clause-keeps g c =
     let w = c.args.self.now in
     let h = c.requires.going in
     let a = c.args.ahead in
-    let q = data_of c.args.query.now in
+    let q = c.args.query.now in
     let p = known_in g.R.Rows.known g.R.Rows.ending c.args.rows.now in
     let result = result_of c.args.found in
     let r : MatcherState = record w.state { here = a.seen + 1; given = w.state.given + 1 } in
@@ -61,12 +60,12 @@ returns-in-Some-clause-keeps g c =
 
 pub returns-in-None-clause-works : goal.returns-in-None-clause-works
 returns-in-None-clause-works g c =
-    same_spends (data_of c.args.query.now) (known_in g.R.Rows.known g.R.Rows.ending c.args.rows.now) c.args.self.now.state (GivingStage c.args.found c.args.ahead)
+    same_spends c.args.query.now (known_in g.R.Rows.known g.R.Rows.ending c.args.rows.now) c.args.self.now.state (GivingStage c.args.found c.args.ahead)
 
 pub returns-in-Some-clause-works : goal.returns-in-Some-clause-works
 returns-in-Some-clause-works g c =
     let r = c.args.self.now.state in
     let a = c.args.ahead in
     let going = c.requires.going.going in
-    gives_on (data_of c.args.query.now) (known_in g.R.Rows.known g.R.Rows.ending c.args.rows.now) r (record r { here = a.seen + 1; given = r.given + 1 }) c.args.found a (past_shown a)
+    gives_on c.args.query.now (known_in g.R.Rows.known g.R.Rows.ending c.args.rows.now) r (record r { here = a.seen + 1; given = r.given + 1 }) c.args.found a (past_shown a)
     going going refl refl refl refl c.requires.more

@@ -1,5 +1,4 @@
 use Rattle.std.proofs.Common.{◌≡◌, ◌-◌, refl, sym, ap, ◌∙◌, subst, arith}
-use Rattle.rp_query.specs.QueryView.{data_of}
 use Rattle.rp_known.specs.Known.{known_in}
 use Rattle.rp_walker.specs.declared.stage.Step.TheVariants.{Went, Gave, Idle}
 use Rattle.rp_walker.specs.declared.walker.Walker.{Walker}
@@ -15,7 +14,7 @@ use Rattle.rp_walker.proofs.walker.Walker.go_on.Goals as goal
 pub loop-left-init : goal.loop-left-init
 loop-left-init g c =
     let w = c.args.self.now in
-    let q = data_of c.args.query.now in
+    let q = c.args.query.now in
     let p = known_in g.R.Rows.known g.R.Rows.ending c.args.rows.now in
     record {
       stands = stands_going q p w c.requires.stands.going c.requires.stands.stands;
@@ -35,7 +34,7 @@ loop-left-init g c =
 pub returns-in-Gave-clause-polled : goal.returns-in-Gave-clause-polled
 returns-in-Gave-clause-polled g c = λ within.
     let i = c.loop-left.invariant in
-    let q = data_of c.args.query.now in
+    let q = c.args.query.now in
     let p = known_in g.R.Rows.known g.R.Rows.ending c.args.rows.now in
     let now = c.loop-left.self in
     let next = c.advance.new.self in
@@ -45,7 +44,7 @@ returns-in-Gave-clause-polled g c = λ within.
 
 pub returns-in-Gave-clause-moves : goal.returns-in-Gave-clause-moves
 returns-in-Gave-clause-moves g c = λ within.
-    let q = data_of c.args.query.now in
+    let q = c.args.query.now in
     let p = known_in g.R.Rows.known g.R.Rows.ending c.args.rows.now in
     let now = c.loop-left.self in
     let next = c.advance.new.self in
@@ -54,7 +53,7 @@ returns-in-Gave-clause-moves g c = λ within.
 
 pub returns-in-Idle-clause-moves : goal.returns-in-Idle-clause-moves
 returns-in-Idle-clause-moves g c = λ within.
-    let q = data_of c.args.query.now in
+    let q = c.args.query.now in
     let p = known_in g.R.Rows.known g.R.Rows.ending c.args.rows.now in
     let now = c.loop-left.self in
     let next = c.advance.new.self in
@@ -64,7 +63,7 @@ returns-in-Idle-clause-moves g c = λ within.
 pub returns-in-Idle-clause-polled : goal.returns-in-Idle-clause-polled
 returns-in-Idle-clause-polled g c = λ within.
     let i = c.loop-left.invariant in
-    let q = data_of c.args.query.now in
+    let q = c.args.query.now in
     let p = known_in g.R.Rows.known g.R.Rows.ending c.args.rows.now in
     let now = c.loop-left.self in
     let next = c.advance.new.self in
@@ -74,7 +73,7 @@ returns-in-Idle-clause-polled g c = λ within.
 
 pub returns-in_err-step-clause-moves : goal.returns-in_err-step-clause-moves
 returns-in_err-step-clause-moves g c = λ within.
-    let q = data_of c.args.query.now in
+    let q = c.args.query.now in
     let p = known_in g.R.Rows.known g.R.Rows.ending c.args.rows.now in
     let same : c.advance.new.self.state ≡ c.loop-left.self.state = ap (λ (w : Walker). w.state) c.in_err-step.ensures.kept in
     subst (λ r. Moves q p c.args.self.now.state r) (sym same) (c.loop-left.invariant.moved within)
@@ -93,7 +92,7 @@ returns-in-Idle-clause-in_rows g c = λ h. c.in_ok-step.ensures.keeps.in_rows (c
 pub loop-left-preserved : goal.loop-left-preserved
 loop-left-preserved g c =
     let i = c.loop-left.invariant in
-    let q = data_of c.args.query.now in
+    let q = c.args.query.now in
     let p = known_in g.R.Rows.known g.R.Rows.ending c.args.rows.now in
     let now = c.loop-left.self in
     let next = c.advance.new.self in
@@ -119,7 +118,7 @@ loop-left-preserved g c =
 pub returns-in-Gave-clause-works : goal.returns-in-Gave-clause-works
 returns-in-Gave-clause-works g c =
     let i = c.loop-left.invariant in
-    let q = data_of c.args.query.now in
+    let q = c.args.query.now in
     let p = known_in g.R.Rows.known g.R.Rows.ending c.args.rows.now in
     let now = c.loop-left.self in
     let next = c.advance.new.self in
@@ -130,7 +129,7 @@ returns-in-Gave-clause-works g c =
 pub returns-in-Idle-clause-works : goal.returns-in-Idle-clause-works
 returns-in-Idle-clause-works g c =
     let i = c.loop-left.invariant in
-    let q = data_of c.args.query.now in
+    let q = c.args.query.now in
     let p = known_in g.R.Rows.known g.R.Rows.ending c.args.rows.now in
     let now = c.loop-left.self in
     let next = c.advance.new.self in

@@ -1,5 +1,4 @@
 use Rattle.std.proofs.Common.{◌≡◌, ◌+◌, ◌-◌, ◌≤◌, false}
-use Rattle.rp_query.specs.QueryView.{data_of}
 use Rattle.rp_known.specs.Known.{known_in}
 use Rattle.rp_walker.specs.Bound.{Spends}
 use Rattle.rp_walker.specs.Records.{IsWithin, PlaceStays}
@@ -10,15 +9,15 @@ use Rattle.rp_walker.proofs.walker.Walker.go_on.Given as goal
 
 abbrev pub invariant-loop-left : goal.invariant-loop-left
 invariant-loop-left g l = record {
-  stands : stands_by l.self.state.over (data_of l.query) (known_in g.R.Rows.known g.R.Rows.ending l.rows) l.self;
+  stands : stands_by l.self.state.over l.query (known_in g.R.Rows.known g.R.Rows.ending l.rows) l.self;
   in_rows : PlaceStays (known_in g.R.Rows.known g.R.Rows.ending l.rows) l.fn.self.state l.self.state;
   first : l.self.state.first ≡ l.fn.self.state.first;
   given : l.self.state.given ≡ l.fn.self.state.given;
-  lowered : left_with (data_of l.query) (known_in g.R.Rows.known g.R.Rows.ending l.rows) l.self.state l.self.stage + (l.fn.budget - l.left)
-      ≤ left_with (data_of l.query) (known_in g.R.Rows.known g.R.Rows.ending l.rows) l.fn.self.state l.fn.self.stage;
-  moved : IsWithin (data_of l.query) (known_in g.R.Rows.known g.R.Rows.ending l.rows) l.fn.self.state →
-      Moves (data_of l.query) (known_in g.R.Rows.known g.R.Rows.ending l.rows) l.fn.self.state l.self.state;
-  worked : Spends (l.fn.budget - l.left) 0 (data_of l.query) (known_in g.R.Rows.known g.R.Rows.ending l.rows) l.fn.self.state l.fn.self.stage l.self.state l.self.stage;
+  lowered : left_with l.query (known_in g.R.Rows.known g.R.Rows.ending l.rows) l.self.state l.self.stage + (l.fn.budget - l.left)
+      ≤ left_with l.query (known_in g.R.Rows.known g.R.Rows.ending l.rows) l.fn.self.state l.fn.self.stage;
+  moved : IsWithin l.query (known_in g.R.Rows.known g.R.Rows.ending l.rows) l.fn.self.state →
+      Moves l.query (known_in g.R.Rows.known g.R.Rows.ending l.rows) l.fn.self.state l.self.state;
+  worked : Spends (l.fn.budget - l.left) 0 l.query (known_in g.R.Rows.known g.R.Rows.ending l.rows) l.fn.self.state l.fn.self.stage l.self.state l.self.stage;
   within : l.left ≤ l.fn.budget;
   counted : l.steps + l.left ≡ l.fn.steps + l.fn.budget;
   entered : l.entered + l.left ≤ l.fn.entered + l.fn.budget;

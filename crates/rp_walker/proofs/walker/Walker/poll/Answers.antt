@@ -1,5 +1,4 @@
 use Rattle.std.proofs.Common.{◌≡◌, ℕ, ◌-◌, arith, None, refl, ap, subst}
-use Rattle.rp_query.specs.QueryView.{data_of}
 use Rattle.rp_known.specs.Known.{known_in}
 use Rattle.rp_walker.specs.Records.{IsWithin}
 use Rattle.rp_walker.specs.declared.stage.Stage.TheVariants.{Begin}
@@ -17,7 +16,7 @@ use Rattle.rp_walker.proofs.walker.Walker.poll.Goals as goal
 pub returns-clause-stands : goal.returns-clause-stands
 unfolding Stands record_of left_in entered_by
 returns-clause-stands g c =
-    let q = data_of c.args.query.now in
+    let q = c.args.query.now in
     let k = known_in g.R.Rows.known g.R.Rows.ending c.args.rows.now in
     let new = c.go_on-answer.new.self in
     stands_counted new.state.over q k new c.go_on-answer.new.entered c.go_on-answer.ensures.stands
@@ -25,7 +24,7 @@ returns-clause-stands g c =
 pub returns-clause-answers : goal.returns-clause-answers
 unfolding Stands record_of left_in entered_by
 returns-clause-answers g c =
-    let q = data_of c.args.query.now in
+    let q = c.args.query.now in
     let k = known_in g.R.Rows.known g.R.Rows.ending c.args.rows.now in
     let w = c.args.self.now in
     let new = c.go_on-answer.new.self in
@@ -37,7 +36,7 @@ returns-clause-answers g c =
 pub returns-clause-stops : goal.returns-clause-stops
 unfolding Stands record_of left_in entered_by
 returns-clause-stops g c =
-    let q = data_of c.args.query.now in
+    let q = c.args.query.now in
     let k = known_in g.R.Rows.known g.R.Rows.ending c.args.rows.now in
     let w = c.args.self.now in
     let new = c.go_on-answer.new.self in
@@ -49,7 +48,7 @@ returns-clause-stops g c =
 pub returns-clause-moves : goal.returns-clause-moves
 unfolding Stands record_of left_in entered_by
 returns-clause-moves g c =
-    let q = data_of c.args.query.now in
+    let q = c.args.query.now in
     let k = known_in g.R.Rows.known g.R.Rows.ending c.args.rows.now in
     let w = c.args.self.now in
     let new = c.go_on-answer.new.self in
@@ -60,12 +59,12 @@ returns-clause-moves g c =
 pub returns-then-budget-eq0-clause-moves : goal.returns-then-budget-eq0-clause-moves
 unfolding Stands record_of left_in entered_by
 returns-then-budget-eq0-clause-moves g c =
-    stays_along (data_of c.args.query.now) (known_in g.R.Rows.known g.R.Rows.ending c.args.rows.now) c.args.self.now.state
+    stays_along c.args.query.now (known_in g.R.Rows.known g.R.Rows.ending c.args.rows.now) c.args.self.now.state
 
 pub returns-then-self-clause-moves : goal.returns-then-self-clause-moves
 unfolding Stands record_of left_in entered_by
 returns-then-self-clause-moves g c =
-    stays_along (data_of c.args.query.now) (known_in g.R.Rows.known g.R.Rows.ending c.args.rows.now) c.args.self.now.state
+    stays_along c.args.query.now (known_in g.R.Rows.known g.R.Rows.ending c.args.rows.now) c.args.self.now.state
 
 pub returns-clause-stays : goal.returns-clause-stays
 unfolding Stands record_of left_in entered_by
@@ -82,7 +81,7 @@ returns-then-self-clause-stays g c = record { first = refl; place = λ h. h }
 pub returns-clause-out_of_memory : goal.returns-clause-out_of_memory
 unfolding Stands record_of left_in entered_by
 returns-clause-out_of_memory g c =
-    let q = data_of c.args.query.now in
+    let q = c.args.query.now in
     let k = known_in g.R.Rows.known g.R.Rows.ending c.args.rows.now in
     let new = c.go_on-answer.new.self in
     on_err_map ((new.state.given ≡ c.args.self.now.state.given) × (new.stage ≡ Begin None)) (StartsAgain q k c.args.self.now.state.given new.state (left_with q k new.state new.stage)) c.go_on-answer.result
@@ -90,7 +89,7 @@ returns-clause-out_of_memory g c =
 
 pub returns-clause-works : goal.returns-clause-works
 returns-clause-works g c =
-    let q = data_of c.args.query.now in
+    let q = c.args.query.now in
     let k = known_in g.R.Rows.known g.R.Rows.ending c.args.rows.now in
     let w = c.args.self.now in
     let new = c.go_on-answer.new.self in
@@ -100,14 +99,14 @@ returns-clause-works g c =
 
 pub returns-then-budget-eq0-clause-works : goal.returns-then-budget-eq0-clause-works
 returns-then-budget-eq0-clause-works g c =
-    let q = data_of c.args.query.now in
+    let q = c.args.query.now in
     let k = known_in g.R.Rows.known g.R.Rows.ending c.args.rows.now in
     let w = c.args.self.now in
     poll_works (c.args.steps.now - c.args.steps.now) q k w w Paused (none_spends (c.args.steps.now - c.args.steps.now) 0 q k w.state w.stage (omega arith))
 
 pub returns-then-self-clause-works : goal.returns-then-self-clause-works
 returns-then-self-clause-works g c =
-    let q = data_of c.args.query.now in
+    let q = c.args.query.now in
     let k = known_in g.R.Rows.known g.R.Rows.ending c.args.rows.now in
     let w = c.args.self.now in
     poll_works (c.args.steps.now - c.args.steps.now) q k w w Idle (none_spends (c.args.steps.now - c.args.steps.now) 1 q k w.state w.stage (omega arith))

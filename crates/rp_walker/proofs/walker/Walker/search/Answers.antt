@@ -1,7 +1,6 @@
 use Rattle.std.proofs.Common.{◌≡◌, sym, ap, ◌∙◌, subst, arith}
 use Rattle.rp_search.specs.declared.search.Outcome.TheVariants.{Paused, Waits}
 use Rattle.rp_search.specs.Search.{turns_of_run}
-use Rattle.rp_query.specs.QueryView.{data_of}
 use Rattle.rp_known.specs.Known.{known_in}
 use Rattle.rp_walker.specs.Runs.{Ran}
 use Rattle.rp_walker.proofs.Begins.{searches_on, search_waits}
@@ -14,13 +13,13 @@ returns-in-Paused-clause-keeps g c =
     let w = c.args.self.now in
     let ran = c.in_ok-outcome.ensures.ran in
     let taken : c.turns_taken-taken.result ≡ turns_of_run c.in_ok-outcome.run'.search.value = c.turns_taken-taken.ensures ∙ ap turns_of_run c.deref.ensures in
-    searches_on (data_of c.args.query.now) (known_in g.R.Rows.known g.R.Rows.ending c.args.rows.now) w c.args.run c.in_ok-outcome.run' c.turns_taken-taken.result c.requires.going ran.searches
+    searches_on c.args.query.now (known_in g.R.Rows.known g.R.Rows.ending c.args.rows.now) w c.args.run c.in_ok-outcome.run' c.turns_taken-taken.result c.requires.going ran.searches
     (omega (arith, taken, ran.paused c.in-Paused.is))
 
 pub returns-in-Waits-clause-keeps : goal.returns-in-Waits-clause-keeps
 returns-in-Waits-clause-keeps g c =
     let w = c.args.self.now in
-    let q = data_of c.args.query.now in
+    let q = c.args.query.now in
     let p = known_in g.R.Rows.known g.R.Rows.ending c.args.rows.now in
     let ran = subst (λ o. Ran q p w.state.at c.args.run c.in_ok-outcome.run' o) c.in-Waits.is c.in_ok-outcome.ensures.ran in
     search_waits q p w c.args.run c.in_ok-outcome.run' c.turns_taken-taken.result c.requires.going ran.searches ran.came ran.left
@@ -38,7 +37,7 @@ returns-in-NoMatch-clause-keeps g c =
 pub returns-in-Paused-clause-works : goal.returns-in-Paused-clause-works
 returns-in-Paused-clause-works g c =
     let w = c.args.self.now in
-    let q = data_of c.args.query.now in
+    let q = c.args.query.now in
     let p = known_in g.R.Rows.known g.R.Rows.ending c.args.rows.now in
     let run = c.in_ok-outcome.run' in
     let taken : c.turns_taken-taken.result ≡ turns_of_run run.search.value = c.turns_taken-taken.ensures ∙ ap turns_of_run c.deref.ensures in
@@ -49,7 +48,7 @@ returns-in-Paused-clause-works g c =
 pub returns-in-Waits-clause-works : goal.returns-in-Waits-clause-works
 returns-in-Waits-clause-works g c =
     let w = c.args.self.now in
-    let q = data_of c.args.query.now in
+    let q = c.args.query.now in
     let p = known_in g.R.Rows.known g.R.Rows.ending c.args.rows.now in
     let run = c.in_ok-outcome.run' in
     let taken : c.turns_taken-taken.result ≡ turns_of_run run.search.value = c.turns_taken-taken.ensures ∙ ap turns_of_run c.deref.ensures in
@@ -60,7 +59,7 @@ returns-in-Waits-clause-works g c =
 pub returns-in-Match-clause-works : goal.returns-in-Match-clause-works
 returns-in-Match-clause-works g c =
     let w = c.args.self.now in
-    let q = data_of c.args.query.now in
+    let q = c.args.query.now in
     let p = known_in g.R.Rows.known g.R.Rows.ending c.args.rows.now in
     let run = c.in_ok-outcome.run' in
     let taken : c.turns_taken-taken.result ≡ turns_of_run run.search.value = c.turns_taken-taken.ensures ∙ ap turns_of_run c.deref.ensures in
@@ -71,7 +70,7 @@ returns-in-Match-clause-works g c =
 pub returns-in-NoMatch-clause-works : goal.returns-in-NoMatch-clause-works
 returns-in-NoMatch-clause-works g c =
     let w = c.args.self.now in
-    let q = data_of c.args.query.now in
+    let q = c.args.query.now in
     let p = known_in g.R.Rows.known g.R.Rows.ending c.args.rows.now in
     let run = c.in_ok-outcome.run' in
     let taken : c.turns_taken-taken.result ≡ turns_of_run run.search.value = c.turns_taken-taken.ensures ∙ ap turns_of_run c.deref.ensures in
