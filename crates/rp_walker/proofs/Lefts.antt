@@ -1,5 +1,5 @@
--- What is left is bounded, and the same over rows that agree.
-use Rattle.std.proofs.Common.{◌≡◌, ℕ, ◌+◌, ◌-◌, ◌<◌, ◌≤◌, length, Bool, true, false, cond, None, refl, sym, ap, ◌∙◌, subst, arith}
+-- What is left is bounded, the same over rows that agree, and the same once rows are dropped.
+use Rattle.std.proofs.Common.{◌≡◌, ℕ, ◌+◌, ◌-◌, ◌<◌, ◌≤◌, ◌⊎◌, max, length, Bool, true, false, cond, None, refl, sym, ap, ◌∙◌, subst, arith}
 use Rattle.std.specs.Prelude.{nat_le}
 use Rattle.std.proofs.lemmas.Bool.Decides.{nat_tests}
 use Rattle.rp_words.specs.PatternForm.{form_of}
@@ -21,9 +21,12 @@ use Rattle.rp_walker.specs.declared.stage.Stage.{Stage}
 use Rattle.rp_walker.specs.declared.stage.Stage.TheVariants.{Begin, Searching, Giving}
 use Rattle.rp_walker.specs.declared.walker.Walker.{Walker}
 use Rattle.rp_walker.specs.FitLaws.{AgreesFrom}
+use Rattle.rp_walker.specs.LeftLaw.{Drops, LeftIsSame, StaysOver}
+use Rattle.rp_walker.specs.Records.{horizon_of}
 use Rattle.rp_walker.specs.Stages.{Searches, StageStands, stage_left, starts_to, left_with, asked_by}
-use Rattle.rp_walker.specs.Walking.{Stands, stands_by, GoesOnWell, record_of}
+use Rattle.rp_walker.specs.Walking.{Stands, StandsStays, StandsCanGoOn, stands_by, GoesOnWell, record_of}
 use Rattle.rp_walker.specs.Polls.{left_in}
+use Rattle.rp_walker.proofs.Agreeing.{goes_on_later}
 use Rattle.rp_walker.proofs.Begins.{left_past, most_of}
 use Rattle.rp_walker.proofs.Steps.{left_going}
 use Rattle.rp_walker.proofs.Ends.{starts_up, starts_before}
@@ -106,3 +109,31 @@ module _ (same : SearchLeftSame) (tests : TestsGoOn) (q : QueryData) (p p' : Kno
   pub left_same : (w : Walker) → ((record_of w).over ≡ false → AgreesFrom (first_read q (record_of w).at) p p') → Stands q p w → left_in q p' w ≡ left_in q p w
   unfolding Stands left_in record_of
   left_same w a h = by_same w.state.over w refl a h
+
+-- ---- over the rows that are left
+
+module _ (q : QueryData) (p p' : Known) (w : Walker) (first : ℕ) (sound : IsSound q) (d : Drops q (record_of w) first p p') (h : Stands q p w) where
+  unread : StandsCanGoOn → (record_of w).over ≡ false → first ≤ first_read q (record_of w).at
+  unread can going =
+      least first (record_of w).first (horizon_of q p (record_of w)) (first_read q (record_of w).at) d.not_past
+      (ap (λ b. cond b (count p + 1) (first_read q (record_of w).at)) going) ((can q p w h).going going).2
+    where
+      least : (a b c e : ℕ) → a ≤ max b c → c ≡ e → b ≤ e → a ≤ e
+      least a b c e x y z = omega (arith, x, y, z)
+
+  agrees_unread : StandsCanGoOn → (record_of w).over ≡ false → AgreesFrom (first_read q (record_of w).at) p p'
+  agrees_unread can going =
+      record {
+        on = goes_on_later first (first_read q (record_of w).at) p p' (unread can going) d.agree.on;
+        back = goes_on_later first (first_read q (record_of w).at) p' p (unread can going) d.agree.back;
+      }
+
+  pub dropped_unread : StandsStays → StandsCanGoOn → LeftIsSame → StaysOver q w first p p'
+  dropped_unread stays can same =
+      record {
+        as_many = agreed_count d.agree;
+        stands = stays q p p' w sound (λ going. (agrees_unread can going).on) h;
+        reads = unread can;
+        left = same q p p' w sound (agrees_unread can) h;
+        held = subst (λ n. (cond (record_of w).over (n + 1) (first_read q (record_of w).at) ≤ first) ⊎ (n < first)) (sym (agreed_count d.agree)) d.all;
+      }

@@ -3,7 +3,7 @@
 ghost use Rattle.rp_walker.specs.Bound.{ClosedIsDecided, LookingBackIsDecided, PollsAreSeen, SeenGrows, SeenIsSame, WalkerWorkGrows, WorkIsLinear};
 ghost use Rattle.rp_walker.specs.EarlierFits.{EarlierFits};
 ghost use Rattle.rp_walker.specs.FitLaws.{StepsMean, FitsStay, FirstFits, FitsInRows};
-ghost use Rattle.rp_walker.specs.LeftLaw.{LeftIsBounded, LeftIsSame};
+ghost use Rattle.rp_walker.specs.LeftLaw.{DroppedIsUnread, LeftIsBounded, LeftIsSame};
 ghost use Rattle.rp_walker.specs.Walking.{StandsStays, StandsCanGoOn};
 
 /// What steps over the rows that are kept of a partition mean for the partition.
@@ -48,6 +48,15 @@ pub fn law_left()
 {
     rp_search::law_search();
     rp_conditions::law_tests();
+}
+
+/// Once the rows below its horizon were dropped, a walker stands over those that are left, which are all that it still
+/// reads, and has as many turns left.
+pub fn law_drops()
+    ensures { DroppedIsUnread }
+{
+    law_walkers();
+    law_left();
 }
 
 /// What is left to a walker before it finds a further match is linear in the rows: when it begins, and with each row that becomes

@@ -13,7 +13,7 @@ mod run;
 mod stage;
 mod walker;
 
-pub use laws::{law_left, law_records, law_steps, law_walkers, law_work};
+pub use laws::{law_drops, law_left, law_records, law_steps, law_walkers, law_work};
 pub use poll::Poll;
 pub use record::MatcherState;
 pub use walker::Walker;
