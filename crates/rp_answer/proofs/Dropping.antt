@@ -1,5 +1,5 @@
 -- A matcher whose first rows are dropped.
-use Rattle.std.proofs.Common.{◌≡◌, ℕ, zero, suc, ◌+◌, ◌-◌, ◌≤◌, max, [], ◌∷◌, length, drop, Bool, true, false, cond, refl, sym, ap, ◌∙◌, subst, inl, inr, ◌⊎◌, Result, Ok, Err, arith}
+use Rattle.std.proofs.Common.{◌≡◌, ℕ, zero, suc, ◌+◌, ◌-◌, ◌≤◌, max, [], ◌∷◌, length, drop, Bool, true, false, refl, sym, ap, ◌∙◌, subst, inl, inr, ◌⊎◌, Result, Ok, Err, arith}
 use Rattle.std.specs.Prelude.{slice_get, OnErr}
 use Rattle.rp_eval.specs.Partition.{Rows, row_at}
 use Rattle.rp_query.specs.declared.query.QueryData.{QueryData}
@@ -10,17 +10,17 @@ use Rattle.rp_walker.specs.declared.poll.Poll.{Poll}
 use Rattle.rp_walker.specs.declared.poll.Poll.TheVariants.{Item as ItemPoll, Idle as IdlePoll, Paused as PausedPoll}
 use Rattle.rp_walker.specs.declared.record.MatcherState.{MatcherState}
 use Rattle.rp_walker.specs.FitLaws.{AgreesFrom}
-use Rattle.rp_query.specs.Sound.{IsSound}
-use Rattle.rp_walker.specs.declared.walker.Walker.{Walker}
-use Rattle.rp_walker.specs.Walking.{record_of, Stands, StandsStays}
+use Rattle.rp_walker.specs.LeftLaw.{Drops, HoldsNoMore}
+use Rattle.rp_walker.specs.Walking.{CanGoOn}
 use Rattle.rp_known.specs.Walk.{here}
 use Rattle.rp_walker.specs.Polls.{AnswerIs, GoesAlong, moves_by, GivenBy}
 use Rattle.rp_walker.specs.Steps.{ended_by}
 use Rattle.rp_walker.specs.Records.{fits_by, horizon_of}
 use Rattle.rp_answer.specs.declared.kept.Kept.{Kept}
 use Rattle.rp_answer.specs.Kept.{kept_rows, kept_count}
-use Rattle.rp_answer.specs.Matching.{known_by, HoldsNoMore, PollComesTo}
+use Rattle.rp_answer.specs.Matching.{known_by, PollComesTo}
 use Rattle.rp_answer.proofs.Keeping.{kept_at}
+use Rattle.rp_answer.proofs.Readiness.{goes_from}
 
 get_drop : (d i : ℕ) (xs : Rows) → slice_get (drop d xs) i ≡ slice_get xs (d + i)
 get_drop zero i xs = ap (slice_get xs) (let z : i ≡ 0 + i = omega arith in z)
@@ -43,12 +43,19 @@ module _ (k n : Kept) (low : k.first ≤ n.first) (rows : n.rows.items ≡ drop 
         back = record { later = (omega (arith, same_count), λ c. (sym same_count, sym end ∙ c)); same = λ row from known. sym (same_row row from) };
       }
 
--- rows that agree from a row on agree from a later one on
-goes_from : (first later : ℕ) (p p' : Known) → first ≤ later → GoesOnFrom first p p' → GoesOnFrom later p p'
-goes_from first later p p' le g = record { later = g.later; same = λ row from known. g.same row (omega (arith, le, from)) known }
-
-pub agrees_later : (first later : ℕ) (p p' : Known) → first ≤ later → AgreesFrom first p p' → AgreesFrom later p p'
-agrees_later first later p p' le a = record { on = goes_from first later p p' le a.on; back = goes_from first later p' p le a.back }
+  -- the rows below the horizon of a record
+  pub drops : (q : QueryData) (r : MatcherState) (horizon : ℕ) → r.first ≡ k.first → horizon ≡ horizon_of q (known_by k) r → n.first ≤ max k.first horizon → horizon ≤ n.first ⊎ (n.rows.items ≡ [])
+      → Drops q r n.first (known_by k) (known_by n)
+  drops q r horizon first is past all =
+      record {
+        agree = drops_agree;
+        not_past = subst (λ h. n.first ≤ max r.first h) is (subst (λ f. n.first ≤ max f horizon) (sym first) past);
+        all = go all;
+      }
+    where
+      go : horizon ≤ n.first ⊎ (n.rows.items ≡ []) → HoldsNoMore q (known_by k) (record r { first = n.first })
+      go (inl le) = inl (subst (λ h. h ≤ n.first) is le)
+      go (inr none) = inr (omega (arith, kept_count k, last, ap (λ (xs : Rows). length xs) none, k.from_one))
 
 goes_both : (first : ℕ) (p p' p'' : Known) → GoesOnFrom first p p' → GoesOnFrom first p' p'' → GoesOnFrom first p p''
 goes_both first p p' p'' g h =
@@ -95,11 +102,10 @@ moves_dropped true q p old r f h = ap (λ (x : MatcherState). record x { first =
 moves_dropped false q p old r f h =
     record { before = h.before; comes = h.comes; counted = h.counted; within = h.within; ended = ended_dropped r.over q p r f h.ended }
 
--- a record whose first row alone was changed, and what it still reads is above that
-module _ (q : QueryData) (k : Known) (old r new : MatcherState) (f : ℕ) (is : new ≡ record r { first = f }) (needed : new.over ≡ false → f ≤ first_read q new.at) where
+-- a record whose first row alone was changed, and that can still go on
+module _ (q : QueryData) (k : Known) (old r new : MatcherState) (f : ℕ) (is : new ≡ record r { first = f }) (can : CanGoOn q new) where
   needed_before : r.over ≡ false → f ≤ first_read q r.at
-  needed_before going =
-      subst (λ i. f ≤ first_read q i) (ap (λ (x : MatcherState). x.at) is) (needed (ap (λ (x : MatcherState). x.over) is ∙ going))
+  needed_before going = ((subst (CanGoOn q) is can).going going).2
 
   pub along_dropped : GoesAlong q k old r → GoesAlong q k old new
   along_dropped h =
@@ -121,34 +127,6 @@ stays_by false q r p going h = record { before = 0; comes = here; counted = omeg
 pub stays_along : (q : QueryData) (k : Known) (r : MatcherState) → GoesAlong q k r r
 stays_along q k r p are fits = (fits, stays_by r.over q r p refl fits)
 
--- ---- the walker over the rows that are left
-
-pub forget_bound : (q : QueryData) (k n : Kept) (r : MatcherState) (horizon : ℕ) → n.first ≤ max k.first horizon → horizon ≡ horizon_of q (known_by k) r → (r.over ≡ false → k.first ≤ first_read q r.at) → r.over ≡ false → n.first ≤ first_read q r.at
-forget_bound q k n r horizon past is needed going =
-    let h : horizon ≡ first_read q r.at = is ∙ ap (λ b. cond b (count (known_by k) + 1) (first_read q r.at)) going in
-    least n.first k.first horizon (first_read q r.at) past h (needed going)
-  where
-    least : (a b c d : ℕ) → a ≤ max b c → c ≡ d → b ≤ d → a ≤ d
-    least a b c d x y z = omega (arith, x, y, z)
-
-pub stands_dropped : StandsStays → (q : QueryData) (k n : Kept) (w : Walker) → IsSound q → AgreesFrom n.first (known_by k) (known_by n) → ((record_of w).over ≡ false → n.first ≤ first_read q (record_of w).at) →
-    Stands q (known_by k) w → Stands q (known_by n) w
-stands_dropped stays q k n w sound a bound h =
-    stays q (known_by k) (known_by n) w sound (λ going. goes_from n.first (first_read q (record_of w).at) (known_by k) (known_by n) (bound going) a.on) h
-
 pub on_err_of : {A E : Type 0} (P : Type 0) (r : Result A E) → P → OnErr r P
 on_err_of P (Ok x) h = tt
 on_err_of P (Err e) h = h
-
--- ---- what is still kept
-
-pub holds_no_more : (q : QueryData) (k n : Kept) (r r' : MatcherState) (horizon : ℕ) → r' ≡ record r { first = n.first } → count (known_by n) ≡ count (known_by k) → horizon ≡ horizon_of q (known_by k) r →
-    horizon ≤ n.first ⊎ (n.rows.items ≡ []) → HoldsNoMore q (known_by n) r'
-holds_no_more q k n r r' horizon now same is all = subst (λ s. HoldsNoMore q (known_by n) s) (sym now) (go all)
-  where
-    same_horizon : horizon_of q (known_by n) (record r { first = n.first }) ≡ horizon
-    same_horizon = ap (λ c. cond r.over (c + 1) (first_read q r.at)) same ∙ sym is
-
-    go : horizon ≤ n.first ⊎ (n.rows.items ≡ []) → HoldsNoMore q (known_by n) (record r { first = n.first })
-    go (inl le) = inl (subst (λ h. h ≤ n.first) (sym same_horizon) le)
-    go (inr none) = inr (omega (arith, kept_count n, ap (λ (xs : Rows). length xs) none, n.from_one))

@@ -2,6 +2,8 @@
 use Rattle.std.proofs.Common.{◌≡◌, ℕ, zero, suc, ◌-◌, ◌<◌, ◌≤◌, List, [], ◌∷◌, ◌++◌, length, append_assoc, replicate, get_or, true, false, cond, Some, None, Result, Ok, Err, refl, sym, ap, ◌∙◌, arith}
 use Rattle.std.specs.Prelude.{slice_get, OnOk, OnErr, nat_le}
 use Rattle.std.proofs.lemmas.Bool.Decides.{nat_tests}
+use Rattle.std.proofs.lemmas.List.{append-nil}
+use Rattle.std.proofs.lemmas.Option.{slice_get_past, slice_get_read}
 use Rattle.rp_value.specs.declared.value.Value.{Value}
 use Rattle.rp_words.specs.declared.word.End.TheVariants.{Open as OpenEnd}
 use Rattle.rp_eval.specs.Dropped.{row_known}
@@ -37,10 +39,6 @@ row_dropped k row h = let low : nat_le k.first row ≡ false = grind (arith, nat
 
 -- ---- a row comes, or the close
 
-append_none : (xs : Rows) → xs ++ [] ≡ xs
-append_none [] = refl
-append_none (x ∷ xs) = ap (λ z. x ∷ z) (append_none xs)
-
 pub same_rows : (k n : Kept) → n.first ≡ k.first → n.rows.items ≡ k.rows.items → kept_rows n ≡ kept_rows k
 unfolding kept_rows
 same_rows k n f r = ap (λ i. replicate (i - 1) [] ++ n.rows.items) f ∙ ap (λ rs. replicate (k.first - 1) [] ++ rs) r
@@ -50,7 +48,7 @@ unfolding kept_rows
 row_added k n row f r = ap (λ i. replicate (i - 1) [] ++ n.rows.items) f ∙ ap (λ rs. replicate (k.first - 1) [] ++ rs) r ∙ sym (append_assoc (replicate (k.first - 1) []) k.rows.items (row ∷ []))
 
 goes_on_same : (k n : Kept) → k.end ≡ OpenEnd → kept_rows n ≡ kept_rows k → Continues (known_by k) (known_by n)
-goes_on_same k n open_before r = record { open_before = open_before; more = []; rows = r ∙ sym (append_none (kept_rows k)) }
+goes_on_same k n open_before r = record { open_before = open_before; more = []; rows = r ∙ sym (append-nil (kept_rows k)) }
 
 pub pushed_on : {E : Type 0} (k n : Kept) (row : List Value) (r : Result (Unit {0}) E) → k.end ≡ OpenEnd → n.first ≡ k.first →
     OnOk r (n.rows.items ≡ k.rows.items ++ row ∷ []) → OnErr r (n.rows.items ≡ k.rows.items) → Continues (known_by k) (known_by n)
@@ -79,18 +77,8 @@ refused_matcher q k n w (Err x) f e h = same_matcher q k n w e (same_rows k n f 
 
 -- ---- a row by its place
 
-get_some : (xs : Rows) (i : ℕ) (x : List Value) → i < length xs → x ≡ get_or xs i x → slice_get xs i ≡ Some x
-get_some [] i x h e = absurd (omega (arith, h))
-get_some (y ∷ ys) zero x h e = ap (λ z. Some z) (sym e)
-get_some (y ∷ ys) (suc i) x h e = get_some ys i x (omega (arith, h)) e
-
-get_none : (xs : Rows) (i : ℕ) → length xs ≤ i → slice_get xs i ≡ None
-get_none [] i h = refl
-get_none (y ∷ ys) zero h = absurd (omega (arith, h))
-get_none (y ∷ ys) (suc i) h = get_none ys i (omega (arith, h))
-
 pub there : (k : Kept) (row : ℕ) (x : List Value) → k.first ≤ row → row - k.first < length k.rows.items → x ≡ get_or k.rows.items (row - k.first) x → Some x ≡ row_from k.first (kept_rows k) row
-there k row x low high e = sym (row_kept k row low ∙ get_some k.rows.items (row - k.first) x high e)
+there k row x low high e = sym (row_kept k row low ∙ slice_get_read k.rows.items (length k.rows.items) (row - k.first) x refl high e)
 
 pub not_there : (k : Kept) (row : ℕ) → k.first ≤ row → length k.rows.items ≤ row - k.first → None ≡ row_from k.first (kept_rows k) row
-not_there k row low high = sym (row_kept k row low ∙ get_none k.rows.items (row - k.first) high)
+not_there k row low high = sym (row_kept k row low ∙ slice_get_past k.rows.items (row - k.first) high)

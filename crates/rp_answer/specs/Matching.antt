@@ -1,13 +1,11 @@
 -- Inside: how a matcher's parts stand to each other, and what a poll comes to.
-use Rattle.std.specs.Prelude.{◌≡◌, ℕ, ◌≤◌, ◌<◌, ◌⊎◌, false, Result, IfOk}
+use Rattle.std.specs.Prelude.{◌≡◌, ℕ, Result, IfOk}
 use Rattle.std.specs.declared.alloc.AllocError.{AllocError}
 use Rattle.rp_query.specs.declared.query.QueryData.{QueryData}
-use Rattle.rp_known.specs.Known.{Known, count}
-use Rattle.rp_known.specs.Plans.{first_read}
+use Rattle.rp_known.specs.Known.{Known}
 use Rattle.rp_walker.specs.declared.poll.Poll.{Poll}
 use Rattle.rp_walker.specs.declared.record.MatcherState.{MatcherState}
 use Rattle.rp_walker.specs.declared.walker.Walker.{Walker}
-use Rattle.rp_walker.specs.Records.{horizon_of}
 use Rattle.rp_walker.specs.Walking.{record_of, Stands}
 use Rattle.rp_walker.specs.Polls.{left_in, entered_by, Answers, GivenBy, StopsAtLast, TurnsAreCounted, PollTakes, IdleTakes}
 use Rattle.rp_answer.specs.declared.kept.Kept.{Kept}
@@ -28,15 +26,10 @@ matcher_by q k w =
       entered = entered_by w;
     }
 
--- The walker stands over the rows that are kept, and what it still reads is among them.
+-- The walker stands over the rows that are kept, and its record has the first of them.
 pub record Ready (q : QueryData) (k : Kept) (w : Walker) : Type 0 where
   pub stands : Stands q (known_by k) w
   pub first : (record_of w).first ≡ k.first
-  pub needed : (record_of w).over ≡ false → k.first ≤ first_read q (record_of w).at
-
--- No row below the horizon is kept: the first that is kept is at least the horizon, or none is kept.
-abbrev pub HoldsNoMore : QueryData → Known → MatcherState → Type 0
-HoldsNoMore q p r = horizon_of q p r ≤ r.first ⊎ count p < r.first
 
 -- What a poll comes to, for each partition that the record fits: the next item with its place; idle only where all that
 -- is known was given; and the record fits afterwards. Only an item raises the number of given items. Where a poll is

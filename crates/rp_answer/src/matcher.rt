@@ -3,16 +3,17 @@ ghost use Rattle.std.specs.Prelude.{◌≡◌, ◌+◌, ◌-◌, ◌^◌, ◌<�
 ghost use Rattle.rp_words.specs.declared.word.End.TheVariants.{Open, Closed};
 ghost use Rattle.rp_known.specs.Known.{Known, count};
 ghost use Rattle.rp_walker.specs.FitLaws.{AgreesFrom};
+ghost use Rattle.rp_walker.specs.LeftLaw.{HoldsNoMore};
 ghost use Rattle.rp_walker.specs.Polls.{left_in, entered_by};
 ghost use Rattle.rp_walker.specs.Walking.{record_of};
-ghost use Rattle.rp_answer.specs.Matching.{known_by, Ready, HoldsNoMore};
+ghost use Rattle.rp_answer.specs.Matching.{known_by, Ready};
 
 use crate::kept::Kept;
 use rp_eval::Rows;
 use rp_query::Query;
 use rp_search::Steps;
 use rp_value::Row;
-use rp_walker::{MatcherState, Poll, Walker, law_walkers};
+use rp_walker::{MatcherState, Poll, Walker, law_drops, law_left, law_walkers};
 use rp_words::End;
 use std::alloc::{AllocError, AllocFailed, Global};
 use std::marker::{Brand, Model};
@@ -94,7 +95,7 @@ impl Matcher {
             ≤ all_turns (count self.now.known) self.now.known.end (form_of self.now.query.pattern) }
     {
         law_walkers();
-        rp_walker::law_left();
+        law_left();
         self.walker.state()
     }
 
@@ -242,8 +243,7 @@ fn drop_rows(query: &Query, rows: &mut Kept, walker: &mut Walker)
     ensures left { left_in query.now (known_by rows.new) walker.new
         ≡ left_in query.now (known_by rows.old) walker.old }
 {
-    law_walkers();
-    rp_walker::law_left();
+    law_drops();
     // It brings in that the query is sound.
     let _plan = query.plan();
     let horizon = walker.horizon(query, rows);

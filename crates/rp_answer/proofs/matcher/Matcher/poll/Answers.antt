@@ -1,19 +1,16 @@
-use Rattle.std.proofs.Common.{sym, subst}
+use Rattle.std.proofs.Common.{sym, subst, ◌∙◌}
 use Rattle.rp_walker.specs.FitLaws.{AgreesFrom}
 use Rattle.rp_walker.specs.Polls.{left_in, PollLowers}
 use Rattle.rp_walker.specs.Walking.{record_of}
 use Rattle.rp_answer.specs.Matching.{known_by}
 use Rattle.rp_answer.proofs.Dropping.{along_dropped, comes_dropped, stays_along, still_agree, on_err_of}
-use Rattle.rp_answer.proofs.Readiness.{ready_still}
 use Rattle.rp_answer.proofs.matcher.Matcher.poll.Goals as goal
 
 pub returns-then-budget-eq0-clause-moves : goal.returns-then-budget-eq0-clause-moves
 returns-then-budget-eq0-clause-moves g c = let m = c.args.self.now in stays_along m.query m.known m.state
 
 pub invariant_of-self : goal.invariant_of-self
-invariant_of-self g c =
-    let m = c.self.inside in
-    ready_still c.law_walkers.ensures.can m.query m.rows m.walker c.poll.new.self c.poll.ensures.stands c.poll.ensures.stays.first c.self.invariant
+invariant_of-self g c = record { stands = c.poll.ensures.stands; first = c.poll.ensures.stays.first ∙ c.self.invariant.first }
 
 pub returns-in_err-answer-clause-rows : goal.returns-in_err-answer-clause-rows
 returns-in_err-answer-clause-rows g c =
@@ -24,9 +21,7 @@ returns-in_err-answer-clause-out_of_memory g c =
     rw (← c.self.view_is) (on_err_of _ c.from_residual.result c.in_err-answer.ensures.out_of_memory)
 
 pub drop_rows-requires : goal.drop_rows-requires
-drop_rows-requires g c =
-    let m = c.self.inside in
-    ready_still c.law_walkers.ensures.can m.query m.rows m.walker c.poll.new.self c.poll.ensures.stands c.poll.ensures.stays.first c.self.invariant
+drop_rows-requires g c = record { stands = c.poll.ensures.stands; first = c.poll.ensures.stays.first ∙ c.self.invariant.first }
 
 pub returns-clause-answers : goal.returns-clause-answers
 returns-clause-answers g c =
@@ -36,7 +31,7 @@ returns-clause-answers g c =
     let w = c.drop_rows.new.walker in
     let e = c.drop_rows.ensures in
     let a = c.in_ok-answer.ensures in
-    rw (← c.self.view_is) (comes_dropped q (known_by m.rows) (record_of m.walker) (record_of c.poll.new.self) (record_of w) n.first e.«record» e.ready.needed c.in_ok-answer.answer
+    rw (← c.self.view_is) (comes_dropped q (known_by m.rows) (record_of m.walker) (record_of c.poll.new.self) (record_of w) n.first e.«record» (c.law_walkers.ensures.can q (known_by n) w e.ready.stands) c.in_ok-answer.answer
     (record { answers = a.answers; given = a.given; stops = a.stops }))
 
 pub returns-clause-moves : goal.returns-clause-moves
@@ -46,7 +41,7 @@ returns-clause-moves g c =
     let n = c.drop_rows.new.rows in
     let w = c.drop_rows.new.walker in
     let e = c.drop_rows.ensures in
-    rw (← c.self.view_is) (along_dropped q (known_by m.rows) (record_of m.walker) (record_of c.poll.new.self) (record_of w) n.first e.«record» e.ready.needed c.poll.ensures.moves)
+    rw (← c.self.view_is) (along_dropped q (known_by m.rows) (record_of m.walker) (record_of c.poll.new.self) (record_of w) n.first e.«record» (c.law_walkers.ensures.can q (known_by n) w e.ready.stands) c.poll.ensures.moves)
 
 pub returns-clause-rows : goal.returns-clause-rows
 returns-clause-rows g c =
