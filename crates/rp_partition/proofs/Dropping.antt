@@ -1,35 +1,29 @@
 -- A poll, and the rows that are dropped after it.
-use Rattle.std.proofs.Common.{◌≡◌, inl, inr, ℕ, ◌+◌, ◌≤◌, min, Bool, true, false, cond, List, [], ◌∷◌, Result, Ok, Err, refl, sym, ap, ◌∙◌, subst, arith}
+use Rattle.std.proofs.Common.{◌≡◌, inl, inr, ℕ, ◌+◌, ◌≤◌, min, max, Bool, true, false, cond, List, [], ◌∷◌, Result, Ok, Err, refl, sym, ap, ◌∙◌, subst, arith}
 use Rattle.std.specs.Prelude.{nat_le, IsErr}
 use Rattle.std.proofs.lemmas.Bool.Decides.{nat_tests}
 use Rattle.rp_feed.specs.Fed.{Fed, Numbered, AscendFrom, IsOrdered, front_of, is_taken, rows_from, forgotten}
 use Rattle.rp_query.specs.declared.query.QueryData.{QueryData}
-use Rattle.rp_query.specs.Sound.{IsSound}
 use Rattle.rp_known.specs.Known.{Known, count}
 use Rattle.rp_known.specs.WalkLaws.{GoesOnFrom}
 use Rattle.rp_known.specs.Plans.{first_read}
 use Rattle.rp_walker.specs.declared.poll.Poll.{Poll}
 use Rattle.rp_walker.specs.declared.poll.Poll.TheVariants.{Item as ItemPoll, Idle as IdlePoll, Paused as PausedPoll}
 use Rattle.rp_walker.specs.declared.record.MatcherState.{MatcherState}
-use Rattle.rp_walker.specs.declared.walker.Walker.{Walker}
 use Rattle.rp_walker.specs.FitLaws.{AgreesFrom}
-use Rattle.rp_walker.specs.Bound.{SeenIsSame, search_seen}
-use Rattle.rp_walker.specs.LeftLaw.{LeftIsSame}
-use Rattle.rp_walker.specs.Polls.{left_in, Answers, AnswerIs, GivenBy, StopsAtLast, GoesAlong}
+use Rattle.rp_walker.specs.LeftLaw.{Drops, HoldsNoMore as NoMoreIsKept}
+use Rattle.rp_walker.specs.Polls.{Answers, AnswerIs, GivenBy, StopsAtLast, GoesAlong}
 use Rattle.rp_walker.specs.Records.{horizon_of, IsLastStart, StandsInRows}
-use Rattle.rp_walker.specs.Walking.{record_of, Stands, StandsStays}
 use Rattle.rp_schedules.specs.Schedules.{Gives, Pauses}
 use Rattle.rp_schedules.specs.Records.{Row, Held, Fits, Polls, item, idle, paused, PollFits, RecordsStay, seen_part}
+use Rattle.rp_partition.specs.Feeds.{Feeds}
 use Rattle.rp_partition.specs.PartRows.{known_count, known_by}
-use Rattle.rp_partition.specs.Polling.{act_by, HoldsNoMore, OnlyDrops, PolledTo}
-use Rattle.rp_partition.proofs.Feeds.{Feeds, drops_agree, seen_agrees}
+use Rattle.rp_partition.specs.Polling.{act_by, OnlyDrops, PolledTo}
+use Rattle.rp_partition.proofs.Feeds.{drops_agree, seen_agrees}
 
 -- rows that agree from a row on agree from a later one on
 pub goes_from : (first later : ℕ) (p p' : Known) → first ≤ later → GoesOnFrom first p p' → GoesOnFrom later p p'
 goes_from first later p p' le g = record { later = g.later; same = λ row from known. g.same row (omega (arith, le, from)) known }
-
-agrees_later : (first later : ℕ) (p p' : Known) → first ≤ later → AgreesFrom first p p' → AgreesFrom later p p'
-agrees_later first later p p' le a = record { on = goes_from first later p p' le a.on; back = goes_from first later p' p le a.back }
 
 agrees_itself : (first : ℕ) (p : Known) → AgreesFrom first p p
 agrees_itself first p =
@@ -65,32 +59,24 @@ forgets before fed new same less = go (nat_le before fed.first) refl
     go false e = let h : fed.first ≤ before = grind (arith, nat_tests) in dropped h (less h)
 
 module _ (laws : Feeds) (fed new : Fed) (before : ℕ) (is : IsOrdered fed) (within : before ≤ front_of fed + 1) where
-  pub agrees_after : Forgets before fed new → AgreesFrom new.first (known_by fed) (known_by new)
+  agrees_after : Forgets before fed new → AgreesFrom new.first (known_by fed) (known_by new)
   agrees_after (kept h e) = subst (λ (f : Fed). AgreesFrom f.first (known_by fed) (known_by f)) (sym e) (agrees_itself fed.first (known_by fed))
   agrees_after (dropped h e) =
       subst (λ (f : Fed). AgreesFrom f.first (known_by fed) (known_by f)) (sym e) (drops_agree laws fed before is (record { kept = h; reached = within }))
 
-  pub low_after : Forgets before fed new → fed.first ≤ new.first
+  low_after : Forgets before fed new → fed.first ≤ new.first
   low_after (kept h e) = let f = ap (λ (z : Fed). z.first) e in omega (arith, f)
   low_after (dropped h e) = let f = ap (λ (z : Fed). z.first) e in omega (arith, f, h)
 
-  pub high_after : Forgets before fed new → before ≤ new.first
+  high_after : Forgets before fed new → before ≤ new.first
   high_after (kept h e) = let f = ap (λ (z : Fed). z.first) e in omega (arith, f, h)
   high_after (dropped h e) = let f = ap (λ (z : Fed). z.first) e in omega (arith, f)
 
-  pub least_after : (bound : ℕ) → Forgets before fed new → fed.first ≤ bound → before ≤ bound → new.first ≤ bound
-  least_after bound (kept h e) k l = let f = ap (λ (z : Fed). z.first) e in omega (arith, f, k)
-  least_after bound (dropped h e) k l = let f = ap (λ (z : Fed). z.first) e in omega (arith, f, l)
-
-  pub front_after : Forgets before fed new → front_of new ≡ front_of fed
-  front_after (kept h e) = ap front_of e
-  front_after (dropped h e) = ap front_of e ∙ laws.front_stays fed before is (record { kept = h; reached = within })
-
-  pub taken_after : Forgets before fed new → (n : ℕ) → is_taken new n ≡ is_taken fed n
+  taken_after : Forgets before fed new → (n : ℕ) → is_taken new n ≡ is_taken fed n
   taken_after (kept h e) n = ap (λ f. is_taken f n) e
   taken_after (dropped h e) n = ap (λ f. is_taken f n) e ∙ laws.stays fed before n is (record { kept = h; reached = within })
 
-  pub closed_after : Forgets before fed new → new.closed ≡ fed.closed
+  closed_after : Forgets before fed new → new.closed ≡ fed.closed
   closed_after (kept h e) = ap (λ (z : Fed). z.closed) e
   closed_after (dropped h e) = ap (λ (z : Fed). z.closed) e
 
@@ -104,7 +90,7 @@ module _ (laws : Feeds) (fed new : Fed) (before : ℕ) (is : IsOrdered fed) (wit
 
   -- a record that fits goes on fitting
   pub fits_after : (q : QueryData) (whole : List Row) (r : MatcherState) (r' : MatcherState) → RecordsStay q whole → Forgets before fed new → r' ≡ record r { first = new.first }
-      → (r.over ≡ false → before ≤ first_read q r.at) → Fits q whole (record { feed = fed; state = r }) → Fits q whole (record { feed = new; state = r' })
+      → (r.over ≡ false → new.first ≤ first_read q r.at) → Fits q whole (record { feed = fed; state = r }) → Fits q whole (record { feed = new; state = r' })
   fits_after q whole r r' stay (kept h e) i needed fits =
       let same : r' ≡ r = i ∙ ap (λ (f : Fed). record r { first = f.first }) e ∙ ap (λ n. record r { first = n }) (sym fits.first) in
       subst (λ (z : MatcherState). Fits q whole (record { feed = new; state = z })) (sym same) (subst (λ (f : Fed). Fits q whole (record { feed = f; state = r })) (sym e) fits)
@@ -112,62 +98,34 @@ module _ (laws : Feeds) (fed new : Fed) (before : ℕ) (is : IsOrdered fed) (wit
       let now : r' ≡ record r { first = before } = i ∙ ap (λ (f : Fed). record r { first = f.first }) e in
       subst (λ (z : MatcherState). Fits q whole (record { feed = new; state = z })) (sym now)
       (subst (λ (f : Fed). Fits q whole (record { feed = f; state = record r { first = before } })) (sym e)
-      (stay.rest_fits (record { feed = fed; state = r }) before fits (record { kept = h; reached = within }) needed))
+      (stay.rest_fits (record { feed = fed; state = r }) before fits (record { kept = h; reached = within })
+      (λ going. subst (λ n. n ≤ first_read q r.at) (ap (λ (f : Fed). f.first) e) (needed going))))
 
--- ---- the horizon
+  -- the rows below the horizon are dropped, as far as the front
+  module _ (q : QueryData) (r : MatcherState) (first : r.first ≡ fed.first) (horizon : ℕ) (horizon_is : horizon ≡ horizon_of q (known_by fed) r) (bound : before ≡ min horizon (front_of fed + 1)) where
+    not_past : Forgets before fed new → new.first ≤ max r.first horizon
+    not_past (kept h e) = let f = ap (λ (z : Fed). z.first) e in omega (arith, f, first)
+    not_past (dropped h e) = let f = ap (λ (z : Fed). z.first) e in omega (arith, f, bound)
 
--- the rows below the horizon are dropped, as far as the front
-module _ (laws : Feeds) (q : QueryData) (fed new : Fed) (w : Walker) (is : IsOrdered fed) (horizon : ℕ) (horizon_is : horizon ≡ horizon_of q (known_by fed) (record_of w))
-    (forgot : Forgets (min horizon (front_of fed + 1)) fed new) (can : (record_of w).over ≡ false → fed.first ≤ first_read q (record_of w).at) where
-  pub within_front : min horizon (front_of fed + 1) ≤ front_of fed + 1
-  within_front = omega arith
+    holds_no_more : Forgets before fed new → NoMoreIsKept q (known_by fed) (record r { first = new.first })
+    holds_no_more forgot = go (nat_le horizon (front_of fed + 1)) refl
+      where
+        go : (b : Bool) → nat_le horizon (front_of fed + 1) ≡ b → NoMoreIsKept q (known_by fed) (record r { first = new.first })
+        go true t =
+            let l : horizon ≤ front_of fed + 1 = grind (arith, nat_tests) in
+            inl (subst (λ h. h ≤ new.first) horizon_is (omega (arith, high_after forgot, bound, l)))
+        go false t =
+            let l : front_of fed + 1 ≤ horizon = grind (arith, nat_tests) in
+            inr (omega (arith, high_after forgot, bound, l, known_count fed is.least))
 
-  pub needed : (record_of w).over ≡ false → min horizon (front_of fed + 1) ≤ first_read q (record_of w).at
-  needed going =
-      let h : horizon ≡ first_read q (record_of w).at = horizon_is ∙ ap (λ b. cond b (count (known_by fed) + 1) (first_read q (record_of w).at)) going in
-      omega (arith, h)
+    pub drops : Forgets before fed new → Drops q r new.first (known_by fed) (known_by new)
+    drops forgot =
+        record { agree = agrees_after forgot; not_past = subst (λ h. new.first ≤ max r.first h) horizon_is (not_past forgot); all = holds_no_more forgot }
 
-  pub bound_after : (record_of w).over ≡ false → new.first ≤ first_read q (record_of w).at
-  bound_after going = least_after laws fed new (min horizon (front_of fed + 1)) is within_front (first_read q (record_of w).at) forgot (can going) (needed going)
-
-  agrees : AgreesFrom new.first (known_by fed) (known_by new)
-  agrees = agrees_after laws fed new (min horizon (front_of fed + 1)) is within_front forgot
-
-  pub stands_after : StandsStays → IsSound q → Stands q (known_by fed) w → Stands q (known_by new) w
-  stands_after stays sound h =
-      stays q (known_by fed) (known_by new) w sound (λ going. goes_from new.first (first_read q (record_of w).at) (known_by fed) (known_by new) (bound_after going) agrees.on) h
-
-  pub left_after : LeftIsSame → IsSound q → Stands q (known_by fed) w → left_in q (known_by new) w ≡ left_in q (known_by fed) w
-  left_after same sound h =
-      same q (known_by fed) (known_by new) w sound (λ going. agrees_later new.first (first_read q (record_of w).at) (known_by fed) (known_by new) (bound_after going) agrees) h
-
-  same_count : IsOrdered new → count (known_by new) ≡ count (known_by fed)
-  same_count is' = known_count new is'.least ∙ front_after laws fed new (min horizon (front_of fed + 1)) is within_front forgot ∙ sym (known_count fed is.least)
-
-  pub search_after : SeenIsSame → IsOrdered new → search_seen q (known_by new) w ≡ search_seen q (known_by fed) w
-  search_after same is' = same q (known_by fed) (known_by new) w (same_count is')
-
-  pub in_rows_after : IsOrdered new → (r : MatcherState) → r ≡ record (record_of w) { first = new.first } → StandsInRows (known_by fed) (record_of w) → StandsInRows (known_by new) r
-  in_rows_after is' r e h =
-      subst (StandsInRows (known_by new)) (sym e)
-      (omega (arith, h.0, same_count is'), λ going. omega (arith, h.1 going, same_count is'))
-
-  pub holds_after : IsOrdered new → (r : MatcherState) → r ≡ record (record_of w) { first = new.first } → HoldsNoMore q (record { feed = new; state = r })
-  holds_after is' r e = go (nat_le horizon (front_of fed + 1)) refl
-    where
-      same_horizon : horizon_of q (known_by new) r ≡ horizon
-      same_horizon =
-          ap (λ (z : MatcherState). horizon_of q (known_by new) z) e ∙ ap (λ c. cond (record_of w).over (c + 1) (first_read q (record_of w).at)) (same_count is') ∙ sym horizon_is
-
-      high : min horizon (front_of fed + 1) ≤ new.first
-      high = high_after laws fed new (min horizon (front_of fed + 1)) is within_front forgot
-
-      front : front_of new ≡ front_of fed
-      front = front_after laws fed new (min horizon (front_of fed + 1)) is within_front forgot
-
-      go : (b : Bool) → nat_le horizon (front_of fed + 1) ≡ b → HoldsNoMore q (record { feed = new; state = r })
-      go true t = let l : horizon ≤ front_of fed + 1 = grind (arith, nat_tests) in inl (omega (arith, same_horizon, high, l))
-      go false t = let l : front_of fed + 1 ≤ horizon = grind (arith, nat_tests) in inr (omega (arith, front, high, l))
+-- a walk that stands in the rows stands in as many
+pub in_rows_after : (p p' : Known) (r r' : MatcherState) (first : ℕ) → count p' ≡ count p → r' ≡ record r { first = first } → StandsInRows p r → StandsInRows p' r'
+in_rows_after p p' r r' first same e h =
+    subst (StandsInRows p') (sym e) (omega (arith, h.0, same), λ going. omega (arith, h.1 going, same))
 
 -- ---- what is answered
 

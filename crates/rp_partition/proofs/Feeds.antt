@@ -2,29 +2,19 @@
 use Rattle.std.proofs.Common.{◌≡◌, ℕ, ◌-◌, ◌<◌, ◌≤◌, List, length, take, Bool, true, false, cond, ◌&&◌, ◌||◌, Option, Some, None, refl, sym, ap, ◌∙◌, arith, eqb}
 use Rattle.std.specs.Prelude.{slice_get, is_some, nat_lt}
 use Rattle.std.proofs.lemmas.Bool.Decides.{nat_tests}
+use Rattle.std.proofs.lemmas.List.{length-take-le}
 use Rattle.rp_value.specs.declared.value.Value.{Value}
 use Rattle.rp_words.specs.declared.word.End.TheVariants.{Open, Closed}
 use Rattle.rp_feed.specs.Fed.{Fed, IsOrdered, IsFront, IsFree, IsReached, front_of, with_taken, with_close, forgotten, row_at as held_at}
 use Rattle.rp_feed.specs.Answers.{IsDue, is_past}
-use Rattle.rp_feed.specs.FedLaws.{RowIsAdded, RowsAreDropped, TakenStays, OrderStays, OrderIsKept, FrontIsOne, FrontGrows, FrontStays}
 use Rattle.rp_eval.specs.Partition.{Rows, row_at}
 use Rattle.rp_known.specs.Known.{count}
 use Rattle.rp_known.specs.WalkLaws.{GoesOnFrom}
 use Rattle.rp_walker.specs.FitLaws.{AgreesFrom}
 use Rattle.rp_schedules.specs.Records.{IsOf, end_seen, seen_part}
+use Rattle.rp_partition.specs.Feeds.{Feeds}
 use Rattle.rp_partition.specs.PartRows.{known_rows, known_count, known_by, end_of, end_at}
-use Rattle.rp_partition.proofs.Rows.{known_at, take_length, taken_row}
-
--- the laws of feeds
-pub record Feeds : Type 0 where
-  pub added : RowIsAdded
-  pub dropped : RowsAreDropped
-  pub stays : TakenStays
-  pub ordered : OrderStays
-  pub kept : OrderIsKept
-  pub one : FrontIsOne
-  pub grows : FrontGrows
-  pub front_stays : FrontStays
+use Rattle.rp_partition.proofs.Rows.{known_at, taken_row}
 
 apart : {A : Type 0} {o : Option A} → is_some o ≡ true → o ≡ None → ⊥
 apart s n = cc
@@ -155,7 +145,7 @@ module _ (laws : Feeds) where
             ap (λ b. cond b Closed Open) t
 
     counts_alike : length (known_rows fed) ≡ length (take (front_of fed) whole)
-    counts_alike = known_count fed of.ordered.least ∙ sym (take_length (front_of fed) whole within)
+    counts_alike = known_count fed of.ordered.least ∙ sym (length-take-le (front_of fed) whole within)
 
     held_row : (k : ℕ) (o : Option (List Value)) → held_at fed.rows k ≡ o → fed.first ≤ k → k ≤ front_of fed → slice_get whole (k - 1) ≡ held_at fed.rows k
     held_row k None e low high =

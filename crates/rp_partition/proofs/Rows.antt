@@ -1,7 +1,8 @@
 -- The rows of a feed up to its front, one by one.
-use Rattle.std.proofs.Common.{◌≡◌, ℕ, zero, suc, ◌+◌, ◌-◌, ◌<◌, ◌≤◌, List, [], ◌∷◌, ◌++◌, length, take, replicate, Bool, true, false, cond, Some, None, refl, sym, ap, ◌∙◌, subst, arith, eqb}
+use Rattle.std.proofs.Common.{◌≡◌, ℕ, zero, suc, ◌+◌, ◌-◌, ◌<◌, ◌≤◌, List, [], ◌∷◌, ◌++◌, take, replicate, Bool, true, false, cond, Some, None, refl, sym, ap, ◌∙◌, subst, arith, eqb}
 use Rattle.std.specs.Prelude.{slice_get, nat_le}
 use Rattle.std.proofs.lemmas.Bool.Decides.{nat_tests}
+use Rattle.std.proofs.lemmas.Option.{slice_get_past}
 use Rattle.rp_feed.specs.Fed.{Fed, Numbered, AscendFrom, IsOrdered, first_missing, front_of, row_at as held_at}
 use Rattle.rp_eval.specs.Dropped.{row_known}
 use Rattle.rp_eval.specs.Partition.{Rows, row_at, row_from}
@@ -33,11 +34,6 @@ behind zero i rest h = ap (slice_get rest) (let z : i ≡ i - 0 = omega arith in
 behind (suc n) zero rest h = absurd (omega (arith, h))
 behind (suc n) (suc i) rest h = behind n i rest (omega (arith, h)) ∙ ap (slice_get rest) (let z : i - n ≡ suc i - suc n = omega arith in z)
 
-beyond : {A : Type 0} (xs : List A) (i : ℕ) → length xs ≤ i → slice_get xs i ≡ None
-beyond [] i h = refl
-beyond (x ∷ xs) zero h = absurd (omega (arith, h))
-beyond (x ∷ xs) (suc i) h = beyond xs i (omega (arith, h))
-
 -- a row that isn't dropped, up to the front
 pub known_at : (fed : Fed) (row : ℕ) → IsOrdered fed → fed.first ≤ row → row ≤ front_of fed → row_at (known_rows fed) row ≡ held_at fed.rows row
 unfolding known_rows
@@ -53,7 +49,7 @@ pub past_front : (fed : Fed) (row : ℕ) → 1 ≤ fed.first → front_of fed < 
 past_front fed row one h = go (nat_le fed.first row)
   where
     none : row_at (known_rows fed) row ≡ None
-    none = row_known (known_rows fed) row (omega (arith, h)) ∙ beyond (known_rows fed) (row - 1) (omega (arith, h, known_count fed one))
+    none = row_known (known_rows fed) row (omega (arith, h)) ∙ slice_get_past (known_rows fed) (row - 1) (omega (arith, h, known_count fed one))
 
     go : (b : Bool) → cond b (row_at (known_rows fed) row) None ≡ None
     go true = none
@@ -80,11 +76,6 @@ take_at zero i xs h = absurd (omega (arith, h))
 take_at (suc n) i [] h = refl
 take_at (suc n) zero (x ∷ xs) h = refl
 take_at (suc n) (suc i) (x ∷ xs) h = take_at n i xs (omega (arith, h))
-
-pub take_length : {A : Type 0} (n : ℕ) (xs : List A) → n ≤ length xs → length (take n xs) ≡ n
-take_length zero xs h = refl
-take_length (suc n) [] h = absurd (omega (arith, h))
-take_length (suc n) (x ∷ xs) h = ap suc (take_length n xs (omega (arith, h)))
 
 pub taken_row : (front row : ℕ) (whole : Rows) → 1 ≤ row → row ≤ front → row_at (take front whole) row ≡ slice_get whole (row - 1)
 taken_row front row whole one high = row_known (take front whole) row one ∙ take_at front (row - 1) whole (omega (arith, one, high))

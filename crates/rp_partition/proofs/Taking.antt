@@ -15,9 +15,10 @@ use Rattle.rp_known.specs.Plans.{first_read}
 use Rattle.rp_walker.specs.Bound.{SeenGrows, SeenRises, search_seen}
 use Rattle.rp_walker.specs.Walking.{record_of, StandsStays, StandsCanGoOn}
 use Rattle.rp_partition.specs.declared.partition.Partition.{Partition}
+use Rattle.rp_partition.specs.Feeds.{Feeds}
 use Rattle.rp_partition.specs.PartRows.{known_by, known_count}
 use Rattle.rp_partition.specs.Joined.{Joined}
-use Rattle.rp_partition.proofs.Feeds.{Feeds, row_goes_on, close_goes_on}
+use Rattle.rp_partition.proofs.Feeds.{row_goes_on, close_goes_on}
 use Rattle.rp_partition.proofs.Dropping.{goes_from}
 
 -- the feed goes on, with the same rows dropped

@@ -1,3 +1,4 @@
+pub mod Feeds
 pub mod PartRows
 pub mod Joined
 pub mod Polling

@@ -1,12 +1,13 @@
 -- What a poll makes of the record of a partition.
-use Rattle.std.specs.Prelude.{◌≡◌, ◌+◌, ◌≤◌, ◌⊎◌, ℕ, false, List, Result, Ok, Err, OnErr}
+use Rattle.std.specs.Prelude.{◌≡◌, ◌≤◌, ℕ, false, List, Result, Ok, Err, OnErr}
 use Rattle.rp_query.specs.declared.item.Item.{Item}
 use Rattle.rp_query.specs.declared.query.QueryData.{QueryData}
-use Rattle.rp_feed.specs.Fed.{Fed, front_of, is_taken, rows_from}
+use Rattle.rp_feed.specs.Fed.{Fed, is_taken, rows_from}
 use Rattle.rp_walker.specs.declared.poll.Poll.{Poll}
 use Rattle.rp_walker.specs.declared.poll.Poll.TheVariants.{Item as ItemPoll, Idle as IdlePoll, Paused as PausedPoll}
+use Rattle.rp_walker.specs.LeftLaw.{HoldsNoMore as NoMoreIsKept}
 use Rattle.rp_walker.specs.Polls.{GivenBy}
-use Rattle.rp_walker.specs.Records.{horizon_of, IsLastStart}
+use Rattle.rp_walker.specs.Records.{IsLastStart}
 use Rattle.rp_schedules.specs.Schedules.{Act, Gives, Idles, Pauses}
 use Rattle.rp_schedules.specs.Records.{Row, Held, Fits, PollFits, seen_part}
 use Rattle.rp_partition.specs.PartRows.{known_by}
@@ -28,7 +29,7 @@ given_by old new (Err e) = new.state.given ≡ old.state.given
 
 -- no row below the horizon is held, unless all rows up to the front are dropped
 abbrev pub HoldsNoMore : QueryData → Held → Type 0
-HoldsNoMore q r = horizon_of q (known_by r.feed) r.state ≤ r.feed.first ⊎ (front_of r.feed + 1 ≤ r.feed.first)
+HoldsNoMore q r = NoMoreIsKept q (known_by r.feed) (record r.state { first = r.feed.first })
 
 -- What a poll leaves of a feed: rows below a number are dropped, and nothing else. The rows from there on are held as before,
 -- the same numbers were taken, and the close is the same.

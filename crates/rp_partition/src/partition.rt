@@ -7,6 +7,7 @@ ghost use Rattle.rp_feed.specs.Fed.{with_close, with_taken};
 ghost use Rattle.rp_walker.specs.Walking.{record_of};
 ghost use Rattle.rp_walker.specs.Polls.{entered_by, PollLowers, PollTakes, TurnsAreCounted};
 ghost use Rattle.rp_schedules.specs.Records.{fresh, Fits};
+ghost use Rattle.rp_partition.specs.Feeds.{Feeds};
 ghost use Rattle.rp_partition.specs.Joined.{CanResume, Joined, WorksBy, held_of, work_of};
 ghost use Rattle.rp_partition.specs.Polling.{HoldsNoMore, OnlyDrops, PolledTo};
 ghost use Rattle.rp_partition.specs.Taking.{TakenBy};
@@ -16,7 +17,7 @@ use rp_feed::{Feed, FeedFault, Taken};
 use rp_query::Query;
 use rp_search::Steps;
 use rp_value::Row;
-use rp_walker::{MatcherState, Poll, Walker, law_walkers, law_work};
+use rp_walker::{MatcherState, Poll, Walker, law_drops, law_walkers, law_work};
 use std::alloc::{AllocError, Global};
 use std::sync::ledger::Ledger;
 
@@ -77,8 +78,7 @@ impl Partition {
             (with_taken number row (held_of self.old).feed) self.old self.new result }
     {
         rp_feed::law_new();
-        rp_feed::law_rows();
-        rp_feed::law_front();
+        law_feeds();
         law_walkers();
         law_work();
         // It brings in that the query is sound.
@@ -96,8 +96,7 @@ impl Partition {
             (with_close count (held_of self.old).feed) self.old self.new result }
     {
         rp_feed::law_new();
-        rp_feed::law_rows();
-        rp_feed::law_front();
+        law_feeds();
         law_walkers();
         law_work();
         // It brings in that the query is sound.
@@ -134,8 +133,7 @@ impl Partition {
         law_walkers();
         law_work();
         rp_schedules::law_schedules();
-        rp_feed::law_rows();
-        rp_feed::law_front();
+        law_feeds();
         // It brings in that the query is sound.
         let _plan = query.plan();
         let rows = PartRows::new(&self.feed);
@@ -160,11 +158,9 @@ impl Partition {
         ensures let_go { (record_of self.old.walker).over ≡ true → (work_of query.now self.new).search ≡ None }
         ensures held { HoldsNoMore query.now (held_of self.new) }
     {
-        law_walkers();
+        law_drops();
         law_work();
-        rp_walker::law_left();
-        rp_feed::law_rows();
-        rp_feed::law_front();
+        law_feeds();
         rp_schedules::law_schedules();
         // It brings in that the query is sound.
         let _plan = query.plan();
@@ -176,4 +172,12 @@ impl Partition {
         let _front = self.feed.front();
         self.walker.keep_from(self.feed.first());
     }
+}
+
+/// The laws of feeds that the walk over their rows rests on.
+fn law_feeds()
+    ensures { Feeds }
+{
+    rp_feed::law_rows();
+    rp_feed::law_front();
 }

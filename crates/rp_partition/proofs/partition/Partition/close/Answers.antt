@@ -1,23 +1,12 @@
 use Rattle.std.proofs.Common.{sym, ap, ◌∙◌, refl}
 use Rattle.rp_feed.specs.Answers.{memory_aside}
-use Rattle.rp_partition.proofs.Feeds.{Feeds}
 use Rattle.rp_partition.proofs.Taking.{close_later, joined_later, search_later, close_no_memory}
 use Rattle.rp_partition.proofs.partition.Partition.close.Goals as goal
 
 pub returns : goal.returns
 returns c =
     let p = c.args.self.now in
-    let laws : Feeds = record {
-      added = c.law_rows.ensures.added;
-      dropped = c.law_rows.ensures.dropped;
-      stays = c.law_rows.ensures.stays_taken;
-      ordered = c.law_rows.ensures.ordered_after_row;
-      kept = c.law_rows.ensures.ordered_after_drop;
-      one = c.law_front.ensures.one;
-      grows = c.law_front.ensures.grows;
-      front_stays = c.law_front.ensures.stays;
-    } in
-    let later = close_later laws p.feed c.close-taken.new.self c.args.count c.close-taken.result c.requires.joined.feed.ordered
+    let later = close_later c.law_feeds.ensures p.feed c.close-taken.new.self c.args.count c.close-taken.result c.requires.joined.feed.ordered
     (λ e. c.law_new.ensures.close p.feed c.args.count (sym c.close-taken.ensures.answer ∙ e)) c.close-taken.ensures.changes in
     record {
       taken = record {

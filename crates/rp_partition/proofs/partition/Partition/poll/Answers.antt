@@ -8,7 +8,6 @@ use Rattle.rp_partition.specs.Joined.{held_of, work_of}
 use Rattle.rp_partition.specs.PartRows.{known_by}
 use Rattle.rp_partition.proofs.Bounds.{dropped_works, none_works}
 use Rattle.rp_partition.proofs.Rows.{known_alike}
-use Rattle.rp_partition.proofs.Feeds.{Feeds}
 use Rattle.rp_partition.proofs.Dropping.{still_polled, polled_err, polled_ok}
 use Rattle.rp_partition.proofs.partition.Partition.poll.Goals as goal
 
@@ -19,18 +18,8 @@ pub returns-in_err-answer-clause-polled : goal.returns-in_err-answer-clause-poll
 returns-in_err-answer-clause-polled g c =
     let q = c.args.query.now in
     let fed = c.args.self.now.feed in
-    let laws : Feeds = record {
-      added = c.law_rows.ensures.added;
-      dropped = c.law_rows.ensures.dropped;
-      stays = c.law_rows.ensures.stays_taken;
-      ordered = c.law_rows.ensures.ordered_after_row;
-      kept = c.law_rows.ensures.ordered_after_drop;
-      one = c.law_front.ensures.one;
-      grows = c.law_front.ensures.grows;
-      front_stays = c.law_front.ensures.stays;
-    } in
     let known = known_alike c.new-rows.result.feed.now fed c.new-rows.result.end c.new-rows.ensures.feed c.new-rows.ensures.end in
-    polled_err laws q fed (record_of c.args.self.now.walker) (record_of c.poll.new.self) (λ whole. c.law_schedules.ensures.fits q whole c.plan-plan.ensures.sound) c.poll.ensures.stays.first
+    polled_err c.law_feeds.ensures q fed (record_of c.args.self.now.walker) (record_of c.poll.new.self) (λ whole. c.law_schedules.ensures.fits q whole c.plan-plan.ensures.sound) c.poll.ensures.stays.first
     c.from_residual.result c.from_residual.ensures.0 c.requires.joined.feed.ordered
     (subst (λ (k : Known). GoesAlong q k (record_of c.args.self.now.walker) (record_of c.poll.new.self)) known c.poll.ensures.moves)
     c.in_err-answer.ensures.out_of_memory.given
@@ -39,18 +28,8 @@ pub returns-clause-polled : goal.returns-clause-polled
 returns-clause-polled g c =
     let q = c.args.query.now in
     let fed = c.args.self.now.feed in
-    let laws : Feeds = record {
-      added = c.law_rows.ensures.added;
-      dropped = c.law_rows.ensures.dropped;
-      stays = c.law_rows.ensures.stays_taken;
-      ordered = c.law_rows.ensures.ordered_after_row;
-      kept = c.law_rows.ensures.ordered_after_drop;
-      one = c.law_front.ensures.one;
-      grows = c.law_front.ensures.grows;
-      front_stays = c.law_front.ensures.stays;
-    } in
     let known = known_alike c.new-rows.result.feed.now fed c.new-rows.result.end c.new-rows.ensures.feed c.new-rows.ensures.end in
-    polled_ok laws q fed (record_of c.args.self.now.walker) (record_of c.poll.new.self) (λ whole. c.law_schedules.ensures.fits q whole c.plan-plan.ensures.sound) c.poll.ensures.stays.first
+    polled_ok c.law_feeds.ensures q fed (record_of c.args.self.now.walker) (record_of c.poll.new.self) (λ whole. c.law_schedules.ensures.fits q whole c.plan-plan.ensures.sound) c.poll.ensures.stays.first
     c.in_ok-answer.answer (held_of c.drop_rows.new.self)
     (subst (λ (k : Known). GoesAlong q k (record_of c.args.self.now.walker) (record_of c.poll.new.self)) known c.poll.ensures.moves)
     (subst (λ (k : Known). Answers q k (record_of c.args.self.now.walker) (record_of c.poll.new.self) c.in_ok-answer.answer) known c.in_ok-answer.ensures.answers)

@@ -2,24 +2,13 @@ use Rattle.std.proofs.Common.{sym, ap, ◌∙◌, refl}
 use Rattle.std.specs.Cmp.Lexicographic.{pointwise}
 use Rattle.rp_value.specs.contracts.value.ValuePartialEq.TheImpl.{eq-value}
 use Rattle.rp_feed.specs.Answers.{memory_aside}
-use Rattle.rp_partition.proofs.Feeds.{Feeds}
 use Rattle.rp_partition.proofs.Taking.{row_later, joined_later, search_later}
 use Rattle.rp_partition.proofs.partition.Partition.take.Goals as goal
 
 pub returns : goal.returns
 returns c =
     let p = c.args.self.now in
-    let laws : Feeds = record {
-      added = c.law_rows.ensures.added;
-      dropped = c.law_rows.ensures.dropped;
-      stays = c.law_rows.ensures.stays_taken;
-      ordered = c.law_rows.ensures.ordered_after_row;
-      kept = c.law_rows.ensures.ordered_after_drop;
-      one = c.law_front.ensures.one;
-      grows = c.law_front.ensures.grows;
-      front_stays = c.law_front.ensures.stays;
-    } in
-    let later = row_later laws p.feed c.take-taken.new.self c.args.number c.args.row c.take-taken.result c.requires.joined.feed.ordered
+    let later = row_later c.law_feeds.ensures p.feed c.take-taken.new.self c.args.number c.args.row c.take-taken.result c.requires.joined.feed.ordered
     (λ e. c.law_new.ensures.row (pointwise eq-value.it) p.feed c.args.number c.args.row (sym c.take-taken.ensures.answer ∙ ap memory_aside e)) c.take-taken.ensures.changes in
     record {
       taken = record {
