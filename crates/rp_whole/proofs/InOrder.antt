@@ -9,9 +9,11 @@ use Rattle.std.specs.List.{flat_map}
 use Rattle.rp_value.specs.declared.value.Value.{Value}
 use Rattle.rp_query.specs.declared.query.QueryData.{QueryData}
 use Rattle.rp_io.specs.Devices.{AppendsFront, Moves}
+use Rattle.rp_input.specs.Gathering.{parts_of}
 use Rattle.rp_input.specs.Numbered.{AreOrdered}
 use Rattle.rp_input.specs.Orders.{IsOrdered, OrderExists}
 use Rattle.rp_input.specs.Partitions.{Part}
+use Rattle.rp_input.specs.declared.partition.Part.{Part as Kept}
 use Rattle.rp_whole.specs.Answers.{Form, IsShown, Shown, bytes_from, halted_at, part_bytes, shown_bytes, shown_halted, shown_stops}
 use Rattle.rp_whole.specs.Writing.{WritesPart, WritesParts, WritesPartsFront, shown_of}
 use Rattle.rp_whole.specs.declared.halted.Halted.{Halted}
@@ -49,82 +51,90 @@ module _ {X Y : Type 0} (bytes : Y → List X) (start : List X) where
   one_more : (done : List Y) (part : Y) → start ++ flat_map bytes (done ++ part ∷ []) ≡ (start ++ flat_map bytes done) ++ bytes part
   one_more done part = more_parts done (part ∷ []) ∙ ap (λ t. (start ++ flat_map bytes done) ++ t) (append-nil (bytes part))
 
-pub none_written : (limited : Bool) (form : Form) (q : QueryData) (all : List Part) (a : Option (List ℕ)) (start : List ℕ) (s : List Stopped)
-    → HasWritten limited form q all all a start s a start s []
-none_written limited form q all a start s = record {
+-- Before the first is taken, none is written.
+pub none_written : {limited : Bool} {form : Form} {q : QueryData} {parts left : List Kept} {a : Option (List ℕ)} {start : List ℕ} {s : List Stopped} {halted : List Halted}
+    → left ≡ parts → halted ≡ [] → HasWritten limited form q (parts_of parts) (parts_of left) a start s a start s halted
+none_written {limited = limited} {q = q} {a = a} {start = start} {s = s} whole none = record {
   done = [];
-  follow = λ later h. h;
+  follow = λ later. subst (λ items. AreOrdered q.order.items (parts_of items) later) whole;
   are_shown = All-nil (IsShown limited q);
   moves = moves_none a start (start ++ []) (append-nil start);
   told = sym (append-nil s);
-  halts = refl;
+  halts = none;
 }
 
-module _ (limited : Bool) (form : Form) (q : QueryData) (all : List Part) (a : Option (List ℕ)) (start : List ℕ) where
+module _ (form : Form) (q : QueryData) (a : Option (List ℕ)) (start : List ℕ) where
   -- a front of what is shown of some partitions is one of what is shown of more
   longer : (c : Option (List ℕ)) (done later : List Shown) → AppendsFront a c (start ++ flat_map (shown_bytes form q) done) → AppendsFront a c (start ++ flat_map (shown_bytes form q) (done ++ later))
   longer c done later front =
       subst (AppendsFront a c) (sym (more_parts (shown_bytes form q) start done later))
       (front_longer a c (start ++ flat_map (shown_bytes form q) done) (flat_map (shown_bytes form q) later) front)
 
-  module _ (left : List Part) (key : List Value) (rows ordered : List (List Value)) (is : IsOrdered q.order.items rows ordered) (s : List Stopped) (b c : Option (List ℕ)) (gathered : List ℕ) (t : List Stopped) (halted : List Halted)
-      (before : HasWritten limited form q all ((key, rows) ∷ left) a start s b gathered t halted) where
+module _ {limited : Bool} {form : Form} {q : QueryData} {all : List Part} {a b : Option (List ℕ)} {start : List ℕ} {s : List Stopped} {gathered : List ℕ} {t : List Stopped} {halted : List Halted} where
+  -- The next partition is taken from those that are left, and put in order.
+  module _ {items left : List Kept} {kept : Kept} (c : Option (List ℕ)) (ordered : List (List Value)) (before : HasWritten limited form q all (parts_of items) a start s b gathered t halted)
+      (gives : items ≡ kept ∷ left) (is : IsOrdered q.order.items kept.rows.items ordered) where
     abbrev part : Part
-    part = (key, ordered)
+    part = (kept.key, ordered)
 
-    follow_one : (one : Shown) → one.part ≡ part → (later : List Part) → AreOrdered q.order.items left later → AreOrdered q.order.items all (map part_shown (before.done ++ one ∷ []) ++ later)
+    follow_one : (one : Shown) → one.part ≡ part → (later : List Part) → AreOrdered q.order.items (parts_of left) later → AreOrdered q.order.items all (map part_shown (before.done ++ one ∷ []) ++ later)
     follow_one one of_part later h =
         let places : map part_shown (before.done ++ one ∷ []) ++ later ≡ map part_shown before.done ++ part ∷ later =
         ap (λ l. l ++ later) (map-append part_shown before.done (one ∷ []) ∙ ap (λ p. map part_shown before.done ++ p ∷ []) of_part)
         ∙ append_assoc (map part_shown before.done) (part ∷ []) later in
-        subst (AreOrdered q.order.items all) (sym places) (before.follow (part ∷ later) (refl, is, h))
+        let in_order = subst (λ l. AreOrdered q.order.items (parts_of l) (part ∷ later)) (sym gives) (refl, is, h) in
+        subst (AreOrdered q.order.items all) (sym places) (before.follow (part ∷ later) in_order)
 
-    pub part_written : (given_up : Option ℕ) (rest : List ℕ) (u : List Stopped) (more : List Halted) → WritesPart limited form q part given_up b gathered c rest t u → more ≡ halted ++ halted_at key given_up
-        → HasWritten limited form q all left a start s c rest u more
-    part_written given_up rest u more wrote adds =
+    -- what was written of it is added
+    pub part_written : {l : Bool} {given_up : Option ℕ} {rest : List ℕ} {u : List Stopped} {more : List Halted} → WritesPart l form q part given_up b gathered c rest t u → l ≡ limited
+        → more ≡ halted ++ halted_at kept.key given_up → HasWritten limited form q all (parts_of left) a start s c rest u more
+    part_written {given_up = given_up} {rest = rest} wrote same adds =
         let one = shown_of part wrote.count given_up in
         record {
           done = before.done ++ one ∷ [];
           follow = follow_one one refl;
-          are_shown = All-push (IsShown limited q) before.done one before.are_shown wrote.is;
+          are_shown = All-push (IsShown limited q) before.done one before.are_shown (subst (λ l. IsShown l q one) same wrote.is);
           moves = subst (λ text. Moves a text c rest) (sym (one_more (shown_bytes form q) start before.done one))
               (moves_more a b c (start ++ flat_map (shown_bytes form q) before.done) gathered (shown_bytes form q one) rest before.moves wrote.moves);
           told = wrote.told ∙ ap (λ l. l ++ shown_stops form q one) before.told ∙ sym (one_more (shown_stops form q) s before.done one);
-          halts = adds ∙ ap (λ l. l ++ halted_at key given_up) before.halts ∙ sym (one_more shown_halted [] before.done one);
+          halts = adds ∙ ap (λ l. l ++ halted_at kept.key given_up) before.halts ∙ sym (one_more shown_halted [] before.done one);
         }
 
+    -- a front of what is shown of it was written
     pub part_front : OrderExists → AppendsFront b c (gathered ++ part_bytes form q part) → WritesPartsFront limited form q all a start c
     part_front law front =
-        let later = all_ordered law limited q left in
+        let later = all_ordered law limited q (parts_of left) in
         let one = all_of q part in
         let done = before.done ++ one ∷ [] in
-        let whole : AppendsFront b c (gathered ++ shown_bytes form q one) = subst (λ items. AppendsFront b c (gathered ++ bytes_from form q key 1 items)) (sym (all_taken q part)) front in
+        let whole : AppendsFront b c (gathered ++ shown_bytes form q one) = subst (λ items. AppendsFront b c (gathered ++ bytes_from form q kept.key 1 items)) (sym (all_taken q part)) front in
         let here = moves_front a b c (start ++ flat_map (shown_bytes form q) before.done) gathered (shown_bytes form q one) before.moves whole in (
           done ++ later.0,
           subst (AreOrdered q.order.items all) (sym (map-append part_shown done later.0)) (follow_one one refl (map part_shown later.0) later.1),
           All-append (IsShown limited q) done later.0 (All-push (IsShown limited q) before.done one before.are_shown (all_is_shown limited q part)) later.2,
-          longer c done later.0 (subst (AppendsFront a c) (sym (one_more (shown_bytes form q) start before.done one)) here),
+          longer form q a start c done later.0 (subst (AppendsFront a c) (sym (one_more (shown_bytes form q) start before.done one)) here),
         )
 
   -- nothing more is written of what is gathered or left
-  pub stopped_front : (left : List Part) (s : List Stopped) (b : Option (List ℕ)) (gathered : List ℕ) (t : List Stopped) (halted : List Halted)
-      → HasWritten limited form q all left a start s b gathered t halted → OrderExists → WritesPartsFront limited form q all a start b
-  stopped_front left s b gathered t halted before law =
+  pub stopped_front : {left : List Part} → HasWritten limited form q all left a start s b gathered t halted → OrderExists → WritesPartsFront limited form q all a start b
+  stopped_front {left = left} before law =
       let later = all_ordered law limited q left in
       let here = moves_part a b b (start ++ flat_map (shown_bytes form q) before.done) gathered before.moves (front_none b gathered) in (
         before.done ++ later.0,
         subst (AreOrdered q.order.items all) (sym (map-append part_shown before.done later.0)) (before.follow (map part_shown later.0) later.1),
         All-append (IsShown limited q) before.done later.0 before.are_shown later.2,
-        longer b before.done later.0 here,
+        longer form q a start b before.done later.0 here,
       )
 
-  module _ (s : List Stopped) (b c : Option (List ℕ)) (gathered : List ℕ) (t : List Stopped) (halted : List Halted) (before : HasWritten limited form q all [] a start s b gathered t halted) where
+  -- None is left.
+  module _ {items : List Kept} (c : Option (List ℕ)) (before : HasWritten limited form q all (parts_of items) a start s b gathered t halted) (none : items ≡ []) where
     are : AreOrdered q.order.items all (map part_shown before.done)
-    are = subst (AreOrdered q.order.items all) (append-nil (map part_shown before.done)) (before.follow [] tt)
+    are =
+        subst (AreOrdered q.order.items all) (append-nil (map part_shown before.done))
+        (before.follow [] (subst (λ l. AreOrdered q.order.items (parts_of l) []) (sym none) tt))
 
     pub all_front : AppendsFront b c gathered → WritesPartsFront limited form q all a start c
     all_front front = (before.done, are, before.are_shown, moves_part a b c (start ++ flat_map (shown_bytes form q) before.done) gathered before.moves front)
 
-    pub all_written : (u : List Stopped) → u ≡ t → Appends b c gathered → WritesParts limited form q all a start c s u halted
-    all_written u same wrote =
+    pub all_written : {u : List Stopped} → u ≡ t → Appends b c gathered → WritesParts limited form q all a start c s u halted
+    all_written same wrote =
         (before.done, are, before.are_shown, moves_end a b c (start ++ flat_map (shown_bytes form q) before.done) gathered before.moves wrote, same ∙ before.told, before.halts)
