@@ -1,6 +1,7 @@
 mod Answered
 mod Taken
 mod Serving
+mod NextLine
 mod ReadParts
 mod Ends
 mod Watching
