@@ -1,11 +1,12 @@
 use Rattle.std.proofs.Common.{◌≡◌, ◌∷◌, ◌++◌, ◌+◌, [], refl, subst, ap, ◌∙◌, length, IsTrue, arith, drop}
 use Rattle.std.proofs.lemmas.List.{length-take-le}
 use Rattle.rp_pattern.specs.declared.machine.split.Expansion.TheVariants.{Full, Row, Open, Split}
-use Rattle.rp_pattern.specs.Rests.{Way, SpendsWays, pushed, rises}
+use Rattle.rp_pattern.specs.Rests.{Way, rises}
 use Rattle.rp_pattern.specs.Ways.{stack_of}
-use Rattle.rp_pattern.proofs.ChoiceStacks.{Stack, height_is, same_whole, same_spared, rises_first, rises_more, is_full, is_open, is_split, maps_row, is_nothing}
-use Rattle.rp_pattern.proofs.Rising.{rises_taken, taken_first}
-use Rattle.rp_pattern.proofs.Costs.{keeps_under, none_under, same_kept, same_spends, split_drop, taken_spends, top_drop}
+use Rattle.rp_pattern.proofs.ChoiceStacks.{height_is, same_whole, rises_first, rises_more, is_nothing}
+use Rattle.rp_pattern.proofs.Rising.{rises_taken}
+use Rattle.rp_pattern.proofs.Costs.{none_under, same_kept, same_spends}
+use Rattle.rp_pattern.proofs.TakenTops.{IsTopTaken, top_came, top_taken_as, top_under, top_spends}
 use Rattle.rp_pattern.proofs.choices.Choices.take_up_top.Goals as goal
 
 pub returns-in_default-clause-whole : goal.returns-in_default-clause-whole
@@ -52,64 +53,41 @@ returns-in-Open-clause-whole c = same_whole _ _ refl c.take_up.ensures.kept
 pub returns-in-Split-clause-whole : goal.returns-in-Split-clause-whole
 returns-in-Split-clause-whole c = same_whole _ _ refl c.take_up.ensures.kept
 
+-- the choice is a full word
+in_full : (c : goal.After-self-in-Full-1) → IsTopTaken c.args.self.now c.take_up.new.self c.truncate.new.self.items c.args.n c.args.end c.in-Some.depth Full
+in_full c =
+    top_came c.in_ok-take_up.field-0 Full c.in-Full.is c.requires.begun c.in-Some.ensures c.truncate.ensures.items c.take_up.ensures.kept
+    c.in_ok-take_up.ensures.taken c.in_ok-take_up.ensures.costs
+
+-- it runs into the row after the last known one
+in_open : (c : goal.After-self-in-Open-1) → IsTopTaken c.args.self.now c.take_up.new.self c.truncate.new.self.items c.args.n c.args.end c.in-Some.depth Open
+in_open c =
+    top_came c.in_ok-take_up.field-0 Open c.in-Open.is c.requires.begun c.in-Some.ensures c.truncate.ensures.items c.take_up.ensures.kept
+    c.in_ok-take_up.ensures.taken c.in_ok-take_up.ensures.costs
+
+-- it gives way to others
+in_split : (c : goal.After-self-in-Split-1) → IsTopTaken c.args.self.now c.take_up.new.self c.truncate.new.self.items c.args.n c.args.end c.in-Some.depth Split
+in_split c =
+    top_came c.in_ok-take_up.field-0 Split c.in-Split.is c.requires.begun c.in-Some.ensures c.truncate.ensures.items c.take_up.ensures.kept
+    c.in_ok-take_up.ensures.taken c.in_ok-take_up.ensures.costs
+
+-- it maps a row
+in_row : (c : goal.In_ok-push-in-Row) → IsTopTaken c.args.self.now c.take_up.new.self c.push.new.self.items c.args.n c.args.end c.in-Some.depth (Row c.in-Row.label)
+in_row c =
+    top_came c.in_ok-take_up.field-0 (Row c.in-Row.label) c.in-Row.is c.requires.begun c.in-Some.ensures (c.in_ok-push-in-Row.ensures.items ∙ ap (λ z. z ++ c.in-Row.label ∷ []) c.truncate.ensures.items) c.take_up.ensures.kept
+    c.in_ok-take_up.ensures.taken c.in_ok-take_up.ensures.costs
+
 pub returns-in-Full-clause-taken : goal.returns-in-Full-clause-taken
-returns-in-Full-clause-taken c =
-    let a = c.args in
-    let old = a.self.now in
-    let h = c.in-Some.ensures in
-    let t : Way = record { depth = c.in-Some.depth; rest = h.rest } in
-    let cs = drop 1 (stack_of old.ways) in
-    let k : Stack old old.start old.labels.items (t ∷ cs) = record { begun = c.requires.begun; start = refl; labels = refl; choices = h.is } in
-    let r : IsTrue (rises (length old.labels.items) (t ∷ cs)) = subst (λ z. IsTrue (rises (length old.labels.items) z)) h.is old.rises in
-    let x = c.in_ok-take_up.field-0 in
-    let new = c.take_up.new.self in
-    let came = taken_first old.ways new t cs a.n a.end (old.start + t.depth) x Full h.is c.in-Full.is c.in_ok-take_up.ensures.taken in
-    is_full old _ old.start old.labels.items t cs a.n a.end k r (same_spared old _ refl c.take_up.ensures.kept) (record { begun = c.requires.begun; start = refl; labels = c.truncate.ensures.items; choices = ap stack_of came.0 ∙ h.is }) came.1
+returns-in-Full-clause-taken c = top_taken_as c.args.self.now _ _ _ _ c.requires.begun refl Full (in_full c)
 
 pub returns-in-Open-clause-taken : goal.returns-in-Open-clause-taken
-returns-in-Open-clause-taken c =
-    let a = c.args in
-    let old = a.self.now in
-    let h = c.in-Some.ensures in
-    let t : Way = record { depth = c.in-Some.depth; rest = h.rest } in
-    let cs = drop 1 (stack_of old.ways) in
-    let k : Stack old old.start old.labels.items (t ∷ cs) = record { begun = c.requires.begun; start = refl; labels = refl; choices = h.is } in
-    let r : IsTrue (rises (length old.labels.items) (t ∷ cs)) = subst (λ z. IsTrue (rises (length old.labels.items) z)) h.is old.rises in
-    let x = c.in_ok-take_up.field-0 in
-    let new = c.take_up.new.self in
-    let came = taken_first old.ways new t cs a.n a.end (old.start + t.depth) x Open h.is c.in-Open.is c.in_ok-take_up.ensures.taken in
-    is_open old _ old.start old.labels.items t cs a.n a.end k r (same_spared old _ refl c.take_up.ensures.kept) (record { begun = c.requires.begun; start = refl; labels = c.truncate.ensures.items; choices = ap stack_of came.0 ∙ h.is }) came.1
+returns-in-Open-clause-taken c = top_taken_as c.args.self.now _ _ _ _ c.requires.begun refl Open (in_open c)
 
 pub returns-in_ok-push-in-Row-clause-taken : goal.returns-in_ok-push-in-Row-clause-taken
-returns-in_ok-push-in-Row-clause-taken c =
-    let a = c.args in
-    let old = a.self.now in
-    let h = c.in-Some.ensures in
-    let t : Way = record { depth = c.in-Some.depth; rest = h.rest } in
-    let cs = drop 1 (stack_of old.ways) in
-    let k : Stack old old.start old.labels.items (t ∷ cs) = record { begun = c.requires.begun; start = refl; labels = refl; choices = h.is } in
-    let r : IsTrue (rises (length old.labels.items) (t ∷ cs)) = subst (λ z. IsTrue (rises (length old.labels.items) z)) h.is old.rises in
-    let x = c.in_ok-take_up.field-0 in
-    let new = c.take_up.new.self in
-    let came = taken_first old.ways new t cs a.n a.end (old.start + t.depth) x (Row c.in-Row.label) h.is c.in-Row.is c.in_ok-take_up.ensures.taken in
-    maps_row old _ old.start old.labels.items t cs a.n a.end k r (same_spared old _ refl c.take_up.ensures.kept) c.in-Row.label
-    (record { begun = c.requires.begun; start = refl; labels = c.in_ok-push-in-Row.ensures.items ∙ ap (λ z. z ++ c.in-Row.label ∷ []) c.truncate.ensures.items; choices = ap stack_of came.0 ∙ h.is })
-    came.1
+returns-in_ok-push-in-Row-clause-taken c = top_taken_as c.args.self.now _ _ _ _ c.requires.begun refl (Row c.in-Row.label) (in_row c)
 
 pub returns-in-Split-clause-taken : goal.returns-in-Split-clause-taken
-returns-in-Split-clause-taken c =
-    let a = c.args in
-    let old = a.self.now in
-    let h = c.in-Some.ensures in
-    let t : Way = record { depth = c.in-Some.depth; rest = h.rest } in
-    let cs = drop 1 (stack_of old.ways) in
-    let k : Stack old old.start old.labels.items (t ∷ cs) = record { begun = c.requires.begun; start = refl; labels = refl; choices = h.is } in
-    let r : IsTrue (rises (length old.labels.items) (t ∷ cs)) = subst (λ z. IsTrue (rises (length old.labels.items) z)) h.is old.rises in
-    let x = c.in_ok-take_up.field-0 in
-    let new = c.take_up.new.self in
-    let came = taken_first old.ways new t cs a.n a.end (old.start + t.depth) x Split h.is c.in-Split.is c.in_ok-take_up.ensures.taken in
-    is_split old _ old.start old.labels.items t cs a.n a.end k r (same_spared old _ refl c.take_up.ensures.kept) came.preferred came.other
-    (record { begun = c.requires.begun; start = refl; labels = c.truncate.ensures.items; choices = came.is }) came.splits
+returns-in-Split-clause-taken c = top_taken_as c.args.self.now _ _ _ _ c.requires.begun refl Split (in_split c)
 
 pub returns-in_err-take_up-clause-keeps : goal.returns-in_err-take_up-clause-keeps
 returns-in_err-take_up-clause-keeps c = same_kept c.args.self.now _ c.take_up.ensures.kept
@@ -142,77 +120,25 @@ returns-in_default-clause-costs c =
     )
 
 pub returns-in-Full-clause-under : goal.returns-in-Full-clause-under
-returns-in-Full-clause-under c =
-    let a = c.args in
-    let old = a.self.now in
-    let h = c.in-Some.ensures in
-    let t : Way = record { depth = c.in-Some.depth; rest = h.rest } in
-    let cs = drop 1 (stack_of old.ways) in
-    let came = taken_first old.ways c.take_up.new.self t cs a.n a.end (old.start + t.depth) c.in_ok-take_up.field-0 Full h.is c.in-Full.is c.in_ok-take_up.ensures.taken in
-    keeps_under old _ old.start old.labels.items _ t cs (t ∷ cs) (record { begun = c.requires.begun; start = refl; labels = refl; choices = h.is })
-    (record { begun = c.requires.begun; start = refl; labels = c.truncate.ensures.items; choices = ap stack_of came.0 ∙ h.is }) (same_spared old _ refl c.take_up.ensures.kept) (top_drop t cs)
+returns-in-Full-clause-under c = top_under c.args.self.now _ _ _ _ c.requires.begun refl Full (in_full c)
 
 pub returns-in-Full-clause-costs : goal.returns-in-Full-clause-costs
-returns-in-Full-clause-costs c =
-    let a = c.args in
-    let old = a.self.now in
-    let h = c.in-Some.ensures in
-    let t : Way = record { depth = c.in-Some.depth; rest = h.rest } in
-    let came = taken_first old.ways c.take_up.new.self t (drop 1 (stack_of old.ways)) a.n a.end (old.start + t.depth) c.in_ok-take_up.field-0 Full h.is c.in-Full.is c.in_ok-take_up.ensures.taken in
-    same_spends old _ c.requires.begun c.requires.begun (ap stack_of came.0)
+returns-in-Full-clause-costs c = top_spends c.args.self.now _ _ _ _ c.requires.begun refl Full (in_full c)
 
 pub returns-in-Open-clause-under : goal.returns-in-Open-clause-under
-returns-in-Open-clause-under c =
-    let a = c.args in
-    let old = a.self.now in
-    let h = c.in-Some.ensures in
-    let t : Way = record { depth = c.in-Some.depth; rest = h.rest } in
-    let cs = drop 1 (stack_of old.ways) in
-    let came = taken_first old.ways c.take_up.new.self t cs a.n a.end (old.start + t.depth) c.in_ok-take_up.field-0 Open h.is c.in-Open.is c.in_ok-take_up.ensures.taken in
-    keeps_under old _ old.start old.labels.items _ t cs (t ∷ cs) (record { begun = c.requires.begun; start = refl; labels = refl; choices = h.is })
-    (record { begun = c.requires.begun; start = refl; labels = c.truncate.ensures.items; choices = ap stack_of came.0 ∙ h.is }) (same_spared old _ refl c.take_up.ensures.kept) (top_drop t cs)
+returns-in-Open-clause-under c = top_under c.args.self.now _ _ _ _ c.requires.begun refl Open (in_open c)
 
 pub returns-in-Open-clause-costs : goal.returns-in-Open-clause-costs
-returns-in-Open-clause-costs c =
-    let a = c.args in
-    let old = a.self.now in
-    let h = c.in-Some.ensures in
-    let t : Way = record { depth = c.in-Some.depth; rest = h.rest } in
-    let came = taken_first old.ways c.take_up.new.self t (drop 1 (stack_of old.ways)) a.n a.end (old.start + t.depth) c.in_ok-take_up.field-0 Open h.is c.in-Open.is c.in_ok-take_up.ensures.taken in
-    same_spends old _ c.requires.begun c.requires.begun (ap stack_of came.0)
+returns-in-Open-clause-costs c = top_spends c.args.self.now _ _ _ _ c.requires.begun refl Open (in_open c)
 
 pub returns-in_ok-push-in-Row-clause-under : goal.returns-in_ok-push-in-Row-clause-under
-returns-in_ok-push-in-Row-clause-under c =
-    let a = c.args in
-    let old = a.self.now in
-    let h = c.in-Some.ensures in
-    let t : Way = record { depth = c.in-Some.depth; rest = h.rest } in
-    let cs = drop 1 (stack_of old.ways) in
-    let came = taken_first old.ways c.take_up.new.self t cs a.n a.end (old.start + t.depth) c.in_ok-take_up.field-0 (Row c.in-Row.label) h.is c.in-Row.is c.in_ok-take_up.ensures.taken in
-    keeps_under old _ old.start old.labels.items _ t cs (t ∷ cs) (record { begun = c.requires.begun; start = refl; labels = refl; choices = h.is })
-    (record { begun = c.requires.begun; start = refl; labels = c.in_ok-push-in-Row.ensures.items; choices = ap stack_of came.0 ∙ h.is }) (same_spared old _ refl c.take_up.ensures.kept) (top_drop t cs)
+returns-in_ok-push-in-Row-clause-under c = top_under c.args.self.now _ _ _ _ c.requires.begun refl (Row c.in-Row.label) (in_row c)
 
 pub returns-in_ok-push-in-Row-clause-costs : goal.returns-in_ok-push-in-Row-clause-costs
-returns-in_ok-push-in-Row-clause-costs c =
-    let a = c.args in
-    let old = a.self.now in
-    let h = c.in-Some.ensures in
-    let t : Way = record { depth = c.in-Some.depth; rest = h.rest } in
-    let came = taken_first old.ways c.take_up.new.self t (drop 1 (stack_of old.ways)) a.n a.end (old.start + t.depth) c.in_ok-take_up.field-0 (Row c.in-Row.label) h.is c.in-Row.is c.in_ok-take_up.ensures.taken in
-    same_spends old _ c.requires.begun c.requires.begun (ap stack_of came.0)
+returns-in_ok-push-in-Row-clause-costs c = top_spends c.args.self.now _ _ _ _ c.requires.begun refl (Row c.in-Row.label) (in_row c)
 
 pub returns-in-Split-clause-under : goal.returns-in-Split-clause-under
-returns-in-Split-clause-under c =
-    let a = c.args in
-    let old = a.self.now in
-    let h = c.in-Some.ensures in
-    let t : Way = record { depth = c.in-Some.depth; rest = h.rest } in
-    let cs = drop 1 (stack_of old.ways) in
-    let came = taken_first old.ways c.take_up.new.self t cs a.n a.end (old.start + t.depth) c.in_ok-take_up.field-0 Split h.is c.in-Split.is c.in_ok-take_up.ensures.taken in
-    keeps_under old _ old.start old.labels.items _ t cs (pushed t.depth came.preferred (pushed t.depth came.other cs)) (record { begun = c.requires.begun; start = refl; labels = refl; choices = h.is })
-    (record { begun = c.requires.begun; start = refl; labels = c.truncate.ensures.items; choices = came.is }) (same_spared old _ refl c.take_up.ensures.kept) (λ k le. split_drop t.depth k came.preferred came.other cs le)
+returns-in-Split-clause-under c = top_under c.args.self.now _ _ _ _ c.requires.begun refl Split (in_split c)
 
 pub returns-in-Split-clause-costs : goal.returns-in-Split-clause-costs
-returns-in-Split-clause-costs c =
-    let old = c.args.self.now in
-    taken_spends old _ c.requires.begun c.requires.begun (subst (λ x. SpendsWays (stack_of old.ways) (stack_of c.take_up.new.self) x) c.in-Split.is c.in_ok-take_up.ensures.costs)
+returns-in-Split-clause-costs c = top_spends c.args.self.now _ _ _ _ c.requires.begun refl Split (in_split c)
