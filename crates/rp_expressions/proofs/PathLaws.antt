@@ -7,7 +7,7 @@ use Rattle.rp_tree.specs.Paths.{Path}
 use Rattle.rp_grammar.specs.Names.{name, name_kinds, name_in}
 use Rattle.rp_grammar.specs.Grammar.{Grammar, never}
 use Rattle.rp_expressions.specs.NavigationGrammar.{argument, as_path, column, deeper_path, edge, ending, inside_path, key, offset, path, path_kinds, plain, scope}
-use Rattle.rp_grammar.proofs.Laws.{Lawful, one_lawful, word_lawful, then_lawful, or_lawful, gives_lawful, optional_lawful, opening_lawful, never_lawful, under_lawful}
+use Rattle.rp_grammar.proofs.Laws.{Lawful, here_lawful, number_lawful, one_lawful, word_lawful, then_lawful, or_lawful, gives_lawful, optional_lawful, opening_lawful, never_lawful, under_lawful}
 
 pub name_lawful : (text : List ℕ) → Lawful text name
 name_lawful text = one_lawful name_kinds name_in
@@ -23,7 +23,7 @@ scope_lawful = or_lawful _ _ (gives_lawful _ _ (word_lawful (key keyword.Running
 ending_lawful : (text : List ℕ) → Lawful text ending
 unfolding ending offset
 ending_lawful text =
-    gives_lawful _ _ (then_lawful _ _ (optional_lawful _ (gives_lawful _ _ (then_lawful _ _ (word_lawful (kind.Mark mark.Comma)) (one_lawful _ _) refl)) refl) (word_lawful (kind.Mark mark.RightParenthesis)) refl)
+    gives_lawful _ _ (then_lawful _ _ (optional_lawful _ (gives_lawful _ _ (then_lawful _ _ (word_lawful (kind.Mark mark.Comma)) (gives_lawful _ _ (then_lawful _ _ here_lawful number_lawful refl)) refl)) refl) (word_lawful (kind.Mark mark.RightParenthesis)) refl)
 
 pub argument_lawful : (text : List ℕ) (room : ℕ) (g : Grammar Path) → Lawful text (as_path g) → Lawful text (argument room (as_path g))
 unfolding argument ending offset

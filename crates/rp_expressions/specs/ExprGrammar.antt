@@ -1,6 +1,5 @@
 -- The grammar of expressions.
 use Rattle.std.specs.Prelude.{ℕ, zero, suc, List, [], ◌∷◌, Option, Some, None, Bool, true, false}
-use Rattle.rp_lexer.specs.Meanings.{number_of}
 use Rattle.rp_lexer.specs.declared.kind.TokenKind.{TokenKind}
 use Rattle.rp_lexer.specs.declared.kind.TokenKind.TheVariants as kind
 use Rattle.rp_lexer.specs.declared.kind.Mark.TheVariants as mark
@@ -14,9 +13,11 @@ use Rattle.rp_tree.specs.declared.tree.AggregateFunction.{AggregateFunction}
 use Rattle.rp_tree.specs.declared.tree.AggregateFunction.TheVariants as function_as
 use Rattle.rp_tree.specs.declared.tree.Aggregate.{Aggregate}
 use Rattle.rp_tree.specs.declared.tree.Operator.{Operator}
-use Rattle.rp_tree.specs.declared.tree.Operator.TheVariants as operator
+use Rattle.rp_tree.specs.declared.tree.Operator.TheVariants as operator_as
 use Rattle.rp_tree.specs.declared.tree.Operation.{Operation}
-use Rattle.rp_grammar.specs.Grammar.{Grammar, one_of, word, ◌then◌, ◌or◌, gives, optional, many, never, opening, second, under}
+use Rattle.rp_expressions.specs.declared.operators.Level.{Level}
+use Rattle.rp_expressions.specs.declared.operators.Level.TheVariants as level
+use Rattle.rp_grammar.specs.Grammar.{Grammar, one_of, word, number, here, ◌then◌, ◌or◌, gives, optional, many, never, opening, second, under}
 use Rattle.rp_tree.specs.Terms.{Term, Number, Literal, Navigation, Aggregated, MatchNumber, Classifier, Negative, Not, IsNull, Operate, from_left, from_right}
 use Rattle.rp_grammar.specs.Names.{name, text_in}
 use Rattle.rp_expressions.specs.NavigationGrammar.{key, column, scope, plain, edge, inside_path}
@@ -49,21 +50,13 @@ aggregated f at s = record { scope = s; at = at; function = f }
 abbrev pub counting : ℕ → Grammar (Option Scope → Aggregate)
 counting room = gives (λ x. aggregated (function_as.Count x.1.1.0) x.0) (word (key keyword.Count) then opening room open_mark then counted then word close_mark)
 
--- SUM "(" column ")"
-abbrev pub summing : ℕ → Grammar (Option Scope → Aggregate)
-summing room = gives (λ x. aggregated (function_as.Sum x.1) x.0) (over_column room (key keyword.Sum))
-
--- MIN "(" column ")"
-abbrev pub least : ℕ → Grammar (Option Scope → Aggregate)
-least room = gives (λ x. aggregated (function_as.Min x.1) x.0) (over_column room (key keyword.Min))
-
--- MAX "(" column ")"
-abbrev pub greatest : ℕ → Grammar (Option Scope → Aggregate)
-greatest room = gives (λ x. aggregated (function_as.Max x.1) x.0) (over_column room (key keyword.Max))
-
 -- COUNT, SUM, MIN or MAX
 unfoldable pub aggregate : ℕ → Grammar (Option Scope → Aggregate)
-aggregate room = counting room or summing room or least room or greatest room
+aggregate room =
+    counting room
+    or gives (λ x. aggregated (function_as.Sum x.1) x.0) (over_column room (key keyword.Sum))
+    or gives (λ x. aggregated (function_as.Min x.1) x.0) (over_column room (key keyword.Min))
+    or gives (λ x. aggregated (function_as.Max x.1) x.0) (over_column room (key keyword.Max))
 
 -- FIRST, LAST or an aggregate, to which RUNNING or FINAL belongs
 unfoldable pub under_scope : ℕ → Grammar (Option Scope → Term)
@@ -79,23 +72,19 @@ scoped room = gives (λ x. x.1 x.0) (optional scope then under_scope room)
 abbrev pub bracketed : ℕ → Grammar Term → Grammar Term
 bracketed room inner = gives (λ x. x.1.0) (opening room open_mark then inner then word close_mark)
 
--- MATCH_NUMBER "(" ")"
-abbrev pub match_number : ℕ → Grammar Term
-match_number room = gives (λ x. MatchNumber x.0) (word (key keyword.MatchNumber) then opening room open_mark then word close_mark)
-
--- CLASSIFIER "(" ")"
-abbrev pub classifier : ℕ → Grammar Term
-classifier room = gives (λ x. Classifier x.0) (word (key keyword.Classifier) then opening room open_mark then word close_mark)
+-- a word, "(" ")"
+abbrev pub call : ℕ → TokenKind → Grammar ℕ
+call room w = gives (λ x. x.0) (word w then opening room open_mark then word close_mark)
 
 -- number | text | "(" expr ")" | column | navigation | aggregate | MATCH_NUMBER "(" ")" | CLASSIFIER "(" ")"
 unfoldable pub value : ℕ → Grammar Term → Grammar Term
 value room inner =
-    one_of (kind.Number ∷ []) (λ text t. Number t.start (number_of text t))
+    gives (λ x. Number x.0 x.1) (here then number)
     or one_of (kind.Text ∷ []) (λ text t. Literal t.start (text_in text t))
     or bracketed room inner
     or gives Navigation (plain room (inside_path room))
-    or match_number room
-    or classifier room
+    or gives MatchNumber (call room (key keyword.MatchNumber))
+    or gives Classifier (call room (key keyword.Classifier))
     or scoped room
 
 abbrev pub is_some : {A : Type 0} → Option A → Bool
@@ -113,35 +102,41 @@ signed room inner = gives (λ x. perhaps Negative x.0 x.1) (optional (word (kind
 abbrev pub operation : Operator → TokenKind → Grammar Operation
 operation o k = gives (λ at. record { operator = o; at = at }) (word k)
 
--- "*" signed
-abbrev pub factor : ℕ → Grammar Term → Grammar (Operation × Term)
-factor room inner = operation operator.Times (kind.Mark mark.Asterisk) then signed room inner
+-- an operator of a level
+abbrev pub operator : Level → Grammar Operation
+operator level.Or = operation operator_as.Or (key keyword.Or)
+operator level.And = operation operator_as.And (key keyword.And)
+operator level.Sum = operation operator_as.Plus (kind.Mark mark.Plus) or operation operator_as.Minus (kind.Mark mark.Minus)
+operator level.Product = operation operator_as.Times (kind.Mark mark.Asterisk)
+
+-- an expression and the operators and operands after it: logical ones group from the right, those of arithmetic from the left
+abbrev pub joined : Level → Term → List (Operation × Term) → Term
+joined level.Or = from_right
+joined level.And = from_right
+joined level.Sum = from_left
+joined level.Product = from_left
+
+-- operands with operators of a level between them
+abbrev pub chain_of : Level → Grammar Term → Grammar Term
+chain_of l g = gives (λ x. joined l x.0 x.1) (g then many (operator l then g))
 
 -- signed, then any number of "*" signed
 unfoldable pub product : ℕ → Grammar Term → Grammar Term
-product room inner = gives (λ x. from_left x.0 x.1) (signed room inner then many (factor room inner))
-
--- "+" | "-"
-abbrev pub sign : Grammar Operation
-sign = operation operator.Plus (kind.Mark mark.Plus) or operation operator.Minus (kind.Mark mark.Minus)
-
--- ("+" | "-") product
-abbrev pub addend : ℕ → Grammar Term → Grammar (Operation × Term)
-addend room inner = sign then product room inner
+product room inner = chain_of level.Product (signed room inner)
 
 -- product, then any number of ("+" | "-") product
 unfoldable pub sum : ℕ → Grammar Term → Grammar Term
-sum room inner = gives (λ x. from_left x.0 x.1) (product room inner then many (addend room inner))
+sum room inner = chain_of level.Sum (product room inner)
 
 -- "=" | "<>" | "<" | "<=" | ">" | ">="
 unfoldable pub comparison : Grammar Operation
 comparison =
-    operation operator.Equals (kind.Mark mark.Equals)
-    or operation operator.NotEquals (kind.Mark mark.NotEquals)
-    or operation operator.Less (kind.Mark mark.LessThan)
-    or operation operator.LessOrEquals (kind.Mark mark.LessThanOrEquals)
-    or operation operator.Greater (kind.Mark mark.GreaterThan)
-    or operation operator.GreaterOrEquals (kind.Mark mark.GreaterThanOrEquals)
+    operation operator_as.Equals (kind.Mark mark.Equals)
+    or operation operator_as.NotEquals (kind.Mark mark.NotEquals)
+    or operation operator_as.Less (kind.Mark mark.LessThan)
+    or operation operator_as.LessOrEquals (kind.Mark mark.LessThanOrEquals)
+    or operation operator_as.Greater (kind.Mark mark.GreaterThan)
+    or operation operator_as.GreaterOrEquals (kind.Mark mark.GreaterThanOrEquals)
 
 -- IS [NOT] NULL
 unfoldable pub nullness : Grammar (ℕ × Bool)
@@ -169,21 +164,26 @@ predicate room inner =
 unfoldable pub negation : ℕ → Grammar Term → Grammar Term
 negation room inner = gives (λ x. perhaps Not x.0 x.1) (optional (word (key keyword.Not)) then predicate room inner)
 
--- AND negation
-abbrev pub conjunct : ℕ → Grammar Term → Grammar (Operation × Term)
-conjunct room inner = operation operator.And (key keyword.And) then negation room inner
-
 -- negations with AND between them
 unfoldable pub conjunction : ℕ → Grammar Term → Grammar Term
-conjunction room inner = gives (λ x. from_right x.0 x.1) (negation room inner then many (conjunct room inner))
-
--- OR conjunction
-abbrev pub disjunct : ℕ → Grammar Term → Grammar (Operation × Term)
-disjunct room inner = operation operator.Or (key keyword.Or) then conjunction room inner
+conjunction room inner = chain_of level.And (negation room inner)
 
 -- conjunctions with OR between them
 unfoldable pub expr : ℕ → Grammar Term → Grammar Term
-expr room inner = gives (λ x. from_right x.0 x.1) (conjunction room inner then many (disjunct room inner))
+expr room inner = chain_of level.Or (conjunction room inner)
+
+-- what stands between operators of a level
+unfoldable pub operand : Level → ℕ → Grammar Term → Grammar Term
+operand level.Or = conjunction
+operand level.And = negation
+operand level.Sum = product
+operand level.Product = signed
+
+abbrev pub link : Level → ℕ → Grammar Term → Grammar (Operation × Term)
+link l room inner = operator l then operand l room inner
+
+abbrev pub chain : Level → ℕ → Grammar Term → Grammar Term
+chain l room inner = chain_of l (operand l room inner)
 
 abbrev pub expr_kinds : List TokenKind
 expr_kinds =
@@ -207,8 +207,11 @@ deeper_expr (suc room) = expr room (as_expr (deeper_expr room))
 abbrev pub inside_expr : ℕ → Grammar Term
 inside_expr room = as_expr (deeper_expr room)
 
-abbrev pub sign_kinds : List TokenKind
-sign_kinds = kind.Mark mark.Plus ∷ kind.Mark mark.Minus ∷ []
+abbrev pub operator_kinds : Level → List TokenKind
+operator_kinds level.Or = key keyword.Or ∷ []
+operator_kinds level.And = key keyword.And ∷ []
+operator_kinds level.Sum = kind.Mark mark.Plus ∷ kind.Mark mark.Minus ∷ []
+operator_kinds level.Product = kind.Mark mark.Asterisk ∷ []
 
 abbrev pub comparison_kinds : List TokenKind
 comparison_kinds =

@@ -1,6 +1,5 @@
 -- The grammar of columns and navigations.
 use Rattle.std.specs.Prelude.{ℕ, zero, suc, List, [], ◌∷◌, Option, Some, None, Bool, true, false}
-use Rattle.rp_lexer.specs.Meanings.{number_of}
 use Rattle.rp_lexer.specs.declared.kind.TokenKind.{TokenKind}
 use Rattle.rp_lexer.specs.declared.kind.TokenKind.TheVariants as kind
 use Rattle.rp_lexer.specs.declared.kind.Mark.TheVariants as mark
@@ -12,7 +11,7 @@ use Rattle.rp_tree.specs.declared.tree.Scope.{Scope}
 use Rattle.rp_tree.specs.declared.tree.Offset.{Offset}
 use Rattle.rp_tree.specs.declared.tree.Movement.{Movement}
 use Rattle.rp_tree.specs.declared.tree.Movement.TheVariants.{Prev, Next, First, Last}
-use Rattle.rp_grammar.specs.Grammar.{Grammar, one_of, word, ◌then◌, ◌or◌, gives, optional, never, opening, second, under}
+use Rattle.rp_grammar.specs.Grammar.{Grammar, word, number, here, ◌then◌, ◌or◌, gives, optional, never, opening, second, under}
 use Rattle.rp_tree.specs.Paths.{Path, At, Move}
 use Rattle.rp_grammar.specs.Names.{name}
 
@@ -28,7 +27,7 @@ unfoldable pub column : Grammar Column
 column = gives (λ x. column_of x.0 x.1) (name then optional (gives second (word (kind.Mark mark.Period) then name)))
 
 unfoldable pub offset : Grammar Offset
-offset = one_of (kind.Number ∷ []) (λ text t. record { at = t.start; rows = number_of text t })
+offset = gives (λ x. record { at = x.0; rows = x.1 }) (here then number)
 
 -- RUNNING | FINAL
 unfoldable pub scope : Grammar Scope

@@ -4,7 +4,7 @@ ghost use Rattle.std.specs.Prelude.{◌≡◌, ◌<◌, ◌≤◌, length, All, 
 ghost use Rattle.rp_lexer.specs.Lexes.{IsToken};
 ghost use Rattle.rp_grammar.specs.Reading.{Gives};
 ghost use Rattle.rp_grammar.specs.Grammar.{gives};
-ghost use Rattle.rp_expressions.specs.ExprGrammar.{aggregate, aggregated, counted, counting, greatest, least, over_column, summing};
+ghost use Rattle.rp_expressions.specs.ExprGrammar.{aggregate, aggregated, counted, counting, over_column};
 
 use crate::navigation::column;
 use rp_grammar::{ParseFault, begins, name, opening, word};
@@ -101,63 +101,6 @@ fn counting<'a>(
     Ok((under(scope, at, AggregateFunction::Count(argument)), rest))
 }
 
-/// SUM under this scope, and what follows.
-fn summing<'a>(
-    alloc: Global,
-    text: &str,
-    tokens: &'a [Token],
-    room: usize,
-    scope: Option<Scope>,
-) -> Result<(Aggregate, &'a [Token]), ParseFault>
-    requires stands { All (IsToken text.now) tokens.now }
-    ensures exact { Gives (λ x. (x.0, x.1.now)) result
-        ((gives (λ f. f scope) (summing room)).read text.now tokens.now) }
-    ensures stands { IfOk result (λ x. All (IsToken text.now) x.1.now) }
-    ensures shorter { IfOk result (λ x. length x.1.now < length tokens.now) }
-{
-    let kind = TokenKind::Keyword(Keyword::Sum);
-    let (at, column, rest) = over_column(alloc, text, tokens, room, kind)?;
-    Ok((under(scope, at, AggregateFunction::Sum(column)), rest))
-}
-
-/// MIN under this scope, and what follows.
-fn least<'a>(
-    alloc: Global,
-    text: &str,
-    tokens: &'a [Token],
-    room: usize,
-    scope: Option<Scope>,
-) -> Result<(Aggregate, &'a [Token]), ParseFault>
-    requires stands { All (IsToken text.now) tokens.now }
-    ensures exact { Gives (λ x. (x.0, x.1.now)) result
-        ((gives (λ f. f scope) (least room)).read text.now tokens.now) }
-    ensures stands { IfOk result (λ x. All (IsToken text.now) x.1.now) }
-    ensures shorter { IfOk result (λ x. length x.1.now < length tokens.now) }
-{
-    let kind = TokenKind::Keyword(Keyword::Min);
-    let (at, column, rest) = over_column(alloc, text, tokens, room, kind)?;
-    Ok((under(scope, at, AggregateFunction::Min(column)), rest))
-}
-
-/// MAX under this scope, and what follows.
-fn greatest<'a>(
-    alloc: Global,
-    text: &str,
-    tokens: &'a [Token],
-    room: usize,
-    scope: Option<Scope>,
-) -> Result<(Aggregate, &'a [Token]), ParseFault>
-    requires stands { All (IsToken text.now) tokens.now }
-    ensures exact { Gives (λ x. (x.0, x.1.now)) result
-        ((gives (λ f. f scope) (greatest room)).read text.now tokens.now) }
-    ensures stands { IfOk result (λ x. All (IsToken text.now) x.1.now) }
-    ensures shorter { IfOk result (λ x. length x.1.now < length tokens.now) }
-{
-    let kind = TokenKind::Keyword(Keyword::Max);
-    let (at, column, rest) = over_column(alloc, text, tokens, room, kind)?;
-    Ok((under(scope, at, AggregateFunction::Max(column)), rest))
-}
-
 /// An aggregate under this scope, and what follows.
 #[tactic(auto, unfolding(crate::specs::ExprGrammar::aggregate, crate::specs::ExprGrammar::counted))]
 pub(crate) fn aggregate<'a>(
@@ -177,10 +120,16 @@ pub(crate) fn aggregate<'a>(
         return counting(alloc, text, tokens, room, scope);
     }
     if begins(tokens, TokenKind::Keyword(Keyword::Sum)) {
-        return summing(alloc, text, tokens, room, scope);
+        let kind = TokenKind::Keyword(Keyword::Sum);
+        let (at, column, rest) = over_column(alloc, text, tokens, room, kind)?;
+        return Ok((under(scope, at, AggregateFunction::Sum(column)), rest));
     }
     if begins(tokens, TokenKind::Keyword(Keyword::Min)) {
-        return least(alloc, text, tokens, room, scope);
+        let kind = TokenKind::Keyword(Keyword::Min);
+        let (at, column, rest) = over_column(alloc, text, tokens, room, kind)?;
+        return Ok((under(scope, at, AggregateFunction::Min(column)), rest));
     }
-    greatest(alloc, text, tokens, room, scope)
+    let kind = TokenKind::Keyword(Keyword::Max);
+    let (at, column, rest) = over_column(alloc, text, tokens, room, kind)?;
+    Ok((under(scope, at, AggregateFunction::Max(column)), rest))
 }

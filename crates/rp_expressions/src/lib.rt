@@ -5,5 +5,7 @@
 mod aggregates;
 mod expression;
 mod navigation;
+mod operators;
+mod values;
 
 pub use expression::expr;

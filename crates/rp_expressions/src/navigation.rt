@@ -7,8 +7,8 @@ ghost use Rattle.rp_grammar.specs.Grammar.{gives, optional};
 ghost use Rattle.rp_tree.specs.Paths.{Move, path_of};
 ghost use Rattle.rp_expressions.specs.NavigationGrammar.{argument, column, deeper_path, edge, ending, inside_path, offset, path, plain, plain_kinds, scope};
 
-use rp_grammar::{ParseFault, begins, begins_name, name, opening, place, word};
-use rp_lexer::{Keyword, Mark, Token, TokenKind, number_of};
+use rp_grammar::{ParseFault, begins, begins_name, name, number, opening, place, word};
+use rp_lexer::{Keyword, Mark, Token, TokenKind};
 use rp_tree::{Column, Movement, Navigation, Offset, Scope};
 use std::alloc::{AllocError, Global};
 
@@ -49,16 +49,9 @@ fn offset<'a>(text: &str, tokens: &'a [Token]) -> Result<(Offset, &'a [Token]), 
     ensures stands { IfOk result (λ x. All (IsToken text.now) x.1.now) }
     ensures shorter { IfOk result (λ x. length x.1.now < length tokens.now) }
 {
-    match tokens.split_first() {
-        Some((first, rest)) if first.kind == TokenKind::Number => {
-            let offset = Offset {
-                at: first.start,
-                rows: number_of(text, *first),
-            };
-            Ok((offset, rest))
-        }
-        _ => Err(ParseFault::Expected(place(text, tokens))),
-    }
+    let at = place(text, tokens);
+    let (rows, rest) = number(text, tokens)?;
+    Ok((Offset { at, rows }, rest))
 }
 
 /// Perhaps RUNNING or FINAL, and what follows.

@@ -1,0 +1,145 @@
+//! Operators, and how strongly they bind.
+
+ghost use Rattle.std.specs.Prelude.{◌≡◌, ◌<◌, ◌≤◌, length, All, IfOk};
+ghost use Rattle.rp_lexer.specs.Lexes.{IsToken};
+ghost use Rattle.rp_grammar.specs.Reading.{Gives, starts};
+ghost use Rattle.rp_expressions.specs.ExprGrammar.{comparison, comparison_kinds, nullness, operation, operator, operator_kinds};
+
+use rp_grammar::{ParseFault, begins, word};
+use rp_lexer::{Keyword, Mark, Token, TokenKind};
+use rp_tree::{Operation, Operator};
+
+/// The levels of operators that stand between operands, those that bind the weakest first.
+#[derive(Clone, Copy)]
+pub(crate) enum Level {
+    /// OR, grouped from the right.
+    Or,
+    /// AND, grouped from the right.
+    And,
+    /// `+` and `-`, grouped from the left.
+    Sum,
+    /// `*`, grouped from the left.
+    Product,
+}
+
+/// Whether the tokens begin with an operator of this level.
+pub(crate) fn begins_operator(tokens: &[Token], level: Level) -> bool
+    ensures { result ≡ starts (operator_kinds level) tokens.now }
+{
+    match level {
+        Level::Or => begins(tokens, TokenKind::Keyword(Keyword::Or)),
+        Level::And => begins(tokens, TokenKind::Keyword(Keyword::And)),
+        Level::Sum => {
+            begins(tokens, TokenKind::Mark(Mark::Plus))
+                || begins(tokens, TokenKind::Mark(Mark::Minus))
+        }
+        Level::Product => begins(tokens, TokenKind::Mark(Mark::Asterisk)),
+    }
+}
+
+/// An operator of this level, and what follows.
+pub(crate) fn operator<'a>(
+    text: &str,
+    tokens: &'a [Token],
+    level: Level,
+) -> Result<(Operation, &'a [Token]), ParseFault>
+    requires stands { All (IsToken text.now) tokens.now }
+    ensures exact { Gives (λ x. (x.0, x.1.now)) result ((operator level).read text.now tokens.now) }
+    ensures stands { IfOk result (λ x. All (IsToken text.now) x.1.now) }
+    ensures shorter { IfOk result (λ x. length x.1.now < length tokens.now) }
+{
+    let (kind, operator) = match level {
+        Level::Or => (TokenKind::Keyword(Keyword::Or), Operator::Or),
+        Level::And => (TokenKind::Keyword(Keyword::And), Operator::And),
+        Level::Sum if begins(tokens, TokenKind::Mark(Mark::Plus)) => {
+            (TokenKind::Mark(Mark::Plus), Operator::Plus)
+        }
+        Level::Sum => (TokenKind::Mark(Mark::Minus), Operator::Minus),
+        Level::Product => (TokenKind::Mark(Mark::Asterisk), Operator::Times),
+    };
+    operation(text, tokens, kind, operator)
+}
+
+/// Whether the tokens begin with an operator of comparison.
+pub(crate) fn begins_comparison(tokens: &[Token]) -> bool
+    ensures { result ≡ starts comparison_kinds tokens.now }
+{
+    begins(tokens, TokenKind::Mark(Mark::Equals))
+        || begins(tokens, TokenKind::Mark(Mark::NotEquals))
+        || begins(tokens, TokenKind::Mark(Mark::LessThan))
+        || begins(tokens, TokenKind::Mark(Mark::LessThanOrEquals))
+        || begins(tokens, TokenKind::Mark(Mark::GreaterThan))
+        || begins(tokens, TokenKind::Mark(Mark::GreaterThanOrEquals))
+}
+
+/// An operator of comparison, and what follows.
+#[tactic(auto, unfolding(crate::specs::ExprGrammar::comparison))]
+pub(crate) fn comparison<'a>(
+    text: &str,
+    tokens: &'a [Token],
+) -> Result<(Operation, &'a [Token]), ParseFault>
+    requires stands { All (IsToken text.now) tokens.now }
+    ensures exact { Gives (λ x. (x.0, x.1.now)) result (comparison.read text.now tokens.now) }
+    ensures stands { IfOk result (λ x. All (IsToken text.now) x.1.now) }
+    ensures shorter { IfOk result (λ x. length x.1.now < length tokens.now) }
+{
+    let equals = TokenKind::Mark(Mark::Equals);
+    if begins(tokens, equals) {
+        return operation(text, tokens, equals, Operator::Equals);
+    }
+    let not_equals = TokenKind::Mark(Mark::NotEquals);
+    if begins(tokens, not_equals) {
+        return operation(text, tokens, not_equals, Operator::NotEquals);
+    }
+    let less = TokenKind::Mark(Mark::LessThan);
+    if begins(tokens, less) {
+        return operation(text, tokens, less, Operator::Less);
+    }
+    let less_or_equals = TokenKind::Mark(Mark::LessThanOrEquals);
+    if begins(tokens, less_or_equals) {
+        return operation(text, tokens, less_or_equals, Operator::LessOrEquals);
+    }
+    let greater = TokenKind::Mark(Mark::GreaterThan);
+    if begins(tokens, greater) {
+        return operation(text, tokens, greater, Operator::Greater);
+    }
+    let greater_or_equals = TokenKind::Mark(Mark::GreaterThanOrEquals);
+    operation(text, tokens, greater_or_equals, Operator::GreaterOrEquals)
+}
+
+/// `IS NULL` or `IS NOT NULL`, and what follows.
+#[tactic(auto, unfolding(crate::specs::ExprGrammar::nullness))]
+pub(crate) fn nullness<'a>(
+    text: &str,
+    tokens: &'a [Token],
+) -> Result<(usize, bool, &'a [Token]), ParseFault>
+    requires stands { All (IsToken text.now) tokens.now }
+    ensures exact { Gives (λ x. ((x.0, x.1), x.2.now)) result (nullness.read text.now tokens.now) }
+    ensures stands { IfOk result (λ x. All (IsToken text.now) x.2.now) }
+    ensures shorter { IfOk result (λ x. length x.2.now < length tokens.now) }
+{
+    let (at, rest) = word(text, tokens, TokenKind::Keyword(Keyword::Is))?;
+    if begins(rest, TokenKind::Keyword(Keyword::Not)) {
+        let (_, rest) = word(text, rest, TokenKind::Keyword(Keyword::Not))?;
+        let (_, rest) = word(text, rest, TokenKind::Keyword(Keyword::Null))?;
+        return Ok((at, true, rest));
+    }
+    let (_, rest) = word(text, rest, TokenKind::Keyword(Keyword::Null))?;
+    Ok((at, false, rest))
+}
+
+/// An operator of this kind, and what follows.
+fn operation<'a>(
+    text: &str,
+    tokens: &'a [Token],
+    kind: TokenKind,
+    operator: Operator,
+) -> Result<(Operation, &'a [Token]), ParseFault>
+    requires stands { All (IsToken text.now) tokens.now }
+    ensures exact { Gives (λ x. (x.0, x.1.now)) result ((operation operator kind).read text.now tokens.now) }
+    ensures stands { IfOk result (λ x. All (IsToken text.now) x.1.now) }
+    ensures shorter { IfOk result (λ x. length x.1.now < length tokens.now) }
+{
+    let (at, rest) = word(text, tokens, kind)?;
+    Ok((Operation { operator, at }, rest))
+}
