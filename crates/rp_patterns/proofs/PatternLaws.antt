@@ -4,18 +4,17 @@ use Rattle.rp_lexer.specs.declared.token.Token.{Token}
 use Rattle.rp_lexer.specs.declared.kind.TokenKind.TheVariants as kind
 use Rattle.rp_lexer.specs.declared.kind.Mark.TheVariants as mark
 use Rattle.rp_lexer.specs.declared.kind.Keyword.TheVariants as keyword
-use Rattle.rp_lexer.specs.Meanings.{number_of}
 use Rattle.rp_tree.specs.declared.tree.Quantifier.{Quantifier}
 use Rattle.rp_grammar.specs.Names.{name, name_kinds, name_in}
 use Rattle.rp_tree.specs.Tree.{Tree, Variable, PartitionStart, PartitionEnd, Concatenation, Alternation, Permute, Beside, Exclusion, joined, joined_all}
 use Rattle.rp_grammar.specs.Grammar.{Grammar, word, ◌then◌, ◌or◌, gives, optional, many, never, opening, second, listed, apart}
 use Rattle.rp_patterns.specs.PatternGrammar.{repeated, from_lower, bound, bounds, quantifier, with_quantifier, or_empty, group, permute, exclusion, primary, factor, sequence, alternatives, as_pattern, deeper, inside, pattern_kinds, after_pattern}
-use Rattle.rp_grammar.proofs.Laws.{Lawful, one_lawful, word_lawful, then_lawful, or_lawful, gives_lawful, optional_lawful, many_lawful, never_lawful, opening_lawful, listed_lawful, under_lawful}
+use Rattle.rp_grammar.proofs.Laws.{Lawful, here_lawful, number_lawful, one_lawful, word_lawful, then_lawful, or_lawful, gives_lawful, optional_lawful, many_lawful, never_lawful, opening_lawful, listed_lawful, under_lawful}
 
 pub bounds_lawful : (text : List ℕ) → Lawful text bounds
 unfolding bounds bound
 bounds_lawful text =
-    let digits : Lawful text bound = one_lawful _ _ in
+    let digits : Lawful text bound = gives_lawful _ _ (then_lawful _ _ here_lawful number_lawful refl) in
     let comma = word_lawful (kind.Mark mark.Comma) in
     let right = word_lawful (kind.Mark mark.RightBrace) in
     or_lawful _ _

@@ -1,6 +1,5 @@
 -- The grammar of row patterns.
 use Rattle.std.specs.Prelude.{ℕ, zero, suc, List, [], ◌∷◌, ◌++◌, Option, Some, None, Bool, true, false}
-use Rattle.rp_lexer.specs.Meanings.{number_of}
 use Rattle.rp_lexer.specs.declared.kind.TokenKind.{TokenKind}
 use Rattle.rp_lexer.specs.declared.kind.TokenKind.TheVariants as kind
 use Rattle.rp_lexer.specs.declared.kind.Mark.TheVariants as mark
@@ -8,12 +7,12 @@ use Rattle.rp_lexer.specs.declared.kind.Keyword.TheVariants as keyword
 use Rattle.rp_tree.specs.declared.tree.Bound.{Bound}
 use Rattle.rp_tree.specs.declared.tree.Quantifier.{Quantifier}
 use Rattle.rp_tree.specs.Tree.{Tree, Variable, Empty, PartitionStart, PartitionEnd, Concatenation, Alternation, Permute, Beside, Exclusion, Quantified, joined, joined_all}
-use Rattle.rp_grammar.specs.Grammar.{Grammar, one_of, word, nothing, ◌then◌, ◌or◌, gives, optional, many, never, opening, second, listed, under}
+use Rattle.rp_grammar.specs.Grammar.{Grammar, word, number, here, ◌then◌, ◌or◌, gives, optional, many, never, opening, second, listed, under}
 use Rattle.rp_grammar.specs.Names.{name}
 
 -- a bound, where it stands
 unfoldable pub bound : Grammar Bound
-bound = one_of (kind.Number ∷ []) (λ text t. record { at = t.start; count = number_of text t })
+bound = gives (λ x. record { at = x.0; count = x.1 }) (here then number)
 
 -- a greedy quantifier
 abbrev pub repeated : ℕ → Bound → Option Bound → Quantifier

@@ -3,5 +3,6 @@
 #![tactic(auto)]
 
 mod pattern;
+mod quantifier;
 
 pub use pattern::inner;
