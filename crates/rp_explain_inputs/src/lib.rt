@@ -2,7 +2,7 @@
 //! proposed for an input.
 //!
 //! Nothing here decides: the fault is that of `read_columns`, `rows_of`, `rows_by` or `rows_by_objects`, and hints are guesses from the
-//! bytes round its place. Each line ends in LF. The only error is want of memory.
+//! bytes round its place. Each line ends in LF. The only error is being out of memory.
 #![tactic(auto)]
 
 mod by_columns;
@@ -20,6 +20,7 @@ mod objects;
 mod proposal_notes;
 mod proposed;
 mod scan;
+mod seen;
 mod stray_lines;
 
 pub use by_columns::{explain_csv_by, explain_no_header};

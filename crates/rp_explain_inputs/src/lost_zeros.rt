@@ -1,7 +1,7 @@
 //! Zeros before a number, which are lost.
 
 use crate::first_line::is_whole;
-use crate::proposed::is_plain_number;
+use crate::seen::is_plain_number;
 use csv::ByteRecord;
 use rp_input::{MAX_RECORDS, reader_of, take_record};
 use rp_value::{Column, Kind, Table};

@@ -1,24 +1,14 @@
 //! Columns that are proposed as text, since words for null are among their numbers.
 
 use crate::null_words::{is_null_word, of_null_word};
-use crate::proposed::{is_null, is_plain_number, meaning};
-use csv::{ByteRecord, Reader};
+use crate::proposed::meaning;
+use crate::seen::seen_in;
+use csv::ByteRecord;
 use rp_input::{CsvLayout, MAX_RECORDS, reader_of, take_record};
 use rp_place::push_help;
 use rp_value::Text;
 use rp_wording::Pieces;
 use std::alloc::{AllocError, Global};
-
-/// What was seen in a column's fields.
-#[derive(Clone, Copy)]
-struct Seen {
-    /// Whether one was a whole number.
-    number: bool,
-    /// Whether one was a word that other programs write for a null.
-    word: bool,
-    /// Whether one was neither of them, and not null.
-    other: bool,
-}
 
 /// Writes of each column of a CSV text that has whole numbers and words for null alone that it is text, and what to do.
 pub(crate) fn push_mixed(
@@ -41,58 +31,6 @@ pub(crate) fn push_mixed(
         }
     }
     Ok(())
-}
-
-/// What all records that are left have in each of so many columns.
-fn seen_in(
-    alloc: Global,
-    reader: &mut Reader<&[u8]>,
-    count: usize,
-    nulls: &[Text],
-) -> Result<Vec<Seen>, AllocError> {
-    let mut seen = nothing_seen(alloc, count)?;
-    let mut fields = ByteRecord::new(alloc);
-    for _record in 0..MAX_RECORDS {
-        if !take_record(reader, &mut fields)? {
-            break;
-        }
-        look_at(&mut seen, &fields, nulls);
-    }
-    Ok(seen)
-}
-
-/// Nothing was seen of any column.
-fn nothing_seen(alloc: Global, count: usize) -> Result<Vec<Seen>, AllocError> {
-    let mut seen = Vec::new(alloc);
-    for _column in 0..count {
-        seen.push(Seen {
-            number: false,
-            word: false,
-            other: false,
-        })?;
-    }
-    Ok(seen)
-}
-
-/// Looks at the fields of a record.
-fn look_at(seen: &mut Vec<Seen>, fields: &ByteRecord, nulls: &[Text]) {
-    for (index, one) in seen.iter_mut().enumerate() {
-        let field = fields.get(index).unwrap_or(b"");
-        if !is_null(field, nulls) {
-            *one = with_field(*one, field);
-        }
-    }
-}
-
-/// What was seen of a column with a further field, which isn't null.
-fn with_field(seen: Seen, field: &[u8]) -> Seen {
-    let number = is_plain_number(field);
-    let word = is_null_word(field);
-    Seen {
-        number: seen.number || number,
-        word: seen.word || word,
-        other: seen.other || !number && !word,
-    }
 }
 
 /// Writes that a column is text because of a word, and what to do.

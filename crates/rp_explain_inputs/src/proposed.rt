@@ -1,10 +1,11 @@
 //! The columns of an input, proposed from what it holds.
 
-use crate::first_line::{is_whole, kind_of};
+use crate::first_line::kind_of;
 use crate::fronts::is_foreign;
 use crate::heading::of_heading;
-use csv::{ByteRecord, Reader};
-use rp_input::{MAX_RECORDS, reader_of, take_record};
+use crate::seen::{Seen, seen_in};
+use csv::ByteRecord;
+use rp_input::{reader_of, take_record};
 use rp_value::{Column, Kind, Text, upper_case_name};
 use rp_wording::{Pieces, is_plain, quoted, shown, upper_case};
 use std::alloc::{AllocError, Global};
@@ -17,15 +18,6 @@ pub struct Proposal {
     pub columns: String,
     /// Whether each field of the header has a column, so that the text is that of a table too.
     pub is_table: bool,
-}
-
-/// What was seen in a column's fields.
-#[derive(Clone, Copy)]
-struct Seen {
-    /// Whether one wasn't null.
-    value: bool,
-    /// Whether one was neither null nor a whole number.
-    text: bool,
 }
 
 /// Columns that fit the header and all records of a CSV text, in which this byte is between fields. A column is `int` where it has a
@@ -129,68 +121,11 @@ pub(crate) fn is_named(names: &[String], index: usize) -> bool {
 
 /// The kind of a column by what was seen of it.
 fn kind_seen(seen: Seen) -> &'static str {
-    if seen.value && !seen.text {
+    if seen.number && !seen.text {
         "int"
     } else {
         "text"
     }
-}
-
-/// What all records have in each of so many columns.
-fn seen_in(
-    alloc: Global,
-    reader: &mut Reader<&[u8]>,
-    count: usize,
-    nulls: &[Text],
-) -> Result<Vec<Seen>, AllocError> {
-    let mut seen = nothing_seen(alloc, count)?;
-    let mut fields = ByteRecord::new(alloc);
-    for _record in 0..MAX_RECORDS {
-        if !take_record(reader, &mut fields)? {
-            break;
-        }
-        look_at(&mut seen, &fields, nulls);
-    }
-    Ok(seen)
-}
-
-/// Nothing was seen of any column.
-fn nothing_seen(alloc: Global, count: usize) -> Result<Vec<Seen>, AllocError> {
-    let mut seen = Vec::new(alloc);
-    for _column in 0..count {
-        seen.push(Seen {
-            value: false,
-            text: false,
-        })?;
-    }
-    Ok(seen)
-}
-
-/// Looks at the fields of a record.
-fn look_at(seen: &mut Vec<Seen>, fields: &ByteRecord, nulls: &[Text]) {
-    for (index, one) in seen.iter_mut().enumerate() {
-        let field = fields.get(index).unwrap_or(b"");
-        if !is_null(field, nulls) {
-            *one = Seen {
-                value: true,
-                text: one.text || !is_plain_number(field),
-            };
-        }
-    }
-}
-
-/// Whether a field tells nothing of its column: it is empty or a word for null.
-pub(crate) fn is_null(field: &[u8], nulls: &[Text]) -> bool {
-    field.is_empty() || nulls.iter().any(|word| word.as_str().as_bytes() == field)
-}
-
-/// Whether a field is a whole number of 64 bits without a zero in front.
-pub(crate) fn is_plain_number(field: &[u8]) -> bool {
-    let digits = match field {
-        [b'-' | b'+', rest @ ..] => rest,
-        _ => field,
-    };
-    is_whole(field) && (digits.len() == 1 || digits.first() != Some(&b'0'))
 }
 
 /// Adds the name of a header's field as it may be typed, and a kind.
