@@ -116,6 +116,11 @@ module _ {X W : Type 0} (new : W) (step : X → Request → Reply → X → Type
       → StopsAfter step cut_short fault input (node old) (node new) w w' count
   stops_of_node fault stops = stops_same step cut_short node changed fault input old new w w' count stops
 
+  -- the same, of a fault that is known
+  pub stops_by : {why : ServeFault} (fault : ServeFault) → fault ≡ why → StopsAfter (watched step cut_short node changed) (watched_cut step cut_short node changed) fault input old new w w' count
+      → StopsAfter step cut_short why input (node old) (node new) w w' count
+  stops_by fault is stops = subst (λ f. StopsAfter step cut_short f input (node old) (node new) w w' count) is (stops_of_node fault stops)
+
   module _ (unchanged : (old : X) (request : Request) (reply : Reply) (new : X) → step old request reply new → may_change reply ≡ false → new ≡ old) where
     pub all_still : ServesAll (watched step cut_short node changed) input old new w w' count → changed new ≡ false → node new ≡ node old
     all_still all is = (serves_still step cut_short node changed unchanged all.lines all.replies old new all.serves is).0
@@ -123,12 +128,9 @@ module _ {X W : Type 0} (new : W) (step : X → Request → Reply → X → Type
     first_still : ServesFirst (watched step cut_short node changed) input old new w w' count → changed new ≡ false → node new ≡ node old
     first_still first is = (serves_still step cut_short node changed unchanged first.lines first.replies old new first.serves is).0
 
-    pub read_still : (fault : ServeFault) → fault ≡ Read → StopsAfter (watched step cut_short node changed) (watched_cut step cut_short node changed) fault input old new w w' count
-        → changed new ≡ false → node new ≡ node old
-    read_still fault why stops is =
-        first_still (subst (λ f. StopsAfter (watched step cut_short node changed) (watched_cut step cut_short node changed) f input old new w w' count) why stops) is
-
-    pub turns_still : (fault : ServeFault) → fault ≡ Turns → StopsAfter (watched step cut_short node changed) (watched_cut step cut_short node changed) fault input old new w w' count
-        → changed new ≡ false → node new ≡ node old
-    turns_still fault why stops is =
-        first_still (subst (λ f. StopsAfter (watched step cut_short node changed) (watched_cut step cut_short node changed) f input old new w w' count) why stops) is
+    -- the same, of a session that ended by a fault after which the lines that were read were all answered
+    pub stopped_still : {why : ServeFault} (fault : ServeFault) → fault ≡ why
+        → (StopsAfter (watched step cut_short node changed) (watched_cut step cut_short node changed) why input old new w w' count → ServesFirst (watched step cut_short node changed) input old new w w' count)
+        → StopsAfter (watched step cut_short node changed) (watched_cut step cut_short node changed) fault input old new w w' count → changed new ≡ false → node new ≡ node old
+    stopped_still fault is serves stops same =
+        first_still (serves (subst (λ f. StopsAfter (watched step cut_short node changed) (watched_cut step cut_short node changed) f input old new w w' count) is stops)) same

@@ -1,8 +1,7 @@
 use Rattle.std.proofs.Common.{Result, Ok, Err, IfOk, sym, subst}
 use Rattle.rp_serve.specs.Rounds.{IsSavedAs, kept_bytes}
-use Rattle.rp_serve.specs.Sessions.{StopsAfter}
 use Rattle.rp_serve.proofs.Ends.{stops_keep}
-use Rattle.rp_serve.proofs.Watching.{all_of_node, all_still, read_still, stops_of_node, turns_still}
+use Rattle.rp_serve.proofs.Watching.{all_of_node, all_still, stopped_still, stops_by, stops_of_node}
 use Rattle.rp_serve.proofs.connection.round_on.Goals as goal
 
 pub kept_after-requires : goal.kept_after-requires
@@ -15,16 +14,16 @@ kept_after-requires g c = λ current same.
 pub kept_after-requires-in-Err-Read : goal.kept_after-requires-in-Err-Read
 kept_after-requires-in-Err-Read g c = λ current same.
     subst (λ x. IsSavedAs g.N.Keeps.is_saved x (kept_bytes c.args.saved))
-    (sym (read_still c.serve_counted.new.node g.N.Answers.step g.N.Answers.cut_short (λ x. x.node) (λ x. x.has_changed)
+    (sym (stopped_still c.serve_counted.new.node g.N.Answers.step g.N.Answers.cut_short (λ x. x.node) (λ x. x.has_changed)
     (g.R.Intake.seen c.args.reader.now).remaining _ (g.W.Outlet.contents c.args.writer.now) (g.W.Outlet.contents c.serve_counted.new.writer) c.serve_counted.new.count
-    (λ old request reply new done same. g.met.N.Keeps.unchanged old request reply new done same) c.in-Err-Read.field-0 c.in-Err-Read.field-0-is c.in-Err-Read.ensures.stops same)) (c.requires.known current)
+    (λ old request reply new done same. g.met.N.Keeps.unchanged old request reply new done same) c.in-Err-Read.field-0 c.in-Err-Read.field-0-is (λ serves. serves) c.in-Err-Read.ensures.stops same)) (c.requires.known current)
 
 pub kept_after-requires-in-Err-Turns : goal.kept_after-requires-in-Err-Turns
 kept_after-requires-in-Err-Turns g c = λ current same.
     subst (λ x. IsSavedAs g.N.Keeps.is_saved x (kept_bytes c.args.saved))
-    (sym (turns_still c.serve_counted.new.node g.N.Answers.step g.N.Answers.cut_short (λ x. x.node) (λ x. x.has_changed)
+    (sym (stopped_still c.serve_counted.new.node g.N.Answers.step g.N.Answers.cut_short (λ x. x.node) (λ x. x.has_changed)
     (g.R.Intake.seen c.args.reader.now).remaining _ (g.W.Outlet.contents c.args.writer.now) (g.W.Outlet.contents c.serve_counted.new.writer) c.serve_counted.new.count
-    (λ old request reply new done same. g.met.N.Keeps.unchanged old request reply new done same) c.in-Err-Turns.field-0 c.in-Err-Turns.field-0-is c.in-Err-Turns.ensures.stops same)) (c.requires.known current)
+    (λ old request reply new done same. g.met.N.Keeps.unchanged old request reply new done same) c.in-Err-Turns.field-0 c.in-Err-Turns.field-0-is (λ serves. serves) c.in-Err-Turns.ensures.stops same)) (c.requires.known current)
 
 pub gone_back-requires : goal.gone_back-requires
 gone_back-requires g c = λ bytes is.
@@ -62,9 +61,8 @@ returns-in-Err-Read-clause-round g c =
     of_all c.kept_after-in-Err-Read.result _ _ _ _
     (λ end node saved told. rw (told.0, told.1) (record {
       left = c.serve_counted.new.node.node;
-      session = subst (λ f. StopsAfter g.N.Answers.step g.N.Answers.cut_short f (g.R.Intake.seen c.args.reader.now).remaining c.args.node c.serve_counted.new.node.node (g.W.Outlet.contents c.args.writer.now) (g.W.Outlet.contents c.serve_counted.new.writer) c.serve_counted.new.count)
-          c.in-Err-Read.field-0-is (stops_of_node c.serve_counted.new.node g.N.Answers.step g.N.Answers.cut_short (λ x. x.node) (λ x. x.has_changed)
-          (g.R.Intake.seen c.args.reader.now).remaining _ (g.W.Outlet.contents c.args.writer.now) (g.W.Outlet.contents c.serve_counted.new.writer) c.serve_counted.new.count c.in-Err-Read.field-0 c.in-Err-Read.ensures.stops);
+      session = stops_by c.serve_counted.new.node g.N.Answers.step g.N.Answers.cut_short (λ x. x.node) (λ x. x.has_changed)
+          (g.R.Intake.seen c.args.reader.now).remaining _ (g.W.Outlet.contents c.args.writer.now) (g.W.Outlet.contents c.serve_counted.new.writer) c.serve_counted.new.count c.in-Err-Read.field-0 c.in-Err-Read.field-0-is c.in-Err-Read.ensures.stops;
       keeping = (node, saved);
     })) c.kept_after-in-Err-Read.ensures.node c.kept_after-in-Err-Read.ensures.saved c.kept_after-in-Err-Read.ensures.ended
 
@@ -73,9 +71,8 @@ returns-in-Err-Turns-clause-round g c =
     of_all c.kept_after-in-Err-Turns.result _ _ _ _
     (λ end node saved told. rw (told.0, told.1) (record {
       left = c.serve_counted.new.node.node;
-      session = subst (λ f. StopsAfter g.N.Answers.step g.N.Answers.cut_short f (g.R.Intake.seen c.args.reader.now).remaining c.args.node c.serve_counted.new.node.node (g.W.Outlet.contents c.args.writer.now) (g.W.Outlet.contents c.serve_counted.new.writer) c.serve_counted.new.count)
-          c.in-Err-Turns.field-0-is (stops_of_node c.serve_counted.new.node g.N.Answers.step g.N.Answers.cut_short (λ x. x.node) (λ x. x.has_changed)
-          (g.R.Intake.seen c.args.reader.now).remaining _ (g.W.Outlet.contents c.args.writer.now) (g.W.Outlet.contents c.serve_counted.new.writer) c.serve_counted.new.count c.in-Err-Turns.field-0 c.in-Err-Turns.ensures.stops);
+      session = stops_by c.serve_counted.new.node g.N.Answers.step g.N.Answers.cut_short (λ x. x.node) (λ x. x.has_changed)
+          (g.R.Intake.seen c.args.reader.now).remaining _ (g.W.Outlet.contents c.args.writer.now) (g.W.Outlet.contents c.serve_counted.new.writer) c.serve_counted.new.count c.in-Err-Turns.field-0 c.in-Err-Turns.field-0-is c.in-Err-Turns.ensures.stops;
       keeping = (node, saved);
     })) c.kept_after-in-Err-Turns.ensures.node c.kept_after-in-Err-Turns.ensures.saved c.kept_after-in-Err-Turns.ensures.ended
 
@@ -84,9 +81,8 @@ returns-in-Err-Write-clause-round g c =
     of_all c.gone_back.result _ _ _ _
     (λ end node saved told. rw (told.0, told.1) (record {
       left = c.serve_counted.new.node.node;
-      session = subst (λ f. StopsAfter g.N.Answers.step g.N.Answers.cut_short f (g.R.Intake.seen c.args.reader.now).remaining c.args.node c.serve_counted.new.node.node (g.W.Outlet.contents c.args.writer.now) (g.W.Outlet.contents c.serve_counted.new.writer) c.serve_counted.new.count)
-          c.in-Err-Write.field-0-is (stops_of_node c.serve_counted.new.node g.N.Answers.step g.N.Answers.cut_short (λ x. x.node) (λ x. x.has_changed)
-          (g.R.Intake.seen c.args.reader.now).remaining _ (g.W.Outlet.contents c.args.writer.now) (g.W.Outlet.contents c.serve_counted.new.writer) c.serve_counted.new.count c.in-Err-Write.field-0 c.in-Err-Write.ensures.stops);
+      session = stops_by c.serve_counted.new.node g.N.Answers.step g.N.Answers.cut_short (λ x. x.node) (λ x. x.has_changed)
+          (g.R.Intake.seen c.args.reader.now).remaining _ (g.W.Outlet.contents c.args.writer.now) (g.W.Outlet.contents c.serve_counted.new.writer) c.serve_counted.new.count c.in-Err-Write.field-0 c.in-Err-Write.field-0-is c.in-Err-Write.ensures.stops;
       keeping = (node, saved);
     })) c.gone_back.ensures.node c.gone_back.ensures.saved c.gone_back.ensures.ended
 
@@ -95,8 +91,7 @@ returns-in-Err-OutOfMemory-clause-round g c =
     of_all c.gone_back-in-Err-OutOfMemory.result _ _ _ _
     (λ end node saved told. rw (told.0, told.1) (record {
       left = c.serve_counted.new.node.node;
-      session = subst (λ f. StopsAfter g.N.Answers.step g.N.Answers.cut_short f (g.R.Intake.seen c.args.reader.now).remaining c.args.node c.serve_counted.new.node.node (g.W.Outlet.contents c.args.writer.now) (g.W.Outlet.contents c.serve_counted.new.writer) c.serve_counted.new.count)
-          c.in-Err-OutOfMemory.field-0-is (stops_of_node c.serve_counted.new.node g.N.Answers.step g.N.Answers.cut_short (λ x. x.node) (λ x. x.has_changed)
-          (g.R.Intake.seen c.args.reader.now).remaining _ (g.W.Outlet.contents c.args.writer.now) (g.W.Outlet.contents c.serve_counted.new.writer) c.serve_counted.new.count c.in-Err-OutOfMemory.field-0 c.in-Err-OutOfMemory.ensures.stops);
+      session = stops_by c.serve_counted.new.node g.N.Answers.step g.N.Answers.cut_short (λ x. x.node) (λ x. x.has_changed)
+          (g.R.Intake.seen c.args.reader.now).remaining _ (g.W.Outlet.contents c.args.writer.now) (g.W.Outlet.contents c.serve_counted.new.writer) c.serve_counted.new.count c.in-Err-OutOfMemory.field-0 c.in-Err-OutOfMemory.field-0-is c.in-Err-OutOfMemory.ensures.stops;
       keeping = (node, saved);
     })) c.gone_back-in-Err-OutOfMemory.ensures.node c.gone_back-in-Err-OutOfMemory.ensures.saved c.gone_back-in-Err-OutOfMemory.ensures.ended
