@@ -1,5 +1,6 @@
 pub mod Reading
 pub mod Grammar
+pub mod Readers
 pub mod Meaning
 pub mod Names
 pub mod Texts

@@ -20,7 +20,7 @@ mod fault;
 mod naming;
 mod written;
 
-pub use cursor::{begins, number, opening, place, word};
+pub use cursor::{Parsed, begins, number, opening, place, token, word};
 pub use fault::ParseFault;
 pub use naming::{begins_name, name, named, text_at};
 pub use written::Name;

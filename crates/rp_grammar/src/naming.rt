@@ -4,12 +4,13 @@
 //! for letter, and a quote inside of it is written twice: `"Net ""price"""` is the name `Net "price"`, `'it''s'` the text
 //! `it's`.
 
-ghost use Rattle.std.specs.Prelude.{◌≡◌, ◌⊎◌, ◌<◌, length, All, IfOk};
+ghost use Rattle.std.specs.Prelude.{◌≡◌, ◌⊎◌, All, IfOk};
 ghost use Rattle.rp_lexer.specs.Lexes.{IsToken};
-ghost use Rattle.rp_grammar.specs.Reading.{Gives, starts};
+ghost use Rattle.rp_grammar.specs.Reading.{starts};
 ghost use Rattle.rp_grammar.specs.Names.{name, name_in, name_kinds, text_in};
+ghost use Rattle.rp_grammar.specs.Readers.{Reads, itself};
 
-use crate::cursor::place;
+use crate::cursor::{Parsed, place};
 use crate::fault::ParseFault;
 use crate::written::Name;
 use rp_lexer::{Token, TokenKind, name_of, text_of};
@@ -41,15 +42,9 @@ pub fn named(alloc: Global, text: &str, token: Token) -> Result<Name, AllocError
 }
 
 /// A name, and what follows it.
-pub fn name<'a>(
-    alloc: Global,
-    text: &str,
-    tokens: &'a [Token],
-) -> Result<(Name, &'a [Token]), ParseFault>
+pub fn name<'a>(alloc: Global, text: &str, tokens: &'a [Token]) -> Parsed<'a, Name>
     requires stands { All (IsToken text.now) tokens.now }
-    ensures exact { Gives (λ x. (x.0, x.1.now)) result (name.read text.now tokens.now) }
-    ensures stands { IfOk result (λ x. All (IsToken text.now) x.1.now) }
-    ensures shorter { IfOk result (λ x. length x.1.now < length tokens.now) }
+    ensures { Reads name itself text.now tokens.now result }
 {
     match tokens.split_first() {
         Some((first, rest)) if first.kind == TokenKind::Name => {
