@@ -1,14 +1,15 @@
 //! Row patterns.
 
-ghost use Rattle.std.specs.Prelude.{◌≡◌, ◌<◌, ◌≤◌, length, map, All, IfOk};
+ghost use Rattle.std.specs.Prelude.{◌≡◌, ◌≤◌, map, All, IfOk};
 ghost use Rattle.rp_lexer.specs.Lexes.{IsToken};
-ghost use Rattle.rp_grammar.specs.Reading.{Gives, starts};
+ghost use Rattle.rp_grammar.specs.Reading.{starts};
 ghost use Rattle.rp_tree.specs.Tree.{tree_of, joined_all, Concatenation, Alternation, Permute, Beside, Quantified, Exclusion};
-ghost use Rattle.rp_grammar.specs.Grammar.{gives, listed};
+ghost use Rattle.rp_grammar.specs.Grammar.{listed};
+ghost use Rattle.rp_grammar.specs.Readers.{Reads};
 ghost use Rattle.rp_patterns.specs.PatternGrammar.{group, permute, exclusion, primary, factor, sequence, alternatives, inside, deeper, pattern_kinds};
 
 use crate::quantifier::{begins_quantifier, repetition};
-use rp_grammar::{ParseFault, begins, begins_name, name, opening, word};
+use rp_grammar::{Parsed, begins, begins_name, name, opening, word};
 use rp_lexer::{Keyword, Mark, Token, TokenKind};
 use rp_tree::{Pattern, Quantifier};
 use std::alloc::{AllocError, Global};
@@ -28,17 +29,10 @@ fn begins_pattern(tokens: &[Token]) -> bool
 /// A pattern inside a bracket for which there was room, and what follows.
 #[cycle(grammar)]
 #[tactic(auto, using(crate::proofs::Patterns::deeper_is))]
-pub fn inner<'a>(
-    alloc: Global,
-    text: &str,
-    tokens: &'a [Token],
-    room: usize,
-) -> Result<(Pattern, &'a [Token]), ParseFault>
+pub fn inner<'a>(alloc: Global, text: &str, tokens: &'a [Token], room: usize) -> Parsed<'a, Pattern>
     requires room { 1 ≤ room }
     requires stands { All (IsToken text.now) tokens.now }
-    ensures exact { Gives (λ x. (tree_of x.0, x.1.now)) result ((deeper room).read text.now tokens.now) }
-    ensures stands { IfOk result (λ x. All (IsToken text.now) x.1.now) }
-    ensures shorter { IfOk result (λ x. length x.1.now < length tokens.now) }
+    ensures { Reads (deeper room) tree_of text.now tokens.now result }
 {
     alternatives(alloc, text, tokens, room - 1)
 }
@@ -51,12 +45,9 @@ fn alternatives<'a>(
     text: &str,
     tokens: &'a [Token],
     room: usize,
-) -> Result<(Pattern, &'a [Token]), ParseFault>
+) -> Parsed<'a, Pattern>
     requires stands { All (IsToken text.now) tokens.now }
-    ensures exact { Gives (λ x. (tree_of x.0, x.1.now)) result
-        ((alternatives room (inside room)).read text.now tokens.now) }
-    ensures stands { IfOk result (λ x. All (IsToken text.now) x.1.now) }
-    ensures shorter { IfOk result (λ x. length x.1.now < length tokens.now) }
+    ensures { Reads (alternatives room (inside room)) tree_of text.now tokens.now result }
 {
     let (first, mut rest) = sequence(alloc, text, tokens, room)?;
     if !begins(rest, TokenKind::Mark(Mark::VerticalBar)) {
@@ -76,17 +67,9 @@ fn alternatives<'a>(
 /// One or more factors, and what follows.
 #[cycle(grammar)]
 #[tactic(auto, unfolding(crate::specs::PatternGrammar::sequence))]
-fn sequence<'a>(
-    alloc: Global,
-    text: &str,
-    tokens: &'a [Token],
-    room: usize,
-) -> Result<(Pattern, &'a [Token]), ParseFault>
+fn sequence<'a>(alloc: Global, text: &str, tokens: &'a [Token], room: usize) -> Parsed<'a, Pattern>
     requires stands { All (IsToken text.now) tokens.now }
-    ensures exact { Gives (λ x. (tree_of x.0, x.1.now)) result
-        ((sequence room (inside room)).read text.now tokens.now) }
-    ensures stands { IfOk result (λ x. All (IsToken text.now) x.1.now) }
-    ensures shorter { IfOk result (λ x. length x.1.now < length tokens.now) }
+    ensures { Reads (sequence room (inside room)) tree_of text.now tokens.now result }
 {
     let (first, mut rest) = factor(alloc, text, tokens, room)?;
     if !begins_pattern(rest) {
@@ -105,16 +88,9 @@ fn sequence<'a>(
 /// A primary, perhaps with a quantifier, and what follows.
 #[cycle(grammar)]
 #[tactic(auto, unfolding(crate::specs::PatternGrammar::factor, crate::specs::PatternGrammar::quantifier))]
-fn factor<'a>(
-    alloc: Global,
-    text: &str,
-    tokens: &'a [Token],
-    room: usize,
-) -> Result<(Pattern, &'a [Token]), ParseFault>
+fn factor<'a>(alloc: Global, text: &str, tokens: &'a [Token], room: usize) -> Parsed<'a, Pattern>
     requires stands { All (IsToken text.now) tokens.now }
-    ensures exact { Gives (λ x. (tree_of x.0, x.1.now)) result ((factor room (inside room)).read text.now tokens.now) }
-    ensures stands { IfOk result (λ x. All (IsToken text.now) x.1.now) }
-    ensures shorter { IfOk result (λ x. length x.1.now < length tokens.now) }
+    ensures { Reads (factor room (inside room)) tree_of text.now tokens.now result }
 {
     let (body, rest) = primary(alloc, text, tokens, room)?;
     if !begins_quantifier(rest) {
@@ -134,16 +110,9 @@ fn quantified(body: Box<Pattern>, quantifier: Quantifier) -> Pattern
 /// A variable, an anchor or a bracket, and what follows.
 #[cycle(grammar)]
 #[tactic(auto, unfolding(crate::specs::PatternGrammar::primary, crate::specs::PatternGrammar::group, crate::specs::PatternGrammar::permute, crate::specs::PatternGrammar::exclusion))]
-fn primary<'a>(
-    alloc: Global,
-    text: &str,
-    tokens: &'a [Token],
-    room: usize,
-) -> Result<(Pattern, &'a [Token]), ParseFault>
+fn primary<'a>(alloc: Global, text: &str, tokens: &'a [Token], room: usize) -> Parsed<'a, Pattern>
     requires stands { All (IsToken text.now) tokens.now }
-    ensures exact { Gives (λ x. (tree_of x.0, x.1.now)) result ((primary room (inside room)).read text.now tokens.now) }
-    ensures stands { IfOk result (λ x. All (IsToken text.now) x.1.now) }
-    ensures shorter { IfOk result (λ x. length x.1.now < length tokens.now) }
+    ensures { Reads (primary room (inside room)) tree_of text.now tokens.now result }
 {
     if begins_name(tokens) {
         let (name, rest) = name(alloc, text, tokens)?;
@@ -169,16 +138,9 @@ fn primary<'a>(
 /// `(`, perhaps a pattern, `)`, and what follows.
 #[cycle(grammar)]
 #[tactic(auto, unfolding(crate::specs::PatternGrammar::group))]
-fn group<'a>(
-    alloc: Global,
-    text: &str,
-    tokens: &'a [Token],
-    room: usize,
-) -> Result<(Pattern, &'a [Token]), ParseFault>
+fn group<'a>(alloc: Global, text: &str, tokens: &'a [Token], room: usize) -> Parsed<'a, Pattern>
     requires stands { All (IsToken text.now) tokens.now }
-    ensures exact { Gives (λ x. (tree_of x.0, x.1.now)) result ((group room (inside room)).read text.now tokens.now) }
-    ensures stands { IfOk result (λ x. All (IsToken text.now) x.1.now) }
-    ensures shorter { IfOk result (λ x. length x.1.now < length tokens.now) }
+    ensures { Reads (group room (inside room)) tree_of text.now tokens.now result }
 {
     let (_, rest) = opening(text, tokens, TokenKind::Mark(Mark::LeftParenthesis), room)?;
     if !begins_pattern(rest) {
@@ -193,16 +155,9 @@ fn group<'a>(
 /// PERMUTE with its parts, and what follows.
 #[cycle(grammar)]
 #[tactic(auto, unfolding(crate::specs::PatternGrammar::permute))]
-fn permute<'a>(
-    alloc: Global,
-    text: &str,
-    tokens: &'a [Token],
-    room: usize,
-) -> Result<(Pattern, &'a [Token]), ParseFault>
+fn permute<'a>(alloc: Global, text: &str, tokens: &'a [Token], room: usize) -> Parsed<'a, Pattern>
     requires stands { All (IsToken text.now) tokens.now }
-    ensures exact { Gives (λ x. (tree_of x.0, x.1.now)) result ((permute room (inside room)).read text.now tokens.now) }
-    ensures stands { IfOk result (λ x. All (IsToken text.now) x.1.now) }
-    ensures shorter { IfOk result (λ x. length x.1.now < length tokens.now) }
+    ensures { Reads (permute room (inside room)) tree_of text.now tokens.now result }
 {
     let (at, rest) = word(text, tokens, TokenKind::Keyword(Keyword::Permute))?;
     let (_, rest) = opening(text, rest, TokenKind::Mark(Mark::LeftParenthesis), room)?;
@@ -218,13 +173,10 @@ fn patterns<'a>(
     text: &str,
     tokens: &'a [Token],
     room: usize,
-) -> Result<(Vec<Pattern>, &'a [Token]), ParseFault>
+) -> Parsed<'a, Vec<Pattern>>
     requires room { 1 ≤ room }
     requires stands { All (IsToken text.now) tokens.now }
-    ensures exact { Gives (λ x. (map tree_of x.0.items, x.1.now)) result
-        ((listed (inside room)).read text.now tokens.now) }
-    ensures stands { IfOk result (λ x. All (IsToken text.now) x.1.now) }
-    ensures shorter { IfOk result (λ x. length x.1.now < length tokens.now) }
+    ensures { Reads (listed (inside room)) (λ x. map tree_of x.items) text.now tokens.now result }
 {
     let (first, mut rest) = inner(alloc, text, tokens, room)?;
     let mut parts = Vec::new(alloc);
@@ -241,17 +193,9 @@ fn patterns<'a>(
 /// `{-`, a pattern, `-}`, and what follows.
 #[cycle(grammar)]
 #[tactic(auto, unfolding(crate::specs::PatternGrammar::exclusion))]
-fn exclusion<'a>(
-    alloc: Global,
-    text: &str,
-    tokens: &'a [Token],
-    room: usize,
-) -> Result<(Pattern, &'a [Token]), ParseFault>
+fn exclusion<'a>(alloc: Global, text: &str, tokens: &'a [Token], room: usize) -> Parsed<'a, Pattern>
     requires stands { All (IsToken text.now) tokens.now }
-    ensures exact { Gives (λ x. (tree_of x.0, x.1.now)) result
-        ((exclusion room (inside room)).read text.now tokens.now) }
-    ensures stands { IfOk result (λ x. All (IsToken text.now) x.1.now) }
-    ensures shorter { IfOk result (λ x. length x.1.now < length tokens.now) }
+    ensures { Reads (exclusion room (inside room)) tree_of text.now tokens.now result }
 {
     let (at, rest) = opening(text, tokens, TokenKind::Mark(Mark::LeftBraceMinus), room)?;
     let (body, rest) = inner(alloc, text, rest, room)?;

@@ -1,12 +1,13 @@
 //! Quantifiers: how often a part of a pattern may come.
 
-ghost use Rattle.std.specs.Prelude.{◌≡◌, ◌<◌, ◌≤◌, length, All, IfOk};
+ghost use Rattle.std.specs.Prelude.{◌≡◌, All};
 ghost use Rattle.rp_lexer.specs.Lexes.{IsToken};
-ghost use Rattle.rp_grammar.specs.Reading.{Gives, starts};
+ghost use Rattle.rp_grammar.specs.Reading.{starts};
 ghost use Rattle.rp_grammar.specs.Grammar.{gives};
+ghost use Rattle.rp_grammar.specs.Readers.{Reads, ReadsSome, itself};
 ghost use Rattle.rp_patterns.specs.PatternGrammar.{above, bound, bounds, from_bound, from_lower, lazily, quantifier, quantifier_kinds, repeated, repetition, unwritten, upper_alone};
 
-use rp_grammar::{ParseFault, begins, number, place, word};
+use rp_grammar::{Parsed, begins, number, place, word};
 use rp_lexer::{Mark, Token, TokenKind};
 use rp_tree::{Bound, Quantifier};
 
@@ -22,14 +23,9 @@ pub(crate) fn begins_quantifier(tokens: &[Token]) -> bool
 
 /// A quantifier, perhaps with `?`, and what follows.
 #[tactic(auto, unfolding(crate::specs::PatternGrammar::quantifier))]
-pub(crate) fn repetition<'a>(
-    text: &str,
-    tokens: &'a [Token],
-) -> Result<(Quantifier, &'a [Token]), ParseFault>
+pub(crate) fn repetition<'a>(text: &str, tokens: &'a [Token]) -> Parsed<'a, Quantifier>
     requires stands { All (IsToken text.now) tokens.now }
-    ensures exact { Gives (λ x. (x.0, x.1.now)) result (repetition.read text.now tokens.now) }
-    ensures stands { IfOk result (λ x. All (IsToken text.now) x.1.now) }
-    ensures shorter { IfOk result (λ x. length x.1.now < length tokens.now) }
+    ensures { Reads repetition itself text.now tokens.now result }
 {
     let (greedy, rest) = quantifier(text, tokens)?;
     if !begins(rest, TokenKind::Mark(Mark::QuestionMark)) {
@@ -41,11 +37,9 @@ pub(crate) fn repetition<'a>(
 
 /// A quantifier, greedy as yet, and what follows it.
 #[tactic(auto, unfolding(crate::specs::PatternGrammar::quantifier))]
-fn quantifier<'a>(text: &str, tokens: &'a [Token]) -> Result<(Quantifier, &'a [Token]), ParseFault>
+fn quantifier<'a>(text: &str, tokens: &'a [Token]) -> Parsed<'a, Quantifier>
     requires stands { All (IsToken text.now) tokens.now }
-    ensures exact { Gives (λ x. (x.0, x.1.now)) result (quantifier.read text.now tokens.now) }
-    ensures stands { IfOk result (λ x. All (IsToken text.now) x.1.now) }
-    ensures shorter { IfOk result (λ x. length x.1.now < length tokens.now) }
+    ensures { Reads quantifier itself text.now tokens.now result }
 {
     if begins(tokens, TokenKind::Mark(Mark::Asterisk)) {
         let (at, rest) = word(text, tokens, TokenKind::Mark(Mark::Asterisk))?;
@@ -72,11 +66,9 @@ fn unwritten(at: usize, count: u64) -> Bound
 
 /// A bound, and what follows it.
 #[tactic(auto, unfolding(crate::specs::PatternGrammar::bound))]
-fn bound<'a>(text: &str, tokens: &'a [Token]) -> Result<(Bound, &'a [Token]), ParseFault>
+fn bound<'a>(text: &str, tokens: &'a [Token]) -> Parsed<'a, Bound>
     requires stands { All (IsToken text.now) tokens.now }
-    ensures exact { Gives (λ x. (x.0, x.1.now)) result (bound.read text.now tokens.now) }
-    ensures stands { IfOk result (λ x. All (IsToken text.now) x.1.now) }
-    ensures shorter { IfOk result (λ x. length x.1.now < length tokens.now) }
+    ensures { Reads bound itself text.now tokens.now result }
 {
     let at = place(text, tokens);
     let (count, rest) = number(text, tokens)?;
@@ -97,14 +89,9 @@ fn repeated(at: usize, lower: Bound, upper: Option<Bound>) -> Quantifier
 
 /// A comma, perhaps with a bound behind it, or nothing, and what follows.
 #[tactic(auto, unfolding(crate::specs::PatternGrammar::bound))]
-fn above<'a>(
-    text: &str,
-    tokens: &'a [Token],
-) -> Result<(Option<(usize, Option<Bound>)>, &'a [Token]), ParseFault>
+fn above<'a>(text: &str, tokens: &'a [Token]) -> Parsed<'a, Option<(usize, Option<Bound>)>>
     requires stands { All (IsToken text.now) tokens.now }
-    ensures exact { Gives (λ x. (x.0, x.1.now)) result (above.read text.now tokens.now) }
-    ensures stands { IfOk result (λ x. All (IsToken text.now) x.1.now) }
-    ensures no_longer { IfOk result (λ x. length x.1.now ≤ length tokens.now) }
+    ensures { ReadsSome above itself text.now tokens.now result }
 {
     if !begins(tokens, TokenKind::Mark(Mark::Comma)) {
         return Ok((None, tokens));
@@ -128,15 +115,9 @@ fn from_lower(at: usize, lower: Bound, above: Option<(usize, Option<Bound>)>) ->
 }
 
 /// A lower bound, perhaps an upper one, `}`, and what follows it.
-fn from_bound<'a>(
-    text: &str,
-    tokens: &'a [Token],
-    at: usize,
-) -> Result<(Quantifier, &'a [Token]), ParseFault>
+fn from_bound<'a>(text: &str, tokens: &'a [Token], at: usize) -> Parsed<'a, Quantifier>
     requires stands { All (IsToken text.now) tokens.now }
-    ensures exact { Gives (λ x. (x.0, x.1.now)) result ((gives (λ f. f at) from_bound).read text.now tokens.now) }
-    ensures stands { IfOk result (λ x. All (IsToken text.now) x.1.now) }
-    ensures shorter { IfOk result (λ x. length x.1.now < length tokens.now) }
+    ensures { Reads (gives (λ f. f at) from_bound) itself text.now tokens.now result }
 {
     let (lower, rest) = bound(text, tokens)?;
     let (above, rest) = above(text, rest)?;
@@ -145,15 +126,9 @@ fn from_bound<'a>(
 }
 
 /// An upper bound behind a comma, `}`, and what follows it.
-fn upper_alone<'a>(
-    text: &str,
-    tokens: &'a [Token],
-    at: usize,
-) -> Result<(Quantifier, &'a [Token]), ParseFault>
+fn upper_alone<'a>(text: &str, tokens: &'a [Token], at: usize) -> Parsed<'a, Quantifier>
     requires stands { All (IsToken text.now) tokens.now }
-    ensures exact { Gives (λ x. (x.0, x.1.now)) result ((gives (λ f. f at) upper_alone).read text.now tokens.now) }
-    ensures stands { IfOk result (λ x. All (IsToken text.now) x.1.now) }
-    ensures shorter { IfOk result (λ x. length x.1.now < length tokens.now) }
+    ensures { Reads (gives (λ f. f at) upper_alone) itself text.now tokens.now result }
 {
     let (_, rest) = word(text, tokens, TokenKind::Mark(Mark::Comma))?;
     let (upper, rest) = bound(text, rest)?;
@@ -163,15 +138,9 @@ fn upper_alone<'a>(
 
 /// The bounds of a quantifier whose `{` stands at the offset, its `}`, and what follows it.
 #[tactic(auto, unfolding(crate::specs::PatternGrammar::bounds, crate::specs::PatternGrammar::bound))]
-fn bounds<'a>(
-    text: &str,
-    tokens: &'a [Token],
-    at: usize,
-) -> Result<(Quantifier, &'a [Token]), ParseFault>
+fn bounds<'a>(text: &str, tokens: &'a [Token], at: usize) -> Parsed<'a, Quantifier>
     requires stands { All (IsToken text.now) tokens.now }
-    ensures exact { Gives (λ x. (x.0, x.1.now)) result ((gives (λ f. f at) bounds).read text.now tokens.now) }
-    ensures stands { IfOk result (λ x. All (IsToken text.now) x.1.now) }
-    ensures shorter { IfOk result (λ x. length x.1.now < length tokens.now) }
+    ensures { Reads (gives (λ f. f at) bounds) itself text.now tokens.now result }
 {
     if begins(tokens, TokenKind::Number) {
         return from_bound(text, tokens, at);
