@@ -1,28 +1,22 @@
 //! Aggregates in expressions: COUNT, SUM, MIN and MAX.
 
-ghost use Rattle.std.specs.Prelude.{◌≡◌, ◌<◌, ◌≤◌, length, All, IfOk};
+ghost use Rattle.std.specs.Prelude.{◌≡◌, All};
 ghost use Rattle.rp_lexer.specs.Lexes.{IsToken};
-ghost use Rattle.rp_grammar.specs.Reading.{Gives};
 ghost use Rattle.rp_grammar.specs.Grammar.{gives};
+ghost use Rattle.rp_grammar.specs.Readers.{Reads, itself};
 ghost use Rattle.rp_expressions.specs.ExprGrammar.{aggregate, aggregated, counted, counting, over_column};
 
 use crate::navigation::column;
-use rp_grammar::{ParseFault, begins, name, opening, word};
+use rp_grammar::{Parsed, begins, name, opening, word};
 use rp_lexer::{Keyword, Mark, Token, TokenKind};
 use rp_tree::{Aggregate, AggregateFunction, Column, Counted, Scope};
 use std::alloc::Global;
 
 /// What COUNT goes over, and what follows.
 #[tactic(auto, unfolding(crate::specs::ExprGrammar::counted))]
-fn counted<'a>(
-    alloc: Global,
-    text: &str,
-    tokens: &'a [Token],
-) -> Result<(Counted, &'a [Token]), ParseFault>
+fn counted<'a>(alloc: Global, text: &str, tokens: &'a [Token]) -> Parsed<'a, Counted>
     requires stands { All (IsToken text.now) tokens.now }
-    ensures exact { Gives (λ x. (x.0, x.1.now)) result (counted.read text.now tokens.now) }
-    ensures stands { IfOk result (λ x. All (IsToken text.now) x.1.now) }
-    ensures shorter { IfOk result (λ x. length x.1.now < length tokens.now) }
+    ensures { Reads counted itself text.now tokens.now result }
 {
     if begins(tokens, TokenKind::Mark(Mark::Asterisk)) {
         let (_, rest) = word(text, tokens, TokenKind::Mark(Mark::Asterisk))?;
@@ -56,17 +50,15 @@ fn over_column<'a>(
     tokens: &'a [Token],
     room: usize,
     kind: TokenKind,
-) -> Result<(usize, Column, &'a [Token]), ParseFault>
+) -> Parsed<'a, (usize, Column)>
     requires stands { All (IsToken text.now) tokens.now }
-    ensures exact { Gives (λ x. ((x.0, x.1), x.2.now)) result ((over_column room kind).read text.now tokens.now) }
-    ensures stands { IfOk result (λ x. All (IsToken text.now) x.2.now) }
-    ensures shorter { IfOk result (λ x. length x.2.now < length tokens.now) }
+    ensures { Reads (over_column room kind) itself text.now tokens.now result }
 {
     let (at, rest) = word(text, tokens, kind)?;
     let (_, rest) = opening(text, rest, TokenKind::Mark(Mark::LeftParenthesis), room)?;
     let (column, rest) = column(alloc, text, rest)?;
     let (_, rest) = word(text, rest, TokenKind::Mark(Mark::RightParenthesis))?;
-    Ok((at, column, rest))
+    Ok(((at, column), rest))
 }
 
 /// The aggregate of this function, whose word stands at the offset.
@@ -87,12 +79,9 @@ fn counting<'a>(
     tokens: &'a [Token],
     room: usize,
     scope: Option<Scope>,
-) -> Result<(Aggregate, &'a [Token]), ParseFault>
+) -> Parsed<'a, Aggregate>
     requires stands { All (IsToken text.now) tokens.now }
-    ensures exact { Gives (λ x. (x.0, x.1.now)) result
-        ((gives (λ f. f scope) (counting room)).read text.now tokens.now) }
-    ensures stands { IfOk result (λ x. All (IsToken text.now) x.1.now) }
-    ensures shorter { IfOk result (λ x. length x.1.now < length tokens.now) }
+    ensures { Reads (gives (λ f. f scope) (counting room)) itself text.now tokens.now result }
 {
     let (at, rest) = word(text, tokens, TokenKind::Keyword(Keyword::Count))?;
     let (_, rest) = opening(text, rest, TokenKind::Mark(Mark::LeftParenthesis), room)?;
@@ -109,27 +98,24 @@ pub(crate) fn aggregate<'a>(
     tokens: &'a [Token],
     room: usize,
     scope: Option<Scope>,
-) -> Result<(Aggregate, &'a [Token]), ParseFault>
+) -> Parsed<'a, Aggregate>
     requires stands { All (IsToken text.now) tokens.now }
-    ensures exact { Gives (λ x. (x.0, x.1.now)) result
-        ((gives (λ f. f scope) (aggregate room)).read text.now tokens.now) }
-    ensures stands { IfOk result (λ x. All (IsToken text.now) x.1.now) }
-    ensures shorter { IfOk result (λ x. length x.1.now < length tokens.now) }
+    ensures { Reads (gives (λ f. f scope) (aggregate room)) itself text.now tokens.now result }
 {
     if begins(tokens, TokenKind::Keyword(Keyword::Count)) {
         return counting(alloc, text, tokens, room, scope);
     }
     if begins(tokens, TokenKind::Keyword(Keyword::Sum)) {
         let kind = TokenKind::Keyword(Keyword::Sum);
-        let (at, column, rest) = over_column(alloc, text, tokens, room, kind)?;
+        let ((at, column), rest) = over_column(alloc, text, tokens, room, kind)?;
         return Ok((under(scope, at, AggregateFunction::Sum(column)), rest));
     }
     if begins(tokens, TokenKind::Keyword(Keyword::Min)) {
         let kind = TokenKind::Keyword(Keyword::Min);
-        let (at, column, rest) = over_column(alloc, text, tokens, room, kind)?;
+        let ((at, column), rest) = over_column(alloc, text, tokens, room, kind)?;
         return Ok((under(scope, at, AggregateFunction::Min(column)), rest));
     }
     let kind = TokenKind::Keyword(Keyword::Max);
-    let (at, column, rest) = over_column(alloc, text, tokens, room, kind)?;
+    let ((at, column), rest) = over_column(alloc, text, tokens, room, kind)?;
     Ok((under(scope, at, AggregateFunction::Max(column)), rest))
 }

@@ -1,16 +1,16 @@
 //! Expressions.
 
-ghost use Rattle.std.specs.Prelude.{◌≡◌, ◌<◌, ◌≤◌, length, map, All, IfOk};
+ghost use Rattle.std.specs.Prelude.{◌≡◌, ◌≤◌, map, All, IfOk};
 ghost use Rattle.rp_lexer.specs.Lexes.{IsToken};
-ghost use Rattle.rp_grammar.specs.Reading.{Gives};
 ghost use Rattle.rp_grammar.specs.Grammar.{many};
+ghost use Rattle.rp_grammar.specs.Readers.{Reads, ReadsSome};
 ghost use Rattle.rp_tree.specs.Terms.{IsNull, Negative, Not, Operate, operand_of, term_of};
 ghost use Rattle.rp_expressions.specs.ExprGrammar.{bracketed, chain, deeper_expr, expr, inside_expr, joined, link, negation, operand, predicate, signed, value};
 
 use crate::navigation::{begins_plain, plain};
 use crate::operators::{Level, begins_comparison, begins_operator, comparison, nullness, operator};
 use crate::values::{call, literal, numeral, scoped};
-use rp_grammar::{ParseFault, begins, opening, word};
+use rp_grammar::{Parsed, begins, opening, word};
 use rp_lexer::{Keyword, Mark, Token, TokenKind};
 use rp_tree::{Expr, Operation};
 use std::alloc::{AllocError, Global};
@@ -18,17 +18,9 @@ use std::alloc::{AllocError, Global};
 /// An expression, and what follows.
 #[cycle(expr)]
 #[tactic(auto, unfolding(crate::specs::ExprGrammar::expr, crate::specs::ExprGrammar::operand))]
-pub fn expr<'a>(
-    alloc: Global,
-    text: &str,
-    tokens: &'a [Token],
-    room: usize,
-) -> Result<(Expr, &'a [Token]), ParseFault>
+pub fn expr<'a>(alloc: Global, text: &str, tokens: &'a [Token], room: usize) -> Parsed<'a, Expr>
     requires stands { All (IsToken text.now) tokens.now }
-    ensures exact { Gives (λ x. (term_of x.0, x.1.now)) result
-        ((expr room (inside_expr room)).read text.now tokens.now) }
-    ensures stands { IfOk result (λ x. All (IsToken text.now) x.1.now) }
-    ensures shorter { IfOk result (λ x. length x.1.now < length tokens.now) }
+    ensures { Reads (expr room (inside_expr room)) term_of text.now tokens.now result }
 {
     chain(alloc, text, tokens, room, Level::Or)
 }
@@ -41,12 +33,9 @@ fn chain<'a>(
     tokens: &'a [Token],
     room: usize,
     level: Level,
-) -> Result<(Expr, &'a [Token]), ParseFault>
+) -> Parsed<'a, Expr>
     requires stands { All (IsToken text.now) tokens.now }
-    ensures exact { Gives (λ x. (term_of x.0, x.1.now)) result
-        ((chain level room (inside_expr room)).read text.now tokens.now) }
-    ensures stands { IfOk result (λ x. All (IsToken text.now) x.1.now) }
-    ensures shorter { IfOk result (λ x. length x.1.now < length tokens.now) }
+    ensures { Reads (chain level room (inside_expr room)) term_of text.now tokens.now result }
 {
     let (first, rest) = operand(alloc, text, tokens, room, level)?;
     if !begins_operator(rest, level) {
@@ -65,12 +54,10 @@ fn links<'a>(
     tokens: &'a [Token],
     room: usize,
     level: Level,
-) -> Result<(Vec<(Operation, Expr)>, &'a [Token]), ParseFault>
+) -> Parsed<'a, Vec<(Operation, Expr)>>
     requires stands { All (IsToken text.now) tokens.now }
-    ensures exact { Gives (λ x. (map operand_of x.0.items, x.1.now)) result
-        ((many (link level room (inside_expr room))).read text.now tokens.now) }
-    ensures stands { IfOk result (λ x. All (IsToken text.now) x.1.now) }
-    ensures no_longer { IfOk result (λ x. length x.1.now ≤ length tokens.now) }
+    ensures { ReadsSome (many (link level room (inside_expr room)))
+        (λ x. map operand_of x.items) text.now tokens.now result }
 {
     let mut rest = tokens;
     let mut items = Vec::new(alloc);
@@ -90,12 +77,9 @@ fn link<'a>(
     tokens: &'a [Token],
     room: usize,
     level: Level,
-) -> Result<((Operation, Expr), &'a [Token]), ParseFault>
+) -> Parsed<'a, (Operation, Expr)>
     requires stands { All (IsToken text.now) tokens.now }
-    ensures exact { Gives (λ x. (operand_of x.0, x.1.now)) result
-        ((link level room (inside_expr room)).read text.now tokens.now) }
-    ensures stands { IfOk result (λ x. All (IsToken text.now) x.1.now) }
-    ensures shorter { IfOk result (λ x. length x.1.now < length tokens.now) }
+    ensures { Reads (link level room (inside_expr room)) operand_of text.now tokens.now result }
 {
     let (operation, rest) = operator(text, tokens, level)?;
     let (operand, rest) = operand(alloc, text, rest, room, level)?;
@@ -111,12 +95,9 @@ fn operand<'a>(
     tokens: &'a [Token],
     room: usize,
     level: Level,
-) -> Result<(Expr, &'a [Token]), ParseFault>
+) -> Parsed<'a, Expr>
     requires stands { All (IsToken text.now) tokens.now }
-    ensures exact { Gives (λ x. (term_of x.0, x.1.now)) result
-        ((operand level room (inside_expr room)).read text.now tokens.now) }
-    ensures stands { IfOk result (λ x. All (IsToken text.now) x.1.now) }
-    ensures shorter { IfOk result (λ x. length x.1.now < length tokens.now) }
+    ensures { Reads (operand level room (inside_expr room)) term_of text.now tokens.now result }
 {
     match level {
         Level::Or => chain(alloc, text, tokens, room, Level::And),
@@ -129,17 +110,9 @@ fn operand<'a>(
 /// A predicate, perhaps with NOT, and what follows.
 #[cycle(expr)]
 #[tactic(auto, unfolding(crate::specs::ExprGrammar::negation))]
-fn negation<'a>(
-    alloc: Global,
-    text: &str,
-    tokens: &'a [Token],
-    room: usize,
-) -> Result<(Expr, &'a [Token]), ParseFault>
+fn negation<'a>(alloc: Global, text: &str, tokens: &'a [Token], room: usize) -> Parsed<'a, Expr>
     requires stands { All (IsToken text.now) tokens.now }
-    ensures exact { Gives (λ x. (term_of x.0, x.1.now)) result
-        ((negation room (inside_expr room)).read text.now tokens.now) }
-    ensures stands { IfOk result (λ x. All (IsToken text.now) x.1.now) }
-    ensures shorter { IfOk result (λ x. length x.1.now < length tokens.now) }
+    ensures { Reads (negation room (inside_expr room)) term_of text.now tokens.now result }
 {
     if !begins(tokens, TokenKind::Keyword(Keyword::Not)) {
         return predicate(alloc, text, tokens, room);
@@ -152,22 +125,14 @@ fn negation<'a>(
 /// A sum, perhaps compared, and what follows.
 #[cycle(expr)]
 #[tactic(auto, unfolding(crate::specs::ExprGrammar::predicate, crate::specs::ExprGrammar::sum, crate::specs::ExprGrammar::operand, crate::specs::ExprGrammar::comparison, crate::specs::ExprGrammar::nullness))]
-fn predicate<'a>(
-    alloc: Global,
-    text: &str,
-    tokens: &'a [Token],
-    room: usize,
-) -> Result<(Expr, &'a [Token]), ParseFault>
+fn predicate<'a>(alloc: Global, text: &str, tokens: &'a [Token], room: usize) -> Parsed<'a, Expr>
     requires stands { All (IsToken text.now) tokens.now }
-    ensures exact { Gives (λ x. (term_of x.0, x.1.now)) result
-        ((predicate room (inside_expr room)).read text.now tokens.now) }
-    ensures stands { IfOk result (λ x. All (IsToken text.now) x.1.now) }
-    ensures shorter { IfOk result (λ x. length x.1.now < length tokens.now) }
+    ensures { Reads (predicate room (inside_expr room)) term_of text.now tokens.now result }
 {
     let (left, rest) = chain(alloc, text, tokens, room, Level::Sum)?;
     if begins(rest, TokenKind::Keyword(Keyword::Is)) {
         let left = Box::new(alloc, left)?;
-        let (at, negated, rest) = nullness(text, rest)?;
+        let ((at, negated), rest) = nullness(text, rest)?;
         return Ok((is_null(at, left, negated), rest));
     }
     if begins_comparison(rest) {
@@ -183,17 +148,9 @@ fn predicate<'a>(
 /// A value, perhaps with `-`, and what follows.
 #[cycle(expr)]
 #[tactic(auto, unfolding(crate::specs::ExprGrammar::signed))]
-fn signed<'a>(
-    alloc: Global,
-    text: &str,
-    tokens: &'a [Token],
-    room: usize,
-) -> Result<(Expr, &'a [Token]), ParseFault>
+fn signed<'a>(alloc: Global, text: &str, tokens: &'a [Token], room: usize) -> Parsed<'a, Expr>
     requires stands { All (IsToken text.now) tokens.now }
-    ensures exact { Gives (λ x. (term_of x.0, x.1.now)) result
-        ((signed room (inside_expr room)).read text.now tokens.now) }
-    ensures stands { IfOk result (λ x. All (IsToken text.now) x.1.now) }
-    ensures shorter { IfOk result (λ x. length x.1.now < length tokens.now) }
+    ensures { Reads (signed room (inside_expr room)) term_of text.now tokens.now result }
 {
     if !begins(tokens, TokenKind::Mark(Mark::Minus)) {
         return value(alloc, text, tokens, room);
@@ -206,17 +163,9 @@ fn signed<'a>(
 /// A value, and what follows.
 #[cycle(expr)]
 #[tactic(auto, unfolding(crate::specs::ExprGrammar::value, crate::specs::NavigationGrammar::plain, crate::specs::NavigationGrammar::column))]
-fn value<'a>(
-    alloc: Global,
-    text: &str,
-    tokens: &'a [Token],
-    room: usize,
-) -> Result<(Expr, &'a [Token]), ParseFault>
+fn value<'a>(alloc: Global, text: &str, tokens: &'a [Token], room: usize) -> Parsed<'a, Expr>
     requires stands { All (IsToken text.now) tokens.now }
-    ensures exact { Gives (λ x. (term_of x.0, x.1.now)) result
-        ((value room (inside_expr room)).read text.now tokens.now) }
-    ensures stands { IfOk result (λ x. All (IsToken text.now) x.1.now) }
-    ensures shorter { IfOk result (λ x. length x.1.now < length tokens.now) }
+    ensures { Reads (value room (inside_expr room)) term_of text.now tokens.now result }
 {
     if begins(tokens, TokenKind::Number) {
         return numeral(text, tokens);
@@ -244,17 +193,9 @@ fn value<'a>(
 
 /// `(`, an expression, `)`, and what follows.
 #[cycle(expr)]
-fn bracketed<'a>(
-    alloc: Global,
-    text: &str,
-    tokens: &'a [Token],
-    room: usize,
-) -> Result<(Expr, &'a [Token]), ParseFault>
+fn bracketed<'a>(alloc: Global, text: &str, tokens: &'a [Token], room: usize) -> Parsed<'a, Expr>
     requires stands { All (IsToken text.now) tokens.now }
-    ensures exact { Gives (λ x. (term_of x.0, x.1.now)) result
-        ((bracketed room (inside_expr room)).read text.now tokens.now) }
-    ensures stands { IfOk result (λ x. All (IsToken text.now) x.1.now) }
-    ensures shorter { IfOk result (λ x. length x.1.now < length tokens.now) }
+    ensures { Reads (bracketed room (inside_expr room)) term_of text.now tokens.now result }
 {
     let (_, rest) = opening(text, tokens, TokenKind::Mark(Mark::LeftParenthesis), room)?;
     let (body, rest) = inner_expr(alloc, text, rest, room)?;
@@ -265,17 +206,10 @@ fn bracketed<'a>(
 /// An expression inside a bracket for which there was room, and what follows.
 #[cycle(expr)]
 #[tactic(auto, using(crate::proofs::Exprs::deeper_expr_is))]
-fn inner_expr<'a>(
-    alloc: Global,
-    text: &str,
-    tokens: &'a [Token],
-    room: usize,
-) -> Result<(Expr, &'a [Token]), ParseFault>
+fn inner_expr<'a>(alloc: Global, text: &str, tokens: &'a [Token], room: usize) -> Parsed<'a, Expr>
     requires room { 1 ≤ room }
     requires stands { All (IsToken text.now) tokens.now }
-    ensures exact { Gives (λ x. (term_of x.0, x.1.now)) result ((deeper_expr room).read text.now tokens.now) }
-    ensures stands { IfOk result (λ x. All (IsToken text.now) x.1.now) }
-    ensures shorter { IfOk result (λ x. length x.1.now < length tokens.now) }
+    ensures { Reads (deeper_expr room) term_of text.now tokens.now result }
 {
     expr(alloc, text, tokens, room - 1)
 }

@@ -1,28 +1,23 @@
 //! Columns and navigations.
 
-ghost use Rattle.std.specs.Prelude.{◌≡◌, ◌<◌, ◌≤◌, length, All, IfOk};
+ghost use Rattle.std.specs.Prelude.{◌≡◌, ◌≤◌, All, IfOk};
 ghost use Rattle.rp_lexer.specs.Lexes.{IsToken};
-ghost use Rattle.rp_grammar.specs.Reading.{Gives, starts};
+ghost use Rattle.rp_grammar.specs.Reading.{starts};
 ghost use Rattle.rp_grammar.specs.Grammar.{gives, optional};
+ghost use Rattle.rp_grammar.specs.Readers.{Reads, ReadsSome, itself};
 ghost use Rattle.rp_tree.specs.Paths.{Move, path_of};
 ghost use Rattle.rp_expressions.specs.NavigationGrammar.{argument, column, deeper_path, edge, ending, inside_path, offset, path, plain, plain_kinds, scope};
 
-use rp_grammar::{ParseFault, begins, begins_name, name, number, opening, place, word};
+use rp_grammar::{Parsed, begins, begins_name, name, number, opening, place, word};
 use rp_lexer::{Keyword, Mark, Token, TokenKind};
 use rp_tree::{Column, Movement, Navigation, Offset, Scope};
 use std::alloc::{AllocError, Global};
 
 /// A column, and what follows it.
 #[tactic(auto, unfolding(crate::specs::NavigationGrammar::column))]
-pub(crate) fn column<'a>(
-    alloc: Global,
-    text: &str,
-    tokens: &'a [Token],
-) -> Result<(Column, &'a [Token]), ParseFault>
+pub(crate) fn column<'a>(alloc: Global, text: &str, tokens: &'a [Token]) -> Parsed<'a, Column>
     requires stands { All (IsToken text.now) tokens.now }
-    ensures exact { Gives (λ x. (x.0, x.1.now)) result (column.read text.now tokens.now) }
-    ensures stands { IfOk result (λ x. All (IsToken text.now) x.1.now) }
-    ensures shorter { IfOk result (λ x. length x.1.now < length tokens.now) }
+    ensures { Reads column itself text.now tokens.now result }
 {
     let (first, rest) = name(alloc, text, tokens)?;
     if !begins(rest, TokenKind::Mark(Mark::Period)) {
@@ -43,11 +38,9 @@ pub(crate) fn column<'a>(
 
 /// A number of rows, and what follows it.
 #[tactic(auto, unfolding(crate::specs::NavigationGrammar::offset))]
-fn offset<'a>(text: &str, tokens: &'a [Token]) -> Result<(Offset, &'a [Token]), ParseFault>
+fn offset<'a>(text: &str, tokens: &'a [Token]) -> Parsed<'a, Offset>
     requires stands { All (IsToken text.now) tokens.now }
-    ensures exact { Gives (λ x. (x.0, x.1.now)) result (offset.read text.now tokens.now) }
-    ensures stands { IfOk result (λ x. All (IsToken text.now) x.1.now) }
-    ensures shorter { IfOk result (λ x. length x.1.now < length tokens.now) }
+    ensures { Reads offset itself text.now tokens.now result }
 {
     let at = place(text, tokens);
     let (rows, rest) = number(text, tokens)?;
@@ -56,14 +49,9 @@ fn offset<'a>(text: &str, tokens: &'a [Token]) -> Result<(Offset, &'a [Token]), 
 
 /// Perhaps RUNNING or FINAL, and what follows.
 #[tactic(auto, unfolding(crate::specs::NavigationGrammar::scope))]
-pub(crate) fn scope<'a>(
-    text: &str,
-    tokens: &'a [Token],
-) -> Result<(Option<Scope>, &'a [Token]), ParseFault>
+pub(crate) fn scope<'a>(text: &str, tokens: &'a [Token]) -> Parsed<'a, Option<Scope>>
     requires stands { All (IsToken text.now) tokens.now }
-    ensures exact { Gives (λ x. (x.0, x.1.now)) result ((optional scope).read text.now tokens.now) }
-    ensures stands { IfOk result (λ x. All (IsToken text.now) x.1.now) }
-    ensures no_longer { IfOk result (λ x. length x.1.now ≤ length tokens.now) }
+    ensures { ReadsSome (optional scope) itself text.now tokens.now result }
 {
     if begins(tokens, TokenKind::Keyword(Keyword::Running)) {
         let (at, rest) = word(text, tokens, TokenKind::Keyword(Keyword::Running))?;
@@ -84,11 +72,9 @@ pub(crate) fn scope<'a>(
 
 /// Perhaps a comma and by how many rows, `)`, and what follows.
 #[tactic(auto, unfolding(crate::specs::NavigationGrammar::ending))]
-fn ending<'a>(text: &str, tokens: &'a [Token]) -> Result<(Option<Offset>, &'a [Token]), ParseFault>
+fn ending<'a>(text: &str, tokens: &'a [Token]) -> Parsed<'a, Option<Offset>>
     requires stands { All (IsToken text.now) tokens.now }
-    ensures exact { Gives (λ x. (x.0, x.1.now)) result (ending.read text.now tokens.now) }
-    ensures stands { IfOk result (λ x. All (IsToken text.now) x.1.now) }
-    ensures shorter { IfOk result (λ x. length x.1.now < length tokens.now) }
+    ensures { Reads ending itself text.now tokens.now result }
 {
     if !begins(tokens, TokenKind::Mark(Mark::Comma)) {
         let (_, rest) = word(text, tokens, TokenKind::Mark(Mark::RightParenthesis))?;
@@ -108,17 +94,14 @@ fn argument<'a>(
     text: &str,
     tokens: &'a [Token],
     room: usize,
-) -> Result<(Navigation, Option<Offset>, &'a [Token]), ParseFault>
+) -> Parsed<'a, (Navigation, Option<Offset>)>
     requires stands { All (IsToken text.now) tokens.now }
-    ensures exact { Gives (λ x. ((path_of x.0, x.1), x.2.now)) result
-        ((argument room (inside_path room)).read text.now tokens.now) }
-    ensures stands { IfOk result (λ x. All (IsToken text.now) x.2.now) }
-    ensures shorter { IfOk result (λ x. length x.2.now < length tokens.now) }
+    ensures { Reads (argument room (inside_path room)) (λ x. (path_of x.0, x.1)) text.now tokens.now result }
 {
     let (_, rest) = opening(text, tokens, TokenKind::Mark(Mark::LeftParenthesis), room)?;
     let (path, rest) = inner_path(alloc, text, rest, room)?;
     let (rows, rest) = ending(text, rest)?;
-    Ok((path, rows, rest))
+    Ok(((path, rows), rest))
 }
 
 /// A column or a navigation inside a bracket for which there was room, and what follows.
@@ -129,12 +112,10 @@ fn inner_path<'a>(
     text: &str,
     tokens: &'a [Token],
     room: usize,
-) -> Result<(Navigation, &'a [Token]), ParseFault>
+) -> Parsed<'a, Navigation>
     requires room { 1 ≤ room }
     requires stands { All (IsToken text.now) tokens.now }
-    ensures exact { Gives (λ x. (path_of x.0, x.1.now)) result ((deeper_path room).read text.now tokens.now) }
-    ensures stands { IfOk result (λ x. All (IsToken text.now) x.1.now) }
-    ensures shorter { IfOk result (λ x. length x.1.now < length tokens.now) }
+    ensures { Reads (deeper_path room) path_of text.now tokens.now result }
 {
     path(alloc, text, tokens, room - 1)
 }
@@ -142,17 +123,9 @@ fn inner_path<'a>(
 /// A column or a navigation, and what follows.
 #[cycle(navigation)]
 #[tactic(auto, unfolding(crate::specs::NavigationGrammar::path, crate::specs::NavigationGrammar::plain, crate::specs::NavigationGrammar::column))]
-fn path<'a>(
-    alloc: Global,
-    text: &str,
-    tokens: &'a [Token],
-    room: usize,
-) -> Result<(Navigation, &'a [Token]), ParseFault>
+fn path<'a>(alloc: Global, text: &str, tokens: &'a [Token], room: usize) -> Parsed<'a, Navigation>
     requires stands { All (IsToken text.now) tokens.now }
-    ensures exact { Gives (λ x. (path_of x.0, x.1.now)) result
-        ((path room (inside_path room)).read text.now tokens.now) }
-    ensures stands { IfOk result (λ x. All (IsToken text.now) x.1.now) }
-    ensures shorter { IfOk result (λ x. length x.1.now < length tokens.now) }
+    ensures { Reads (path room (inside_path room)) path_of text.now tokens.now result }
 {
     if begins_plain(tokens) {
         return plain(alloc, text, tokens, room);
@@ -179,12 +152,9 @@ pub(crate) fn plain<'a>(
     text: &str,
     tokens: &'a [Token],
     room: usize,
-) -> Result<(Navigation, &'a [Token]), ParseFault>
+) -> Parsed<'a, Navigation>
     requires stands { All (IsToken text.now) tokens.now }
-    ensures exact { Gives (λ x. (path_of x.0, x.1.now)) result
-        ((plain room (inside_path room)).read text.now tokens.now) }
-    ensures stands { IfOk result (λ x. All (IsToken text.now) x.1.now) }
-    ensures shorter { IfOk result (λ x. length x.1.now < length tokens.now) }
+    ensures { Reads (plain room (inside_path room)) path_of text.now tokens.now result }
 {
     if begins_name(tokens) {
         let (column, rest) = column(alloc, text, tokens)?;
@@ -192,11 +162,11 @@ pub(crate) fn plain<'a>(
     }
     if begins(tokens, TokenKind::Keyword(Keyword::Prev)) {
         let (at, rest) = word(text, tokens, TokenKind::Keyword(Keyword::Prev))?;
-        let (path, rows, rest) = argument(alloc, text, rest, room)?;
+        let ((path, rows), rest) = argument(alloc, text, rest, room)?;
         return Ok((moved(alloc, Movement::Prev, at, path, rows)?, rest));
     }
     let (at, rest) = word(text, tokens, TokenKind::Keyword(Keyword::Next))?;
-    let (path, rows, rest) = argument(alloc, text, rest, room)?;
+    let ((path, rows), rest) = argument(alloc, text, rest, room)?;
     Ok((moved(alloc, Movement::Next, at, path, rows)?, rest))
 }
 
@@ -209,20 +179,17 @@ pub(crate) fn edge<'a>(
     tokens: &'a [Token],
     room: usize,
     scope: Option<Scope>,
-) -> Result<(Navigation, &'a [Token]), ParseFault>
+) -> Parsed<'a, Navigation>
     requires stands { All (IsToken text.now) tokens.now }
-    ensures exact { Gives (λ x. (path_of x.0, x.1.now)) result
-        ((gives (λ f. f scope) (edge room (inside_path room))).read text.now tokens.now) }
-    ensures stands { IfOk result (λ x. All (IsToken text.now) x.1.now) }
-    ensures shorter { IfOk result (λ x. length x.1.now < length tokens.now) }
+    ensures { Reads (gives (λ f. f scope) (edge room (inside_path room))) path_of text.now tokens.now result }
 {
     if begins(tokens, TokenKind::Keyword(Keyword::First)) {
         let (at, rest) = word(text, tokens, TokenKind::Keyword(Keyword::First))?;
-        let (path, rows, rest) = argument(alloc, text, rest, room)?;
+        let ((path, rows), rest) = argument(alloc, text, rest, room)?;
         return Ok((moved(alloc, Movement::First(scope), at, path, rows)?, rest));
     }
     let (at, rest) = word(text, tokens, TokenKind::Keyword(Keyword::Last))?;
-    let (path, rows, rest) = argument(alloc, text, rest, room)?;
+    let ((path, rows), rest) = argument(alloc, text, rest, room)?;
     Ok((moved(alloc, Movement::Last(scope), at, path, rows)?, rest))
 }
 

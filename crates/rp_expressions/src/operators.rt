@@ -1,11 +1,12 @@
 //! Operators, and how strongly they bind.
 
-ghost use Rattle.std.specs.Prelude.{◌≡◌, ◌<◌, ◌≤◌, length, All, IfOk};
+ghost use Rattle.std.specs.Prelude.{◌≡◌, All};
 ghost use Rattle.rp_lexer.specs.Lexes.{IsToken};
-ghost use Rattle.rp_grammar.specs.Reading.{Gives, starts};
+ghost use Rattle.rp_grammar.specs.Reading.{starts};
+ghost use Rattle.rp_grammar.specs.Readers.{Reads, itself};
 ghost use Rattle.rp_expressions.specs.ExprGrammar.{comparison, comparison_kinds, nullness, operation, operator, operator_kinds};
 
-use rp_grammar::{ParseFault, begins, word};
+use rp_grammar::{Parsed, begins, word};
 use rp_lexer::{Keyword, Mark, Token, TokenKind};
 use rp_tree::{Operation, Operator};
 
@@ -38,15 +39,9 @@ pub(crate) fn begins_operator(tokens: &[Token], level: Level) -> bool
 }
 
 /// An operator of this level, and what follows.
-pub(crate) fn operator<'a>(
-    text: &str,
-    tokens: &'a [Token],
-    level: Level,
-) -> Result<(Operation, &'a [Token]), ParseFault>
+pub(crate) fn operator<'a>(text: &str, tokens: &'a [Token], level: Level) -> Parsed<'a, Operation>
     requires stands { All (IsToken text.now) tokens.now }
-    ensures exact { Gives (λ x. (x.0, x.1.now)) result ((operator level).read text.now tokens.now) }
-    ensures stands { IfOk result (λ x. All (IsToken text.now) x.1.now) }
-    ensures shorter { IfOk result (λ x. length x.1.now < length tokens.now) }
+    ensures { Reads (operator level) itself text.now tokens.now result }
 {
     let (kind, operator) = match level {
         Level::Or => (TokenKind::Keyword(Keyword::Or), Operator::Or),
@@ -74,14 +69,9 @@ pub(crate) fn begins_comparison(tokens: &[Token]) -> bool
 
 /// An operator of comparison, and what follows.
 #[tactic(auto, unfolding(crate::specs::ExprGrammar::comparison))]
-pub(crate) fn comparison<'a>(
-    text: &str,
-    tokens: &'a [Token],
-) -> Result<(Operation, &'a [Token]), ParseFault>
+pub(crate) fn comparison<'a>(text: &str, tokens: &'a [Token]) -> Parsed<'a, Operation>
     requires stands { All (IsToken text.now) tokens.now }
-    ensures exact { Gives (λ x. (x.0, x.1.now)) result (comparison.read text.now tokens.now) }
-    ensures stands { IfOk result (λ x. All (IsToken text.now) x.1.now) }
-    ensures shorter { IfOk result (λ x. length x.1.now < length tokens.now) }
+    ensures { Reads comparison itself text.now tokens.now result }
 {
     let equals = TokenKind::Mark(Mark::Equals);
     if begins(tokens, equals) {
@@ -109,23 +99,18 @@ pub(crate) fn comparison<'a>(
 
 /// `IS NULL` or `IS NOT NULL`, and what follows.
 #[tactic(auto, unfolding(crate::specs::ExprGrammar::nullness))]
-pub(crate) fn nullness<'a>(
-    text: &str,
-    tokens: &'a [Token],
-) -> Result<(usize, bool, &'a [Token]), ParseFault>
+pub(crate) fn nullness<'a>(text: &str, tokens: &'a [Token]) -> Parsed<'a, (usize, bool)>
     requires stands { All (IsToken text.now) tokens.now }
-    ensures exact { Gives (λ x. ((x.0, x.1), x.2.now)) result (nullness.read text.now tokens.now) }
-    ensures stands { IfOk result (λ x. All (IsToken text.now) x.2.now) }
-    ensures shorter { IfOk result (λ x. length x.2.now < length tokens.now) }
+    ensures { Reads nullness itself text.now tokens.now result }
 {
     let (at, rest) = word(text, tokens, TokenKind::Keyword(Keyword::Is))?;
     if begins(rest, TokenKind::Keyword(Keyword::Not)) {
         let (_, rest) = word(text, rest, TokenKind::Keyword(Keyword::Not))?;
         let (_, rest) = word(text, rest, TokenKind::Keyword(Keyword::Null))?;
-        return Ok((at, true, rest));
+        return Ok(((at, true), rest));
     }
     let (_, rest) = word(text, rest, TokenKind::Keyword(Keyword::Null))?;
-    Ok((at, false, rest))
+    Ok(((at, false), rest))
 }
 
 /// An operator of this kind, and what follows.
@@ -134,11 +119,9 @@ fn operation<'a>(
     tokens: &'a [Token],
     kind: TokenKind,
     operator: Operator,
-) -> Result<(Operation, &'a [Token]), ParseFault>
+) -> Parsed<'a, Operation>
     requires stands { All (IsToken text.now) tokens.now }
-    ensures exact { Gives (λ x. (x.0, x.1.now)) result ((operation operator kind).read text.now tokens.now) }
-    ensures stands { IfOk result (λ x. All (IsToken text.now) x.1.now) }
-    ensures shorter { IfOk result (λ x. length x.1.now < length tokens.now) }
+    ensures { Reads (operation operator kind) itself text.now tokens.now result }
 {
     let (at, rest) = word(text, tokens, kind)?;
     Ok((Operation { operator, at }, rest))

@@ -1,30 +1,24 @@
 //! Values that hold no expression: numbers, texts, calls without arguments, and what RUNNING or FINAL may stand before.
 
-ghost use Rattle.std.specs.Prelude.{◌<◌, length, All, IfOk, [], ◌∷◌};
+ghost use Rattle.std.specs.Prelude.{All, [], ◌∷◌};
 ghost use Rattle.rp_lexer.specs.Lexes.{IsToken};
-ghost use Rattle.rp_grammar.specs.Reading.{Gives};
 ghost use Rattle.rp_grammar.specs.Grammar.{◌then◌, gives, here, number, one_of};
 ghost use Rattle.rp_grammar.specs.Names.{text_in};
+ghost use Rattle.rp_grammar.specs.Readers.{Reads, itself};
 ghost use Rattle.rp_tree.specs.Terms.{Literal, Number, term_of};
 ghost use Rattle.rp_expressions.specs.ExprGrammar.{call, scoped};
 
 use crate::aggregates::aggregate;
 use crate::navigation::{edge, scope};
-use rp_grammar::{ParseFault, begins, number, opening, place, text_at, word};
+use rp_grammar::{Parsed, begins, number, opening, place, text_at, token, word};
 use rp_lexer::{Keyword, Mark, Token, TokenKind};
 use rp_tree::Expr;
 use std::alloc::Global;
 
 /// A number, and what follows it.
-pub(crate) fn numeral<'a>(
-    text: &str,
-    tokens: &'a [Token],
-) -> Result<(Expr, &'a [Token]), ParseFault>
+pub(crate) fn numeral<'a>(text: &str, tokens: &'a [Token]) -> Parsed<'a, Expr>
     requires stands { All (IsToken text.now) tokens.now }
-    ensures exact { Gives (λ x. (term_of x.0, x.1.now)) result
-        ((gives (λ x. Number x.0 x.1) (here then number)).read text.now tokens.now) }
-    ensures stands { IfOk result (λ x. All (IsToken text.now) x.1.now) }
-    ensures shorter { IfOk result (λ x. length x.1.now < length tokens.now) }
+    ensures { Reads (gives (λ x. Number x.0 x.1) (here then number)) term_of text.now tokens.now result }
 {
     let at = place(text, tokens);
     let (value, rest) = number(text, tokens)?;
@@ -32,30 +26,17 @@ pub(crate) fn numeral<'a>(
 }
 
 /// A text, and what follows it.
-pub(crate) fn literal<'a>(
-    alloc: Global,
-    text: &str,
-    tokens: &'a [Token],
-) -> Result<(Expr, &'a [Token]), ParseFault>
+pub(crate) fn literal<'a>(alloc: Global, text: &str, tokens: &'a [Token]) -> Parsed<'a, Expr>
     requires stands { All (IsToken text.now) tokens.now }
-    ensures exact { Gives (λ x. (term_of x.0, x.1.now)) result
-        ((one_of (TokenKind.Text ∷ []) (λ text t. Literal t.start (text_in text t))).read text.now tokens.now) }
-    ensures stands { IfOk result (λ x. All (IsToken text.now) x.1.now) }
-    ensures shorter { IfOk result (λ x. length x.1.now < length tokens.now) }
+    ensures { Reads (one_of (TokenKind.Text ∷ []) (λ text t. Literal t.start (text_in text t)))
+        term_of text.now tokens.now result }
 {
-    match tokens.split_first() {
-        Some((first, rest)) if first.kind == TokenKind::Text => {
-            let literal = text_at(alloc, text, *first)?;
-            Ok((
-                Expr::Text {
-                    at: first.start,
-                    text: literal,
-                },
-                rest,
-            ))
-        }
-        _ => Err(ParseFault::Expected(place(text, tokens))),
-    }
+    let (token, rest) = token(text, tokens, TokenKind::Text)?;
+    let literal = Expr::Text {
+        at: token.start,
+        text: text_at(alloc, text, token)?,
+    };
+    Ok((literal, rest))
 }
 
 /// A word of this kind, `(`, `)`, and what follows.
@@ -64,11 +45,9 @@ pub(crate) fn call<'a>(
     tokens: &'a [Token],
     room: usize,
     kind: TokenKind,
-) -> Result<(usize, &'a [Token]), ParseFault>
+) -> Parsed<'a, usize>
     requires stands { All (IsToken text.now) tokens.now }
-    ensures exact { Gives (λ x. (x.0, x.1.now)) result ((call room kind).read text.now tokens.now) }
-    ensures stands { IfOk result (λ x. All (IsToken text.now) x.1.now) }
-    ensures shorter { IfOk result (λ x. length x.1.now < length tokens.now) }
+    ensures { Reads (call room kind) itself text.now tokens.now result }
 {
     let (at, rest) = word(text, tokens, kind)?;
     let (_, rest) = opening(text, rest, TokenKind::Mark(Mark::LeftParenthesis), room)?;
@@ -83,11 +62,9 @@ pub(crate) fn scoped<'a>(
     text: &str,
     tokens: &'a [Token],
     room: usize,
-) -> Result<(Expr, &'a [Token]), ParseFault>
+) -> Parsed<'a, Expr>
     requires stands { All (IsToken text.now) tokens.now }
-    ensures exact { Gives (λ x. (term_of x.0, x.1.now)) result ((scoped room).read text.now tokens.now) }
-    ensures stands { IfOk result (λ x. All (IsToken text.now) x.1.now) }
-    ensures shorter { IfOk result (λ x. length x.1.now < length tokens.now) }
+    ensures { Reads (scoped room) term_of text.now tokens.now result }
 {
     let (scope, rest) = scope(text, tokens)?;
     if begins(rest, TokenKind::Keyword(Keyword::First))
