@@ -1,17 +1,18 @@
 //! Clauses.
 
-ghost use Rattle.std.specs.Prelude.{◌≡◌, ◌≢◌, ◌<◌, ◌≤◌, length, map, All, IfOk, IfErr, List, []};
-ghost use Rattle.rp_lexer.specs.Lexes.{IsToken, Lexes};
-ghost use Rattle.rp_grammar.specs.Reading.{Gives, IsFaultIn};
+ghost use Rattle.std.specs.Prelude.{◌≡◌, ◌≢◌, map, All, IfOk, IfErr};
+ghost use Rattle.rp_lexer.specs.Lexes.{IsToken};
+ghost use Rattle.rp_grammar.specs.Reading.{IsFaultIn};
 ghost use Rattle.rp_tree.specs.Tree.{tree_of};
 ghost use Rattle.rp_grammar.specs.Grammar.{gives, listed, second, word, ◌then◌};
 ghost use Rattle.rp_grammar.specs.Names.{name};
+ghost use Rattle.rp_grammar.specs.Readers.{Reads, ReadsSome, itself};
 ghost use Rattle.rp_tree.specs.Clauses.{clause_tree, definition_tree, later_trees, measure_tree, union_tree};
 ghost use Rattle.rp_syntax.specs.Derived.{DerivesNone, DerivesOnly};
 ghost use Rattle.rp_syntax.specs.ClauseGrammar.{Derives, all_rows, body, clause, define_part, definition, later_parts, measure, measures_part, one_row, order, order_part, partition_part, pattern_part, rows, rows_part, shown, skip, skip_part, subset_part, target, three_words, union};
 
 use rp_expressions::expr;
-use rp_grammar::{Name, ParseFault, begins, name, opening, place, word};
+use rp_grammar::{Name, ParseFault, Parsed, begins, name, opening, place, word};
 use rp_lexer::{Keyword, Mark, Token, TokenKind};
 use rp_patterns::inner as inner_pattern;
 use rp_tree::{Clause, Definition, Measure, Order, Pattern, RowsPerMatch, Skip, Union};
@@ -23,15 +24,9 @@ const MAX_OPEN: usize = 100;
 
 /// A column to order by, and what follows.
 #[tactic(auto, unfolding(crate::specs::ClauseGrammar::order))]
-fn order<'a>(
-    alloc: Global,
-    text: &str,
-    tokens: &'a [Token],
-) -> Result<(Order, &'a [Token]), ParseFault>
+fn order<'a>(alloc: Global, text: &str, tokens: &'a [Token]) -> Parsed<'a, Order>
     requires stands { All (IsToken text.now) tokens.now }
-    ensures exact { Gives (λ x. (x.0, x.1.now)) result (order.read text.now tokens.now) }
-    ensures stands { IfOk result (λ x. All (IsToken text.now) x.1.now) }
-    ensures shorter { IfOk result (λ x. length x.1.now < length tokens.now) }
+    ensures { Reads order itself text.now tokens.now result }
 {
     let (name, rest) = name(alloc, text, tokens)?;
     if begins(rest, TokenKind::Keyword(Keyword::Asc)) {
@@ -64,16 +59,9 @@ fn order<'a>(
 }
 
 /// AS and a name, and what follows.
-fn as_name<'a>(
-    alloc: Global,
-    text: &str,
-    tokens: &'a [Token],
-) -> Result<(Name, &'a [Token]), ParseFault>
+fn as_name<'a>(alloc: Global, text: &str, tokens: &'a [Token]) -> Parsed<'a, Name>
     requires stands { All (IsToken text.now) tokens.now }
-    ensures exact { Gives (λ x. (x.0, x.1.now)) result
-        ((gives second (word (TokenKind.Keyword Keyword.As) then name)).read text.now tokens.now) }
-    ensures stands { IfOk result (λ x. All (IsToken text.now) x.1.now) }
-    ensures shorter { IfOk result (λ x. length x.1.now < length tokens.now) }
+    ensures { Reads (gives second (word (TokenKind.Keyword Keyword.As) then name)) itself text.now tokens.now result }
 {
     let (_, rest) = word(text, tokens, TokenKind::Keyword(Keyword::As))?;
     name(alloc, text, rest)
@@ -81,16 +69,9 @@ fn as_name<'a>(
 
 /// A measure, and what follows.
 #[tactic(auto, unfolding(crate::specs::ClauseGrammar::measure))]
-fn measure<'a>(
-    alloc: Global,
-    text: &str,
-    tokens: &'a [Token],
-    room: usize,
-) -> Result<(Measure, &'a [Token]), ParseFault>
+fn measure<'a>(alloc: Global, text: &str, tokens: &'a [Token], room: usize) -> Parsed<'a, Measure>
     requires stands { All (IsToken text.now) tokens.now }
-    ensures exact { Gives (λ x. (measure_tree x.0, x.1.now)) result ((measure room).read text.now tokens.now) }
-    ensures stands { IfOk result (λ x. All (IsToken text.now) x.1.now) }
-    ensures shorter { IfOk result (λ x. length x.1.now < length tokens.now) }
+    ensures { Reads (measure room) measure_tree text.now tokens.now result }
 {
     let at = place(text, tokens);
     let (expr, rest) = expr(alloc, text, tokens, room)?;
@@ -105,11 +86,9 @@ fn definition<'a>(
     text: &str,
     tokens: &'a [Token],
     room: usize,
-) -> Result<(Definition, &'a [Token]), ParseFault>
+) -> Parsed<'a, Definition>
     requires stands { All (IsToken text.now) tokens.now }
-    ensures exact { Gives (λ x. (definition_tree x.0, x.1.now)) result ((definition room).read text.now tokens.now) }
-    ensures stands { IfOk result (λ x. All (IsToken text.now) x.1.now) }
-    ensures shorter { IfOk result (λ x. length x.1.now < length tokens.now) }
+    ensures { Reads (definition room) definition_tree text.now tokens.now result }
 {
     let (name, rest) = name(alloc, text, tokens)?;
     let (_, rest) = word(text, rest, TokenKind::Keyword(Keyword::As))?;
@@ -120,16 +99,9 @@ fn definition<'a>(
 
 /// A union, and what follows.
 #[tactic(auto, unfolding(crate::specs::ClauseGrammar::union))]
-fn union<'a>(
-    alloc: Global,
-    text: &str,
-    tokens: &'a [Token],
-    room: usize,
-) -> Result<(Union, &'a [Token]), ParseFault>
+fn union<'a>(alloc: Global, text: &str, tokens: &'a [Token], room: usize) -> Parsed<'a, Union>
     requires stands { All (IsToken text.now) tokens.now }
-    ensures exact { Gives (λ x. (union_tree x.0, x.1.now)) result ((union room).read text.now tokens.now) }
-    ensures stands { IfOk result (λ x. All (IsToken text.now) x.1.now) }
-    ensures shorter { IfOk result (λ x. length x.1.now < length tokens.now) }
+    ensures { Reads (union room) union_tree text.now tokens.now result }
 {
     let (name, rest) = name(alloc, text, tokens)?;
     let (_, rest) = word(text, rest, TokenKind::Mark(Mark::Equals))?;
@@ -140,15 +112,9 @@ fn union<'a>(
 }
 
 /// Names with commas between, and what follows.
-fn names<'a>(
-    alloc: Global,
-    text: &str,
-    tokens: &'a [Token],
-) -> Result<(Vec<Name>, &'a [Token]), ParseFault>
+fn names<'a>(alloc: Global, text: &str, tokens: &'a [Token]) -> Parsed<'a, Vec<Name>>
     requires stands { All (IsToken text.now) tokens.now }
-    ensures exact { Gives (λ x. (x.0.items, x.1.now)) result ((listed name).read text.now tokens.now) }
-    ensures stands { IfOk result (λ x. All (IsToken text.now) x.1.now) }
-    ensures shorter { IfOk result (λ x. length x.1.now < length tokens.now) }
+    ensures { Reads (listed name) (λ x. x.items) text.now tokens.now result }
 {
     let (first, mut rest) = name(alloc, text, tokens)?;
     let mut items = Vec::new(alloc);
@@ -163,15 +129,9 @@ fn names<'a>(
 }
 
 /// Columns to order by with commas between, and what follows.
-fn orders<'a>(
-    alloc: Global,
-    text: &str,
-    tokens: &'a [Token],
-) -> Result<(Vec<Order>, &'a [Token]), ParseFault>
+fn orders<'a>(alloc: Global, text: &str, tokens: &'a [Token]) -> Parsed<'a, Vec<Order>>
     requires stands { All (IsToken text.now) tokens.now }
-    ensures exact { Gives (λ x. (x.0.items, x.1.now)) result ((listed order).read text.now tokens.now) }
-    ensures stands { IfOk result (λ x. All (IsToken text.now) x.1.now) }
-    ensures shorter { IfOk result (λ x. length x.1.now < length tokens.now) }
+    ensures { Reads (listed order) (λ x. x.items) text.now tokens.now result }
 {
     let (first, mut rest) = order(alloc, text, tokens)?;
     let mut items = Vec::new(alloc);
@@ -191,12 +151,9 @@ fn measures<'a>(
     text: &str,
     tokens: &'a [Token],
     room: usize,
-) -> Result<(Vec<Measure>, &'a [Token]), ParseFault>
+) -> Parsed<'a, Vec<Measure>>
     requires stands { All (IsToken text.now) tokens.now }
-    ensures exact { Gives (λ x. (map measure_tree x.0.items, x.1.now)) result
-        ((listed (measure room)).read text.now tokens.now) }
-    ensures stands { IfOk result (λ x. All (IsToken text.now) x.1.now) }
-    ensures shorter { IfOk result (λ x. length x.1.now < length tokens.now) }
+    ensures { Reads (listed (measure room)) (λ x. map measure_tree x.items) text.now tokens.now result }
 {
     let (first, mut rest) = measure(alloc, text, tokens, room)?;
     let mut items = Vec::new(alloc);
@@ -211,17 +168,9 @@ fn measures<'a>(
 }
 
 /// Unions with commas between, and what follows.
-fn unions<'a>(
-    alloc: Global,
-    text: &str,
-    tokens: &'a [Token],
-    room: usize,
-) -> Result<(Vec<Union>, &'a [Token]), ParseFault>
+fn unions<'a>(alloc: Global, text: &str, tokens: &'a [Token], room: usize) -> Parsed<'a, Vec<Union>>
     requires stands { All (IsToken text.now) tokens.now }
-    ensures exact { Gives (λ x. (map union_tree x.0.items, x.1.now)) result
-        ((listed (union room)).read text.now tokens.now) }
-    ensures stands { IfOk result (λ x. All (IsToken text.now) x.1.now) }
-    ensures shorter { IfOk result (λ x. length x.1.now < length tokens.now) }
+    ensures { Reads (listed (union room)) (λ x. map union_tree x.items) text.now tokens.now result }
 {
     let (first, mut rest) = union(alloc, text, tokens, room)?;
     let mut items = Vec::new(alloc);
@@ -241,12 +190,9 @@ fn definitions<'a>(
     text: &str,
     tokens: &'a [Token],
     room: usize,
-) -> Result<(Vec<Definition>, &'a [Token]), ParseFault>
+) -> Parsed<'a, Vec<Definition>>
     requires stands { All (IsToken text.now) tokens.now }
-    ensures exact { Gives (λ x. (map definition_tree x.0.items, x.1.now)) result
-        ((listed (definition room)).read text.now tokens.now) }
-    ensures stands { IfOk result (λ x. All (IsToken text.now) x.1.now) }
-    ensures shorter { IfOk result (λ x. length x.1.now < length tokens.now) }
+    ensures { Reads (listed (definition room)) (λ x. map definition_tree x.items) text.now tokens.now result }
 {
     let (first, mut rest) = definition(alloc, text, tokens, room)?;
     let mut items = Vec::new(alloc);
@@ -266,11 +212,9 @@ fn three_words<'a>(
     tokens: &'a [Token],
     words: (Keyword, Keyword, Keyword),
     rows: RowsPerMatch,
-) -> Result<(RowsPerMatch, &'a [Token]), ParseFault>
+) -> Parsed<'a, RowsPerMatch>
     requires stands { All (IsToken text.now) tokens.now }
-    ensures exact { Gives (λ x. (x.0, x.1.now)) result ((three_words words.0 words.1 words.2 rows).read text.now tokens.now) }
-    ensures stands { IfOk result (λ x. All (IsToken text.now) x.1.now) }
-    ensures shorter { IfOk result (λ x. length x.1.now < length tokens.now) }
+    ensures { Reads (three_words words.0 words.1 words.2 rows) itself text.now tokens.now result }
 {
     let (_, rest) = word(text, tokens, TokenKind::Keyword(words.0))?;
     let (_, rest) = word(text, rest, TokenKind::Keyword(words.1))?;
@@ -280,11 +224,9 @@ fn three_words<'a>(
 
 /// Which rows of a match and of no match are shown, and what follows.
 #[tactic(auto, unfolding(crate::specs::ClauseGrammar::shown))]
-fn shown<'a>(text: &str, tokens: &'a [Token]) -> Result<(RowsPerMatch, &'a [Token]), ParseFault>
+fn shown<'a>(text: &str, tokens: &'a [Token]) -> Parsed<'a, RowsPerMatch>
     requires stands { All (IsToken text.now) tokens.now }
-    ensures exact { Gives (λ x. (x.0, x.1.now)) result (shown.read text.now tokens.now) }
-    ensures stands { IfOk result (λ x. All (IsToken text.now) x.1.now) }
-    ensures no_longer { IfOk result (λ x. length x.1.now ≤ length tokens.now) }
+    ensures { ReadsSome shown itself text.now tokens.now result }
 {
     if begins(tokens, TokenKind::Keyword(Keyword::Show)) {
         let words = (Keyword::Show, Keyword::Empty, Keyword::Matches);
@@ -302,11 +244,9 @@ fn shown<'a>(text: &str, tokens: &'a [Token]) -> Result<(RowsPerMatch, &'a [Toke
 }
 
 /// ONE ROW PER MATCH, and what follows.
-fn one_row<'a>(text: &str, tokens: &'a [Token]) -> Result<(RowsPerMatch, &'a [Token]), ParseFault>
+fn one_row<'a>(text: &str, tokens: &'a [Token]) -> Parsed<'a, RowsPerMatch>
     requires stands { All (IsToken text.now) tokens.now }
-    ensures exact { Gives (λ x. (x.0, x.1.now)) result (one_row.read text.now tokens.now) }
-    ensures stands { IfOk result (λ x. All (IsToken text.now) x.1.now) }
-    ensures shorter { IfOk result (λ x. length x.1.now < length tokens.now) }
+    ensures { Reads one_row itself text.now tokens.now result }
 {
     let (_, rest) = word(text, tokens, TokenKind::Keyword(Keyword::One))?;
     let (_, rest) = word(text, rest, TokenKind::Keyword(Keyword::Row))?;
@@ -316,11 +256,9 @@ fn one_row<'a>(text: &str, tokens: &'a [Token]) -> Result<(RowsPerMatch, &'a [To
 }
 
 /// ALL ROWS PER MATCH with what is shown, and what follows.
-fn all_rows<'a>(text: &str, tokens: &'a [Token]) -> Result<(RowsPerMatch, &'a [Token]), ParseFault>
+fn all_rows<'a>(text: &str, tokens: &'a [Token]) -> Parsed<'a, RowsPerMatch>
     requires stands { All (IsToken text.now) tokens.now }
-    ensures exact { Gives (λ x. (x.0, x.1.now)) result (all_rows.read text.now tokens.now) }
-    ensures stands { IfOk result (λ x. All (IsToken text.now) x.1.now) }
-    ensures shorter { IfOk result (λ x. length x.1.now < length tokens.now) }
+    ensures { Reads all_rows itself text.now tokens.now result }
 {
     let (_, rest) = word(text, tokens, TokenKind::Keyword(Keyword::All))?;
     let (_, rest) = word(text, rest, TokenKind::Keyword(Keyword::Rows))?;
@@ -331,11 +269,9 @@ fn all_rows<'a>(text: &str, tokens: &'a [Token]) -> Result<(RowsPerMatch, &'a [T
 
 /// Rows per match, and what follows.
 #[tactic(auto, unfolding(crate::specs::ClauseGrammar::rows))]
-fn rows<'a>(text: &str, tokens: &'a [Token]) -> Result<(RowsPerMatch, &'a [Token]), ParseFault>
+fn rows<'a>(text: &str, tokens: &'a [Token]) -> Parsed<'a, RowsPerMatch>
     requires stands { All (IsToken text.now) tokens.now }
-    ensures exact { Gives (λ x. (x.0, x.1.now)) result (rows.read text.now tokens.now) }
-    ensures stands { IfOk result (λ x. All (IsToken text.now) x.1.now) }
-    ensures shorter { IfOk result (λ x. length x.1.now < length tokens.now) }
+    ensures { Reads rows itself text.now tokens.now result }
 {
     if begins(tokens, TokenKind::Keyword(Keyword::One)) {
         return one_row(text, tokens);
@@ -345,15 +281,9 @@ fn rows<'a>(text: &str, tokens: &'a [Token]) -> Result<(RowsPerMatch, &'a [Token
 
 /// Where a skip goes to, and what follows.
 #[tactic(auto, unfolding(crate::specs::ClauseGrammar::target))]
-fn target<'a>(
-    alloc: Global,
-    text: &str,
-    tokens: &'a [Token],
-) -> Result<(Skip, &'a [Token]), ParseFault>
+fn target<'a>(alloc: Global, text: &str, tokens: &'a [Token]) -> Parsed<'a, Skip>
     requires stands { All (IsToken text.now) tokens.now }
-    ensures exact { Gives (λ x. (x.0, x.1.now)) result (target.read text.now tokens.now) }
-    ensures stands { IfOk result (λ x. All (IsToken text.now) x.1.now) }
-    ensures shorter { IfOk result (λ x. length x.1.now < length tokens.now) }
+    ensures { Reads target itself text.now tokens.now result }
 {
     if begins(tokens, TokenKind::Keyword(Keyword::Next)) {
         let (_, rest) = word(text, tokens, TokenKind::Keyword(Keyword::Next))?;
@@ -376,15 +306,9 @@ fn target<'a>(
 
 /// AFTER MATCH SKIP with where it goes to, and what follows.
 #[tactic(auto, unfolding(crate::specs::ClauseGrammar::skip))]
-fn skip<'a>(
-    alloc: Global,
-    text: &str,
-    tokens: &'a [Token],
-) -> Result<(Skip, &'a [Token]), ParseFault>
+fn skip<'a>(alloc: Global, text: &str, tokens: &'a [Token]) -> Parsed<'a, Skip>
     requires stands { All (IsToken text.now) tokens.now }
-    ensures exact { Gives (λ x. (x.0, x.1.now)) result (skip.read text.now tokens.now) }
-    ensures stands { IfOk result (λ x. All (IsToken text.now) x.1.now) }
-    ensures shorter { IfOk result (λ x. length x.1.now < length tokens.now) }
+    ensures { Reads skip itself text.now tokens.now result }
 {
     let (_, rest) = word(text, tokens, TokenKind::Keyword(Keyword::After))?;
     let (_, rest) = word(text, rest, TokenKind::Keyword(Keyword::Match))?;
@@ -401,15 +325,9 @@ fn skip<'a>(
 
 /// Perhaps PARTITION BY, and what follows.
 #[tactic(auto, unfolding(crate::specs::ClauseGrammar::partition_part))]
-fn partition_part<'a>(
-    alloc: Global,
-    text: &str,
-    tokens: &'a [Token],
-) -> Result<(Vec<Name>, &'a [Token]), ParseFault>
+fn partition_part<'a>(alloc: Global, text: &str, tokens: &'a [Token]) -> Parsed<'a, Vec<Name>>
     requires stands { All (IsToken text.now) tokens.now }
-    ensures exact { Gives (λ x. (x.0.items, x.1.now)) result (partition_part.read text.now tokens.now) }
-    ensures stands { IfOk result (λ x. All (IsToken text.now) x.1.now) }
-    ensures no_longer { IfOk result (λ x. length x.1.now ≤ length tokens.now) }
+    ensures { ReadsSome partition_part (λ x. x.items) text.now tokens.now result }
 {
     if !begins(tokens, TokenKind::Keyword(Keyword::Partition)) {
         return Ok((Vec::new(alloc), tokens));
@@ -421,15 +339,9 @@ fn partition_part<'a>(
 
 /// Perhaps ORDER BY, and what follows.
 #[tactic(auto, unfolding(crate::specs::ClauseGrammar::order_part))]
-fn order_part<'a>(
-    alloc: Global,
-    text: &str,
-    tokens: &'a [Token],
-) -> Result<(Vec<Order>, &'a [Token]), ParseFault>
+fn order_part<'a>(alloc: Global, text: &str, tokens: &'a [Token]) -> Parsed<'a, Vec<Order>>
     requires stands { All (IsToken text.now) tokens.now }
-    ensures exact { Gives (λ x. (x.0.items, x.1.now)) result (order_part.read text.now tokens.now) }
-    ensures stands { IfOk result (λ x. All (IsToken text.now) x.1.now) }
-    ensures no_longer { IfOk result (λ x. length x.1.now ≤ length tokens.now) }
+    ensures { ReadsSome order_part (λ x. x.items) text.now tokens.now result }
 {
     if !begins(tokens, TokenKind::Keyword(Keyword::Order)) {
         return Ok((Vec::new(alloc), tokens));
@@ -446,12 +358,9 @@ fn measures_part<'a>(
     text: &str,
     tokens: &'a [Token],
     room: usize,
-) -> Result<(Vec<Measure>, &'a [Token]), ParseFault>
+) -> Parsed<'a, Vec<Measure>>
     requires stands { All (IsToken text.now) tokens.now }
-    ensures exact { Gives (λ x. (map measure_tree x.0.items, x.1.now)) result
-        ((measures_part room).read text.now tokens.now) }
-    ensures stands { IfOk result (λ x. All (IsToken text.now) x.1.now) }
-    ensures no_longer { IfOk result (λ x. length x.1.now ≤ length tokens.now) }
+    ensures { ReadsSome (measures_part room) (λ x. map measure_tree x.items) text.now tokens.now result }
 {
     if !begins(tokens, TokenKind::Keyword(Keyword::Measures)) {
         return Ok((Vec::new(alloc), tokens));
@@ -467,12 +376,9 @@ fn subset_part<'a>(
     text: &str,
     tokens: &'a [Token],
     room: usize,
-) -> Result<(Vec<Union>, &'a [Token]), ParseFault>
+) -> Parsed<'a, Vec<Union>>
     requires stands { All (IsToken text.now) tokens.now }
-    ensures exact { Gives (λ x. (map union_tree x.0.items, x.1.now)) result
-        ((subset_part room).read text.now tokens.now) }
-    ensures stands { IfOk result (λ x. All (IsToken text.now) x.1.now) }
-    ensures no_longer { IfOk result (λ x. length x.1.now ≤ length tokens.now) }
+    ensures { ReadsSome (subset_part room) (λ x. map union_tree x.items) text.now tokens.now result }
 {
     if !begins(tokens, TokenKind::Keyword(Keyword::Subset)) {
         return Ok((Vec::new(alloc), tokens));
@@ -488,12 +394,9 @@ fn define_part<'a>(
     text: &str,
     tokens: &'a [Token],
     room: usize,
-) -> Result<(Vec<Definition>, &'a [Token]), ParseFault>
+) -> Parsed<'a, Vec<Definition>>
     requires stands { All (IsToken text.now) tokens.now }
-    ensures exact { Gives (λ x. (map definition_tree x.0.items, x.1.now)) result
-        ((define_part room).read text.now tokens.now) }
-    ensures stands { IfOk result (λ x. All (IsToken text.now) x.1.now) }
-    ensures shorter { IfOk result (λ x. length x.1.now < length tokens.now) }
+    ensures { Reads (define_part room) (λ x. map definition_tree x.items) text.now tokens.now result }
 {
     let (_, rest) = word(text, tokens, TokenKind::Keyword(Keyword::Define))?;
     definitions(alloc, text, rest, room)
@@ -506,11 +409,9 @@ fn pattern_part<'a>(
     text: &str,
     tokens: &'a [Token],
     room: usize,
-) -> Result<(Pattern, &'a [Token]), ParseFault>
+) -> Parsed<'a, Pattern>
     requires stands { All (IsToken text.now) tokens.now }
-    ensures exact { Gives (λ x. (tree_of x.0, x.1.now)) result ((pattern_part room).read text.now tokens.now) }
-    ensures stands { IfOk result (λ x. All (IsToken text.now) x.1.now) }
-    ensures shorter { IfOk result (λ x. length x.1.now < length tokens.now) }
+    ensures { Reads (pattern_part room) tree_of text.now tokens.now result }
 {
     let (_, rest) = word(text, tokens, TokenKind::Keyword(Keyword::Pattern))?;
     let (_, rest) = opening(text, rest, TokenKind::Mark(Mark::LeftParenthesis), room)?;
@@ -521,11 +422,9 @@ fn pattern_part<'a>(
 
 /// Perhaps the rows per match, and what follows.
 #[tactic(auto, unfolding(crate::specs::ClauseGrammar::rows_part, crate::specs::ClauseGrammar::rows))]
-fn rows_part<'a>(text: &str, tokens: &'a [Token]) -> Result<(RowsPerMatch, &'a [Token]), ParseFault>
+fn rows_part<'a>(text: &str, tokens: &'a [Token]) -> Parsed<'a, RowsPerMatch>
     requires stands { All (IsToken text.now) tokens.now }
-    ensures exact { Gives (λ x. (x.0, x.1.now)) result (rows_part.read text.now tokens.now) }
-    ensures stands { IfOk result (λ x. All (IsToken text.now) x.1.now) }
-    ensures no_longer { IfOk result (λ x. length x.1.now ≤ length tokens.now) }
+    ensures { ReadsSome rows_part itself text.now tokens.now result }
 {
     if !begins(tokens, TokenKind::Keyword(Keyword::One))
         && !begins(tokens, TokenKind::Keyword(Keyword::All))
@@ -537,15 +436,9 @@ fn rows_part<'a>(text: &str, tokens: &'a [Token]) -> Result<(RowsPerMatch, &'a [
 
 /// Perhaps a skip, and what follows.
 #[tactic(auto, unfolding(crate::specs::ClauseGrammar::skip_part, crate::specs::ClauseGrammar::skip))]
-fn skip_part<'a>(
-    alloc: Global,
-    text: &str,
-    tokens: &'a [Token],
-) -> Result<(Skip, &'a [Token]), ParseFault>
+fn skip_part<'a>(alloc: Global, text: &str, tokens: &'a [Token]) -> Parsed<'a, Skip>
     requires stands { All (IsToken text.now) tokens.now }
-    ensures exact { Gives (λ x. (x.0, x.1.now)) result (skip_part.read text.now tokens.now) }
-    ensures stands { IfOk result (λ x. All (IsToken text.now) x.1.now) }
-    ensures no_longer { IfOk result (λ x. length x.1.now ≤ length tokens.now) }
+    ensures { ReadsSome skip_part itself text.now tokens.now result }
 {
     if !begins(tokens, TokenKind::Keyword(Keyword::After)) {
         return Ok((Skip::PastLastRow, tokens));
@@ -559,11 +452,9 @@ fn later_parts<'a>(
     text: &str,
     tokens: &'a [Token],
     room: usize,
-) -> Result<((Skip, Pattern, Vec<Union>, Vec<Definition>), &'a [Token]), ParseFault>
+) -> Parsed<'a, (Skip, Pattern, Vec<Union>, Vec<Definition>)>
     requires stands { All (IsToken text.now) tokens.now }
-    ensures exact { Gives (λ x. (later_trees x.0.0 x.0.1 x.0.2.items x.0.3.items, x.1.now)) result
-        ((later_parts room).read text.now tokens.now) }
-    ensures stands { IfOk result (λ x. All (IsToken text.now) x.1.now) }
+    ensures { Reads (later_parts room) (λ x. later_trees x.0 x.1 x.2.items x.3.items) text.now tokens.now result }
 {
     let (skip, rest) = skip_part(alloc, text, tokens)?;
     let (pattern, rest) = pattern_part(alloc, text, rest, room)?;
@@ -581,16 +472,10 @@ fn copied(alloc: Global, text: &str) -> Result<Text, AllocError>
 
 /// The parts of a clause in their order, and what follows.
 #[tactic(auto, unfolding(crate::specs::ClauseGrammar::body))]
-fn body<'a>(
-    alloc: Global,
-    text: &str,
-    tokens: &'a [Token],
-    room: usize,
-) -> Result<(Clause, &'a [Token]), ParseFault>
+fn body<'a>(alloc: Global, text: &str, tokens: &'a [Token], room: usize) -> Parsed<'a, Clause>
     requires stands { All (IsToken text.now) tokens.now }
-    ensures exact { Gives (λ x. (clause_tree x.0, x.1.now)) result ((body room).read text.now tokens.now) }
+    ensures reads { Reads (body room) clause_tree text.now tokens.now result }
     ensures text { IfOk result (λ x. x.0.text ≡ text.now) }
-    ensures stands { IfOk result (λ x. All (IsToken text.now) x.1.now) }
 {
     let copy = copied(alloc, text)?;
     let (partition, rest) = partition_part(alloc, text, tokens)?;
@@ -615,15 +500,10 @@ fn body<'a>(
 
 /// A clause, and what follows.
 #[tactic(auto, unfolding(crate::specs::ClauseGrammar::clause))]
-fn clause<'a>(
-    alloc: Global,
-    text: &str,
-    tokens: &'a [Token],
-) -> Result<(Clause, &'a [Token]), ParseFault>
+fn clause<'a>(alloc: Global, text: &str, tokens: &'a [Token]) -> Parsed<'a, Clause>
     requires stands { All (IsToken text.now) tokens.now }
-    ensures exact { Gives (λ x. (clause_tree x.0, x.1.now)) result (clause.read text.now tokens.now) }
+    ensures reads { Reads clause clause_tree text.now tokens.now result }
     ensures text { IfOk result (λ x. x.0.text ≡ text.now) }
-    ensures stands { IfOk result (λ x. All (IsToken text.now) x.1.now) }
 {
     if !begins(tokens, TokenKind::Keyword(Keyword::MatchRecognize)) {
         return body(alloc, text, tokens, MAX_OPEN);

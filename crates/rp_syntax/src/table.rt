@@ -1,13 +1,13 @@
 //! The text of a table: `sym text, t int, p int`.
 
-ghost use Rattle.std.specs.Prelude.{◌≡◌, ◌<◌, List, length, All, IfOk, IfErr, [], string_bytes};
+ghost use Rattle.std.specs.Prelude.{◌≡◌, List, All, IfOk, IfErr};
 ghost use Rattle.rp_lexer.specs.Lexes.{IsToken, Lexes};
+ghost use Rattle.rp_grammar.specs.Readers.{Reads, itself};
 ghost use Rattle.rp_value.specs.Tables.{column_of, columns_of};
 ghost use Rattle.rp_value.specs.declared.table.Column.{Column};
-ghost use Rattle.rp_grammar.specs.Reading.{Gives};
 ghost use Rattle.rp_syntax.specs.TableGrammar.{IsTableText, IsTextFault, column, column_kind, kind_called, table, told_lex, told_table};
 
-use rp_grammar::{ParseFault, begins, name, named, place, word};
+use rp_grammar::{ParseFault, Parsed, begins, name, named, place, token, word};
 use rp_lexer::{LexFault, Mark, Token, TokenKind, law_lexes, lex};
 use rp_value::{Kind, Table, TableFault};
 use std::alloc::{AllocError, AllocFailed, Global};
@@ -94,38 +94,22 @@ fn kind_called(name: &str) -> Option<Kind>
 }
 
 /// The kind of a column, and what follows.
-fn column_kind<'a>(
-    alloc: Global,
-    text: &str,
-    tokens: &'a [Token],
-) -> Result<(Kind, &'a [Token]), ParseFault>
+fn column_kind<'a>(alloc: Global, text: &str, tokens: &'a [Token]) -> Parsed<'a, Kind>
     requires stands { All (IsToken text.now) tokens.now }
-    ensures exact { Gives (λ x. (x.0, x.1.now)) result (column_kind.read text.now tokens.now) }
-    ensures stands { IfOk result (λ x. All (IsToken text.now) x.1.now) }
-    ensures shorter { IfOk result (λ x. length x.1.now < length tokens.now) }
+    ensures { Reads column_kind itself text.now tokens.now result }
 {
-    match tokens.split_first() {
-        Some((first, rest)) if first.kind == TokenKind::Name => {
-            let word = named(alloc, text, *first)?;
-            match kind_called(word.text.as_str()) {
-                Some(kind) => Ok((kind, rest)),
-                None => Err(ParseFault::Expected(first.start)),
-            }
-        }
-        _ => Err(ParseFault::Expected(place(text, tokens))),
+    let (token, rest) = token(text, tokens, TokenKind::Name)?;
+    let word = named(alloc, text, token)?;
+    match kind_called(word.text.as_str()) {
+        Some(kind) => Ok((kind, rest)),
+        None => Err(ParseFault::Expected(token.start)),
     }
 }
 
 /// A column's name and kind, and what follows.
-fn column<'a>(
-    alloc: Global,
-    text: &str,
-    tokens: &'a [Token],
-) -> Result<((String, Kind), &'a [Token]), ParseFault>
+fn column<'a>(alloc: Global, text: &str, tokens: &'a [Token]) -> Parsed<'a, (String, Kind)>
     requires stands { All (IsToken text.now) tokens.now }
-    ensures exact { Gives (λ x. (column_of x.0, x.1.now)) result (column.read text.now tokens.now) }
-    ensures stands { IfOk result (λ x. All (IsToken text.now) x.1.now) }
-    ensures shorter { IfOk result (λ x. length x.1.now < length tokens.now) }
+    ensures { Reads column column_of text.now tokens.now result }
 {
     let (name, rest) = name(alloc, text, tokens)?;
     let (kind, rest) = column_kind(alloc, text, rest)?;
@@ -134,14 +118,9 @@ fn column<'a>(
 }
 
 /// Columns with commas between, and what follows.
-fn columns<'a>(
-    alloc: Global,
-    text: &str,
-    tokens: &'a [Token],
-) -> Result<(Vec<(String, Kind)>, &'a [Token]), ParseFault>
+fn columns<'a>(alloc: Global, text: &str, tokens: &'a [Token]) -> Parsed<'a, Vec<(String, Kind)>>
     requires stands { All (IsToken text.now) tokens.now }
-    ensures exact { Gives (λ x. (columns_of x.0.items, x.1.now)) result (table.read text.now tokens.now) }
-    ensures stands { IfOk result (λ x. All (IsToken text.now) x.1.now) }
+    ensures { Reads table (λ x. columns_of x.items) text.now tokens.now result }
 {
     let (first, mut rest) = column(alloc, text, tokens)?;
     let mut items = Vec::new(alloc);

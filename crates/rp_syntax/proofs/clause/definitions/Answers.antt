@@ -18,10 +18,14 @@ items-preserved c = record {
   reads = seen_list_goes_on c.args.text.now (definition c.args.room) definition_tree c.items.items.items c.in_ok-item.item c.in_ok-push-2.ensures.items c.in_ok-behind.ensures.exact c.in_ok-item.ensures.exact (search rules) c.items.invariant.reads;
 }
 
-pub returns-in_err-item-clause-exact : goal.returns-in_err-item-clause-exact
-returns-in_err-item-clause-exact c =
+pub returns-in_err-item : goal.returns-in_err-item
+returns-in_err-item c =
     let none = list_refused c.args.text.now (definition c.args.room) c.in_err-item.field-0.0 c.in_ok-behind.ensures.exact c.in_err-item.ensures.exact c.items.invariant.reads in
     search (rules, none)
 
-pub returns-clause-exact : goal.returns-clause-exact
-returns-clause-exact c = list_ends c.args.text.now (definition c.args.room) (sym c.begins.ensures ∙ c.items-test.false) c.items.invariant.reads
+pub returns : goal.returns
+returns c = record {
+  exact = list_ends c.args.text.now (definition c.args.room) (sym c.begins.ensures ∙ c.items-test.false) c.items.invariant.reads;
+  stands = c.items.invariant.stands;
+  shorter = c.items.invariant.shorter;
+}
