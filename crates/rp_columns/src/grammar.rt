@@ -1,26 +1,21 @@
 //! The columns that tokens derive.
 
-ghost use Rattle.std.specs.Prelude.{◌≡◌, ◌<◌, ◌≤◌, ◌∷◌, List, length, map, All, IfOk, IfSome, Ok, [], is_some};
+ghost use Rattle.std.specs.Prelude.{◌≡◌, ◌<◌, ◌∷◌, length, map, All, IfSome, Ok, [], is_some};
 ghost use Rattle.rp_lexer.specs.Lexes.{IsToken};
 ghost use Rattle.rp_grammar.specs.Grammar.{word as spec_word};
-ghost use Rattle.rp_grammar.specs.Reading.{Gives, place as spec_place, starts};
+ghost use Rattle.rp_grammar.specs.Reading.{place as spec_place, starts};
+ghost use Rattle.rp_grammar.specs.Readers.{Reads, ReadsSome, itself};
 ghost use Rattle.rp_columns.specs.ColumnsGrammar.{argument, arguments, called, called_tree, called_with, column, columns, operands, plain_name, written_tree};
 
 use crate::written::{Argument, Called, Source, Written};
-use rp_grammar::{Name, ParseFault, begins, name, place, text_at, word};
-use rp_lexer::{Mark, Token, TokenKind, number_of};
+use rp_grammar::{Name, ParseFault, Parsed, begins, name, number, place, text_at, token, word};
+use rp_lexer::{Mark, Token, TokenKind};
 use std::alloc::Global;
 
 /// A plain name, and what follows it.
-fn plain_name<'a>(
-    alloc: Global,
-    text: &str,
-    tokens: &'a [Token],
-) -> Result<(Name, &'a [Token]), ParseFault>
+fn plain_name<'a>(alloc: Global, text: &str, tokens: &'a [Token]) -> Parsed<'a, Name>
     requires stands { All (IsToken text.now) tokens.now }
-    ensures exact { Gives (λ x. (x.0, x.1.now)) result (plain_name.read text.now tokens.now) }
-    ensures stands { IfOk result (λ x. All (IsToken text.now) x.1.now) }
-    ensures shorter { IfOk result (λ x. length x.1.now < length tokens.now) }
+    ensures { Reads plain_name itself text.now tokens.now result }
 {
     if begins(tokens, TokenKind::Name) {
         return name(alloc, text, tokens);
@@ -30,37 +25,22 @@ fn plain_name<'a>(
 
 /// What a reading takes, and what follows.
 #[tactic(auto, unfolding(crate::specs::ColumnsGrammar::argument))]
-fn argument<'a>(
-    alloc: Global,
-    text: &str,
-    tokens: &'a [Token],
-) -> Result<(Argument, &'a [Token]), ParseFault>
+fn argument<'a>(alloc: Global, text: &str, tokens: &'a [Token]) -> Parsed<'a, Argument>
     requires stands { All (IsToken text.now) tokens.now }
-    ensures exact { Gives (λ x. (x.0, x.1.now)) result (argument.read text.now tokens.now) }
-    ensures stands { IfOk result (λ x. All (IsToken text.now) x.1.now) }
-    ensures shorter { IfOk result (λ x. length x.1.now < length tokens.now) }
+    ensures { Reads argument itself text.now tokens.now result }
 {
-    match tokens.split_first() {
-        Some((first, rest)) if first.kind == TokenKind::Number => {
-            Ok((Argument::Number(number_of(text, *first)), rest))
-        }
-        Some((first, rest)) if first.kind == TokenKind::Text => {
-            Ok((Argument::Text(text_at(alloc, text, *first)?), rest))
-        }
-        _ => Err(ParseFault::Expected(place(text, tokens))),
+    if begins(tokens, TokenKind::Number) {
+        let (number, rest) = number(text, tokens)?;
+        return Ok((Argument::Number(number), rest));
     }
+    let (token, rest) = token(text, tokens, TokenKind::Text)?;
+    Ok((Argument::Text(text_at(alloc, text, token)?), rest))
 }
 
 /// What a reading takes, each behind a comma, and what follows.
-fn arguments<'a>(
-    alloc: Global,
-    text: &str,
-    tokens: &'a [Token],
-) -> Result<(Vec<Argument>, &'a [Token]), ParseFault>
+fn arguments<'a>(alloc: Global, text: &str, tokens: &'a [Token]) -> Parsed<'a, Vec<Argument>>
     requires stands { All (IsToken text.now) tokens.now }
-    ensures exact { Gives (λ x. (x.0.items, x.1.now)) result (arguments.read text.now tokens.now) }
-    ensures stands { IfOk result (λ x. All (IsToken text.now) x.1.now) }
-    ensures shorter { IfOk result (λ x. length x.1.now ≤ length tokens.now) }
+    ensures { ReadsSome arguments (λ x. x.items) text.now tokens.now result }
 {
     let mut items = Vec::new(alloc);
     let mut rest = tokens;
@@ -74,15 +54,9 @@ fn arguments<'a>(
 
 /// A reading behind `=`, and what follows.
 #[tactic(auto, unfolding(crate::specs::ColumnsGrammar::called_with))]
-fn called_with<'a>(
-    alloc: Global,
-    text: &str,
-    tokens: &'a [Token],
-) -> Result<(Called, &'a [Token]), ParseFault>
+fn called_with<'a>(alloc: Global, text: &str, tokens: &'a [Token]) -> Parsed<'a, Called>
     requires stands { All (IsToken text.now) tokens.now }
-    ensures exact { Gives (λ x. (called_tree x.0, x.1.now)) result (called_with.read text.now tokens.now) }
-    ensures stands { IfOk result (λ x. All (IsToken text.now) x.1.now) }
-    ensures shorter { IfOk result (λ x. length x.1.now < length tokens.now) }
+    ensures { Reads called_with called_tree text.now tokens.now result }
 {
     let (_, rest) = word(text, tokens, TokenKind::Mark(Mark::Equals))?;
     let (reading, rest) = plain_name(alloc, text, rest)?;
@@ -102,11 +76,9 @@ fn operands<'a>(
     alloc: Global,
     text: &str,
     tokens: &'a [Token],
-) -> Result<((Source, Vec<Argument>), &'a [Token]), ParseFault>
+) -> Parsed<'a, (Source, Vec<Argument>)>
     requires stands { All (IsToken text.now) tokens.now }
-    ensures exact { Gives (λ x. ((x.0.0, x.0.1.items), x.1.now)) result (operands.read text.now tokens.now) }
-    ensures stands { IfOk result (λ x. All (IsToken text.now) x.1.now) }
-    ensures shorter { IfOk result (λ x. length x.1.now < length tokens.now) }
+    ensures { Reads operands (λ x. (x.0, x.1.items)) text.now tokens.now result }
 {
     if let Some(rest) = behind(text, tokens, TokenKind::Mark(Mark::RightParenthesis)) {
         return Ok(((Source::Nothing, Vec::new(alloc)), rest));
@@ -119,15 +91,9 @@ fn operands<'a>(
 
 /// A reading alone or behind `=`, and what follows.
 #[tactic(auto, unfolding(crate::specs::ColumnsGrammar::called, crate::specs::ColumnsGrammar::called_with))]
-fn called<'a>(
-    alloc: Global,
-    text: &str,
-    tokens: &'a [Token],
-) -> Result<(Called, &'a [Token]), ParseFault>
+fn called<'a>(alloc: Global, text: &str, tokens: &'a [Token]) -> Parsed<'a, Called>
     requires stands { All (IsToken text.now) tokens.now }
-    ensures exact { Gives (λ x. (called_tree x.0, x.1.now)) result (called.read text.now tokens.now) }
-    ensures stands { IfOk result (λ x. All (IsToken text.now) x.1.now) }
-    ensures shorter { IfOk result (λ x. length x.1.now < length tokens.now) }
+    ensures { Reads called called_tree text.now tokens.now result }
 {
     if !begins(tokens, TokenKind::Name) {
         return called_with(alloc, text, tokens);
@@ -143,15 +109,9 @@ fn called<'a>(
 
 /// A column, and what follows.
 #[tactic(auto, unfolding(crate::specs::ColumnsGrammar::column))]
-fn column<'a>(
-    alloc: Global,
-    text: &str,
-    tokens: &'a [Token],
-) -> Result<(Written, &'a [Token]), ParseFault>
+fn column<'a>(alloc: Global, text: &str, tokens: &'a [Token]) -> Parsed<'a, Written>
     requires stands { All (IsToken text.now) tokens.now }
-    ensures exact { Gives (λ x. (written_tree x.0, x.1.now)) result (column.read text.now tokens.now) }
-    ensures stands { IfOk result (λ x. All (IsToken text.now) x.1.now) }
-    ensures shorter { IfOk result (λ x. length x.1.now < length tokens.now) }
+    ensures { Reads column written_tree text.now tokens.now result }
 {
     let (name, rest) = name(alloc, text, tokens)?;
     let (called, rest) = called(alloc, text, rest)?;
@@ -163,10 +123,9 @@ pub(crate) fn columns<'a>(
     alloc: Global,
     text: &str,
     tokens: &'a [Token],
-) -> Result<(Vec<Written>, &'a [Token]), ParseFault>
+) -> Parsed<'a, Vec<Written>>
     requires stands { All (IsToken text.now) tokens.now }
-    ensures exact { Gives (λ x. (map written_tree x.0.items, x.1.now)) result (columns.read text.now tokens.now) }
-    ensures stands { IfOk result (λ x. All (IsToken text.now) x.1.now) }
+    ensures { Reads columns (λ x. map written_tree x.items) text.now tokens.now result }
 {
     let mut items = Vec::new(alloc);
     let mut rest = tokens;

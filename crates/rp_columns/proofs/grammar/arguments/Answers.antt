@@ -9,21 +9,25 @@ use Rattle.rp_columns.proofs.grammar.arguments.Goals as goal
 pub items-init : goal.items-init
 items-init c = record {
   stands = search rules;
-  shorter = search rules;
+  no_longer = search rules;
   reads = rw c.new-items.ensures.items (many_starts c.args.text.now (gives second (word (kind.Mark mark.Comma) then argument)) c.args.tokens.now);
 }
 
 pub items-preserved : goal.items-preserved
 items-preserved c = record {
   stands = search rules;
-  shorter = search rules;
+  no_longer = search rules;
   reads = list_goes_on c.args.text.now argument c.in_ok-push.ensures.items c.in-Some.ensures.exact c.in_ok-item.ensures.exact (search rules) c.items.invariant.reads;
 }
 
-pub returns-in_err-item-clause-exact : goal.returns-in_err-item-clause-exact
-returns-in_err-item-clause-exact c =
+pub returns-in_err-item : goal.returns-in_err-item
+returns-in_err-item c =
     let none = list_refused c.args.text.now argument c.in_err-item.field-0.0 c.in-Some.ensures.exact c.in_err-item.ensures.exact c.items.invariant.reads in
     search (rules, none)
 
-pub returns-clause-exact : goal.returns-clause-exact
-returns-clause-exact c = list_ends c.args.text.now argument (sym c.in_default.ensures.starts) c.items.invariant.reads
+pub returns : goal.returns
+returns c = record {
+  exact = list_ends c.args.text.now argument (sym c.in_default.ensures.starts) c.items.invariant.reads;
+  stands = c.items.invariant.stands;
+  no_longer = c.items.invariant.no_longer;
+}

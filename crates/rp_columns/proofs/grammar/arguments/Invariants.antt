@@ -10,6 +10,6 @@ decreases-items l = length l.rest
 abbrev pub invariant-items : goal.invariant-items
 invariant-items l = record {
   stands : All (IsToken l.text) l.rest;
-  shorter : length l.rest ≤ length l.tokens;
+  no_longer : length l.rest ≤ length l.tokens;
   reads : ListGoesOn l.text argument l.items.items l.rest (arguments.read l.text l.tokens);
 }
