@@ -113,23 +113,23 @@ module _ (s : Search) (c : Choices) (asked : Asked) (Before : ℕ → List Label
   answer_running Entered OpenTaken is h labels = running Entered OpenTaken h h.cut h.keeps (stands_open s.choices c _ _ _ r.searches.fits.stands whole_is h) labels
   answer_running Entered Nothing is h labels = running Entered Nothing h h.cut h.keeps (stands_nothing s.choices c _ _ _ r.searches.fits.stands whole_is h) labels
 
-  took : (added : Choices → ℕ) (Always : Type 0) (o : Outcome) → counted o ≡ 0 → Turned 1 s (record s { choices = c }) asked (left_by s asked) o → costs c ≤ costs s.choices → (o ≡ NoMatch → s.memo.marks ≡ []) →
-      TookTurn added Always s (record s { choices = c }) asked o
-  took added Always o last turned cost held = record {
+  took : (added : Choices → ℕ) (Counted Always : Type 0) (o : Outcome) → counted o ≡ 0 → Turned 1 s (record s { choices = c }) asked (left_by s asked) o → costs c ≤ costs s.choices → (o ≡ NoMatch → s.memo.marks ≡ []) →
+      TookTurn added Counted Always s (record s { choices = c }) asked o
+  took added Counted Always o last turned cost held = record {
     turned = turned;
-    spent = λ always decided. subst (λ k. SearchSpent k (added s.choices) s (record s { choices = c }) asked) (sym last) (same_spends s.choices c s.memo asked (added s.choices) plan whole_is.start cost);
+    spent = λ counts decided. subst (λ k. SearchSpent k (added s.choices) s (record s { choices = c }) asked) (sym last) (same_spends s.choices c s.memo asked (added s.choices) plan whole_is.start cost);
     lasts = λ always all. all;
     held = held;
   }
 
-  pub answer_took : (added : Choices → ℕ) (Always : Type 0) (t : Taken) → IsAnswer t → TakenAs s.choices c asked.known asked.end t → Spends s.choices c t → TookTurn added Always s (record s { choices = c }) asked (answer_of t)
+  pub answer_took : (added : Choices → ℕ) (Counted Always : Type 0) (t : Taken) → IsAnswer t → TakenAs s.choices c asked.known asked.end t → Spends s.choices c t → TookTurn added Counted Always s (record s { choices = c }) asked (answer_of t)
   unfolding start_of_search labels_of_search words_from ChoicesStand MemoStands whole whole_from start_of
-  answer_took added Always Row is h cost = absurd is
-  answer_took added Always Split is h cost = absurd is
-  answer_took added Always FullTaken is h cost =
-      took added Always Match refl (finds_match s.choices c _ _ _ r.searches.fits.stands admitted h, fewer h.same) cost (λ e. absurd cc)
-  answer_took added Always OpenTaken is h cost =
-      took added Always Waits refl (finds_wait s.choices c _ _ _ r.searches.fits.stands admitted h, h.end, fewer h.same) cost (λ e. absurd cc)
-  answer_took added Always Nothing is h cost =
-      took added Always NoMatch refl (finds_none s.choices c _ _ _ r.searches.fits.stands h, fewer h.same) cost.0
+  answer_took added Counted Always Row is h cost = absurd is
+  answer_took added Counted Always Split is h cost = absurd is
+  answer_took added Counted Always FullTaken is h cost =
+      took added Counted Always Match refl (finds_match s.choices c _ _ _ r.searches.fits.stands admitted h, fewer h.same) cost (λ e. absurd cc)
+  answer_took added Counted Always OpenTaken is h cost =
+      took added Counted Always Waits refl (finds_wait s.choices c _ _ _ r.searches.fits.stands admitted h, h.end, fewer h.same) cost (λ e. absurd cc)
+  answer_took added Counted Always Nothing is h cost =
+      took added Counted Always NoMatch refl (finds_none s.choices c _ _ _ r.searches.fits.stands h, fewer h.same) cost.0
       (λ e. none_high (height c) s.memo.marks cost.1 (remembered_high (height c) (Above c) s.memo c asked (remembers_on h.keeps)))

@@ -118,12 +118,15 @@ pub record CanTurn (s : Search) (asked : Asked) (Entered : ℕ → List Label �
   pub running : IsRunning s asked Entered
 
 -- The mark that the preferred choice may leave, if there is one: only tests that name their pattern have one, whose place hasn't failed
--- at its row for ever. So far what fails above it fails for ever.
+-- at its row for ever.
 pub record CanMark (mark : Option Mark) (s : Search) (asked : Asked) : Type 0 where
   pub marked : IfSome mark (IsMarkOfTop s.choices)
   pub named : OnSome mark (IsSome asked.pattern)
   pub fresh : IsFresh s.memo mark
-  pub ever : IfSome mark (λ m. most_u64 ≤ m.until)
+
+-- so far, what fails above the mark fails for ever
+abbrev pub FailsForEver : Option Mark → Type 0
+FailsForEver mark = IfSome mark (λ m. most_u64 ≤ m.until)
 
 -- the search with this outlook
 abbrev pub exploring : Search → Outlook → Search
@@ -141,11 +144,15 @@ Turned taken old new asked before PausedOutcome = left_by new asked + taken ≤ 
 abbrev pub SearchSpent : ℕ → ℕ → Search → Search → Asked → Type 0
 SearchSpent taken added old new asked = Spent taken added old.choices new.choices old.memo new.memo asked
 
--- What a turn came to, whose splits that aren't remembered add so much at most. Where refusals last for ever, so does all that it
--- remembers, and it is taken off the work that is left. Where no word is found, no place has a mark any more.
-pub record TookTurn (added : Choices → ℕ) (Always : Type 0) (old new : Search) (asked : Asked) (outcome : Outcome) : Type 0 where
+-- on no condition
+abbrev pub Anyway : Type 0
+Anyway = Unit {0}
+
+-- What a turn came to, whose splits that aren't remembered add so much at most. On the one condition it is taken off the work that is
+-- left, on the other all that it remembers lasts for ever. Where no word is found, no place has a mark any more.
+pub record TookTurn (added : Choices → ℕ) (Counted Always : Type 0) (old new : Search) (asked : Asked) (outcome : Outcome) : Type 0 where
   pub turned : Turned 1 old new asked (left_by old asked) outcome
-  pub spent : Always → NoneIsOpen asked → SearchSpent (counted outcome) (added old.choices) old new asked
+  pub spent : Counted → NoneIsOpen asked → SearchSpent (counted outcome) (added old.choices) old new asked
   pub lasts : Always → LastsAll old.memo → LastsAll new.memo
   pub held : outcome ≡ NoMatchOutcome → new.memo.marks ≡ []
 

@@ -61,7 +61,7 @@ impl Search {
     ghost use Rattle.rp_search.specs.Lasting.{OpensAlike};
     ghost use Rattle.rp_search.specs.Memo.{IsDeadTop, MeantBy};
     ghost use Rattle.rp_search.specs.Search.{RunAnswers, CanRun, IsAtStart, HasMoved, IsSearchFor, IsForSamePattern, IsSameSearch, Lowers, TakesTurns, labels_of_search, start_of_search, turns_of_run};
-    ghost use Rattle.rp_search.specs.Turned.{CanMark, CanTurn, CountsTurns, Covers, IsRunning, MapsNewRow, RisesAtMost, SearchSpent, TookTurn};
+    ghost use Rattle.rp_search.specs.Turned.{Anyway, CanMark, CanTurn, CountsTurns, Covers, FailsForEver, IsRunning, MapsNewRow, RisesAtMost, SearchSpent, TookTurn};
     ghost use Rattle.rp_search.specs.Work.{LastsAll, NoneIsOpen, added_by, unmarked};
 
     /// A search from the row `start`, which is at least 1.
@@ -287,7 +287,7 @@ impl Search {
         ensures entries { RisesAtMost 1 (T.entries tests.old) (T.entries tests.new) }
         ensures running { OnOk result (IsRunning self.new (T.asked (T.subject tests.old)) (T.entered tests.new)) }
         ensures took { let s = T.subject tests.old in
-            IfOk result (TookTurn (added_by remembers) (T.always s) self.old self.new (T.asked s)) }
+            IfOk result (TookTurn (added_by remembers) (T.always s) (T.always s) self.old self.new (T.asked s)) }
     {
         // To take an outlook out moves it, so most turns only look whether there is one.
         if self.outlook.is_none() {
@@ -307,7 +307,7 @@ impl Search {
         ensures entries { RisesAtMost 1 (T.entries tests.old) (T.entries tests.new) }
         ensures running { OnOk result (IsRunning self.new (T.asked (T.subject tests.old)) (T.entered tests.new)) }
         ensures took { let s = T.subject tests.old in
-            IfOk result (TookTurn (added_by remembers) (T.always s) self.old self.new (T.asked s)) }
+            IfOk result (TookTurn (added_by remembers) (T.always s) (T.always s) self.old self.new (T.asked s)) }
     {
         let mark = mark_of(remembers, &self.choices, tests);
         let until = self.memo.failed_until(mark);
@@ -354,7 +354,7 @@ impl Search {
         ensures entries { RisesAtMost 1 (T.entries tests.old) (T.entries tests.new) }
         ensures running { OnOk result (IsRunning self.new (T.asked (T.subject tests.old)) (T.entered tests.new)) }
         ensures took { let s = T.subject tests.old in
-            IfOk result (TookTurn (unmarked mark) (T.always s) self.old self.new (T.asked s)) }
+            IfOk result (TookTurn (unmarked mark) Anyway (T.always s × FailsForEver mark) self.old self.new (T.asked s)) }
         ensures most { IsNumbered (kept self.old.choices) → top_weight self.old.choices ≤ all_weight (kept self.old.choices) }
     {
         match self.choices.take_up(tests.known(), tests.end())? {

@@ -31,7 +31,7 @@ impl Search {
         ensures entries { RisesAtMost 1 (T.entries tests.old) (T.entries tests.new) }
         ensures running { OnOk result (IsRunning self.new (T.asked (T.subject tests.old)) (T.entered tests.new)) }
         ensures took { let s = T.subject tests.old in
-            IfOk result (TookTurn (added_by remembers) (T.always s) self.old self.new (T.asked s)) }
+            IfOk result (TookTurn (added_by remembers) (T.always s) (T.always s) self.old self.new (T.asked s)) }
     {
         match self.outlook.take() {
             None => self.take_up(remembers, tests),
@@ -55,7 +55,7 @@ impl Search {
         ensures entries { RisesAtMost 1 (T.entries tests.old) (T.entries tests.new) }
         ensures running { OnOk result (IsRunning self.new (T.asked (T.subject tests.old)) (T.entered tests.new)) }
         ensures took { let s = T.subject tests.old in
-            IfOk result (TookTurn (added_by remembers) (T.always s) (exploring self.old outlook) self.new (T.asked s)) }
+            IfOk result (TookTurn (added_by remembers) (T.always s) (T.always s) (exploring self.old outlook) self.new (T.asked s)) }
     {
         match outlook.take_up(tests.known(), tests.end())? {
             Sight::Further => {

@@ -121,4 +121,4 @@ returns-in-Nothing-clause-took g c =
       lasts = λ always all. t.lasts always (c.note_failures.ensures.lasts low (inr (omega arith)) all);
       held = t.held;
     })
-    (subst (λ s. IfOk c.take_up-in-Nothing.result (TookTurn (added_by c.args.remembers) (g.T.Tests.always s) after taken (g.T.Tests.asked s))) c.cut_back.ensures.subject c.take_up-in-Nothing.ensures.took)
+    (subst (λ s. IfOk c.take_up-in-Nothing.result (TookTurn (added_by c.args.remembers) (g.T.Tests.always s) (g.T.Tests.always s) after taken (g.T.Tests.asked s))) c.cut_back.ensures.subject c.take_up-in-Nothing.ensures.took)

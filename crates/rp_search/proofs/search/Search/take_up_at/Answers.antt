@@ -47,10 +47,10 @@ returns-in_ok-map_row-in-Row-clause-took g c =
     let read : Spends old.choices mid RowTaken = rw c.in-Row.is at took.costs in
     record {
       turned = omega (arith, mapped.left, fewer_at_row old mid asked _ c.requires.none c.requires.can_turn.running took.whole took.keeps took.under taken);
-      spent = λ always none.
+      spent = λ anyway none.
           spent_more 1 0 _ old.choices new.choices old.memo new.memo asked (λ numbered. omega arith)
           (spent_after 1 0 old.choices mid new.choices old.memo new.memo asked took.keeps took.whole.start read (mapped.spent none));
-      lasts = mapped.lasts;
+      lasts = λ premise. mapped.lasts premise.0;
       held = λ none. absurd cc;
     }
 
@@ -102,10 +102,10 @@ returns-in-Split-clause-took g c =
     let low : start_of new < most_u64 = omega (arith, took.whole.start, c.requires.can_turn.covers.known, g.met.T.Tests.few c.args.tests.now) in
     record {
       turned = splits_fewer old new asked _ c.requires.none running took.whole took.keeps took.under c.note_failures.new.self taken;
-      spent = λ always none.
+      spent = λ anyway none.
           split_spends old.choices new old.memo c.set.new.self c.note_failures.new.self asked c.args.mark can_mark.marked can_mark.fresh (high old new asked _ c.requires.none running took.whole took.keeps took.under) running.marks
           running.searches.fits.stands.known took.keeps took.whole.start read c.set.ensures.keeps c.set.ensures.failed c.note_failures.ensures.notes;
-      lasts = λ always all. c.note_failures.ensures.lasts low (inr (omega arith)) (c.set.ensures.lasts can_mark.ever all);
+      lasts = λ premise all. c.note_failures.ensures.lasts low (inr (omega arith)) (c.set.ensures.lasts premise.1 all);
       held = λ none. absurd cc;
     }
 
@@ -120,7 +120,7 @@ pub returns-in-Full-clause-took : goal.returns-in-Full-clause-took
 returns-in-Full-clause-took g c =
     let asked : Asked = g.T.Tests.asked (g.T.Tests.subject c.args.tests.now) in
     let took = c.in_ok-take_up.ensures in
-    answer_took c.args.self.now c.take_up.new.self asked _ c.requires.none c.requires.can_turn.running took.whole took.keeps took.under _ _ FullTaken tt
+    answer_took c.args.self.now c.take_up.new.self asked _ c.requires.none c.requires.can_turn.running took.whole took.keeps took.under _ _ _ FullTaken tt
     (taken_as _ _ _ _ _ _ _ FullTaken c.in-Full.is c.known.ensures c.end.ensures took.taken) (rw c.in-Full.is at took.costs)
 
 pub returns-in-Open-clause-running : goal.returns-in-Open-clause-running
@@ -134,7 +134,7 @@ pub returns-in-Open-clause-took : goal.returns-in-Open-clause-took
 returns-in-Open-clause-took g c =
     let asked : Asked = g.T.Tests.asked (g.T.Tests.subject c.args.tests.now) in
     let took = c.in_ok-take_up.ensures in
-    answer_took c.args.self.now c.take_up.new.self asked _ c.requires.none c.requires.can_turn.running took.whole took.keeps took.under _ _ OpenTaken tt
+    answer_took c.args.self.now c.take_up.new.self asked _ c.requires.none c.requires.can_turn.running took.whole took.keeps took.under _ _ _ OpenTaken tt
     (taken_as _ _ _ _ _ _ _ OpenTaken c.in-Open.is c.known.ensures c.end.ensures took.taken) (rw c.in-Open.is at took.costs)
 
 pub returns-in-Nothing-clause-running : goal.returns-in-Nothing-clause-running
@@ -148,5 +148,5 @@ pub returns-in-Nothing-clause-took : goal.returns-in-Nothing-clause-took
 returns-in-Nothing-clause-took g c =
     let asked : Asked = g.T.Tests.asked (g.T.Tests.subject c.args.tests.now) in
     let took = c.in_ok-take_up.ensures in
-    answer_took c.args.self.now c.take_up.new.self asked _ c.requires.none c.requires.can_turn.running took.whole took.keeps took.under _ _ NothingTaken tt
+    answer_took c.args.self.now c.take_up.new.self asked _ c.requires.none c.requires.can_turn.running took.whole took.keeps took.under _ _ _ NothingTaken tt
     (taken_as _ _ _ _ _ _ _ NothingTaken c.in-Nothing.is c.known.ensures c.end.ensures took.taken) (rw c.in-Nothing.is at took.costs)
