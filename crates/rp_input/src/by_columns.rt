@@ -1,7 +1,8 @@
 //! The rows of a CSV text by columns that are computed.
-ghost use Rattle.std.specs.Prelude.{◌≡◌, ◌<◌, ◌^◌, [], IfOk, IfErr, OnOk};
+ghost use Rattle.std.specs.Prelude.{◌≡◌, ◌<◌, ◌^◌, ℕ, List, [], IfOk, IfErr, OnOk};
 ghost use Rattle.csv.specs.Records.{fields_of};
 ghost use Rattle.rp_input.specs.ByColumns.{AreRowsByColumns, IsByColumnsFault};
+ghost use Rattle.rp_input.specs.Standing.{Stands};
 ghost use Rattle.rp_value.specs.RowLists.{rows_added};
 
 use crate::columns_fault::ColumnsCsvFault;
@@ -10,7 +11,7 @@ use crate::placed::{CellFault, take_cells};
 use crate::places::{Places, places_of};
 use crate::records::{reader_of, take_record};
 use crate::rows::MAX_RECORDS;
-use csv::ByteRecord;
+use csv::{ByteRecord, Reader};
 use rp_columns::{Columns, Texts};
 use rp_value::{Row, RowList, Text, Value};
 use std::alloc::{AllocError, Global};
@@ -92,16 +93,32 @@ pub fn rows_by(
     ensures err { IfErr result (λ fault. IsByColumnsFault nulls.now layout columns.now text.now fault) }
 {
     let mut reader = reader_of(alloc, text, layout.delimiter);
-    let places = places_of(alloc, layout, columns.as_slice(), &mut reader)?;
+    take_all(alloc, layout, columns, nulls, &mut reader)
+}
+
+/// The rows by columns of the records that a reader has before it. The reader is lent, since to own it costs each way out.
+fn take_all(
+    alloc: Global,
+    layout: CsvLayout,
+    columns: &Columns,
+    nulls: &[Text],
+    reader: &mut Reader<&[u8]>,
+) -> Result<Vec<Row>, ColumnsCsvFault>
+    ensures ok { (text : List ℕ) → Stands layout.delimiter text [] reader.old →
+        IfOk result (λ rows. AreRowsByColumns nulls.now layout columns.now text rows.items) }
+    ensures err { (text : List ℕ) → Stands layout.delimiter text [] reader.old →
+        IfErr result (λ fault. IsByColumnsFault nulls.now layout columns.now text fault) }
+{
+    let places = places_of(alloc, layout, columns.as_slice(), reader)?;
     let mut fields = ByteRecord::new(alloc);
     let mut taking = Taking::new(alloc)?;
     for number in 1..MAX_RECORDS + 1 {
-        if !take_record(&mut reader, &mut fields)? {
+        if !take_record(reader, &mut fields)? {
             return Ok(taking.rows.into_rows()?);
         }
         taking.take(alloc, nulls, &places, &fields, number)?;
     }
-    if take_record(&mut reader, &mut fields)? {
+    if take_record(reader, &mut fields)? {
         return Err(ColumnsCsvFault::Record(MAX_RECORDS + 1));
     }
     Ok(taking.rows.into_rows()?)

@@ -1,14 +1,15 @@
 //! The rows of a CSV text.
-ghost use Rattle.std.specs.Prelude.{◌≡◌, IfOk, IfErr};
+ghost use Rattle.std.specs.Prelude.{◌≡◌, ℕ, List, [], IfOk, IfErr};
 ghost use Rattle.rp_input.specs.CsvRows.{AreRowsOf, IsTextFault};
 ghost use Rattle.rp_input.specs.Devices.{of_device_csv};
+ghost use Rattle.rp_input.specs.Standing.{Stands};
 ghost use Rattle.rp_input.specs.declared.rows.CsvFault.TheVariants.{OutOfMemory};
 
 use crate::device::DeviceFault;
 use crate::header::names_columns;
 use crate::records::{reader_of, take_record};
 use crate::taking::Taking;
-use csv::ByteRecord;
+use csv::{ByteRecord, Reader};
 use rp_value::{Row, Table};
 use std::alloc::{AllocError, AllocFailed, Global};
 use thiserror::Error;
@@ -82,8 +83,19 @@ pub fn rows_of(alloc: Global, text: &[u8], table: &Table) -> Result<Vec<Row>, Cs
     ensures err { IfErr result (λ fault. IsTextFault table.now text.now fault) }
 {
     let mut reader = reader_of(alloc, text, b',');
+    take_all(alloc, table, &mut reader)
+}
+
+/// The rows over a table of the records that a reader has before it, of which the first is the header. The reader is lent, since to
+/// own it costs each way out.
+fn take_all(alloc: Global, table: &Table, reader: &mut Reader<&[u8]>) -> Result<Vec<Row>, CsvFault>
+    ensures ok { (text : List ℕ) → Stands 44 text [] reader.old →
+        IfOk result (λ rows. AreRowsOf table.now text rows.items) }
+    ensures err { (text : List ℕ) → Stands 44 text [] reader.old →
+        IfErr result (λ fault. IsTextFault table.now text fault) }
+{
     let mut fields = ByteRecord::new(alloc);
-    if !take_record(&mut reader, &mut fields)? {
+    if !take_record(reader, &mut fields)? {
         return Err(CsvFault::Header);
     }
     if !names_columns(alloc, table.columns(), &fields)? {
@@ -91,12 +103,12 @@ pub fn rows_of(alloc: Global, text: &[u8], table: &Table) -> Result<Vec<Row>, Cs
     }
     let mut taking = Taking::new(alloc)?;
     for number in 1..MAX_RECORDS + 1 {
-        if !take_record(&mut reader, &mut fields)? {
+        if !take_record(reader, &mut fields)? {
             return Ok(taking.into_rows()?);
         }
         fields = taking.take(alloc, table, fields, number)?;
     }
-    if take_record(&mut reader, &mut fields)? {
+    if take_record(reader, &mut fields)? {
         return Err(CsvFault::Record(MAX_RECORDS + 1));
     }
     Ok(taking.into_rows()?)
