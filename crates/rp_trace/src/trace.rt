@@ -63,7 +63,7 @@ pub fn run_trace<R: Intake, W: Outlet>(
     let mut lines = Lines::new(alloc, reads, MAX_LINE + 1);
     let mut line = Vec::new(alloc);
     // One search for all lines: the pattern is compiled once, and its room is kept from line to line.
-    let mut search = Search::new(alloc, pattern, 1)?;
+    let mut search = Box::new(alloc, Search::new(alloc, pattern, 1)?)?;
     let mut text = Vec::new(alloc);
     while lines.next(reader, &mut line)? {
         push_reply(&mut text, pattern, &mut search, line.as_slice())?;
