@@ -1,13 +1,16 @@
 -- Inside: how a matcher's parts stand to each other, and what a poll comes to.
-use Rattle.std.specs.Prelude.{◌≡◌, ℕ, Result, IfOk}
+use Rattle.std.specs.Prelude.{◌≡◌, ℕ, ◌+◌, ◌≤◌, Result, Ok, IfOk, OnErr, OnOk}
 use Rattle.std.specs.declared.alloc.AllocError.{AllocError}
 use Rattle.rp_query.specs.declared.query.QueryData.{QueryData}
-use Rattle.rp_known.specs.Known.{Known}
+use Rattle.rp_known.specs.Known.{Known, count}
 use Rattle.rp_walker.specs.declared.poll.Poll.{Poll}
+use Rattle.rp_walker.specs.declared.poll.Poll.TheVariants.{Paused}
 use Rattle.rp_walker.specs.declared.record.MatcherState.{MatcherState}
 use Rattle.rp_walker.specs.declared.walker.Walker.{Walker}
+use Rattle.rp_walker.specs.FitLaws.{AgreesFrom}
+use Rattle.rp_walker.specs.LeftLaw.{HoldsNoMore}
 use Rattle.rp_walker.specs.Walking.{record_of, Stands}
-use Rattle.rp_walker.specs.Polls.{left_in, entered_by, Answers, GivenBy, StopsAtLast, TurnsAreCounted, PollTakes, IdleTakes}
+use Rattle.rp_walker.specs.Polls.{left_in, entered_by, Answers, GivenBy, GoesAlong, PollLowers, StartsAgain, StopsAtLast, TurnsAreCounted, PollTakes, IdleTakes}
 use Rattle.rp_answer.specs.declared.kept.Kept.{Kept}
 use Rattle.rp_answer.specs.Kept.{kept_rows}
 use Rattle.rp_answer.specs.MatcherData.{MatcherData}
@@ -44,3 +47,19 @@ abbrev pub PollCounts : ℕ → MatcherState → ℕ → ℕ → ℕ → ℕ →
 PollCounts budget old steps steps' entered entered' result =
     TurnsAreCounted budget steps steps' entered entered'
     × IfOk result (PollTakes budget steps steps') × IfOk result (IdleTakes old steps steps')
+
+-- What a poll by a budget does that nobody counts. The query, how many rows are known and the end stay. After a want of memory the
+-- same item is still to come and the same rows are held; else, by a budget of 1 or more, the rows below the horizon are dropped.
+pub record Advances (budget : ℕ) (old new : MatcherData) (result : Result Poll AllocError) : Type 0 where
+  pub query : new.query ≡ old.query
+  pub count : count new.known ≡ count old.known
+  pub end : new.known.end ≡ old.known.end
+  pub answers : IfOk result (PollComesTo old.query old.known old.state new.state)
+  pub moves : GoesAlong old.query old.known old.state new.state
+  pub out_of_memory : OnErr result (StartsAgain old.query old.known old.state.given new.state new.left)
+  pub lowers : IfOk result (PollLowers budget old.left new.left)
+  pub rows : (p : Known) → AgreesFrom old.state.first old.known p → AgreesFrom new.state.first new.known p
+  pub held : OnOk result (1 ≤ budget → HoldsNoMore new.query new.known new.state)
+  pub kept : OnErr result (new.known ≡ old.known)
+  pub enters : (old.entered ≤ new.entered) × (new.entered ≤ old.entered + budget)
+  pub nothing : budget ≡ 0 → (result ≡ Ok Paused) × (new ≡ old)

@@ -49,7 +49,7 @@ impl Matcher {
     ghost use Rattle.rp_walker.specs.Polls.{GoesAlong, StartsAgain, PollLowers};
     ghost use Rattle.rp_walker.specs.Records.{first_state, horizon_of};
     ghost use Rattle.rp_walker.specs.Walking.{CanGoOn};
-    ghost use Rattle.rp_answer.specs.Matching.{PollComesTo, PollCounts};
+    ghost use Rattle.rp_answer.specs.Matching.{Advances, PollComesTo, PollCounts};
 
     /// A matcher of no row yet.
     pub fn new(alloc: Global, query: Query) -> Matcher
@@ -189,20 +189,7 @@ impl Matcher {
     ///         Poll::Idle => break,
     ///     }
     pub fn next(&mut self, budget: u32) -> Result<Poll, AllocError>
-        ensures query { self.new.query ≡ self.old.query }
-        ensures count { count self.new.known ≡ count self.old.known }
-        ensures end { self.new.known.end ≡ self.old.known.end }
-        ensures answers { IfOk result (PollComesTo self.old.query self.old.known self.old.state self.new.state) }
-        ensures moves { GoesAlong self.old.query self.old.known self.old.state self.new.state }
-        ensures out_of_memory { OnErr result (StartsAgain self.old.query self.old.known
-            self.old.state.given self.new.state self.new.left) }
-        ensures lowers { IfOk result (PollLowers budget self.old.left self.new.left) }
-        ensures rows { (p : Known) → AgreesFrom self.old.state.first self.old.known p →
-            AgreesFrom self.new.state.first self.new.known p }
-        ensures held { OnOk result (1 ≤ budget → HoldsNoMore self.new.query self.new.known self.new.state) }
-        ensures kept { OnErr result (self.new.known ≡ self.old.known) }
-        ensures enters { (self.old.entered ≤ self.new.entered) × (self.new.entered ≤ self.old.entered + budget) }
-        ensures nothing { budget ≡ 0 → (result ≡ Ok Poll.Paused) × (self.new ≡ self.old) }
+        ensures { Advances budget self.old self.new result }
     {
         self.uncounted::<Brand>(budget, Blank::new(1))
     }
@@ -210,19 +197,7 @@ impl Matcher {
     /// Polls over a count of its own, which nobody reads.
     fn uncounted<L: Ledger>(&mut self, budget: u32, blank: Blank) -> Result<Poll, AllocError>
         requires fresh { (blank.name ≡ L.name) × (blank.parts ≡ L.parts) × (0 < blank.parts) }
-        ensures query { self.new.query ≡ self.old.query }
-        ensures known { (count self.new.known ≡ count self.old.known) × (self.new.known.end ≡ self.old.known.end) }
-        ensures answers { IfOk result (PollComesTo self.old.query self.old.known self.old.state self.new.state) }
-        ensures moves { GoesAlong self.old.query self.old.known self.old.state self.new.state }
-        ensures out_of_memory { OnErr result (StartsAgain self.old.query self.old.known
-            self.old.state.given self.new.state self.new.left) }
-        ensures lowers { IfOk result (PollLowers budget self.old.left self.new.left) }
-        ensures rows { (p : Known) → AgreesFrom self.old.state.first self.old.known p →
-            AgreesFrom self.new.state.first self.new.known p }
-        ensures held { OnOk result (1 ≤ budget → HoldsNoMore self.new.query self.new.known self.new.state) }
-        ensures kept { OnErr result (self.new.known ≡ self.old.known) }
-        ensures enters { (self.old.entered ≤ self.new.entered) × (self.new.entered ≤ self.old.entered + budget) }
-        ensures nothing { budget ≡ 0 → (result ≡ Ok Poll.Paused) × (self.new ≡ self.old) }
+        ensures { Advances budget self.old self.new result }
     {
         let mut steps = Steps::<L>::new(blank);
         self.poll(budget, &mut steps)

@@ -1,5 +1,5 @@
 -- What a poll of a node comes to.
-use Rattle.std.specs.Prelude.{◌≡◌, ◌+◌, ◌≤◌, ◌⊎◌, ℕ, List, None, Some, Result, Ok, Err, IfOk}
+use Rattle.std.specs.Prelude.{◌≡◌, ◌+◌, ◌≤◌, ◌⊎◌, ℕ, List, None, Some, Result, Ok, Err, IfOk, OnOk}
 use Rattle.std.specs.declared.alloc.AllocError.{AllocError}
 use Rattle.rp_value.specs.declared.value.Value.{Value}
 use Rattle.rp_walker.specs.declared.poll.Poll.{Poll}
@@ -10,7 +10,7 @@ use Rattle.rp_partition.specs.Joined.{Work}
 use Rattle.rp_partition.specs.Polling.{HoldsNoMore, PolledTo}
 use Rattle.rp_node.specs.declared.fault.NodeFault.{NodeFault}
 use Rattle.rp_node.specs.declared.fault.NodeFault.TheVariants.{UnknownPartition, OutOfMemory}
-use Rattle.rp_node.specs.NodeSeen.{NodeSeen, entry_at, with_entry, work_at}
+use Rattle.rp_node.specs.NodeSeen.{AllBounded, NodeSeen, entry_at, with_entry, work_at}
 
 -- what is told of a poll of a partition
 abbrev pub told_poll : Result Poll AllocError → Result Poll NodeFault
@@ -49,4 +49,16 @@ pub record GoesByBudget (budget : ℕ) (old new : NodeSeen) (key : List Value) (
   pub lowers : IfOk answer (PollLowers budget (work_at old key).left (work_at new key).left)
   pub enters : (work_at new key).entered ≤ (work_at old key).entered + budget
   pub pauses : budget ≡ 0 → (answer ≡ Ok PausedPoll) ⊎ (answer ≡ Err UnknownPartition)
+  pub nothing : budget ≡ 0 → new ≡ old
+
+-- What a poll of a key by a budget does that nobody counts. By a budget of 1 or more the rows below the horizon are dropped, where
+-- it is answered.
+pub record Advances (key : List Value) (budget : ℕ) (old new : NodeSeen) (result : Result Poll NodeFault) : Type 0 where
+  pub query : new.query ≡ old.query
+  pub polls : NodePolls old new key result
+  pub lowers : IfOk result (PollLowers budget (work_at old key).left (work_at new key).left)
+  pub bounded : AllBounded new
+  pub enters : ((work_at old key).entered ≤ (work_at new key).entered) × ((work_at new key).entered ≤ (work_at old key).entered + budget)
+  pub held : OnOk result (1 ≤ budget → HoldsNoMoreAt new key)
+  pub paused : budget ≡ 0 → (result ≡ Ok PausedPoll) ⊎ (result ≡ Err UnknownPartition)
   pub nothing : budget ≡ 0 → new ≡ old

@@ -8,7 +8,7 @@ ghost use Rattle.rp_walker.specs.Polls.{PollLowers, PollTakes, TurnsAreCounted};
 ghost use Rattle.rp_node.specs.NodeSeen.{AllBounded, AllJoined, work_at};
 ghost use Rattle.rp_node.specs.Accepting.{Accepted, IsAnswered};
 ghost use Rattle.rp_node.specs.Bound.{KeyWorks};
-ghost use Rattle.rp_node.specs.Polling.{HoldsNoMoreAt, NodePolls};
+ghost use Rattle.rp_node.specs.Polling.{Advances, HoldsNoMoreAt, NodePolls};
 ghost use Rattle.rp_checkpoint.specs.Checkpoints.{checkpoint};
 ghost use Rattle.rp_node.specs.Keeping.{kept_of};
 ghost use Rattle.rp_node.specs.Restarting.{IsRefused, RestartsTo};
@@ -236,16 +236,7 @@ impl Node {
     ///         Poll::Idle => break,
     ///     }
     pub fn next(&mut self, key: &[Value], budget: u32) -> Result<Poll, NodeFault>
-        ensures query { self.new.query ≡ self.old.query }
-        ensures polls { NodePolls self.old self.new key.now result }
-        ensures lowers { IfOk result (PollLowers budget (work_at self.old key.now).left
-            (work_at self.new key.now).left) }
-        ensures bounded { AllBounded self.new }
-        ensures enters { ((work_at self.old key.now).entered ≤ (work_at self.new key.now).entered)
-            × ((work_at self.new key.now).entered ≤ (work_at self.old key.now).entered + budget) }
-        ensures held { OnOk result (1 ≤ budget → HoldsNoMoreAt self.new key.now) }
-        ensures paused { budget ≡ 0 → (result ≡ Ok Poll.Paused) ⊎ (result ≡ Err NodeFault.UnknownPartition) }
-        ensures nothing { budget ≡ 0 → self.new ≡ self.old }
+        ensures { Advances key.now budget self.old self.new result }
     {
         self.uncounted::<Brand>(key, budget, Blank::new(1))
     }
@@ -260,16 +251,7 @@ impl Node {
         requires name { blank.name ≡ L.name }
         requires parts { blank.parts ≡ L.parts }
         requires some { 0 < blank.parts }
-        ensures query { self.new.query ≡ self.old.query }
-        ensures polls { NodePolls self.old self.new key.now result }
-        ensures lowers { IfOk result (PollLowers budget (work_at self.old key.now).left
-            (work_at self.new key.now).left) }
-        ensures bounded { AllBounded self.new }
-        ensures enters { ((work_at self.old key.now).entered ≤ (work_at self.new key.now).entered)
-            × ((work_at self.new key.now).entered ≤ (work_at self.old key.now).entered + budget) }
-        ensures held { OnOk result (1 ≤ budget → HoldsNoMoreAt self.new key.now) }
-        ensures paused { budget ≡ 0 → (result ≡ Ok Poll.Paused) ⊎ (result ≡ Err NodeFault.UnknownPartition) }
-        ensures nothing { budget ≡ 0 → self.new ≡ self.old }
+        ensures { Advances key.now budget self.old self.new result }
     {
         let mut steps = Steps::<L>::new(blank);
         self.poll(key, budget, &mut steps)
