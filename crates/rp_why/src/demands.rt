@@ -80,11 +80,21 @@ fn variables_of(case: &Case<'_>, term: &Term) -> Result<String, AllocError> {
 /// Where in a match a term isn't true.
 fn failure_in(case: &Case<'_>, term: &Term, found: &Match) -> Result<Option<Failure>, AllocError> {
     let edits = term_alone(case, term)?;
-    let Some(query) = case.compiled(edits.as_slice())? else {
-        return Ok(None);
-    };
-    let numbers = numbers_of(case, &query, term)?;
-    failure_of(case.alloc, &query, case.rows, found, numbers.as_slice())
+    match case.compiled(edits.as_slice())? {
+        Some(query) => failure_by(case, &query, term, found),
+        None => Ok(None),
+    }
+}
+
+/// The same, by the query of the clause that demands the term alone.
+fn failure_by(
+    case: &Case<'_>,
+    query: &Query,
+    term: &Term,
+    found: &Match,
+) -> Result<Option<Failure>, AllocError> {
+    let numbers = numbers_of(case, query, term)?;
+    failure_of(case.alloc, query, case.rows, found, numbers.as_slice())
 }
 
 /// The edits that put a term in the place of each condition that it is demanded in.

@@ -23,19 +23,30 @@ pub fn told(
     finding: &Finding,
 ) -> Result<String, AllocError> {
     let mut out = String::new(alloc);
+    push_found(&mut out, query, key, rows, finding)?;
+    Ok(out)
+}
+
+/// Writes what is found of a partition.
+fn push_found(
+    out: &mut String,
+    query: &Query,
+    key: &str,
+    rows: u64,
+    finding: &Finding,
+) -> Result<(), AllocError> {
     let noun = if rows == 1 { "row" } else { "rows" };
     write!(out, "partition {key}, {rows} {noun}: ")?;
     match finding {
         Finding::Matched(found) => {
             out.push_str("a match, ")?;
-            push_runs(&mut out, query, found)?;
-            out.push('\n')?;
+            push_runs(out, query, found)?;
+            out.push('\n')
         }
-        Finding::NoRow(row) => writeln!(out, "there is no row {row}")?,
-        Finding::GivenUp => out.push_str("a search takes more turns than --most-turns\n")?,
-        Finding::Unmatched(reasons) => push_reasons(&mut out, query, reasons)?,
+        Finding::NoRow(row) => writeln!(out, "there is no row {row}"),
+        Finding::GivenUp => out.push_str("a search takes more turns than --most-turns\n"),
+        Finding::Unmatched(reasons) => push_reasons(out, query, reasons),
     }
-    Ok(out)
 }
 
 /// Writes why there is no match.

@@ -21,21 +21,32 @@ pub fn object_line(
     finding: &Finding,
 ) -> Result<Vec<u8>, AllocError> {
     let mut writer = Writer::new(Vec::new(alloc));
+    write_object(&mut writer, query, key, rows, finding)?;
+    Ok(writer.into_inner())
+}
+
+/// Writes what is found of the partition of a key.
+fn write_object(
+    writer: &mut Writer,
+    query: &Query,
+    key: &[Value],
+    rows: u64,
+    finding: &Finding,
+) -> Result<(), AllocError> {
     writer.begin_object()?;
     if let Finding::GivenUp = finding {
         writer.key("given_up")?;
         writer.boolean(true)?;
     }
     writer.key("key")?;
-    write_values(&mut writer, key)?;
-    write_finding(&mut writer, query, finding)?;
-    write_count(&mut writer, "rows", rows)?;
+    write_values(writer, key)?;
+    write_finding(writer, query, finding)?;
+    write_count(writer, "rows", rows)?;
     if let Finding::Unmatched(reasons) = finding {
-        write_count(&mut writer, "untried", reasons.untried)?;
-        write_ways(&mut writer, reasons.ways.as_slice())?;
+        write_count(writer, "untried", reasons.untried)?;
+        write_ways(writer, reasons.ways.as_slice())?;
     }
-    writer.end_object()?;
-    Ok(writer.into_inner())
+    writer.end_object()
 }
 
 /// Writes a match, or how far the searches come.
