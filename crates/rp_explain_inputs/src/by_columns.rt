@@ -8,10 +8,11 @@ use crate::null_words::of_null_word;
 use crate::number_cells::{of_known_fraction, of_number, of_sign};
 use crate::proposal_notes::words_in;
 use crate::proposed::meanings;
+use crate::records::records_of;
 use crate::scan::field_span;
 use csv::ByteRecord;
 use rp_columns::{Columns, InputColumn, Reading, ReadingFault};
-use rp_input::{ColumnsCsvFault, CsvLayout, reader_of, take_record};
+use rp_input::{ColumnsCsvFault, CsvLayout, take_record};
 use rp_value::upper_case_name;
 use rp_wording::{Advice, Pieces, Report, nearest, noun};
 use std::alloc::{AllocError, Global};
@@ -81,16 +82,8 @@ fn headline(
     fault: &ColumnsCsvFault,
 ) -> Result<Report, AllocError> {
     match fault {
-        ColumnsCsvFault::Missing(index) => {
-            let source = source_of(input.columns, *index);
-            let told = Pieces::filled(alloc, "Missing {}", &[source]);
-            Report::of(alloc, "csv", told.text()?)
-        }
-        ColumnsCsvFault::Double(index) => {
-            let source = source_of(input.columns, *index);
-            let told = Pieces::filled(alloc, "Double {}", &[source]);
-            Report::of(alloc, "csv", told.text()?)
-        }
+        ColumnsCsvFault::Missing(index) => of_source(alloc, input, "Missing {}", *index),
+        ColumnsCsvFault::Double(index) => of_source(alloc, input, "Double {}", *index),
         ColumnsCsvFault::Field(number, index, why) => {
             let name = name_of(input.columns, *index);
             let told = format!(in alloc; "{why} at record {number}, column {name}")?;
@@ -98,6 +91,17 @@ fn headline(
         }
         fault => Report::new(alloc, "csv", fault),
     }
+}
+
+/// A fault's own line that has the name that the header should have for a column.
+fn of_source(
+    alloc: Global,
+    input: &Input<'_>,
+    form: &str,
+    index: usize,
+) -> Result<Report, AllocError> {
+    let told = Pieces::filled(alloc, form, &[source_of(input.columns, index)]);
+    Report::of(alloc, "csv", told.text()?)
 }
 
 /// The name of a column, by its index.
@@ -139,7 +143,7 @@ fn of_no_header(
 
 /// The header of an input; it has no field where there is none.
 fn header_of(alloc: Global, input: &Input<'_>) -> Result<ByteRecord, AllocError> {
-    let mut reader = reader_of(alloc, input.bytes, input.layout.delimiter);
+    let mut reader = records_of(alloc, input.bytes, input.layout.delimiter)?;
     let mut fields = ByteRecord::new(alloc);
     take_record(&mut reader, &mut fields)?;
     Ok(fields)
@@ -361,19 +365,27 @@ fn place_of(alloc: Global, input: &Input<'_>, index: usize) -> Result<usize, All
         return Ok(fields_read(input.columns.get(..index).unwrap_or(&[])));
     }
     let header = header_of(alloc, input)?;
-    let source = source_of(input.columns, index);
+    place_in(alloc, &header, source_of(input.columns, index))
+}
+
+/// The place of the first field of a header that has this name; 0 where none has it.
+fn place_in(alloc: Global, header: &ByteRecord, source: &str) -> Result<usize, AllocError> {
     for place in 0..header.len() {
         let field = header.get(place).unwrap_or(b"");
-        let text = String::from_utf8_lossy(alloc, field)?;
-        let named = match upper_case_name(alloc, text.as_str())? {
-            Some(name) => name.as_str() == source,
-            None => false,
-        };
-        if named || field == source.as_bytes() {
+        if field == source.as_bytes() || is_upper_case(alloc, field, source)? {
             return Ok(place);
         }
     }
     Ok(0)
+}
+
+/// Whether a field has the form of a name of which this is the upper-case form.
+fn is_upper_case(alloc: Global, field: &[u8], source: &str) -> Result<bool, AllocError> {
+    let text = String::from_utf8_lossy(alloc, field)?;
+    match upper_case_name(alloc, text.as_str())? {
+        Some(name) => Ok(name.as_str() == source),
+        None => Ok(false),
+    }
 }
 
 /// What is wrong with a field, behind the field.

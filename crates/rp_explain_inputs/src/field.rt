@@ -3,10 +3,11 @@
 use crate::csv_text::write_at;
 use crate::null_words::of_null_word;
 use crate::number_cells::of_number;
+use crate::records::records_of;
 use crate::scan::{field_span, long_quote, open_quote, record_start};
 use crate::stray_lines::of_stray_line;
 use csv::ByteRecord;
-use rp_input::{CsvLayout, first_misfit, reader_of, take_record};
+use rp_input::{CsvLayout, first_misfit, take_record};
 use rp_place::Span;
 use rp_value::{Column, Table};
 use rp_wording::{Advice, Pieces, Report, noun};
@@ -28,7 +29,7 @@ pub(crate) fn record_at(
     layout: CsvLayout,
     number: u64,
 ) -> Result<Option<Found>, AllocError> {
-    let mut reader = reader_of(alloc, bytes, layout.delimiter);
+    let mut reader = records_of(alloc, bytes, layout.delimiter)?;
     let mut fields = ByteRecord::new(alloc);
     let before = if layout.has_header {
         number

@@ -4,9 +4,10 @@ use crate::csv_text::write_at;
 use crate::heading::of_above;
 use crate::proposal_notes::words_in;
 use crate::proposed::{is_named, meanings, push_table};
+use crate::records::records_of;
 use crate::scan::{field_span, record_start};
 use csv::ByteRecord;
-use rp_input::{is_value, names_column, reader_of, take_record};
+use rp_input::{is_value, names_column, take_record};
 use rp_value::{Column, Kind, Table};
 use rp_wording::{Advice, Pieces, Report, column_names, index_of, kind_word, upper_case};
 use std::alloc::{AllocError, Global};
@@ -25,7 +26,7 @@ pub(crate) fn of_header(
     if let Some(found) = of_above(alloc, bytes, b',')? {
         return report.advise("csv", &found);
     }
-    let mut reader = reader_of(alloc, bytes, b',');
+    let mut reader = records_of(alloc, bytes, b',')?;
     let mut fields = ByteRecord::new(alloc);
     if !take_record(&mut reader, &mut fields)? {
         return report.advise("csv", &empty_input(alloc));

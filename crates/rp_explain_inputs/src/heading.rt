@@ -1,9 +1,10 @@
 //! Lines above the header of a CSV text.
 
 use crate::fronts::of_front;
+use crate::records::records_of;
 use crate::scan::record_start;
 use csv::{ByteRecord, Reader};
-use rp_input::{MAX_RECORDS, reader_of, take_record};
+use rp_input::{MAX_RECORDS, take_record};
 use rp_place::line_number;
 use rp_wording::{Advice, Pieces};
 use std::alloc::{AllocError, Global};
@@ -29,7 +30,7 @@ pub(crate) fn of_heading(
     bytes: &[u8],
     delimiter: u8,
 ) -> Result<Option<Advice>, AllocError> {
-    let mut reader = reader_of(alloc, bytes, delimiter);
+    let mut reader = records_of(alloc, bytes, delimiter)?;
     let mut fields = ByteRecord::new(alloc);
     if !take_record(&mut reader, &mut fields)? {
         return Ok(None);

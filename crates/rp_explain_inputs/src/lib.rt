@@ -19,6 +19,7 @@ mod number_cells;
 mod objects;
 mod proposal_notes;
 mod proposed;
+mod records;
 mod scan;
 mod seen;
 mod stray_lines;

@@ -1,9 +1,10 @@
 //! Zeros before a number, which are lost.
 
 use crate::first_line::is_whole;
+use crate::records::records_of;
 use crate::seen::is_plain_number;
 use csv::ByteRecord;
-use rp_input::{MAX_RECORDS, reader_of, take_record};
+use rp_input::{MAX_RECORDS, take_record};
 use rp_value::{Column, Kind, Table};
 use rp_wording::{Pieces, shown_text};
 use std::alloc::{AllocError, Global};
@@ -11,7 +12,7 @@ use std::alloc::{AllocError, Global};
 /// Says of the bytes of a CSV text, which are rows of a table, where zeros before a number are lost. The line ends in LF; there may be
 /// none.
 pub fn describe_zeros(alloc: Global, table: &Table, bytes: &[u8]) -> Result<String, AllocError> {
-    let mut reader = reader_of(alloc, bytes, b',');
+    let mut reader = records_of(alloc, bytes, b',')?;
     let mut fields = ByteRecord::new(alloc);
     if !take_record(&mut reader, &mut fields)? {
         return Ok(String::new(alloc));

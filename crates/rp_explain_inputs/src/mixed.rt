@@ -2,9 +2,10 @@
 
 use crate::null_words::{is_null_word, of_null_word};
 use crate::proposed::meaning;
+use crate::records::records_of;
 use crate::seen::seen_in;
 use csv::ByteRecord;
-use rp_input::{CsvLayout, MAX_RECORDS, reader_of, take_record};
+use rp_input::{CsvLayout, MAX_RECORDS, take_record};
 use rp_place::push_help;
 use rp_value::Text;
 use rp_wording::Pieces;
@@ -18,7 +19,7 @@ pub(crate) fn push_mixed(
     layout: CsvLayout,
     nulls: &[Text],
 ) -> Result<(), AllocError> {
-    let mut reader = reader_of(alloc, bytes, layout.delimiter);
+    let mut reader = records_of(alloc, bytes, layout.delimiter)?;
     let mut header = ByteRecord::new(alloc);
     if !take_record(&mut reader, &mut header)? {
         return Ok(());
@@ -60,7 +61,7 @@ fn first_word(
     layout: CsvLayout,
     index: usize,
 ) -> Result<String, AllocError> {
-    let mut reader = reader_of(alloc, bytes, layout.delimiter);
+    let mut reader = records_of(alloc, bytes, layout.delimiter)?;
     let mut fields = ByteRecord::new(alloc);
     for _record in 0..MAX_RECORDS {
         if !take_record(&mut reader, &mut fields)? {

@@ -1,7 +1,8 @@
 //! Words that other programs write for a null.
 
+use crate::records::records_of;
 use csv::ByteRecord;
-use rp_input::{CsvLayout, MAX_RECORDS, reader_of, take_record};
+use rp_input::{CsvLayout, MAX_RECORDS, take_record};
 use rp_wording::{Pieces, is_one_of, noun};
 use std::alloc::{AllocError, Global};
 
@@ -47,7 +48,7 @@ fn count_of(
     place: usize,
     word: &[u8],
 ) -> Result<usize, AllocError> {
-    let mut reader = reader_of(alloc, bytes, layout.delimiter);
+    let mut reader = records_of(alloc, bytes, layout.delimiter)?;
     let mut fields = ByteRecord::new(alloc);
     let mut count = 0usize;
     for _record in 0..MAX_RECORDS {

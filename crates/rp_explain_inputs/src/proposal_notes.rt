@@ -3,8 +3,9 @@
 use crate::by_columns::of_delimiter;
 use crate::mixed::push_mixed;
 use crate::proposed::meanings;
+use crate::records::records_of;
 use csv::{ByteRecord, Reader};
-use rp_input::{CsvLayout, MAX_RECORDS, reader_of, take_record};
+use rp_input::{CsvLayout, MAX_RECORDS, take_record};
 use rp_place::push_help;
 use rp_value::Text;
 use rp_wording::{Pieces, shown_text};
@@ -38,7 +39,7 @@ fn push_header(
     bytes: &[u8],
     delimiter: u8,
 ) -> Result<(), AllocError> {
-    let mut reader = reader_of(alloc, bytes, delimiter);
+    let mut reader = records_of(alloc, bytes, delimiter)?;
     let mut header = ByteRecord::new(alloc);
     if !take_record(&mut reader, &mut header)? {
         return Ok(());

@@ -3,9 +3,10 @@
 use crate::first_line::kind_of;
 use crate::fronts::is_foreign;
 use crate::heading::of_heading;
+use crate::records::records_of;
 use crate::seen::{Seen, seen_in};
 use csv::ByteRecord;
-use rp_input::{reader_of, take_record};
+use rp_input::take_record;
 use rp_value::{Column, Kind, Text, upper_case_name};
 use rp_wording::{Pieces, is_plain, quoted, shown, upper_case};
 use std::alloc::{AllocError, Global};
@@ -52,7 +53,7 @@ fn propose_below(
     delimiter: u8,
     nulls: &[Text],
 ) -> Result<Proposal, AllocError> {
-    let mut reader = reader_of(alloc, bytes, delimiter);
+    let mut reader = records_of(alloc, bytes, delimiter)?;
     let mut header = ByteRecord::new(alloc);
     if !take_record(&mut reader, &mut header)? {
         return Ok(no_columns(alloc));
