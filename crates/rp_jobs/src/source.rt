@@ -11,6 +11,7 @@ use rp_input::number_rows;
 use rp_io::{CountedDevice, Lines, Outlet, READS};
 use rp_protocol::{MAX_LINE_LEN, Refusal, Reply, reply_line, saved_of};
 use rp_query::Query;
+use rp_value::Row;
 use std::alloc::{AllocError, Global};
 use std::io::{IsTerminal, Read};
 use std::net::{Shutdown, TcpStream};
@@ -29,25 +30,53 @@ pub fn run_source(rt: &HostRuntime, job: &SourceJob) -> Result<(), ProgramFault>
         return Err(ProgramFault::Usage("nodes have a table: give --table or --columns"));
     };
     let query = compile(rt.alloc(), job.clause.as_str(), shape.table())?;
-    let rows = rows_of_input(rt, &shape, &form)?;
-    let packets = number_rows(rt.alloc(), &query, rows, seeded_hasher(rt)?)?;
+    hand_out(rt, job, &query, rows_of_input(rt, &shape, &form)?)
+}
+
+/// Hands the rows of a query to each node.
+fn hand_out(
+    rt: &HostRuntime,
+    job: &SourceJob,
+    query: &Query,
+    rows: Vec<Row>,
+) -> Result<(), ProgramFault> {
+    let packets = number_rows(rt.alloc(), query, rows, seeded_hasher(rt)?)?;
+    hand_to_each(rt, job, query, packets.as_slice())
+}
+
+fn hand_to_each(
+    rt: &HostRuntime,
+    job: &SourceJob,
+    query: &Query,
+    packets: &[Packet],
+) -> Result<(), ProgramFault> {
     let mut out = CountedDevice::new(rt.stdout());
     let mut number = 0u64;
     for address in &job.addresses {
         number = number.saturating_add(1);
-        let Ok(stream) = TcpStream::connect(rt, address.as_str()) else {
-            return Err(ProgramFault::Connect);
-        };
-        prepare(job, &stream);
         let node = SourceNode {
             job,
-            query: &query,
-            packets: packets.as_slice(),
+            query,
+            packets,
             number,
         };
-        converse(rt, &node, &stream, &mut out)?;
+        hand_to_one(rt, &node, address.as_str(), &mut out)?;
     }
     Ok(())
+}
+
+/// Hands the rows to the node at this address.
+fn hand_to_one<O: Outlet>(
+    rt: &HostRuntime,
+    node: &SourceNode<'_>,
+    address: &str,
+    out: &mut O,
+) -> Result<(), ProgramFault> {
+    let Ok(stream) = TcpStream::connect(rt, address) else {
+        return Err(ProgramFault::Connect);
+    };
+    prepare(node.job, &stream);
+    converse(rt, node, &stream, out)
 }
 
 /// What a node is handed, and its number, from 1.

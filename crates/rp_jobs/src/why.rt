@@ -93,21 +93,39 @@ fn tell_partition(
     order_rows(query, &mut rows)?;
     let finding = why(rt.alloc(), query, rows, wanted(job, count))?;
     let bytes = match job.format {
-        ReportFormat::Text => {
-            let shown = shown_key(rt.alloc(), key)?;
-            let text = told(rt.alloc(), query, shown.as_str(), count, &finding)?;
-            shown_text(rt.alloc(), text.as_str())?.into_bytes()
-        }
-        ReportFormat::Json => {
-            let mut line = object_line(rt.alloc(), query, key.as_slice(), count, &finding)?;
-            line.push(b'\n')?;
-            line
-        }
+        ReportFormat::Text => lines_of(rt.alloc(), query, key, count, &finding)?,
+        ReportFormat::Json => object_of(rt.alloc(), query, key, count, &finding)?,
     };
     match write_all(&mut CountedDevice::new(rt.stdout()), bytes.as_slice()) {
         Ok(()) => Ok(verdict_of(&finding)),
         Err(_) => Err(ProgramFault::Write),
     }
+}
+
+/// What is found of a partition of so many rows, in lines for people.
+fn lines_of(
+    alloc: Global,
+    query: &Query,
+    key: &Cells,
+    count: u64,
+    finding: &Finding,
+) -> Result<Vec<u8>, AllocError> {
+    let shown = shown_key(alloc, key)?;
+    let text = told(alloc, query, shown.as_str(), count, finding)?;
+    Ok(shown_text(alloc, text.as_str())?.into_bytes())
+}
+
+/// The same as an object of JSON, on a line.
+fn object_of(
+    alloc: Global,
+    query: &Query,
+    key: &Cells,
+    count: u64,
+    finding: &Finding,
+) -> Result<Vec<u8>, AllocError> {
+    let mut line = object_line(alloc, query, key.as_slice(), count, finding)?;
+    line.push(b'\n')?;
+    Ok(line)
 }
 
 /// Which matches are looked for, in a partition of so many rows.
