@@ -2,7 +2,7 @@
 use crate::fault::ProgramFault;
 use crate::input::{InputForm, InputShape, bytes_of, rows_of_bytes, rows_of_files};
 use crate::progress::Progress;
-use rp_columns::read_columns;
+use rp_columns::{Columns, read_columns};
 use rp_command::{InputFormat, InputOptions};
 use rp_compile::compile;
 use rp_explain_inputs::propose_columns;
@@ -34,14 +34,35 @@ impl<'a> Asked<'a> {
     ) -> Result<(Query, Vec<Row>), ProgramFault> {
         let form = InputForm::of(rt.alloc(), self.input)?;
         match InputShape::of(rt, self.input, &form)? {
-            Some(shape) => {
-                let query = compile(rt.alloc(), self.clause, shape.table())?;
-                let filter = self.filter_of(rt.alloc(), shape.table())?;
-                let rows = rows_of_files(rt, self.files, &shape, &form, progress)?;
-                Ok((query, kept(rt.alloc(), filter, rows)?))
-            }
+            Some(shape) => self.by_shape(rt, &shape, &form, progress),
             None => self.by_proposal(rt, &form, progress),
         }
+    }
+
+    /// The same over columns that are given.
+    fn by_shape(
+        &self,
+        rt: &HostRuntime,
+        shape: &InputShape,
+        form: &InputForm,
+        progress: &mut Option<Progress<'_>>,
+    ) -> Result<(Query, Vec<Row>), ProgramFault> {
+        let query = compile(rt.alloc(), self.clause, shape.table())?;
+        let rows = self.rows_by_shape(rt, shape, form, progress)?;
+        Ok((query, rows))
+    }
+
+    /// The rows over columns that are given, which meet the condition.
+    fn rows_by_shape(
+        &self,
+        rt: &HostRuntime,
+        shape: &InputShape,
+        form: &InputForm,
+        progress: &mut Option<Progress<'_>>,
+    ) -> Result<Vec<Row>, ProgramFault> {
+        let filter = self.filter_of(rt.alloc(), shape.table())?;
+        let rows = rows_of_files(rt, self.files, shape, form, progress)?;
+        Ok(kept(rt.alloc(), filter, rows)?)
     }
 
     /// The same over columns that are proposed. All of the input is looked at before.
@@ -57,19 +78,51 @@ impl<'a> Asked<'a> {
             ));
         }
         let inputs = self.inputs_of(rt, progress)?;
-        let text = self.proposed(rt, inputs.as_slice(), form)?;
+        self.over_inputs(rt, inputs.as_slice(), form)
+    }
+
+    /// The query and the rows of these inputs, over columns that are proposed for them.
+    fn over_inputs(
+        &self,
+        rt: &HostRuntime,
+        inputs: &[Vec<u8>],
+        form: &InputForm,
+    ) -> Result<(Query, Vec<Row>), ProgramFault> {
+        let text = self.proposed(rt, inputs, form)?;
         let columns = read_columns(rt.alloc(), text.as_str())?;
         let query = compile(rt.alloc(), self.clause, columns.table())?;
-        let filter = self.filter_of(rt.alloc(), columns.table())?;
-        let mut all = Vec::new(rt.alloc());
+        let rows = self.rows_by_columns(rt.alloc(), &columns, inputs, form)?;
+        Ok((query, rows))
+    }
+
+    /// The rows of all inputs by these columns, which meet the condition.
+    fn rows_by_columns(
+        &self,
+        alloc: Global,
+        columns: &Columns,
+        inputs: &[Vec<u8>],
+        form: &InputForm,
+    ) -> Result<Vec<Row>, ProgramFault> {
+        let filter = self.filter_of(alloc, columns.table())?;
+        let rows = self.all_rows(alloc, columns, inputs, form)?;
+        Ok(kept(alloc, filter, rows)?)
+    }
+
+    fn all_rows(
+        &self,
+        alloc: Global,
+        columns: &Columns,
+        inputs: &[Vec<u8>],
+        form: &InputForm,
+    ) -> Result<Vec<Row>, ProgramFault> {
+        let mut all = Vec::new(alloc);
         for (index, bytes) in inputs.iter().enumerate() {
             let name = self.files.get(index).map(|name| name.as_str());
-            let rows = rows_of_bytes(rt.alloc(), bytes.as_slice(), &columns, form, name)?;
-            for row in rows {
+            for row in rows_of_bytes(alloc, bytes.as_slice(), columns, form, name)? {
                 all.push(row)?;
             }
         }
-        Ok((query, kept(rt.alloc(), filter, all)?))
+        Ok(all)
     }
 
     /// The filter that the rows go through, where there is one.

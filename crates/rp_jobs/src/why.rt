@@ -28,19 +28,30 @@ pub fn run_why(rt: &HostRuntime, job: &WhyJob) -> Result<Verdict, ProgramFault> 
         files: job.files.as_slice(),
     };
     let (query, rows) = asked.query_and_rows(rt, &mut None)?;
-    let mut verdict = None;
     let parts = partitions(rt.alloc(), &query, rows, seeded_hasher(rt)?)?;
-    for Part { key: of_part, rows } in parts {
-        if is_asked(&key, &of_part) {
-            let one = tell_partition(rt, job, &query, &of_part, rows)?;
-            verdict = Some(worse(verdict, one));
-        }
-    }
-    match (verdict, key) {
+    match (tell_parts(rt, job, &query, &key, parts)?, key) {
         (Some(verdict), _) => Ok(verdict),
         (None, None) => Ok(Verdict::Clean),
         (None, Some(key)) => Err(no_partition(rt.alloc(), &key)?),
     }
+}
+
+/// Prints what is found of each partition that is asked about, and gives how the worst of them ended; None where none is.
+fn tell_parts(
+    rt: &HostRuntime,
+    job: &WhyJob,
+    query: &Query,
+    key: &Option<Cells>,
+    parts: Vec<Part>,
+) -> Result<Option<Verdict>, ProgramFault> {
+    let mut verdict = None;
+    for Part { key: of_part, rows } in parts {
+        if is_asked(key, &of_part) {
+            let one = tell_partition(rt, job, query, &of_part, rows)?;
+            verdict = Some(worse(verdict, one));
+        }
+    }
+    Ok(verdict)
 }
 
 /// The key that is asked about; None where each is.
