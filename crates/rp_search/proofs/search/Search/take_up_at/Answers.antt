@@ -111,42 +111,36 @@ returns-in-Split-clause-took g c =
 
 pub returns-in-Full-clause-running : goal.returns-in-Full-clause-running
 returns-in-Full-clause-running g c =
-    let asked : Asked = g.T.Tests.asked (g.T.Tests.subject c.args.tests.now) in
     let took = c.in_ok-take_up.ensures in
-    answer_running c.args.self.now c.take_up.new.self asked _ c.requires.none c.requires.can_turn.running took.whole took.keeps took.under _ FullTaken tt
+    answer_running c.args.self.now c.take_up.new.self _ _ c.requires.none c.requires.can_turn.running took.whole took.keeps took.under _ FullTaken tt
     (taken_as _ _ _ _ _ _ _ FullTaken c.in-Full.is c.known.ensures c.end.ensures took.taken) (search rules)
 
 pub returns-in-Full-clause-took : goal.returns-in-Full-clause-took
 returns-in-Full-clause-took g c =
-    let asked : Asked = g.T.Tests.asked (g.T.Tests.subject c.args.tests.now) in
     let took = c.in_ok-take_up.ensures in
-    answer_took c.args.self.now c.take_up.new.self asked _ c.requires.none c.requires.can_turn.running took.whole took.keeps took.under _ _ _ FullTaken tt
+    answer_took c.args.self.now c.take_up.new.self _ _ c.requires.none c.requires.can_turn.running took.whole took.keeps took.under _ _ _ FullTaken tt
     (taken_as _ _ _ _ _ _ _ FullTaken c.in-Full.is c.known.ensures c.end.ensures took.taken) (rw c.in-Full.is at took.costs)
 
 pub returns-in-Open-clause-running : goal.returns-in-Open-clause-running
 returns-in-Open-clause-running g c =
-    let asked : Asked = g.T.Tests.asked (g.T.Tests.subject c.args.tests.now) in
     let took = c.in_ok-take_up.ensures in
-    answer_running c.args.self.now c.take_up.new.self asked _ c.requires.none c.requires.can_turn.running took.whole took.keeps took.under _ OpenTaken tt
+    answer_running c.args.self.now c.take_up.new.self _ _ c.requires.none c.requires.can_turn.running took.whole took.keeps took.under _ OpenTaken tt
     (taken_as _ _ _ _ _ _ _ OpenTaken c.in-Open.is c.known.ensures c.end.ensures took.taken) (search rules)
 
 pub returns-in-Open-clause-took : goal.returns-in-Open-clause-took
 returns-in-Open-clause-took g c =
-    let asked : Asked = g.T.Tests.asked (g.T.Tests.subject c.args.tests.now) in
     let took = c.in_ok-take_up.ensures in
-    answer_took c.args.self.now c.take_up.new.self asked _ c.requires.none c.requires.can_turn.running took.whole took.keeps took.under _ _ _ OpenTaken tt
+    answer_took c.args.self.now c.take_up.new.self _ _ c.requires.none c.requires.can_turn.running took.whole took.keeps took.under _ _ _ OpenTaken tt
     (taken_as _ _ _ _ _ _ _ OpenTaken c.in-Open.is c.known.ensures c.end.ensures took.taken) (rw c.in-Open.is at took.costs)
 
 pub returns-in-Nothing-clause-running : goal.returns-in-Nothing-clause-running
 returns-in-Nothing-clause-running g c =
-    let asked : Asked = g.T.Tests.asked (g.T.Tests.subject c.args.tests.now) in
     let took = c.in_ok-take_up.ensures in
-    answer_running c.args.self.now c.take_up.new.self asked _ c.requires.none c.requires.can_turn.running took.whole took.keeps took.under _ NothingTaken tt
+    answer_running c.args.self.now c.take_up.new.self _ _ c.requires.none c.requires.can_turn.running took.whole took.keeps took.under _ NothingTaken tt
     (taken_as _ _ _ _ _ _ _ NothingTaken c.in-Nothing.is c.known.ensures c.end.ensures took.taken) (search rules)
 
 pub returns-in-Nothing-clause-took : goal.returns-in-Nothing-clause-took
 returns-in-Nothing-clause-took g c =
-    let asked : Asked = g.T.Tests.asked (g.T.Tests.subject c.args.tests.now) in
     let took = c.in_ok-take_up.ensures in
-    answer_took c.args.self.now c.take_up.new.self asked _ c.requires.none c.requires.can_turn.running took.whole took.keeps took.under _ _ _ NothingTaken tt
+    answer_took c.args.self.now c.take_up.new.self _ _ c.requires.none c.requires.can_turn.running took.whole took.keeps took.under _ _ _ NothingTaken tt
     (taken_as _ _ _ _ _ _ _ NothingTaken c.in-Nothing.is c.known.ensures c.end.ensures took.taken) (rw c.in-Nothing.is at took.costs)
