@@ -20,6 +20,15 @@ pub taken_first : (old new : Ways) (w : Way) (ws : List Way) (n : ℕ) (e : End)
 taken_first old new w ws n e i x y on same h =
     subst (λ z. TakenUp (new ≡ old) n e i (w ∷ ws) (stack_of new) z) same (subst (λ zs. TakenUp (new ≡ old) n e i zs (stack_of new) x) on h)
 
+-- the first way of a stack whose first labels are so many
+abbrev pub way_at : (depth : ℕ) (ws below : List Way) → HasDepth depth ws below → Way
+way_at depth ws below h = record { depth = depth; rest = h.rest }
+
+-- what it came to, where that is known
+pub taken_at : (old new : Ways) (depth n : ℕ) (e : End) (i : ℕ) (x y : Expansion) (h : HasDepth depth (stack_of old) (drop 1 (stack_of old))) → x ≡ y →
+    TakenUp (new ≡ old) n e i (stack_of old) (stack_of new) x → TakenUp (new ≡ old) n e i (way_at depth (stack_of old) (drop 1 (stack_of old)) h ∷ drop 1 (stack_of old)) (stack_of new) y
+taken_at old new depth n e i x y h same taken = taken_first old new (way_at depth (stack_of old) (drop 1 (stack_of old)) h) (drop 1 (stack_of old)) n e i x y h.is same taken
+
 taken_rises : (old new : Ways) (w : Way) (ws : List Way) (m n : ℕ) (e : End) (i : ℕ) (x : Expansion) → stack_of old ≡ w ∷ ws → IsTrue (rises m (w ∷ ws)) →
     TakenUp (new ≡ old) n e i (w ∷ ws) (stack_of new) x → IsTrue (rises w.depth (stack_of new))
 taken_rises old new w ws m n e i FullExpansion on r h = rises_subst w.depth (stack_of new) (w ∷ ws) (ap stack_of h.0 ∙ on) (first_rises m w ws r)
