@@ -1,4 +1,9 @@
 //! How a session ends.
+
+ghost use Rattle.std.specs.Prelude.{◌≡◌};
+ghost use Rattle.rp_serve.specs.Faults.{line_fault};
+ghost use Rattle.rp_serve.specs.declared.fault.ServeFault.TheVariants.{Write, OutOfMemory};
+
 use rp_io::{LineFault, WriteFailed};
 use std::alloc::{AllocError, AllocFailed};
 use thiserror::Error;
@@ -28,9 +33,6 @@ pub enum ServeFault {
 }
 
 impl From<LineFault> for ServeFault {
-    ghost use Rattle.std.specs.Prelude.{◌≡◌};
-    ghost use Rattle.rp_serve.specs.Faults.{line_fault};
-
     ghost from_gives = { λ why fault. fault ≡ line_fault why };
 
     fn from(why: LineFault) -> ServeFault {
@@ -43,9 +45,6 @@ impl From<LineFault> for ServeFault {
 }
 
 impl From<WriteFailed> for ServeFault {
-    ghost use Rattle.std.specs.Prelude.{◌≡◌};
-    ghost use Rattle.rp_serve.specs.declared.fault.ServeFault.TheVariants.{Write};
-
     ghost from_gives = { λ _ fault. fault ≡ Write };
 
     fn from(_: WriteFailed) -> ServeFault {
@@ -54,9 +53,6 @@ impl From<WriteFailed> for ServeFault {
 }
 
 impl From<AllocError> for ServeFault {
-    ghost use Rattle.std.specs.Prelude.{◌≡◌};
-    ghost use Rattle.rp_serve.specs.declared.fault.ServeFault.TheVariants.{OutOfMemory};
-
     ghost from_gives = { λ _ fault. fault ≡ OutOfMemory };
 
     fn from(_: AllocError) -> ServeFault {
@@ -65,9 +61,6 @@ impl From<AllocError> for ServeFault {
 }
 
 impl<T: Drop> From<AllocFailed<T>> for ServeFault {
-    ghost use Rattle.std.specs.Prelude.{◌≡◌};
-    ghost use Rattle.rp_serve.specs.declared.fault.ServeFault.TheVariants.{OutOfMemory};
-
     ghost from_gives = { λ _ fault. fault ≡ OutOfMemory };
 
     fn from(_: AllocFailed<T>) -> ServeFault {
