@@ -5,6 +5,7 @@ ghost use Rattle.rp_trace.specs.Bytes.{upper_a};
 ghost use Rattle.rp_trace.specs.Limits.{letter_count};
 ghost use Rattle.rp_trace.specs.Grammar.{Tree, Alternatives, Sequences, Factors, Primaries, Derives, IsLettered, symbols_of, tree_of};
 ghost use Rattle.rp_trace.specs.Reading.{IsSymbolPlace, LeavesSymbols, Lacks, ReadsForm, StopsAt, begins_primary};
+ghost use Rattle.rp_trace.specs.declared.grammar.Stop.TheVariants.{OutOfMemory};
 
 use rp_words::{Form, Pattern};
 use std::alloc::{AllocError, AllocFailed, Global};
@@ -178,9 +179,6 @@ fn letter(symbols: &[u8]) -> Option<(usize, &[u8])>
 }
 
 impl From<AllocError> for Stop {
-    ghost use Rattle.std.specs.Prelude.{◌≡◌};
-    ghost use Rattle.rp_trace.specs.declared.grammar.Stop.TheVariants.{OutOfMemory};
-
     ghost from_gives = { λ _ fault. fault ≡ OutOfMemory };
 
     fn from(_: AllocError) -> Stop {

@@ -5,10 +5,10 @@ ghost use Rattle.rp_words.specs.Variables.{are_below};
 ghost use Rattle.rp_search.specs.Search.{IsSearchFor};
 ghost use Rattle.rp_io.specs.Counts.{raised};
 ghost use Rattle.rp_io.specs.Reading.{ReadsWithin};
-ghost use Rattle.rp_trace.specs.Faults.{run_told};
+ghost use Rattle.rp_trace.specs.Faults.{run_told, trace_fault};
 ghost use Rattle.rp_trace.specs.Limits.{letter_count, longest_line};
-ghost use Rattle.rp_trace.specs.Replies.{WritesFront, WritesReplies};
-ghost use Rattle.rp_trace.specs.Replies.{is_letter, is_looked_at, last_reply, match_text, reply_text, reply_to, search_text};
+ghost use Rattle.rp_trace.specs.Replies.{WritesFront, WritesReplies, is_letter, is_looked_at, last_reply, match_text, reply_text, reply_to, search_text};
+ghost use Rattle.rp_trace.specs.declared.trace.TraceFault.TheVariants.{OutOfMemory, Write};
 
 use crate::letters::{Letters, MAX_LINE};
 use crate::matching::find;
@@ -63,7 +63,7 @@ pub fn run_trace<R: Intake, W: Outlet>(
     let mut lines = Lines::new(alloc, reads, MAX_LINE + 1);
     let mut line = Vec::new(alloc);
     // One search for all lines: the pattern is compiled once, and its room is kept from line to line.
-    let mut search = Box::new(alloc, Search::new(alloc, pattern, 1)?)?;
+    let mut search = new_search(alloc, pattern)?;
     let mut text = Vec::new(alloc);
     while lines.next(reader, &mut line)? {
         push_reply(&mut text, pattern, &mut search, line.as_slice())?;
@@ -72,6 +72,13 @@ pub fn run_trace<R: Intake, W: Outlet>(
     push_last(&mut text, pattern, &mut search, line.as_slice())?;
     write_all(writer, text.as_slice())?;
     Ok(())
+}
+
+/// A search of the pattern from the first letter on. It is in a box, since it is large and much may fail while it is held.
+fn new_search(alloc: Global, pattern: &Pattern) -> Result<Box<Search>, AllocError>
+    ensures { IfOk result (λ search. IsSearchFor (form_of pattern.now) search.value) }
+{
+    Ok(Box::new(alloc, Search::new(alloc, pattern, 1)?)?)
 }
 
 /// Adds what is written for the part behind the last LF, which is a line unless it is empty.
@@ -185,9 +192,6 @@ fn is_letter(byte: u8) -> bool
 }
 
 impl From<AllocError> for TraceFault {
-    ghost use Rattle.std.specs.Prelude.{◌≡◌};
-    ghost use Rattle.rp_trace.specs.declared.trace.TraceFault.TheVariants.{OutOfMemory};
-
     ghost from_gives = { λ _ fault. fault ≡ OutOfMemory };
 
     fn from(_: AllocError) -> TraceFault {
@@ -196,9 +200,6 @@ impl From<AllocError> for TraceFault {
 }
 
 impl<T: Drop> From<AllocFailed<T>> for TraceFault {
-    ghost use Rattle.std.specs.Prelude.{◌≡◌};
-    ghost use Rattle.rp_trace.specs.declared.trace.TraceFault.TheVariants.{OutOfMemory};
-
     ghost from_gives = { λ _ fault. fault ≡ OutOfMemory };
 
     fn from(_: AllocFailed<T>) -> TraceFault {
@@ -207,9 +208,6 @@ impl<T: Drop> From<AllocFailed<T>> for TraceFault {
 }
 
 impl From<WriteFailed> for TraceFault {
-    ghost use Rattle.std.specs.Prelude.{◌≡◌};
-    ghost use Rattle.rp_trace.specs.declared.trace.TraceFault.TheVariants.{Write};
-
     ghost from_gives = { λ _ fault. fault ≡ Write };
 
     fn from(_: WriteFailed) -> TraceFault {
@@ -218,9 +216,6 @@ impl From<WriteFailed> for TraceFault {
 }
 
 impl From<LineFault> for TraceFault {
-    ghost use Rattle.std.specs.Prelude.{◌≡◌};
-    ghost use Rattle.rp_trace.specs.Faults.{trace_fault};
-
     ghost from_gives = { λ fault given. given ≡ trace_fault fault };
 
     fn from(fault: LineFault) -> TraceFault {

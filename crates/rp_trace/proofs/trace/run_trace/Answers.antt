@@ -17,22 +17,11 @@ use Rattle.rp_trace.proofs.trace.run_trace.Goals as goal
 pub loop-text-init : goal.loop-text-init
 loop-text-init g c = record {
   replied = Replied-start (form_of c.args.pattern.now) (g.R.Intake.seen c.args.reader.now).remaining (g.W.Outlet.contents c.args.writer.now) _ c.new-text.result.items c.new-lines.ensures.pending c.new-text.ensures.items;
-  is_for = rw c.in_ok-search.ensures.ok c.in_ok-new.ensures.pattern;
+  is_for = c.in_ok-search.ensures;
   kept = c.new-lines.ensures.kept;
   write = refl;
   reads = no_reads c.args.reads c.new-lines.result.reads _ c.new-lines.ensures.reads;
 }
-
-pub returns-in_err-new-clause-front : goal.returns-in_err-new-clause-front
-returns-in_err-new-clause-front g c =
-    let contents = g.W.Outlet.contents c.args.writer.now in
-    on_err_from _ (Replied-fault (form_of c.args.pattern.now) (g.R.Intake.seen c.args.reader.now).remaining (coming c.new-lines.result (g.R.Intake.seen c.args.reader.now)) contents contents contents []
-    (Replied-start (form_of c.args.pattern.now) (g.R.Intake.seen c.args.reader.now).remaining contents _ [] c.new-lines.ensures.pending refl) (front_none contents []))
-
-pub returns-in_err-new-clause-reads : goal.returns-in_err-new-clause-reads
-returns-in_err-new-clause-reads g c =
-    let told : run_told c.from_residual.result ≡ Other = let is : c.from_residual.result ≡ Err OutOfMemory = search rules in ap run_told is in
-    rw told (reads_stop _ _ _ _ (no_reads c.args.reads c.new-lines.result.reads _ c.new-lines.ensures.reads))
 
 pub returns-in_err-search-clause-front : goal.returns-in_err-search-clause-front
 returns-in_err-search-clause-front g c =
@@ -42,7 +31,7 @@ returns-in_err-search-clause-front g c =
 
 pub returns-in_err-search-clause-reads : goal.returns-in_err-search-clause-reads
 returns-in_err-search-clause-reads g c =
-    let told : run_told c.from_residual-in_err-search.result ≡ Other = let is : c.from_residual-in_err-search.result ≡ Err OutOfMemory = search rules in ap run_told is in
+    let told : run_told c.from_residual.result ≡ Other = let is : c.from_residual.result ≡ Err OutOfMemory = search rules in ap run_told is in
     rw told (reads_stop _ _ _ _ (no_reads c.args.reads c.new-lines.result.reads _ c.new-lines.ensures.reads))
 
 pub returns-in_err-next-clause-front : goal.returns-in_err-next-clause-front
