@@ -1,44 +1,19 @@
 //! Why a text has no tokens.
 
 use crate::characters::{bad_character, no_number, open_quote};
-use crate::report::Report;
+use crate::text_report::TextReport;
 use rp_lexer::LexFault;
 use rp_place::Span;
-use std::alloc::{AllocError, Global};
+use std::alloc::AllocError;
 
-/// A text as it is shown, and as it is read: with blanks in place of what is passed over.
-#[derive(Clone, Copy)]
-pub struct Source<'a> {
-    /// The text as it was written.
-    pub shown: &'a str,
-    /// The text whose tokens are read; a byte of it stands where that of the other one does.
-    pub read: &'a str,
-}
-
-impl<'a> Source<'a> {
-    /// A text of which all is read.
-    pub fn whole(text: &'a str) -> Source<'a> {
-        Source {
-            shown: text,
-            read: text,
-        }
-    }
-}
-
-/// Adds to a report why a text has no tokens. `name` is what the text is called, `clause`, `table` or `columns`: what is said of a
-/// character goes by it.
-pub fn explain_lex(
-    alloc: Global,
-    report: &mut Report,
-    name: &str,
-    source: Source<'_>,
-    fault: LexFault,
-) -> Result<(), AllocError> {
+/// Adds to a report why its text has no tokens. What is said of a character goes by what the text is called.
+pub fn explain_lex(report: &mut TextReport<'_>, fault: LexFault) -> Result<(), AllocError> {
+    let (alloc, source) = (report.alloc(), report.source);
     let text = source.shown;
     let (part, advice) = match fault {
         LexFault::BadChar(at) => {
             let before = source.read.get(..at).unwrap_or("");
-            let advice = bad_character(alloc, name, before, text.get(at..).unwrap_or(""))?;
+            let advice = bad_character(alloc, report.name, before, text.get(at..).unwrap_or(""))?;
             (character_at(text, at), advice)
         }
         LexFault::OpenText(at) => (to_end(text, at), open_quote(alloc, text, at, "text", "'")),
@@ -46,7 +21,7 @@ pub fn explain_lex(
         LexFault::NumberRange(at) => (digits_at(text, at), no_number(alloc)),
         LexFault::OutOfMemory => return Ok(()),
     };
-    report.point(name, text, part, &advice)
+    report.point(part, &advice)
 }
 
 /// The character at an offset.

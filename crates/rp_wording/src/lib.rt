@@ -17,11 +17,12 @@ mod operands;
 mod pieces;
 mod reading;
 mod report;
+mod text_report;
 
 pub use advice::{Advice, Entry, Hint, is_one_of, look_up, said};
 pub use bad_places::{NO_NOT, OPPOSITE};
 pub use dates::is_date;
-pub use lexical::{Source, explain_lex};
+pub use lexical::explain_lex;
 pub use names::{
     column_names, index_of, inside_quotes, is_plain, meant, nearest, quoted, shown, upper_case,
 };
@@ -33,3 +34,4 @@ pub use operands::{
 pub use pieces::Pieces;
 pub use reading::{Part, Reading, part_of, tokens_of};
 pub use report::{Mark, Report, shown_text};
+pub use text_report::{Source, TextReport};
