@@ -6,7 +6,7 @@ use rp_compile::CompileFault;
 use rp_grammar::ParseFault;
 use rp_hints::unexpected;
 use rp_value::Table;
-use rp_wording::{Advice, Reading, Report, Source, explain_lex, tokens_of};
+use rp_wording::{Advice, Reading, Report, Source, TextReport, explain_lex};
 use std::alloc::{AllocError, Global};
 
 /// Explains why `compile` refuses a clause over a table, by the fault that it gave.
@@ -29,46 +29,39 @@ pub(crate) fn explain(
     source: Source<'_>,
     fault: &CompileFault,
 ) -> Result<Report, AllocError> {
-    let mut report = Report::new(alloc, "clause", fault)?;
-    explain_in(alloc, &mut report, table, source, fault)?;
-    Ok(report)
+    let mut report = TextReport::new(alloc, "clause", source, fault)?;
+    explain_in(&mut report, table, fault)?;
+    Ok(report.finish())
 }
 
 /// Adds where a fault is, and what to write.
 fn explain_in(
-    alloc: Global,
-    report: &mut Report,
+    report: &mut TextReport<'_>,
     table: &Table,
-    source: Source<'_>,
     fault: &CompileFault,
 ) -> Result<(), AllocError> {
     match fault {
-        CompileFault::Lex(why) => explain_lex(alloc, report, "clause", source, *why),
-        CompileFault::Parse(why) => explain_parse(alloc, report, source, *why),
-        CompileFault::Check(why) => explain_check(alloc, report, table, source, *why),
+        CompileFault::Lex(why) => explain_lex(report, *why),
+        CompileFault::Parse(why) => explain_parse(report, *why),
+        CompileFault::Check(why) => explain_check(report, table, *why),
         CompileFault::OutOfMemory => Ok(()),
     }
 }
 
 /// Explains a clause whose tokens derive none.
-fn explain_parse(
-    alloc: Global,
-    report: &mut Report,
-    source: Source<'_>,
-    fault: ParseFault,
-) -> Result<(), AllocError> {
-    let tokens = tokens_of(alloc, source.read)?;
+fn explain_parse(report: &mut TextReport<'_>, fault: ParseFault) -> Result<(), AllocError> {
+    let tokens = report.tokens()?;
     match fault {
         ParseFault::Expected(at) => {
-            let reading = Reading::new(source.shown, tokens.as_slice(), at);
-            let advice = unexpected(alloc, &reading)?;
-            report.point("clause", source.shown, reading.span(), &advice)
+            let reading = Reading::new(report.source.shown, tokens.as_slice(), at);
+            let advice = unexpected(report.alloc(), &reading)?;
+            report.point(reading.span(), &advice)
         }
         ParseFault::Deep(at) => {
-            let reading = Reading::new(source.shown, tokens.as_slice(), at);
+            let reading = Reading::new(report.source.shown, tokens.as_slice(), at);
             let what = "a hundred brackets are open before this one";
-            let advice = Advice::new(alloc, what, "leave out brackets that group nothing");
-            report.point("clause", source.shown, reading.span(), &advice)
+            let help = "leave out brackets that group nothing";
+            report.point(reading.span(), &Advice::new(report.alloc(), what, help))
         }
         ParseFault::OutOfMemory => Ok(()),
     }
@@ -76,14 +69,12 @@ fn explain_parse(
 
 /// Explains what is wrong in the meaning of a clause.
 fn explain_check(
-    alloc: Global,
-    report: &mut Report,
+    report: &mut TextReport<'_>,
     table: &Table,
-    source: Source<'_>,
     fault: Fault,
 ) -> Result<(), AllocError> {
-    let tokens = tokens_of(alloc, source.read)?;
-    let reading = Reading::new(source.shown, tokens.as_slice(), fault.offset);
-    let advice = meaning(alloc, table, &reading, fault.kind)?;
-    report.point("clause", source.shown, reading.span(), &advice)
+    let tokens = report.tokens()?;
+    let reading = Reading::new(report.source.shown, tokens.as_slice(), fault.offset);
+    let advice = meaning(report.alloc(), table, &reading, fault.kind)?;
+    report.point(reading.span(), &advice)
 }

@@ -5,8 +5,8 @@ use rp_lexer::{Mark, TokenKind};
 use rp_syntax::TableTextFault;
 use rp_value::{MAX_NAME_LEN, TableFault};
 use rp_wording::{
-    Advice, Hint, Pieces, Reading, Report, Source, explain_lex, index_of, is_one_of, look_up,
-    meant, said, text_of, tokens_of,
+    Advice, Hint, Pieces, Reading, Report, Source, TextReport, explain_lex, index_of, is_one_of,
+    look_up, meant, said, text_of,
 };
 use std::alloc::{AllocError, Global};
 
@@ -22,41 +22,31 @@ pub fn explain_table(
     text: &str,
     fault: &TableTextFault,
 ) -> Result<Report, AllocError> {
-    let mut report = Report::new(alloc, "table", fault)?;
-    explain(alloc, &mut report, text, fault)?;
-    Ok(report)
+    let mut report = TextReport::new(alloc, "table", Source::whole(text), fault)?;
+    explain(&mut report, fault)?;
+    Ok(report.finish())
 }
 
 /// Adds where a fault is, and what to write.
-fn explain(
-    alloc: Global,
-    report: &mut Report,
-    text: &str,
-    fault: &TableTextFault,
-) -> Result<(), AllocError> {
+fn explain(report: &mut TextReport<'_>, fault: &TableTextFault) -> Result<(), AllocError> {
     match fault {
-        TableTextFault::Lex(why) => explain_lex(alloc, report, "table", Source::whole(text), *why),
-        TableTextFault::Expected(at) => explain_expected(alloc, report, text, *at),
-        TableTextFault::Table(why) => explain_columns(alloc, report, text, *why),
+        TableTextFault::Lex(why) => explain_lex(report, *why),
+        TableTextFault::Expected(at) => explain_expected(report, *at),
+        TableTextFault::Table(why) => explain_columns(report, *why),
         TableTextFault::OutOfMemory => Ok(()),
     }
 }
 
 /// Explains a token that can't stand in a table.
-fn explain_expected(
-    alloc: Global,
-    report: &mut Report,
-    text: &str,
-    offset: usize,
-) -> Result<(), AllocError> {
-    let tokens = tokens_of(alloc, text)?;
-    let reading = Reading::new(text, tokens.as_slice(), offset);
+fn explain_expected(report: &mut TextReport<'_>, offset: usize) -> Result<(), AllocError> {
+    let tokens = report.tokens()?;
+    let reading = Reading::new(report.source.shown, tokens.as_slice(), offset);
     if reading.is_keyword() && !is_one_of(reading.here(), "NOT NULL") {
-        let advice = reserved(alloc, &reading);
-        return report.point("table", text, reading.span(), &advice);
+        let advice = reserved(report.alloc(), &reading);
+        return report.point(reading.span(), &advice);
     }
-    let advice = of_place(alloc, &reading);
-    report.point("table", text, reading.span(), &advice)
+    let advice = of_place(report.alloc(), &reading);
+    report.point(reading.span(), &advice)
 }
 
 /// What is wrong at a token, with the words of the table where they tell what to write.
@@ -241,14 +231,10 @@ fn is_kind(word: &str) -> bool {
 }
 
 /// Explains columns that make no table.
-fn explain_columns(
-    alloc: Global,
-    report: &mut Report,
-    text: &str,
-    fault: TableFault,
-) -> Result<(), AllocError> {
-    let tokens = tokens_of(alloc, text)?;
-    let mut reading = Reading::new(text, tokens.as_slice(), 0);
+fn explain_columns(report: &mut TextReport<'_>, fault: TableFault) -> Result<(), AllocError> {
+    let alloc = report.alloc();
+    let tokens = report.tokens()?;
+    let mut reading = Reading::new(report.source.shown, tokens.as_slice(), 0);
     let advice = match fault {
         TableFault::DoubleName => {
             reading.at = second_of_a_name(alloc, &reading)?;
@@ -263,7 +249,7 @@ fn explain_columns(
             )
         }
     };
-    report.point("table", text, reading.span(), &advice)
+    report.point(reading.span(), &advice)
 }
 
 /// A column's name that was given before.
