@@ -3,7 +3,8 @@
 use rp_columns::ColumnsFault;
 use rp_value::{MAX_NAME_LEN, TableFault};
 use rp_wording::{
-    Advice, Pieces, Reading, Report, Source, explain_lex, index_of, is_one_of, meant, tokens_of,
+    Advice, Pieces, Reading, Report, Source, TextReport, explain_lex, index_of, is_one_of, meant,
+    tokens_of,
 };
 use std::alloc::{AllocError, Global};
 
@@ -23,23 +24,18 @@ pub fn explain_columns(
     text: &str,
     fault: &ColumnsFault,
 ) -> Result<Report, AllocError> {
-    let mut report = Report::new(alloc, "columns", fault)?;
-    explain(alloc, &mut report, text, fault)?;
-    Ok(report)
+    let mut report = TextReport::new(alloc, "columns", Source::whole(text), fault)?;
+    explain(&mut report, fault)?;
+    Ok(report.finish())
 }
 
 /// Adds where a fault is, and what to write.
-fn explain(
-    alloc: Global,
-    report: &mut Report,
-    text: &str,
-    fault: &ColumnsFault,
-) -> Result<(), AllocError> {
+fn explain(report: &mut TextReport<'_>, fault: &ColumnsFault) -> Result<(), AllocError> {
     match fault {
-        ColumnsFault::Lex(why) => explain_lex(alloc, report, "columns", Source::whole(text), *why),
-        ColumnsFault::Expected(at) => expected_at(alloc, report, text, *at),
-        ColumnsFault::Reading(at) => no_reading_at(alloc, report, text, *at),
-        ColumnsFault::Table(why) => no_table(alloc, report, text, *why),
+        ColumnsFault::Lex(why) => explain_lex(report, *why),
+        ColumnsFault::Expected(at) => expected_at(report, *at),
+        ColumnsFault::Reading(at) => no_reading_at(report, *at),
+        ColumnsFault::Table(why) => no_table(report, *why),
         ColumnsFault::OutOfMemory => Ok(()),
     }
 }
@@ -49,22 +45,23 @@ fn explain(
 /// The first line is `columns: Zone Europe/Berln`.
 pub fn explain_zone(alloc: Global, text: &str, name: &str) -> Result<Report, AllocError> {
     let told = Pieces::filled(alloc, "Zone {}", &[name]);
-    let mut report = Report::of(alloc, "columns", told.text()?)?;
-    no_zone(alloc, &mut report, text, name)?;
-    Ok(report)
+    let fault = told.text()?;
+    let mut report = TextReport::new(alloc, "columns", Source::whole(text), &fault)?;
+    no_zone(&mut report, name)?;
+    Ok(report.finish())
 }
 
 /// Adds where the name of a time zone stands, and what to write.
-fn no_zone(alloc: Global, report: &mut Report, text: &str, name: &str) -> Result<(), AllocError> {
-    let tokens = tokens_of(alloc, text)?;
-    let mut reading = Reading::new(text, tokens.as_slice(), 0);
+fn no_zone(report: &mut TextReport<'_>, name: &str) -> Result<(), AllocError> {
+    let tokens = report.tokens()?;
+    let mut reading = Reading::new(report.source.shown, tokens.as_slice(), 0);
     reading.at = place_of_text(&reading, name);
     let advice = Advice::new(
-        alloc,
+        report.alloc(),
         "this system has no time zone of this name",
         "write its identifier in the IANA Time Zone Database, as 'Europe/Berlin', or an offset, as '+01:00'",
     );
-    report.point("columns", text, reading.span(), &advice)
+    report.point(reading.span(), &advice)
 }
 
 /// The index of the token that has this text between single quotes; the number of tokens where none has.
@@ -84,16 +81,11 @@ fn inside_single_quotes(written: &str) -> Option<&str> {
 }
 
 /// Explains a token that can't stand where it is.
-fn expected_at(
-    alloc: Global,
-    report: &mut Report,
-    text: &str,
-    at: usize,
-) -> Result<(), AllocError> {
-    let tokens = tokens_of(alloc, text)?;
-    let reading = Reading::new(text, tokens.as_slice(), at);
-    let advice = unexpected(alloc, &reading);
-    report.point("columns", text, reading.span(), &advice)
+fn expected_at(report: &mut TextReport<'_>, at: usize) -> Result<(), AllocError> {
+    let tokens = report.tokens()?;
+    let reading = Reading::new(report.source.shown, tokens.as_slice(), at);
+    let advice = unexpected(report.alloc(), &reading);
+    report.point(reading.span(), &advice)
 }
 
 /// What is wrong at a token.
@@ -121,16 +113,11 @@ fn unexpected(alloc: Global, reading: &Reading<'_>) -> Advice {
 }
 
 /// Explains a word that calls no reading.
-fn no_reading_at(
-    alloc: Global,
-    report: &mut Report,
-    text: &str,
-    at: usize,
-) -> Result<(), AllocError> {
-    let tokens = tokens_of(alloc, text)?;
-    let reading = Reading::new(text, tokens.as_slice(), at);
-    let advice = no_reading(alloc, reading.here());
-    report.point("columns", text, reading.span(), &advice)
+fn no_reading_at(report: &mut TextReport<'_>, at: usize) -> Result<(), AllocError> {
+    let tokens = report.tokens()?;
+    let reading = Reading::new(report.source.shown, tokens.as_slice(), at);
+    let advice = no_reading(report.alloc(), reading.here());
+    report.point(reading.span(), &advice)
 }
 
 /// What is said of a word that calls no reading, or none with what is behind it.
@@ -165,17 +152,13 @@ fn form_of(word: &str) -> &'static str {
 }
 
 /// Explains columns that make no table.
-fn no_table(
-    alloc: Global,
-    report: &mut Report,
-    text: &str,
-    fault: TableFault,
-) -> Result<(), AllocError> {
-    let tokens = tokens_of(alloc, text)?;
-    let mut reading = Reading::new(text, tokens.as_slice(), 0);
+fn no_table(report: &mut TextReport<'_>, fault: TableFault) -> Result<(), AllocError> {
+    let alloc = report.alloc();
+    let tokens = report.tokens()?;
+    let mut reading = Reading::new(report.source.shown, tokens.as_slice(), 0);
     reading.at = blamed(alloc, &reading, fault)?;
     let advice = of_table(alloc, reading.here(), fault);
-    report.point("columns", text, reading.span(), &advice)
+    report.point(reading.span(), &advice)
 }
 
 /// What is said of columns that make no table, by the name that is to blame.
