@@ -1,10 +1,7 @@
 -- The columns of a text, and what is wrong with a text that has none.
 use Rattle.std.specs.Prelude.{◌≡◌, ⊤, ℕ, List, Some}
 use Rattle.rp_lexer.specs.Faults.{IsFirstFault}
-use Rattle.rp_lexer.specs.declared.fault.LexFault.{LexFault}
-use Rattle.rp_lexer.specs.declared.fault.LexFault.TheVariants as lex_fault
 use Rattle.rp_value.specs.declared.table.TableFault.{TableFault}
-use Rattle.rp_value.specs.declared.table.TableFault.TheVariants as table_fault_as
 use Rattle.rp_value.specs.Tables.{table_fault}
 use Rattle.rp_grammar.specs.Texts.{IsMisplaced}
 use Rattle.rp_columns.specs.ColumnsGrammar.{AreWritten, WrittenTree, columns}
@@ -45,12 +42,3 @@ abbrev pub IsUnresolved : List WrittenTree → ColumnsFault → Type 0
 IsUnresolved written (fault.Reading at) = IsUnknown written at
 IsUnresolved written fault.OutOfMemory = ⊤
 IsUnresolved written _ = ⊥
-
--- how faults of the tokens and of the table are told
-abbrev pub told_lex : LexFault → ColumnsFault
-told_lex lex_fault.OutOfMemory = fault.OutOfMemory
-told_lex why = fault.Lex why
-
-abbrev pub told_table : TableFault → ColumnsFault
-told_table table_fault_as.OutOfMemory = fault.OutOfMemory
-told_table why = fault.Table why

@@ -6,6 +6,7 @@ ghost use Rattle.rp_columns.specs.ColumnsGrammar.{AreWritten, written_tree};
 ghost use Rattle.rp_columns.specs.ColumnsText.{AreColumnsOf, IsColumnsFault, IsUnresolved};
 ghost use Rattle.rp_columns.specs.Resolved.{AreColumns};
 ghost use Rattle.rp_columns.specs.declared.columns.InputColumn.{InputColumn as Heading};
+ghost use Rattle.rp_columns.specs.declared.columns_text.ColumnsFault.TheVariants.{OutOfMemory};
 
 use crate::columns::{Columns, InputColumn};
 use crate::grammar::columns;
@@ -37,38 +38,7 @@ pub enum ColumnsFault {
     OutOfMemory,
 }
 
-impl From<LexFault> for ColumnsFault {
-    ghost use Rattle.std.specs.Prelude.{◌≡◌};
-    ghost use Rattle.rp_columns.specs.ColumnsText.{told_lex};
-
-    ghost from_gives = { λ why fault. fault ≡ told_lex why };
-
-    fn from(why: LexFault) -> ColumnsFault {
-        match why {
-            LexFault::OutOfMemory => ColumnsFault::OutOfMemory,
-            why => ColumnsFault::Lex(why),
-        }
-    }
-}
-
-impl From<TableFault> for ColumnsFault {
-    ghost use Rattle.std.specs.Prelude.{◌≡◌};
-    ghost use Rattle.rp_columns.specs.ColumnsText.{told_table};
-
-    ghost from_gives = { λ why fault. fault ≡ told_table why };
-
-    fn from(why: TableFault) -> ColumnsFault {
-        match why {
-            TableFault::OutOfMemory => ColumnsFault::OutOfMemory,
-            why => ColumnsFault::Table(why),
-        }
-    }
-}
-
 impl From<AllocError> for ColumnsFault {
-    ghost use Rattle.std.specs.Prelude.{◌≡◌};
-    ghost use Rattle.rp_columns.specs.declared.columns_text.ColumnsFault.TheVariants.{OutOfMemory};
-
     ghost from_gives = { λ _ fault. fault ≡ OutOfMemory };
 
     fn from(_error: AllocError) -> ColumnsFault {
@@ -77,9 +47,6 @@ impl From<AllocError> for ColumnsFault {
 }
 
 impl<T: Drop> From<AllocFailed<T>> for ColumnsFault {
-    ghost use Rattle.std.specs.Prelude.{◌≡◌};
-    ghost use Rattle.rp_columns.specs.declared.columns_text.ColumnsFault.TheVariants.{OutOfMemory};
-
     ghost from_gives = { λ _ fault. fault ≡ OutOfMemory };
 
     fn from(_error: AllocFailed<T>) -> ColumnsFault {
@@ -142,8 +109,16 @@ pub fn read_columns(alloc: Global, text: &str) -> Result<Columns, ColumnsFault>
     ensures fault { IfErr result (λ fault. IsColumnsFault text.now fault) }
 {
     law_lexes();
-    let tokens = lex(alloc, text)?;
+    let tokens = match lex(alloc, text) {
+        Ok(tokens) => tokens,
+        Err(LexFault::OutOfMemory) => return Err(ColumnsFault::OutOfMemory),
+        Err(why) => return Err(ColumnsFault::Lex(why)),
+    };
     let written = whole(alloc, text, tokens.as_slice())?;
     let columns = resolved(alloc, written.as_slice())?;
-    Ok(Columns::new(alloc, columns)?)
+    match Columns::new(alloc, columns) {
+        Ok(columns) => Ok(columns),
+        Err(TableFault::OutOfMemory) => Err(ColumnsFault::OutOfMemory),
+        Err(why) => Err(ColumnsFault::Table(why)),
+    }
 }

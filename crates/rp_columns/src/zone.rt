@@ -4,6 +4,7 @@ ghost use Rattle.jiff_core.specs.Calendar.{IsEpochDay};
 ghost use Rattle.jiff_core.specs.DateTime.{civil_nanos, civil_seconds};
 ghost use Rattle.jiff_core.specs.Timestamp.{nanos_of_seconds};
 ghost use Rattle.rp_columns.specs.Zones as spec;
+ghost use Rattle.rp_columns.specs.declared.zone.ZoneFault.TheVariants.{OutOfMemory};
 
 use crate::fault::ReadingFault;
 use jiff_core::civil::{Date, DateTime, Time};
@@ -58,9 +59,6 @@ pub enum ZoneFault {
 }
 
 impl From<AllocError> for ZoneFault {
-    ghost use Rattle.std.specs.Prelude.{◌≡◌};
-    ghost use Rattle.rp_columns.specs.declared.zone.ZoneFault.TheVariants.{OutOfMemory};
-
     ghost from_gives = { λ _ fault. fault ≡ OutOfMemory };
 
     fn from(_error: AllocError) -> ZoneFault {
