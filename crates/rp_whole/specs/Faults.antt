@@ -1,5 +1,6 @@
 -- What a fault of a run says of the input and of the devices.
-use Rattle.std.specs.Prelude.{◌≡◌, ◌≢◌, ◌⊎◌, ⊤, ℕ, List, Option, IfSome, Result, Ok, Err}
+use Rattle.std.specs.Prelude.{◌≡◌, ◌≢◌, ◌⊎◌, ⊤, ℕ, Bool, List, Option, IfSome, Result, Ok, Err}
+use Rattle.rp_value.specs.declared.value.Value.{Value}
 use Rattle.rp_query.specs.declared.query.QueryData.{QueryData}
 use Rattle.rp_io.specs.Counts.{raised}
 use Rattle.rp_io.specs.Reading.{Told}
@@ -7,9 +8,10 @@ use Rattle.rp_io.specs.Reading.Told.{Ended, Other}
 use Rattle.rp_input.specs.Devices.{IsInputFault, fault_told as csv_told}
 use Rattle.rp_input.specs.declared.rows.CsvFault.{CsvFault}
 use Rattle.rp_input.specs.declared.rows.CsvFault.TheVariants.{Header, Record, Field, Read, Turns, OutOfMemory}
-use Rattle.rp_whole.specs.Answers.{Form, WritesFrontOf}
+use Rattle.rp_whole.specs.Answers.{Form, WritesFrontOf, WritesFrontWithin, WritesWithin}
 use Rattle.rp_whole.specs.AnswerLines.{WritesFront}
 use Rattle.rp_whole.specs.AnswerRecords.{WritesRecordsFront}
+use Rattle.rp_whole.specs.declared.answers.EndedEarly.{EndedEarly}
 use Rattle.rp_whole.specs.declared.fault.WholeFault.{WholeFault}
 use Rattle.rp_whole.specs.declared.fault.WholeFault.TheVariants.{Csv, Write, OutOfMemory as WholeOutOfMemory}
 
@@ -63,3 +65,8 @@ abbrev pub IsOfOutput : WholeFault → Type 0
 IsOfOutput (Csv why) = ⊥
 IsOfOutput Write = ⊤
 IsOfOutput WholeOutOfMemory = ⊤
+
+-- What writing the answers over rows comes to: all of them, and which ended early; or a front of them, and a fault of the output.
+abbrev pub WritesAnswers : Bool → Form → QueryData → List (List Value) → Option (List ℕ) → Option (List ℕ) → Result EndedEarly WholeFault → Type 0
+WritesAnswers limited form q rows old new (Ok early) = WritesWithin limited form q rows old new early.stopped.items early.halted.items
+WritesAnswers limited form q rows old new (Err why) = WritesFrontWithin limited form q rows old new × IsOfOutput why

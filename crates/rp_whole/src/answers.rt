@@ -4,7 +4,7 @@ ghost use Rattle.rp_whole.specs.Answers.{WritesFrontWithin, WritesWithin};
 ghost use Rattle.rp_whole.specs.AnswerLines.{line_form};
 ghost use Rattle.rp_whole.specs.AnswerObjects.{object_form};
 ghost use Rattle.rp_whole.specs.AnswerRecords.{record_form};
-ghost use Rattle.rp_whole.specs.Faults.{IsOfOutput, TellsWrite};
+ghost use Rattle.rp_whole.specs.Faults.{IsOfOutput, TellsWrite, WritesAnswers};
 
 use crate::fault::WholeFault;
 use crate::gathered::Gathered;
@@ -64,7 +64,7 @@ pub fn write_lines<W: Outlet, V: Watch>(
     ensures fault { IfErr result IsOfOutput }
     ensures write { TellsWrite result (W.failures writer.old) (W.failures writer.new) }
 {
-    let ended = write_answers::<W, Lines, V>(alloc, query, rows, limit, writer, watch, hasher)?;
+    let ended = write_answers::<W, Lines, V>(alloc, query, rows, hasher, limit, writer, watch)?;
     Ok(ended.halted)
 }
 
@@ -86,14 +86,11 @@ pub fn write_csv<W: Outlet, V: Watch>(
     watch: &mut V,
     hasher: RandomState,
 ) -> Result<EndedEarly, WholeFault>
-    ensures written { IfOk result (λ early. WritesWithin (is_some limit) record_form query.now rows.items
-        (W.contents writer.old) (W.contents writer.new) early.stopped.items early.halted.items) }
-    ensures front { OnErr result (WritesFrontWithin (is_some limit) record_form query.now rows.items
-        (W.contents writer.old) (W.contents writer.new)) }
-    ensures fault { IfErr result IsOfOutput }
+    ensures answers { WritesAnswers (is_some limit) record_form query.now rows.items
+        (W.contents writer.old) (W.contents writer.new) result }
     ensures write { TellsWrite result (W.failures writer.old) (W.failures writer.new) }
 {
-    write_answers::<W, RowRecords, V>(alloc, query, rows, limit, writer, watch, hasher)
+    write_answers::<W, RowRecords, V>(alloc, query, rows, hasher, limit, writer, watch)
 }
 
 /// Writes the answers over rows as objects: of each partition, by first appearance, a line for each row of its answer, an
@@ -115,14 +112,11 @@ pub fn write_objects<W: Outlet, V: Watch>(
     watch: &mut V,
     hasher: RandomState,
 ) -> Result<EndedEarly, WholeFault>
-    ensures written { IfOk result (λ early. WritesWithin (is_some limit) object_form query.now rows.items
-        (W.contents writer.old) (W.contents writer.new) early.stopped.items early.halted.items) }
-    ensures front { OnErr result (WritesFrontWithin (is_some limit) object_form query.now rows.items
-        (W.contents writer.old) (W.contents writer.new)) }
-    ensures fault { IfErr result IsOfOutput }
+    ensures answers { WritesAnswers (is_some limit) object_form query.now rows.items
+        (W.contents writer.old) (W.contents writer.new) result }
     ensures write { TellsWrite result (W.failures writer.old) (W.failures writer.new) }
 {
-    write_answers::<W, RowObjects, V>(alloc, query, rows, limit, writer, watch, hasher)
+    write_answers::<W, RowObjects, V>(alloc, query, rows, hasher, limit, writer, watch)
 }
 
 /// Writes the answers over rows in a form, and gives back the partitions whose answers ended early.
@@ -130,16 +124,13 @@ pub(crate) fn write_answers<W: Outlet, G: Gathered, V: Watch>(
     alloc: Global,
     query: &Query,
     rows: Vec<Row>,
+    hasher: RandomState,
     limit: Option<NonZeroU64>,
     writer: &mut W,
     watch: &mut V,
-    hasher: RandomState,
 ) -> Result<EndedEarly, WholeFault>
-    ensures written { IfOk result (λ early. WritesWithin (is_some limit) G.form query.now rows.items
-        (W.contents writer.old) (W.contents writer.new) early.stopped.items early.halted.items) }
-    ensures front { OnErr result (WritesFrontWithin (is_some limit) G.form query.now rows.items
-        (W.contents writer.old) (W.contents writer.new)) }
-    ensures fault { IfErr result IsOfOutput }
+    ensures answers { WritesAnswers (is_some limit) G.form query.now rows.items
+        (W.contents writer.old) (W.contents writer.new) result }
     ensures write { TellsWrite result (W.failures writer.old) (W.failures writer.new) }
 {
     // Any rows can be put into any order: what isn't written after a fault are answers too.

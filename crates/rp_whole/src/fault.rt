@@ -1,4 +1,9 @@
 //! How a run ends early.
+
+ghost use Rattle.std.specs.Prelude.{◌≡◌};
+ghost use Rattle.rp_whole.specs.Faults.{told_csv};
+ghost use Rattle.rp_whole.specs.declared.fault.WholeFault.TheVariants.{Write, OutOfMemory};
+
 use rp_input::CsvFault;
 use rp_io::WriteFailed;
 use std::alloc::{AllocError, AllocFailed};
@@ -19,9 +24,6 @@ pub enum WholeFault {
 }
 
 impl From<CsvFault> for WholeFault {
-    ghost use Rattle.std.specs.Prelude.{◌≡◌};
-    ghost use Rattle.rp_whole.specs.Faults.{told_csv};
-
     ghost from_gives = { λ why fault. fault ≡ told_csv why };
 
     fn from(why: CsvFault) -> WholeFault {
@@ -33,9 +35,6 @@ impl From<CsvFault> for WholeFault {
 }
 
 impl From<WriteFailed> for WholeFault {
-    ghost use Rattle.std.specs.Prelude.{◌≡◌};
-    ghost use Rattle.rp_whole.specs.declared.fault.WholeFault.TheVariants.{Write};
-
     ghost from_gives = { λ _ fault. fault ≡ Write };
 
     fn from(_: WriteFailed) -> WholeFault {
@@ -44,9 +43,6 @@ impl From<WriteFailed> for WholeFault {
 }
 
 impl From<AllocError> for WholeFault {
-    ghost use Rattle.std.specs.Prelude.{◌≡◌};
-    ghost use Rattle.rp_whole.specs.declared.fault.WholeFault.TheVariants.{OutOfMemory};
-
     ghost from_gives = { λ _ fault. fault ≡ OutOfMemory };
 
     fn from(_: AllocError) -> WholeFault {
@@ -55,9 +51,6 @@ impl From<AllocError> for WholeFault {
 }
 
 impl<T: Drop> From<AllocFailed<T>> for WholeFault {
-    ghost use Rattle.std.specs.Prelude.{◌≡◌};
-    ghost use Rattle.rp_whole.specs.declared.fault.WholeFault.TheVariants.{OutOfMemory};
-
     ghost from_gives = { λ _ fault. fault ≡ OutOfMemory };
 
     fn from(_: AllocFailed<T>) -> WholeFault {

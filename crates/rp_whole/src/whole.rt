@@ -40,7 +40,7 @@ pub fn run_whole<R: Intake, W: Outlet, V: Watch>(
     ensures write { TellsWrite result (W.failures writer.old) (W.failures writer.new) }
 {
     let _stopped = run_answers::<R, W, Lines, V>(
-        alloc, query, reader, writer, watch, reads, hasher,
+        alloc, query, hasher, reader, reads, writer, watch,
     )?;
     Ok(())
 }
@@ -71,18 +71,18 @@ pub fn run_whole_csv<R: Intake, W: Outlet, V: Watch>(
     ensures reads { ReadsWithin reads (whole_told result) (R.seen reader.old) (R.seen reader.new) }
     ensures write { TellsWrite result (W.failures writer.old) (W.failures writer.new) }
 {
-    run_answers::<R, W, RowRecords, V>(alloc, query, reader, writer, watch, reads, hasher)
+    run_answers::<R, W, RowRecords, V>(alloc, query, hasher, reader, reads, writer, watch)
 }
 
 /// Writes the answers of a CSV input in a form: its rows are read, and then the answers over them are written.
 fn run_answers<R: Intake, W: Outlet, G: Gathered, V: Watch>(
     alloc: Global,
     query: Query,
+    hasher: RandomState,
     reader: &mut R,
+    reads: u64,
     writer: &mut W,
     watch: &mut V,
-    reads: u64,
-    hasher: RandomState,
 ) -> Result<Vec<Stopped>, WholeFault>
     ensures written { IfOk result (λ stopped. WritesOf G.form query (R.seen reader.old).remaining
         (W.contents writer.old) (W.contents writer.new) stopped.items) }
@@ -92,6 +92,6 @@ fn run_answers<R: Intake, W: Outlet, G: Gathered, V: Watch>(
     ensures write { TellsWrite result (W.failures writer.old) (W.failures writer.new) }
 {
     let rows = read_rows(alloc, reader, query.table(), reads)?;
-    let ended = write_answers::<W, G, V>(alloc, &query, rows, None, writer, watch, hasher)?;
+    let ended = write_answers::<W, G, V>(alloc, &query, rows, hasher, None, writer, watch)?;
     Ok(ended.stopped)
 }

@@ -1,14 +1,14 @@
-use Rattle.std.proofs.Common.{◌≡◌, [], subst}
+use Rattle.std.proofs.Common.{◌≡◌, Err, [], rules, subst}
 use Rattle.std.specs.Prelude.{is_some}
-use Rattle.rp_io.proofs.Cutting.{on_err_from}
 use Rattle.rp_input.specs.Gathering.{parts_of}
 use Rattle.rp_input.specs.Partitions.{partitions}
+use Rattle.rp_whole.specs.declared.fault.WholeFault.TheVariants.{OutOfMemory}
 use Rattle.rp_whole.specs.Writing.{WritesParts, WritesPartsFront}
 use Rattle.rp_whole.proofs.Wrote.{front_within, none_within, wrote_within}
 use Rattle.rp_whole.proofs.answers.write_answers.Goals as goal
 
-pub returns-clause-written : goal.returns-clause-written
-returns-clause-written g c =
+pub returns-clause-answers : goal.returns-clause-answers
+returns-clause-answers g c =
     let limited = is_some c.args.limit in
     let form = g.G.Gathered.form in
     let q = c.args.query.now in
@@ -26,8 +26,8 @@ returns-clause-written g c =
     subst (λ before. WritesParts limited form q parts old (form.head q) new before stopped halted) c.in_ok-gathered.ensures.stopped below in
     rw c.into_stopped-stopped.ensures (wrote_within limited form q rows parts are old new stopped halted wrote)
 
-pub returns-in_err-halted-clause-front : goal.returns-in_err-halted-clause-front
-returns-in_err-halted-clause-front g c =
+pub returns-in_err-halted-clause-answers : goal.returns-in_err-halted-clause-answers
+returns-in_err-halted-clause-answers g c =
     let limited = is_some c.args.limit in
     let form = g.G.Gathered.form in
     let q = c.args.query.now in
@@ -37,14 +37,17 @@ returns-in_err-halted-clause-front g c =
     let new = g.W.Outlet.contents c.write_parts.new.writer in
     let wrote : WritesPartsFront limited form q parts old (form.head q) new =
     subst (λ text. WritesPartsFront limited form q parts old text new) c.in_ok-gathered.ensures.bytes c.in_err-halted.ensures.front in
-    on_err_from _ (front_within limited form q c.args.rows.items parts are old new wrote)
+    let is : c.from_residual-in_err-halted.result ≡ Err c.in_err-halted.field-0.0 = search rules in
+    rw is (front_within limited form q c.args.rows.items parts are old new wrote, c.in_err-halted.ensures.fault)
 
 -- nothing was written
 
-pub returns-in_err-parts-clause-front : goal.returns-in_err-parts-clause-front
-returns-in_err-parts-clause-front g c =
-    on_err_from _ (none_within c.law_orders.ensures (is_some c.args.limit) g.G.Gathered.form c.args.query.now c.args.rows.items (g.W.Outlet.contents c.args.writer.now))
+pub returns-in_err-parts-clause-answers : goal.returns-in_err-parts-clause-answers
+returns-in_err-parts-clause-answers g c =
+    let is : c.from_residual.result ≡ Err OutOfMemory = search rules in
+    rw is (none_within c.law_orders.ensures (is_some c.args.limit) g.G.Gathered.form c.args.query.now c.args.rows.items (g.W.Outlet.contents c.args.writer.now), tt)
 
-pub returns-in_err-gathered-clause-front : goal.returns-in_err-gathered-clause-front
-returns-in_err-gathered-clause-front g c =
-    on_err_from _ (none_within c.law_orders.ensures (is_some c.args.limit) g.G.Gathered.form c.args.query.now c.args.rows.items (g.W.Outlet.contents c.args.writer.now))
+pub returns-in_err-gathered-clause-answers : goal.returns-in_err-gathered-clause-answers
+returns-in_err-gathered-clause-answers g c =
+    let is : c.from_residual-in_err-gathered.result ≡ Err OutOfMemory = search rules in
+    rw is (none_within c.law_orders.ensures (is_some c.args.limit) g.G.Gathered.form c.args.query.now c.args.rows.items (g.W.Outlet.contents c.args.writer.now), tt)

@@ -16,7 +16,7 @@ returns-clause-written g c =
     let rows = c.in_ok-rows.rows.items in
     let stopped = c.in_ok-ended.ended.stopped.items in
     let read : IfSome input (λ text. AreRowsOf q.table text rows) = subst (λ table. IfSome input (λ text. AreRowsOf table text rows)) c.table.ensures c.in_ok-rows.ensures.ok in
-    wrote_of form q rows input old new read stopped (wrote_over form q rows old new stopped c.in_ok-ended.ended.halted.items c.in_ok-ended.ensures.written)
+    wrote_of form q rows input old new read stopped (wrote_over form q rows old new stopped c.in_ok-ended.ended.halted.items c.in_ok-ended.ensures.answers)
 
 pub returns-in_err-ended-clause-front : goal.returns-in_err-ended-clause-front
 returns-in_err-ended-clause-front g c =
@@ -29,8 +29,8 @@ returns-in_err-ended-clause-front g c =
     let read : IfSome input (λ text. AreRowsOf q.table text rows) = subst (λ table. IfSome input (λ text. AreRowsOf table text rows)) c.table.ensures c.in_ok-rows.ensures.ok in
     let why = c.in_err-ended.field-0.0 in
     let is : c.from_residual-in_err-ended.result ≡ Err why = search rules in
-    rw is (left_front q input old (WritesFrontOf form q input old new) why new c.in_err-ended.ensures.fault
-    (front_of form q rows input old new read (front_over form q rows old new c.in_err-ended.ensures.front)))
+    rw is (left_front q input old (WritesFrontOf form q input old new) why new c.in_err-ended.ensures.answers.1
+    (front_of form q rows input old new read (front_over form q rows old new c.in_err-ended.ensures.answers.0)))
 
 pub returns-in_err-rows-clause-reads : goal.returns-in_err-rows-clause-reads
 returns-in_err-rows-clause-reads g c =
@@ -42,4 +42,4 @@ pub returns-in_err-ended-clause-reads : goal.returns-in_err-ended-clause-reads
 returns-in_err-ended-clause-reads g c =
     let why = c.in_err-ended.field-0.0 in
     let is : c.from_residual-in_err-ended.result ≡ Err why = search rules in
-    rw is (fault_after _ _ _ why c.in_err-ended.ensures.fault c.in_ok-rows.ensures.reads)
+    rw is (fault_after _ _ _ why c.in_err-ended.ensures.answers.1 c.in_ok-rows.ensures.reads)
