@@ -1,4 +1,8 @@
 //! What the program is asked to do.
+
+ghost use Rattle.std.specs.Prelude.{◌≡◌};
+ghost use Rattle.rp_command.specs.declared.job.JobFault.TheVariants.{OutOfMemory};
+
 use clap::Error;
 use std::alloc::{AllocError, AllocFailed};
 use thiserror::Error as Fault;
@@ -182,9 +186,6 @@ pub enum JobFault {
 }
 
 impl From<AllocError> for JobFault {
-    ghost use Rattle.std.specs.Prelude.{◌≡◌};
-    ghost use Rattle.rp_command.specs.declared.job.JobFault.TheVariants.{OutOfMemory};
-
     ghost from_gives = { λ _ fault. fault ≡ OutOfMemory };
 
     fn from(_: AllocError) -> JobFault {
@@ -193,9 +194,6 @@ impl From<AllocError> for JobFault {
 }
 
 impl<T: Drop> From<AllocFailed<T>> for JobFault {
-    ghost use Rattle.std.specs.Prelude.{◌≡◌};
-    ghost use Rattle.rp_command.specs.declared.job.JobFault.TheVariants.{OutOfMemory};
-
     ghost from_gives = { λ _ fault. fault ≡ OutOfMemory };
 
     fn from(_: AllocFailed<T>) -> JobFault {

@@ -6,6 +6,7 @@ ghost use Rattle.rp_lexer.specs.Lexes.{IsToken, Lexes};
 ghost use Rattle.rp_tree.specs.Clauses.{clause_tree};
 ghost use Rattle.rp_syntax.specs.ClauseGrammar.{Derives};
 ghost use Rattle.rp_compile.specs.Compiled.{IsCompiled, IsCompileFault, told_check, told_lex, told_parse};
+ghost use Rattle.rp_compile.specs.declared.compiling.CompileFault.TheVariants.{OutOfMemory};
 
 use rp_check::{CheckFault, Fault, check};
 use rp_grammar::ParseFault;
@@ -35,9 +36,6 @@ pub enum CompileFault {
 }
 
 impl From<LexFault> for CompileFault {
-    ghost use Rattle.std.specs.Prelude.{◌≡◌};
-    ghost use Rattle.rp_compile.specs.Compiled.{told_lex};
-
     ghost from_gives = { λ why fault. fault ≡ told_lex why };
 
     fn from(why: LexFault) -> CompileFault {
@@ -49,9 +47,6 @@ impl From<LexFault> for CompileFault {
 }
 
 impl From<ParseFault> for CompileFault {
-    ghost use Rattle.std.specs.Prelude.{◌≡◌};
-    ghost use Rattle.rp_compile.specs.Compiled.{told_parse};
-
     ghost from_gives = { λ why fault. fault ≡ told_parse why };
 
     fn from(why: ParseFault) -> CompileFault {
@@ -63,9 +58,6 @@ impl From<ParseFault> for CompileFault {
 }
 
 impl From<CheckFault> for CompileFault {
-    ghost use Rattle.std.specs.Prelude.{◌≡◌};
-    ghost use Rattle.rp_compile.specs.Compiled.{told_check};
-
     ghost from_gives = { λ why fault. fault ≡ told_check why };
 
     fn from(why: CheckFault) -> CompileFault {
@@ -77,9 +69,6 @@ impl From<CheckFault> for CompileFault {
 }
 
 impl From<AllocError> for CompileFault {
-    ghost use Rattle.std.specs.Prelude.{◌≡◌};
-    ghost use Rattle.rp_compile.specs.declared.compiling.CompileFault.TheVariants.{OutOfMemory};
-
     ghost from_gives = { λ _ fault. fault ≡ OutOfMemory };
 
     fn from(_error: AllocError) -> CompileFault {
@@ -88,9 +77,6 @@ impl From<AllocError> for CompileFault {
 }
 
 impl<T: Drop> From<AllocFailed<T>> for CompileFault {
-    ghost use Rattle.std.specs.Prelude.{◌≡◌};
-    ghost use Rattle.rp_compile.specs.declared.compiling.CompileFault.TheVariants.{OutOfMemory};
-
     ghost from_gives = { λ _ fault. fault ≡ OutOfMemory };
 
     fn from(_error: AllocFailed<T>) -> CompileFault {

@@ -1,4 +1,9 @@
 //! How a conversation ends early.
+
+ghost use Rattle.std.specs.Prelude.{◌≡◌};
+ghost use Rattle.rp_drive.specs.Faults.{line_fault};
+ghost use Rattle.rp_drive.specs.declared.fault.DriveFault.TheVariants.{Write, OutOfMemory};
+
 use rp_io::{LineFault, WriteFailed};
 use rp_protocol::Refusal;
 use std::alloc::{AllocError, AllocFailed};
@@ -39,9 +44,6 @@ pub struct Stop {
 }
 
 impl From<LineFault> for DriveFault {
-    ghost use Rattle.std.specs.Prelude.{◌≡◌};
-    ghost use Rattle.rp_drive.specs.Faults.{line_fault};
-
     ghost from_gives = { λ why fault. fault ≡ line_fault why };
 
     fn from(why: LineFault) -> DriveFault {
@@ -54,9 +56,6 @@ impl From<LineFault> for DriveFault {
 }
 
 impl From<WriteFailed> for DriveFault {
-    ghost use Rattle.std.specs.Prelude.{◌≡◌};
-    ghost use Rattle.rp_drive.specs.declared.fault.DriveFault.TheVariants.{Write};
-
     ghost from_gives = { λ _ fault. fault ≡ Write };
 
     fn from(_: WriteFailed) -> DriveFault {
@@ -65,9 +64,6 @@ impl From<WriteFailed> for DriveFault {
 }
 
 impl From<AllocError> for DriveFault {
-    ghost use Rattle.std.specs.Prelude.{◌≡◌};
-    ghost use Rattle.rp_drive.specs.declared.fault.DriveFault.TheVariants.{OutOfMemory};
-
     ghost from_gives = { λ _ fault. fault ≡ OutOfMemory };
 
     fn from(_: AllocError) -> DriveFault {
@@ -76,9 +72,6 @@ impl From<AllocError> for DriveFault {
 }
 
 impl<T: Drop> From<AllocFailed<T>> for DriveFault {
-    ghost use Rattle.std.specs.Prelude.{◌≡◌};
-    ghost use Rattle.rp_drive.specs.declared.fault.DriveFault.TheVariants.{OutOfMemory};
-
     ghost from_gives = { λ _ fault. fault ≡ OutOfMemory };
 
     fn from(_: AllocFailed<T>) -> DriveFault {

@@ -1,5 +1,5 @@
 //! All bytes of a device.
-ghost use Rattle.std.specs.Prelude.{IfOk};
+ghost use Rattle.std.specs.Prelude.{◌≡◌, IfOk};
 ghost use Rattle.std.specs.Io.KnownBytes.{Consumes};
 ghost use Rattle.rp_io.specs.Reading.{ReadsWithin};
 ghost use Rattle.rp_input.specs.Devices.{bytes_told};
@@ -20,8 +20,6 @@ pub(crate) enum DeviceFault {
 }
 
 impl From<AllocError> for DeviceFault {
-    ghost use Rattle.std.specs.Prelude.{◌≡◌};
-
     ghost from_gives = { λ _ fault. fault ≡ OutOfMemory };
 
     fn from(_error: AllocError) -> DeviceFault {
@@ -30,8 +28,6 @@ impl From<AllocError> for DeviceFault {
 }
 
 impl<T: Drop> From<AllocFailed<T>> for DeviceFault {
-    ghost use Rattle.std.specs.Prelude.{◌≡◌};
-
     ghost from_gives = { λ _ fault. fault ≡ OutOfMemory };
 
     fn from(_error: AllocFailed<T>) -> DeviceFault {

@@ -2,6 +2,7 @@
 ghost use Rattle.std.specs.Prelude.{◌≡◌, ◌<◌, ◌^◌, Ok, IfOk, IfErr, MatchBool, OnOk};
 ghost use Rattle.csv.specs.Records.{field_at, fields_of};
 ghost use Rattle.rp_input.specs.Placed as spec;
+ghost use Rattle.rp_input.specs.declared.placed.CellFault.TheVariants.{OutOfMemory};
 
 use crate::fields::field_at;
 use csv::ByteRecord;
@@ -33,9 +34,6 @@ pub(crate) enum Found {
 }
 
 impl<T: Drop> From<AllocFailed<T>> for CellFault {
-    ghost use Rattle.std.specs.Prelude.{◌≡◌};
-    ghost use Rattle.rp_input.specs.declared.placed.CellFault.TheVariants.{OutOfMemory};
-
     ghost from_gives = { λ _ fault. fault ≡ OutOfMemory };
 
     fn from(_error: AllocFailed<T>) -> CellFault {

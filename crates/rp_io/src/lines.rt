@@ -2,6 +2,7 @@
 ghost use Rattle.std.specs.Prelude.{◌≡◌, ◌+◌, ◌<◌, ◌≤◌, ◌∷◌, ◌++◌, length, take, drop, vec_len, OnOk};
 ghost use Rattle.rp_io.specs.Lines.{IsLfFree, line_feed};
 ghost use Rattle.rp_io.specs.declared.lines.TheConstants.{CHUNK};
+ghost use Rattle.rp_io.specs.declared.lines.LineFault.TheVariants.{OutOfMemory};
 
 use crate::device::Intake;
 use std::alloc::{AllocError, AllocFailed, Global};
@@ -180,9 +181,6 @@ impl Lines {
 }
 
 impl From<AllocError> for LineFault {
-    ghost use Rattle.std.specs.Prelude.{◌≡◌};
-    ghost use Rattle.rp_io.specs.declared.lines.LineFault.TheVariants.{OutOfMemory};
-
     ghost from_gives = { λ _ fault. fault ≡ OutOfMemory };
 
     fn from(_: AllocError) -> LineFault {
@@ -191,9 +189,6 @@ impl From<AllocError> for LineFault {
 }
 
 impl<T: Drop> From<AllocFailed<T>> for LineFault {
-    ghost use Rattle.std.specs.Prelude.{◌≡◌};
-    ghost use Rattle.rp_io.specs.declared.lines.LineFault.TheVariants.{OutOfMemory};
-
     ghost from_gives = { λ _ fault. fault ≡ OutOfMemory };
 
     fn from(_: AllocFailed<T>) -> LineFault {

@@ -3,6 +3,7 @@ ghost use Rattle.std.specs.Prelude.{◌≡◌, ◌<◌, ◌^◌, Ok, IfErr, OnOk
 ghost use Rattle.json.specs.Value.{value_view};
 ghost use Rattle.rp_objects.specs.Cells as spec;
 ghost use Rattle.rp_objects.specs.Given.{GivesCell, IsCellsFault, told_at};
+ghost use Rattle.rp_objects.specs.declared.cells.CellsFault.TheVariants.{OutOfMemory};
 
 use crate::fault::FieldFault;
 use crate::path::field_under;
@@ -20,9 +21,6 @@ pub(crate) enum CellsFault {
 }
 
 impl<T: Drop> From<AllocFailed<T>> for CellsFault {
-    ghost use Rattle.std.specs.Prelude.{◌≡◌};
-    ghost use Rattle.rp_objects.specs.declared.cells.CellsFault.TheVariants.{OutOfMemory};
-
     ghost from_gives = { λ _ fault. fault ≡ OutOfMemory };
 
     fn from(_error: AllocFailed<T>) -> CellsFault {

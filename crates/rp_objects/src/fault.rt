@@ -1,4 +1,8 @@
 //! Why a text of objects is no rows.
+
+ghost use Rattle.std.specs.Prelude.{◌≡◌};
+ghost use Rattle.rp_objects.specs.declared.fault.ObjectsFault.TheVariants.{OutOfMemory};
+
 use rp_columns::ReadingFault;
 use std::alloc::{AllocError, AllocFailed};
 use thiserror::Error;
@@ -38,9 +42,6 @@ pub enum ObjectsFault {
 }
 
 impl From<AllocError> for ObjectsFault {
-    ghost use Rattle.std.specs.Prelude.{◌≡◌};
-    ghost use Rattle.rp_objects.specs.declared.fault.ObjectsFault.TheVariants.{OutOfMemory};
-
     ghost from_gives = { λ _ fault. fault ≡ OutOfMemory };
 
     fn from(_error: AllocError) -> ObjectsFault {
@@ -49,9 +50,6 @@ impl From<AllocError> for ObjectsFault {
 }
 
 impl<T: Drop> From<AllocFailed<T>> for ObjectsFault {
-    ghost use Rattle.std.specs.Prelude.{◌≡◌};
-    ghost use Rattle.rp_objects.specs.declared.fault.ObjectsFault.TheVariants.{OutOfMemory};
-
     ghost from_gives = { λ _ fault. fault ≡ OutOfMemory };
 
     fn from(_error: AllocFailed<T>) -> ObjectsFault {

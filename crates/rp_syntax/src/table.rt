@@ -6,6 +6,7 @@ ghost use Rattle.rp_grammar.specs.Readers.{Reads, itself};
 ghost use Rattle.rp_value.specs.Tables.{column_of, columns_of};
 ghost use Rattle.rp_value.specs.declared.table.Column.{Column};
 ghost use Rattle.rp_syntax.specs.TableGrammar.{IsTableText, IsTextFault, column, column_kind, kind_called, table, told_lex, told_table};
+ghost use Rattle.rp_syntax.specs.declared.table.TableTextFault.TheVariants.{OutOfMemory};
 
 use rp_grammar::{ParseFault, Parsed, begins, name, named, place, token, word};
 use rp_lexer::{LexFault, Mark, Token, TokenKind, law_lexes, lex};
@@ -31,9 +32,6 @@ pub enum TableTextFault {
 }
 
 impl From<LexFault> for TableTextFault {
-    ghost use Rattle.std.specs.Prelude.{◌≡◌};
-    ghost use Rattle.rp_syntax.specs.TableGrammar.{told_lex};
-
     ghost from_gives = { λ why fault. fault ≡ told_lex why };
 
     fn from(why: LexFault) -> TableTextFault {
@@ -45,9 +43,6 @@ impl From<LexFault> for TableTextFault {
 }
 
 impl From<TableFault> for TableTextFault {
-    ghost use Rattle.std.specs.Prelude.{◌≡◌};
-    ghost use Rattle.rp_syntax.specs.TableGrammar.{told_table};
-
     ghost from_gives = { λ why fault. fault ≡ told_table why };
 
     fn from(why: TableFault) -> TableTextFault {
@@ -59,9 +54,6 @@ impl From<TableFault> for TableTextFault {
 }
 
 impl From<AllocError> for TableTextFault {
-    ghost use Rattle.std.specs.Prelude.{◌≡◌};
-    ghost use Rattle.rp_syntax.specs.declared.table.TableTextFault.TheVariants.{OutOfMemory};
-
     ghost from_gives = { λ _ fault. fault ≡ OutOfMemory };
 
     fn from(_error: AllocError) -> TableTextFault {
@@ -70,9 +62,6 @@ impl From<AllocError> for TableTextFault {
 }
 
 impl<T: Drop> From<AllocFailed<T>> for TableTextFault {
-    ghost use Rattle.std.specs.Prelude.{◌≡◌};
-    ghost use Rattle.rp_syntax.specs.declared.table.TableTextFault.TheVariants.{OutOfMemory};
-
     ghost from_gives = { λ _ fault. fault ≡ OutOfMemory };
 
     fn from(_error: AllocFailed<T>) -> TableTextFault {
