@@ -36,25 +36,52 @@ fn rows_of_several_blocks(rt: HostRuntime) -> Result<(), Fail> {
     Ok(())
 }
 
+/// Rows of two cells, of none twice, and of one.
+fn of_several_widths(alloc: Global) -> Result<Vec<Row>, AllocError> {
+    let mut list = RowList::new(alloc);
+    let mut cells = vec![in alloc; text(alloc, "x")?, Value::Int(2)]?;
+    list.push(&mut cells)?;
+    list.push(&mut cells)?;
+    list.push(&mut cells)?;
+    cells.push(Value::Null)?;
+    list.push(&mut cells)?;
+    list.into_rows()
+}
+
 #[test]
 fn rows_of_several_widths(rt: HostRuntime) -> Result<(), Fail> {
-    let alloc = rt.alloc();
-    let mut list = RowList::new(alloc);
-    let mut pair = vec![in alloc; text(alloc, "x")?, Value::Int(2)]?;
-    list.push(&mut pair)?;
-    assert_eq!(rt; pair.len(), 0);
-    list.push(&mut pair)?;
-    list.push(&mut pair)?;
-    pair.push(Value::Null)?;
-    list.push(&mut pair)?;
-    let rows = list.into_rows()?;
-    let widths: Vec<usize> = rows.iter().map(|row| row.cells().len()).collect(alloc)?;
+    let rows = of_several_widths(rt.alloc())?;
+    let widths: Vec<usize> = rows
+        .iter()
+        .map(|row| row.cells().len())
+        .collect(rt.alloc())?;
     assert_eq!(rt; widths.as_slice(), [2, 0, 0, 1].as_slice());
+    Ok(())
+}
+
+#[test]
+fn cells_of_listed_rows(rt: HostRuntime) -> Result<(), Fail> {
+    let rows = of_several_widths(rt.alloc())?;
     let second = rows.first().and_then(|row| row.cell(2));
     assert_eq!(rt; second, Some(&Value::Int(2)));
     let last = rows.last().and_then(|row| row.cell(1));
     assert_eq!(rt; last, Some(&Value::Null));
-    assert_eq!(rt; RowList::new(alloc).into_rows()?.len(), 0);
+    Ok(())
+}
+
+/// A list takes the cells out of the room that they came in.
+#[test]
+fn listed_cells_are_taken(rt: HostRuntime) -> Result<(), Fail> {
+    let mut list = RowList::new(rt.alloc());
+    let mut cells = vec![in rt.alloc(); Value::Int(2)]?;
+    list.push(&mut cells)?;
+    assert_eq!(rt; cells.len(), 0);
+    Ok(())
+}
+
+#[test]
+fn a_list_of_no_rows(rt: HostRuntime) -> Result<(), Fail> {
+    assert_eq!(rt; RowList::new(rt.alloc()).into_rows()?.len(), 0);
     Ok(())
 }
 

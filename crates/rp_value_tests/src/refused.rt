@@ -12,28 +12,35 @@ fn push_row(list: &mut RowList, cells: &mut Vec<Value>) -> Result<(), Fail> {
     }
 }
 
-#[test]
-fn refused_rows(rt: HostRuntime) -> Result<(), Fail> {
-    let alloc = rt.alloc();
+/// Rows of one cell, of two and of one, whose cells are the numbers from 1.
+fn pushed_rows(alloc: Global) -> Result<Vec<Row>, Fail> {
     let mut list = RowList::new(alloc);
-    let mut cells = vec![in alloc; Value::Int(1)]?;
-    push_row(&mut list, &mut cells)?;
+    push_numbers(&mut list, &mut Vec::new(alloc))?;
+    Ok(list.into_rows()?)
+}
+
+fn push_numbers(list: &mut RowList, cells: &mut Vec<Value>) -> Result<(), Fail> {
+    cells.push(Value::Int(1))?;
+    push_row(list, cells)?;
     cells.push(Value::Int(2))?;
     cells.push(Value::Int(3))?;
-    push_row(&mut list, &mut cells)?;
+    push_row(list, cells)?;
     cells.push(Value::Int(4))?;
-    push_row(&mut list, &mut cells)?;
-    let rows = list.into_rows()?;
-    let widths: Vec<usize> = rows.iter().map(|row| row.cells().len()).collect(alloc)?;
+    push_row(list, cells)
+}
+
+#[test]
+fn refused_rows(rt: HostRuntime) -> Result<(), Fail> {
+    let rows = pushed_rows(rt.alloc())?;
+    let widths: Vec<usize> = rows
+        .iter()
+        .map(|row| row.cells().len())
+        .collect(rt.alloc())?;
     assert_eq!(rt; widths.as_slice(), [1, 2, 1].as_slice());
-    assert_eq!(rt;
-        rows.first().and_then(|row| row.cell(1)),
-        Some(&Value::Int(1))
-    );
-    assert_eq!(rt;
-        rows.last().and_then(|row| row.cell(1)),
-        Some(&Value::Int(4))
-    );
+    let first = rows.first().and_then(|row| row.cell(1));
+    assert_eq!(rt; first, Some(&Value::Int(1)));
+    let last = rows.last().and_then(|row| row.cell(1));
+    assert_eq!(rt; last, Some(&Value::Int(4)));
     Ok(())
 }
 

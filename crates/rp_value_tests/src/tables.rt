@@ -4,35 +4,46 @@ ghost use Rattle.rp_value.specs.Tables.{kinds_of};
 
 use super::support::{column, sale, sales, text};
 use rp_value::{Kind, Row, RowFault, Table, TableFault, Text, Value, check_cells};
-use std::alloc::Global;
+use std::alloc::{AllocError, Global};
+use std::fmt::Display;
 use std::process::Abort;
 use std::test::Fail;
 
+/// The fault of a table of two columns with this name, and of a third one where it is given.
+fn fault_of_names(
+    alloc: Global,
+    name: &str,
+    third: Option<&str>,
+) -> Result<Option<TableFault>, Fail> {
+    let mut columns = Vec::new(alloc);
+    columns.push(column(alloc, name, Kind::Int)?)?;
+    columns.push(column(alloc, name, Kind::Text)?)?;
+    if let Some(name) = third {
+        columns.push(column(alloc, name, Kind::Int)?)?;
+    }
+    Ok(Table::new(alloc, columns).err())
+}
+
 #[test]
-fn tables(rt: HostRuntime) -> Result<(), Fail> {
+fn columns_that_make_no_table(rt: HostRuntime) -> Result<(), Fail> {
     let alloc = rt.alloc();
-    assert_eq!(rt;
-        Table::new(alloc, Vec::new(alloc)).err(),
-        Some(TableFault::NoColumns)
-    );
-    let first = column(alloc, "A", Kind::Int)?;
-    let second = column(alloc, "A", Kind::Text)?;
-    let columns = vec![in alloc; first, second]?;
-    assert_eq!(rt;
-        Table::new(alloc, columns).err(),
-        Some(TableFault::DoubleName)
-    );
-    let first = column(alloc, "A", Kind::Int)?;
-    let second = column(alloc, "A", Kind::Int)?;
-    let nameless = column(alloc, "", Kind::Int)?;
-    let worse = vec![in alloc; first, second, nameless]?;
-    assert_eq!(rt; Table::new(alloc, worse).err(), Some(TableFault::BadName));
-    let table = sales(alloc)?;
+    let none = Table::new(alloc, Vec::new(alloc)).err();
+    assert_eq!(rt; none, Some(TableFault::NoColumns));
+    let double = fault_of_names(alloc, "A", None)?;
+    assert_eq!(rt; double, Some(TableFault::DoubleName));
+    let nameless = fault_of_names(alloc, "A", Some(""))?;
+    assert_eq!(rt; nameless, Some(TableFault::BadName));
+    Ok(())
+}
+
+#[test]
+fn kinds_of_a_table(rt: HostRuntime) -> Result<(), Fail> {
+    let table = sales(rt.alloc())?;
     let kinds: Vec<Kind> = table
         .columns()
         .iter()
         .map(|column| column.kind)
-        .collect(alloc)?;
+        .collect(rt.alloc())?;
     assert_eq!(rt; kinds.as_slice(), [Kind::Text, Kind::Int].as_slice());
     Ok(())
 }
@@ -65,24 +76,58 @@ fn a_priced_stock(rt: HostRuntime) -> Result<(), Fail> {
     Ok(())
 }
 
+fn two_numbers(alloc: Global) -> Result<Vec<Value>, AllocError> {
+    Ok(vec![in alloc; Value::Int(1), Value::Int(2)]?)
+}
+
+fn two_texts(alloc: Global) -> Result<Vec<Value>, AllocError> {
+    let mut cells = one_text(alloc)?;
+    cells.push(text(alloc, "y")?)?;
+    Ok(cells)
+}
+
+fn one_text(alloc: Global) -> Result<Vec<Value>, AllocError> {
+    let mut cells = Vec::new(alloc);
+    cells.push(text(alloc, "x")?)?;
+    Ok(cells)
+}
+
+/// Whether a table has no row of these cells, for this reason.
+fn is_refused(rt: &impl Abort, alloc: Global, table: &Table, cells: Vec<Value>, why: RowFault) {
+    assert_eq!(rt; table.row(alloc, cells).err(), Some(why));
+}
+
 #[test]
-fn rows(rt: HostRuntime) -> Result<(), Fail> {
+fn cells_that_make_no_row(rt: HostRuntime) -> Result<(), Fail> {
     let alloc = rt.alloc();
     let table = sales(alloc)?;
-    let cells = vec![in alloc; Value::Int(1), Value::Int(2)]?;
-    assert_eq!(rt; table.row(alloc, cells).err(), Some(RowFault::Kind(1)));
-    let cells = vec![in alloc; text(alloc, "x")?, text(alloc, "y")?]?;
-    assert_eq!(rt; table.row(alloc, cells).err(), Some(RowFault::Kind(2)));
-    let cells = vec![in alloc; text(alloc, "x")?]?;
-    assert_eq!(rt; table.row(alloc, cells).err(), Some(RowFault::Width));
-    let cells = vec![in alloc; Value::Null, Value::Null]?;
-    let nulls = table.row(alloc, cells)?;
-    assert_eq!(rt; nulls.cells().len(), 2);
-    let cells = vec![in alloc; text(alloc, "x")?, Value::Int(2)]?;
-    let row = table.row(alloc, cells)?;
+    is_refused(&rt, alloc, &table, two_numbers(alloc)?, RowFault::Kind(1));
+    is_refused(&rt, alloc, &table, two_texts(alloc)?, RowFault::Kind(2));
+    is_refused(&rt, alloc, &table, one_text(alloc)?, RowFault::Width);
+    Ok(())
+}
+
+#[test]
+fn a_row(rt: HostRuntime) -> Result<(), Fail> {
+    let table = sales(rt.alloc())?;
+    let row = table.row(rt.alloc(), sale(rt.alloc())?)?;
     assert_eq!(rt; row.cell(0), None);
     assert_eq!(rt; row.cell(2), Some(&Value::Int(2)));
     assert_eq!(rt; row.cell(3), None);
+    Ok(())
+}
+
+/// A row that has null in each column.
+fn nulls(alloc: Global, table: &Table) -> Result<Row, RowFault> {
+    table.row(alloc, vec![in alloc; Value::Null, Value::Null]?)
+}
+
+#[test]
+fn a_row_of_nulls(rt: HostRuntime) -> Result<(), Fail> {
+    let table = sales(rt.alloc())?;
+    let nulls = nulls(rt.alloc(), &table)?;
+    assert_eq!(rt; nulls.cells().len(), 2);
+    let row = table.row(rt.alloc(), sale(rt.alloc())?)?;
     assert!(rt; !row.same(&nulls));
     Ok(())
 }
@@ -109,25 +154,24 @@ fn cells_of_kinds(rt: HostRuntime) -> Result<(), Fail> {
     Ok(())
 }
 
+/// Whether a fault is told so.
+fn is_told<F: Display + Drop>(
+    rt: &impl Abort,
+    alloc: Global,
+    fault: F,
+    want: &str,
+) -> Result<(), Fail> {
+    let text = format!(in alloc; "{fault}")?;
+    assert_eq!(rt; text.as_str(), want);
+    Ok(())
+}
+
 #[test]
 fn fault_texts(rt: HostRuntime) -> Result<(), Fail> {
     let alloc = rt.alloc();
-    assert_eq!(rt;
-        format!(in alloc; "{}", TableFault::NoColumns)?.as_str(),
-        "NoColumns"
-    );
-    assert_eq!(rt;
-        format!(in alloc; "{}", TableFault::BadName)?.as_str(),
-        "BadName"
-    );
-    assert_eq!(rt;
-        format!(in alloc; "{}", TableFault::DoubleName)?.as_str(),
-        "DoubleName"
-    );
-    assert_eq!(rt; format!(in alloc; "{}", RowFault::Width)?.as_str(), "width");
-    assert_eq!(rt;
-        format!(in alloc; "{}", RowFault::Kind(2))?.as_str(),
-        "kind 2"
-    );
-    Ok(())
+    is_told(&rt, alloc, TableFault::NoColumns, "NoColumns")?;
+    is_told(&rt, alloc, TableFault::BadName, "BadName")?;
+    is_told(&rt, alloc, TableFault::DoubleName, "DoubleName")?;
+    is_told(&rt, alloc, RowFault::Width, "width")?;
+    is_told(&rt, alloc, RowFault::Kind(2), "kind 2")
 }

@@ -3,7 +3,7 @@ use super::support::text;
 use rp_value::{
     Cells, Comparison, RunningSum, Tri, Value, law_sum, law_told_stays, law_value_order, total,
 };
-use std::alloc::Global;
+use std::alloc::{AllocError, Global};
 use std::cmp::Ordering;
 use std::process::Abort;
 use std::test::Fail;
@@ -75,24 +75,34 @@ fn judged_comparisons(rt: HostRuntime) -> Result<(), Fail> {
     Ok(())
 }
 
-#[test]
-fn values_in_order(rt: HostRuntime) -> Result<(), Fail> {
-    let alloc = rt.alloc();
-    let values = vec![in alloc;
-        Value::Int(LEAST),
-        Value::Int(2),
-        text(alloc, "")?,
-        text(alloc, "B")?,
-        text(alloc, "a")?,
-        text(alloc, "é")?,
-        Value::Null,
-    ]?;
+/// Values, each before the next one.
+fn ascending(alloc: Global) -> Result<Vec<Value>, AllocError> {
+    let mut values = vec![in alloc; Value::Int(LEAST), Value::Int(2)]?;
+    for letters in ["", "B", "a", "é"] {
+        values.push(text(alloc, letters)?)?;
+    }
+    values.push(Value::Null)?;
+    Ok(values)
+}
+
+fn are_in_order(rt: &impl Abort, values: &[Value]) {
     for (lower, higher) in values.iter().zip(values.iter().skip(1)) {
         assert_eq!(rt; lower.cmp(higher), Ordering::Less);
         assert_eq!(rt; higher.cmp(lower), Ordering::Greater);
         assert_eq!(rt; lower.cmp(lower), Ordering::Equal);
         assert!(rt; lower < higher);
     }
+}
+
+#[test]
+fn values_in_order(rt: HostRuntime) -> Result<(), Fail> {
+    are_in_order(&rt, ascending(rt.alloc())?.as_slice());
+    Ok(())
+}
+
+#[test]
+fn cells_in_order(rt: HostRuntime) -> Result<(), Fail> {
+    let alloc = rt.alloc();
     let front = Cells::new(vec![in alloc; Value::Int(1)]?);
     let long = Cells::new(vec![in alloc; Value::Int(1), Value::Null]?);
     let high = Cells::new(vec![in alloc; Value::Int(2)]?);
@@ -135,13 +145,23 @@ fn arithmetic(rt: HostRuntime) -> Result<(), Fail> {
 }
 
 #[test]
-fn sums_are_exact(rt: HostRuntime) -> Result<(), Fail> {
+fn totals(rt: HostRuntime) {
     assert_eq!(rt; total(&[GREATEST, 1, -1]), Value::Int(GREATEST));
     assert_eq!(rt; total(&[GREATEST, 1]), Value::Null);
     assert_eq!(rt; total(&[]), Value::Int(0));
-    let mut sum = RunningSum::default();
+}
+
+#[test]
+fn a_sum_of_nothing(rt: HostRuntime) {
+    let sum = RunningSum::default();
     assert_eq!(rt; sum.sum_or_null(), Value::Null);
     assert_eq!(rt; sum.count(), 0);
+}
+
+/// A sum that goes below the least number comes back, and a copy of it stays as it is.
+#[test]
+fn sums_are_exact(rt: HostRuntime) {
+    let mut sum = RunningSum::default();
     sum.add(LEAST);
     let half_way = sum;
     sum.add(-1);
@@ -149,10 +169,14 @@ fn sums_are_exact(rt: HostRuntime) -> Result<(), Fail> {
     sum.add(1);
     assert_eq!(rt; sum.value(), Value::Int(LEAST));
     assert_eq!(rt; sum.count(), 3);
-    assert_eq!(rt; half_way.value(), Value::Int(LEAST));
-    assert_eq!(rt; half_way.count(), 1);
-    assert_eq!(rt; half_way.sum_or_null(), Value::Int(LEAST));
-    Ok(())
+    is_least(&rt, &half_way);
+}
+
+/// Whether a sum is of the least number alone.
+fn is_least(rt: &impl Abort, sum: &RunningSum) {
+    assert_eq!(rt; sum.value(), Value::Int(LEAST));
+    assert_eq!(rt; sum.count(), 1);
+    assert_eq!(rt; sum.sum_or_null(), Value::Int(LEAST));
 }
 
 /// Calls of the laws do nothing.
