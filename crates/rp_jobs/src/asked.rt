@@ -1,8 +1,8 @@
 //! A clause and the rows that it is asked of, by the options that name them.
 use crate::fault::ProgramFault;
-use crate::input::{InputForm, InputShape, bytes_of, rows_of_bytes, rows_of_files};
+use crate::input::{InputForm, InputShape, bytes_of, columns_of, rows_of_bytes, rows_of_files};
 use crate::progress::Progress;
-use rp_columns::{Columns, read_columns};
+use rp_columns::Columns;
 use rp_command::{InputFormat, InputOptions};
 use rp_compile::compile;
 use rp_explain_inputs::propose_columns;
@@ -89,7 +89,7 @@ impl<'a> Asked<'a> {
         form: &InputForm,
     ) -> Result<(Query, Vec<Row>), ProgramFault> {
         let text = self.proposed(rt, inputs, form)?;
-        let columns = read_columns(rt.alloc(), text.as_str())?;
+        let columns = columns_of(rt.alloc(), text.as_str())?;
         let query = compile(rt.alloc(), self.clause, columns.table())?;
         let rows = self.rows_by_columns(rt.alloc(), &columns, inputs, form)?;
         Ok((query, rows))
@@ -127,9 +127,12 @@ impl<'a> Asked<'a> {
 
     /// The filter that the rows go through, where there is one.
     fn filter_of(&self, alloc: Global, table: &Table) -> Result<Option<Filter>, ProgramFault> {
-        match self.filter {
-            Some(text) => Ok(Some(read_filter(alloc, text, table)?)),
-            None => Ok(None),
+        let Some(text) = self.filter else {
+            return Ok(None);
+        };
+        match read_filter(alloc, text, table) {
+            Ok(filter) => Ok(Some(filter)),
+            Err(fault) => Err(ProgramFault::of_filter(fault)),
         }
     }
 

@@ -106,7 +106,7 @@ impl InputShape {
             )),
             (Some(text), None) => Ok(Some(of_table(rt.alloc(), text.as_str(), form)?)),
             (None, Some(text)) => {
-                let columns = read_columns(rt.alloc(), text.as_str())?;
+                let columns = columns_of(rt.alloc(), text.as_str())?;
                 let columns = with_zones(rt, columns)?;
                 Ok(Some(InputShape::by_columns(columns, form)))
             }
@@ -176,9 +176,25 @@ impl InputShape {
     }
 }
 
+/// The table of a text.
+pub fn table_of(alloc: Global, text: &str) -> Result<Table, ProgramFault> {
+    match read_table(alloc, text) {
+        Ok(table) => Ok(table),
+        Err(fault) => Err(ProgramFault::of_table(fault)),
+    }
+}
+
+/// The columns of a text.
+pub fn columns_of(alloc: Global, text: &str) -> Result<Columns, ProgramFault> {
+    match read_columns(alloc, text) {
+        Ok(columns) => Ok(columns),
+        Err(fault) => Err(ProgramFault::of_columns(fault)),
+    }
+}
+
 /// The columns of a table's text. Where the table alone doesn't say how the input is read, each is read from the field of its name.
 fn of_table(alloc: Global, text: &str, form: &InputForm) -> Result<InputShape, ProgramFault> {
-    let table = read_table(alloc, text)?;
+    let table = table_of(alloc, text)?;
     if form.is_plain {
         return Ok(InputShape::Table(table));
     }

@@ -7,6 +7,7 @@ ghost use Rattle.rp_serve.specs.Rounds.{IsSavedAs, kept_bytes};
 use crate::accepting::accepted;
 use crate::client::{ClientInput, ClientOutput};
 use crate::fault::ProgramFault;
+use crate::input::table_of;
 use crate::seed::seeded_hasher;
 use crate::state::StateFile;
 use rp_command::NodeJob;
@@ -15,7 +16,6 @@ use rp_io::{CountedDevice, Outlet, READS, write_all};
 use rp_node::{Node, RestartFault, begin, clause_difference};
 use rp_query::Query;
 use rp_serve::{RoundEnd, ServeFault, round_on, saved_line};
-use rp_syntax::read_table;
 use std::net::{TcpListener, TcpStream};
 use std::time::Duration;
 
@@ -31,7 +31,7 @@ struct Standing {
 
 /// Serves as many connections as the job asks for. Begins from its file where that is there and accepted, else with nothing.
 pub fn run_node(rt: &HostRuntime, job: &NodeJob) -> Result<(), ProgramFault> {
-    let table = read_table(rt.alloc(), job.table.as_str())?;
+    let table = table_of(rt.alloc(), job.table.as_str())?;
     let query = compile(rt.alloc(), job.clause.as_str(), &table)?;
     let mut file = StateFile::take(rt, job.state.as_str())?;
     let standing = begun(rt, job, &mut file, query)?;

@@ -80,32 +80,69 @@ const OPTIONS: [TextOption; 9] = [
 /// one text. `trace` has no such option, and its words stay as they are.
 pub fn with_texts(rt: &HostRuntime, words: &[String]) -> Result<Vec<String>, ProgramFault> {
     let mut joined = Vec::new(rt.alloc());
-    let mut due: Option<TextOption> = None;
-    let is_trace = words.first().is_some_and(|word| word.as_str() == "trace");
-    for word in words {
-        due = match due {
-            Some(option) if is_option(word.as_str()) => {
-                joined.push(String::from_str(rt.alloc(), option.word)?)?;
-                push_word(rt, &mut joined, word.as_str())?
-            }
-            Some(option) => {
-                joined.push(text_word(rt, option, word.as_str())?)?;
-                None
-            }
-            None if is_trace => {
-                joined.push(String::from_str(rt.alloc(), word.as_str())?)?;
-                None
-            }
-            None => push_word(rt, &mut joined, word.as_str())?,
-        };
-    }
-    if let Some(option) = due {
-        joined.push(String::from_str(rt.alloc(), option.word)?)?;
+    if words.first().is_some_and(|word| word.as_str() == "trace") {
+        push_all(rt.alloc(), &mut joined, words)?;
+    } else {
+        join_all(rt, &mut joined, words)?;
     }
     Ok(joined)
 }
 
-/// Whether the word is such an option: then the one before it has no value, which clap tells.
+/// Adds all words as they are.
+fn push_all(alloc: Global, joined: &mut Vec<String>, words: &[String]) -> Result<(), AllocError> {
+    for word in words {
+        joined.push(String::from_str(alloc, word.as_str())?)?;
+    }
+    Ok(())
+}
+
+/// Adds all words, each text behind its option.
+fn join_all(
+    rt: &HostRuntime,
+    joined: &mut Vec<String>,
+    words: &[String],
+) -> Result<(), ProgramFault> {
+    let mut due = None;
+    for word in words {
+        due = join(rt, joined, due, word.as_str())?;
+    }
+    if let Some(option) = due {
+        push_option(rt, joined, option)?;
+    }
+    Ok(())
+}
+
+/// Adds a word, or the text of an option that waits for one. Where it is such an option, it waits then.
+fn join(
+    rt: &HostRuntime,
+    joined: &mut Vec<String>,
+    due: Option<TextOption>,
+    word: &str,
+) -> Result<Option<TextOption>, ProgramFault> {
+    match due {
+        Some(option) if is_option(word) => {
+            push_option(rt, joined, option)?;
+            push_word(rt, joined, word)
+        }
+        Some(option) => {
+            joined.push(text_word(rt, option, word)?)?;
+            Ok(None)
+        }
+        None => push_word(rt, joined, word),
+    }
+}
+
+/// Adds an option that has no value, which clap tells.
+fn push_option(
+    rt: &HostRuntime,
+    joined: &mut Vec<String>,
+    option: TextOption,
+) -> Result<(), AllocError> {
+    joined.push(String::from_str(rt.alloc(), option.word)?)?;
+    Ok(())
+}
+
+/// Whether the word is such an option: then the one before it has no value.
 fn is_option(word: &str) -> bool {
     OPTIONS.as_slice().iter().any(|option| option.word == word)
 }

@@ -28,11 +28,22 @@ pub fn run_why(rt: &HostRuntime, job: &WhyJob) -> Result<Verdict, ProgramFault> 
         files: job.files.as_slice(),
     };
     let (query, rows) = asked.query_and_rows(rt, &mut None)?;
-    let parts = partitions(rt.alloc(), &query, rows, seeded_hasher(rt)?)?;
-    match (tell_parts(rt, job, &query, &key, parts)?, key) {
+    tell_rows(rt, job, &query, &key, rows)
+}
+
+/// Prints for these rows what is found of each partition that is asked about.
+fn tell_rows(
+    rt: &HostRuntime,
+    job: &WhyJob,
+    query: &Query,
+    key: &Option<Cells>,
+    rows: Vec<Row>,
+) -> Result<Verdict, ProgramFault> {
+    let parts = partitions(rt.alloc(), query, rows, seeded_hasher(rt)?)?;
+    match (tell_parts(rt, job, query, key, parts)?, key) {
         (Some(verdict), _) => Ok(verdict),
         (None, None) => Ok(Verdict::Clean),
-        (None, Some(key)) => Err(no_partition(rt.alloc(), &key)?),
+        (None, Some(key)) => Err(no_partition(rt.alloc(), key)?),
     }
 }
 
