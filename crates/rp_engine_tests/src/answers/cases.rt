@@ -1,10 +1,10 @@
 //! Clauses and rows that are put together by a fixed seed. What is known after each row and after the close is compared
 //! with the plain program.
-ghost use Rattle.std.specs.Prelude.{◌<◌};
+ghost use Rattle.std.specs.Prelude.{◌<◌, length};
 
 use super::player::{Event, NULL, play};
 use rp_reference::Dice;
-use std::alloc::Global;
+use std::alloc::{AllocFailed, Global};
 use std::test::Fail;
 
 /// Each has a row of A and one of B in some word.
@@ -81,12 +81,19 @@ const MEASURES: [&str; 6] = [
 
 const NUMBERS: [i64; 6] = [1, 2, 3, 1, 2, NULL];
 
+/// One of these texts.
+fn one_of(dice: &mut Dice, texts: &[&'static str]) -> &'static str
+    requires { 0 < length texts.now }
+{
+    texts[dice.below(texts.len() as u64)]
+}
+
 /// Which rows a match of this pattern gives.
 fn shown(dice: &mut Dice, pattern: usize) -> &'static str {
     if pattern < EXCLUDING {
-        return SHOWN[dice.below(6)];
+        return one_of(dice, &SHOWN);
     }
-    SHOWN[dice.below(4)]
+    one_of(dice, &SHOWN[..4])
 }
 
 /// A clause with this pattern.
@@ -95,25 +102,32 @@ fn clause(alloc: Global, dice: &mut Dice, pattern: usize) -> Result<String, Fail
 {
     Ok(format!(in alloc;
         "MEASURES {} {} AFTER MATCH SKIP {} PATTERN ({}) SUBSET U = (A, B) DEFINE {}",
-        MEASURES[dice.below(6)],
+        one_of(dice, &MEASURES),
         shown(dice, pattern),
-        SKIPS[dice.below(8)],
+        one_of(dice, &SKIPS),
         PATTERNS[pattern],
-        DEFINITIONS[dice.below(8)],
+        one_of(dice, &DEFINITIONS),
     )?)
 }
 
-/// One to six rows, and then the close. What is known after each is compared.
+/// An event, behind which what is known is compared.
+fn push_compared(
+    events: &mut Vec<Event>,
+    event: Event,
+    budget: u32,
+) -> Result<(), AllocFailed<Event>> {
+    events.push(event)?;
+    events.push(Event::Drain(budget))?;
+    events.push(Event::Compare)
+}
+
+/// One to six rows, and then the close.
 fn events(alloc: Global, dice: &mut Dice, budget: u32) -> Result<Vec<Event>, Fail> {
     let mut events = Vec::new(alloc);
     for _row in 0..dice.below(6) + 1 {
-        events.push(Event::Row(NUMBERS[dice.below(6)]))?;
-        events.push(Event::Drain(budget))?;
-        events.push(Event::Compare)?;
+        push_compared(&mut events, Event::Row(NUMBERS[dice.below(6)]), budget)?;
     }
-    events.push(Event::Close)?;
-    events.push(Event::Drain(budget))?;
-    events.push(Event::Compare)?;
+    push_compared(&mut events, Event::Close, budget)?;
     Ok(events)
 }
 

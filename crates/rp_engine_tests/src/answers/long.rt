@@ -3,11 +3,10 @@
 ghost use Rattle.std.specs.Prelude.{◌≡◌, ◌<◌};
 
 use super::driven::Driven;
-use rp_compile::compile;
+use crate::support::{query_of, row_of};
 use rp_query::Query;
 use rp_search::Steps;
-use rp_syntax::read_table;
-use rp_value::{Row, Table, Value};
+use rp_value::{Row, Table};
 use rp_walker::Poll;
 use std::alloc::Global;
 use std::marker::Brand;
@@ -23,11 +22,18 @@ struct Ran {
     kept: u64,
 }
 
-/// Rows whose numbers are 1 and 2 in turn, each polled as it comes, or all at once after the close.
+/// What came of a clause over rows whose numbers are 1 and 2 in turn, each polled as it comes, or all at once after the close.
+fn run_clause(alloc: Global, text: &str, rows: u64, each: bool) -> Result<Ran, Fail> {
+    let query = query_of(alloc, "p int", text)?;
+    let in_turn = two_rows(alloc, query.table())?;
+    run::<Brand>(Blank::new(1), alloc, query, &in_turn, rows, each)
+}
+
 fn run<L: Ledger>(
     blank: Blank,
     alloc: Global,
     query: Query,
+    in_turn: &[Row],
     rows: u64,
     each: bool,
 ) -> Result<Ran, Fail>
@@ -35,13 +41,17 @@ fn run<L: Ledger>(
     requires parts { blank.parts ≡ L.parts }
     requires shared { 0 < blank.parts }
 {
-    let in_turn = vec![in alloc;
-        row_of(alloc, query.table(), 1)?,
-        row_of(alloc, query.table(), 2)?,
-    ]?;
     let mut driven = Driven::new(alloc, query, false);
     let mut steps = Steps::<L>::new(blank);
-    feed(&mut driven, &in_turn, rows, each, &mut steps)
+    feed(&mut driven, in_turn, rows, each, &mut steps)
+}
+
+/// A row of 1 and one of 2.
+fn two_rows(alloc: Global, table: &Table) -> Result<Vec<Row>, Fail> {
+    let mut rows = Vec::new(alloc);
+    rows.push(row_of(alloc, table, 1)?)?;
+    rows.push(row_of(alloc, table, 2)?)?;
+    Ok(rows)
 }
 
 /// So many of these rows in turn, and then the close.
@@ -72,15 +82,6 @@ fn push_one(driven: &mut Driven, in_turn: &[Row], number: u64) -> Result<(), Fai
     }
 }
 
-fn query_of(alloc: Global, text: &str) -> Result<Query, Fail> {
-    let table = read_table(alloc, "p int")?;
-    Ok(compile(alloc, text, &table)?)
-}
-
-fn row_of(alloc: Global, table: &Table, number: i64) -> Result<Row, Fail> {
-    Ok(table.row(alloc, vec![in alloc; Value::Int(number)]?)?)
-}
-
 /// Polls until it is idle.
 fn drain<L: Ledger>(driven: &mut Driven, steps: &mut Steps<L>, ran: &mut Ran) -> Result<(), Fail> {
     for _poll in 0..1_000_000 {
@@ -104,8 +105,7 @@ fn drain<L: Ledger>(driven: &mut Driven, steps: &mut Steps<L>, ran: &mut Ran) ->
 fn long_match(rt: &impl Abort, alloc: Global, rows: u64) -> Result<(), Fail> {
     let text =
         "MEASURES COUNT(*) AS c, SUM(p) AS s ALL ROWS PER MATCH PATTERN (A+) DEFINE A AS p > 0";
-    let query = query_of(alloc, text)?;
-    let ran = run::<Brand>(Blank::new(1), alloc, query, rows, false)?;
+    let ran = run_clause(alloc, text, rows, false)?;
     assert_eq!(rt; ran.items, rows.saturating_add(1));
     Ok(())
 }
@@ -113,8 +113,7 @@ fn long_match(rt: &impl Abort, alloc: Global, rows: u64) -> Result<(), Fail> {
 /// A match of each two rows, and the end. The row before a start row is still read.
 fn stream(rt: &impl Abort, alloc: Global, rows: u64) -> Result<(), Fail> {
     let text = "MEASURES B.p AS b PATTERN (A B) DEFINE A AS p = 1, B AS PREV(p) = 1";
-    let query = query_of(alloc, text)?;
-    let ran = run::<Brand>(Blank::new(1), alloc, query, rows, true)?;
+    let ran = run_clause(alloc, text, rows, true)?;
     assert_eq!(rt; ran.items, (rows / 2).saturating_add(1));
     assert!(rt; ran.kept <= 2, "{} rows kept", ran.kept);
     Ok(())

@@ -2,12 +2,11 @@
 ghost use Rattle.std.specs.Prelude.{◌≡◌, ◌<◌};
 
 use super::driven::Driven;
-use rp_compile::compile;
+use crate::support::query_of;
 use rp_eval::AllRows;
 use rp_query::{Item, Query};
 use rp_reference::{item_text, known_items};
 use rp_search::Steps;
-use rp_syntax::read_table;
 use rp_value::{Row, Text, Value};
 use rp_walker::{MatcherState, Poll};
 use rp_words::End;
@@ -42,19 +41,17 @@ pub enum Event {
 
 /// What is told of these events.
 pub fn play(alloc: Global, text: &str, events: &[Event]) -> Result<String, Fail> {
-    let query = query_of(alloc, text)?;
-    played::<Brand>(Blank::new(1), alloc, query, events, false)
+    told_of(alloc, text, events, false)
 }
 
 /// The same, where a call of the matcher that is refused memory is made again.
 pub fn play_again(alloc: Global, text: &str, events: &[Event]) -> Result<String, Fail> {
-    let query = query_of(alloc, text)?;
-    played::<Brand>(Blank::new(1), alloc, query, events, true)
+    told_of(alloc, text, events, true)
 }
 
-fn query_of(alloc: Global, text: &str) -> Result<Query, Fail> {
-    let table = read_table(alloc, "sym text, t int, p int")?;
-    Ok(compile(alloc, text, &table)?)
+fn told_of(alloc: Global, text: &str, events: &[Event], again: bool) -> Result<String, Fail> {
+    let query = query_of(alloc, "sym text, t int, p int", text)?;
+    played::<Brand>(Blank::new(1), alloc, query, events, again)
 }
 
 fn played<L: Ledger>(
@@ -74,6 +71,14 @@ fn played<L: Ledger>(
         player.act(*event, &mut steps)?;
     }
     Ok(player.told)
+}
+
+/// What came of a poll.
+#[derive(Clone, Copy)]
+enum Came {
+    Item,
+    Paused,
+    Idle,
 }
 
 /// A matcher, and what was told of it.
@@ -135,20 +140,32 @@ impl Player {
         Ok(())
     }
 
-    fn poll_once<L: Ledger>(&mut self, budget: u32, steps: &mut Steps<L>) -> Result<(), Fail> {
+    /// Polls, and tells the item where one comes.
+    fn poll<L: Ledger>(&mut self, budget: u32, steps: &mut Steps<L>) -> Result<Came, Fail> {
         match self.driven.poll(budget, steps)? {
-            Poll::Item(place, item) => self.tell(place, &item),
-            Poll::Paused => Ok(self.told.push_str("paused ")?),
-            Poll::Idle => Ok(self.told.push_str("idle ")?),
+            Poll::Item(place, item) => {
+                self.tell(place, &item)?;
+                Ok(Came::Item)
+            }
+            Poll::Paused => Ok(Came::Paused),
+            Poll::Idle => Ok(Came::Idle),
+        }
+    }
+
+    fn poll_once<L: Ledger>(&mut self, budget: u32, steps: &mut Steps<L>) -> Result<(), Fail> {
+        match self.poll(budget, steps)? {
+            Came::Item => Ok(()),
+            Came::Paused => Ok(self.told.push_str("paused ")?),
+            Came::Idle => Ok(self.told.push_str("idle ")?),
         }
     }
 
     fn next<L: Ledger>(&mut self, budget: u32, steps: &mut Steps<L>) -> Result<(), Fail> {
         for _poll in 0..100_000 {
-            match self.driven.poll(budget, steps)? {
-                Poll::Item(place, item) => return self.tell(place, &item),
-                Poll::Paused => {}
-                Poll::Idle => return Err(Fail::from("idle before an item came")),
+            match self.poll(budget, steps)? {
+                Came::Item => return Ok(()),
+                Came::Paused => {}
+                Came::Idle => return Err(Fail::from("idle before an item came")),
             }
         }
         Err(Fail::from("no item after 100,000 polls"))
@@ -156,10 +173,9 @@ impl Player {
 
     fn drain<L: Ledger>(&mut self, budget: u32, steps: &mut Steps<L>) -> Result<(), Fail> {
         for _poll in 0..100_000 {
-            match self.driven.poll(budget, steps)? {
-                Poll::Item(place, item) => self.tell(place, &item)?,
-                Poll::Paused => {}
-                Poll::Idle => return Ok(()),
+            match self.poll(budget, steps)? {
+                Came::Item | Came::Paused => {}
+                Came::Idle => return Ok(()),
             }
         }
         Err(Fail::from("idle after 100,000 polls"))
@@ -174,12 +190,17 @@ impl Player {
 
     fn compare(&mut self) -> Result<(), Fail> {
         let known = known_items(self.alloc, &self.query, &self.rows)?;
-        if known.as_slice() != self.items.as_slice() {
-            let text = self.query.text().as_str();
-            let told = format!(in self.alloc; "{text}: known {known:?}, given {:?}", self.items)?;
-            return Err(Fail::from(told));
+        if known.as_slice() == self.items.as_slice() {
+            return Ok(());
         }
-        Ok(())
+        self.differ(&known)
+    }
+
+    /// The items aren't those that are known.
+    fn differ(&self, known: &[String]) -> Result<(), Fail> {
+        let text = self.query.text().as_str();
+        let told = format!(in self.alloc; "{text}: known {known:?}, given {:?}", self.items)?;
+        Err(Fail::from(told))
     }
 
     fn save(&mut self) -> Result<(), Fail> {

@@ -2,8 +2,9 @@
 ghost use Rattle.std.specs.Prelude.{◌≡◌, ◌<◌, length, IsTrue, IfOk};
 ghost use Rattle.rp_eval.specs.GoesOn.{GoesOn};
 
+use crate::support::row_of;
 use rp_eval::AllRows;
-use rp_value::{Table, Value};
+use rp_value::Table;
 use rp_words::End;
 use std::alloc::Global;
 use std::test::Fail;
@@ -17,9 +18,7 @@ pub fn push(rows: &mut AllRows, table: &Table, alloc: Global, number: i64) -> Re
     if rows.end == End::Closed || rows.rows.len() >= 1_000_000 {
         return Ok(false);
     }
-    let cells = vec![in alloc; Value::Int(number)]?;
-    let row = table.row(alloc, cells)?;
-    rows.rows.push(row)?;
+    rows.rows.push(row_of(alloc, table, number)?)?;
     Ok(true)
 }
 

@@ -5,12 +5,11 @@ ghost use Rattle.rp_eval.specs.Partition.{Rows as Known};
 ghost use Rattle.rp_engine_tests.specs.Searched.{StandsOver};
 
 use super::growing::{close, push};
-use rp_compile::compile;
+use crate::support::query_of;
 use rp_conditions::{Entries, Tester, law_tests};
 use rp_eval::{AllRows, Rows, Totals, law_totals};
 use rp_query::Query;
 use rp_search::{Outcome, Search, Steps, law_search};
-use rp_syntax::read_table;
 use rp_words::{End, Label};
 use std::alloc::{AllocError, Global};
 use std::marker::Brand;
@@ -20,8 +19,7 @@ use std::test::Fail;
 /// What a search from row 1 comes to with each row, and after a bar with the close: the letters of a match, `waits` or
 /// `none`.
 pub fn searched(alloc: Global, text: &str, numbers: &[i64]) -> Result<String, Fail> {
-    let table = read_table(alloc, "p int")?;
-    let query = compile(alloc, text, &table)?;
+    let query = query_of(alloc, "p int", text)?;
     counted::<Brand>(Blank::new(1), alloc, &query, numbers)
 }
 
@@ -35,31 +33,44 @@ fn counted<L: Ledger>(
     requires parts { blank.parts ≡ L.parts }
     requires shared { 0 < blank.parts }
 {
-    law_search();
-    law_tests();
-    law_totals();
-    let _sound = query.plan();
     let mut told = String::new(alloc);
     let mut rows = AllRows {
         rows: Vec::new(alloc),
         end: End::Open,
     };
     let mut steps = Steps::<L>::new(blank);
+    tell_each(alloc, query, numbers, &mut rows, &mut steps, &mut told)?;
+    Ok(told)
+}
+
+/// Tells what a search from row 1 comes to with each of these rows, and with the close.
+fn tell_each<L: Ledger>(
+    alloc: Global,
+    query: &Query,
+    numbers: &[i64],
+    rows: &mut AllRows,
+    steps: &mut Steps<L>,
+    told: &mut String,
+) -> Result<(), Fail> {
+    law_search();
+    law_tests();
+    law_totals();
+    let _sound = query.plan();
     let (mut search, mut totals) = begun(alloc, query)?;
     'numbers: for number in numbers {
-        if !push(&mut rows, query.table(), alloc, *number)? {
-            return Ok(told);
+        if !push(rows, query.table(), alloc, *number)? {
+            return Ok(());
         }
-        totals = run(query, &rows, &mut search, totals, &mut steps, &mut told)?;
+        totals = run(query, rows, &mut search, totals, steps, told)?;
         told.push(' ')?;
     }
     if rows.last() == 0 {
-        return Ok(told);
+        return Ok(());
     }
-    close(&mut rows);
+    close(rows);
     told.push_str("| ")?;
-    run(query, &rows, &mut search, totals, &mut steps, &mut told)?;
-    Ok(told)
+    run(query, rows, &mut search, totals, steps, told)?;
+    Ok(())
 }
 
 /// A search from row 1, and the totals of no label.

@@ -1,13 +1,15 @@
 //! How many rows are asked for.
-ghost use Rattle.std.specs.Prelude.{◌≡◌};
+ghost use Rattle.std.specs.Prelude.{◌≡◌, ◌≤◌, length};
+ghost use Rattle.rp_eval.specs.Entered.{AreTotals};
 
-use super::plans::{Of, entered, numbered, plan};
+use super::plans::{Of, is_number, numbered, placed, total, totals_of};
 use crate::support::label;
-use rp_eval::{AllRows, Cell, Rows, View, condition, measure};
-use rp_query::{Condition, Edge, Expr, Function, Navigation, RowsOf, Step};
+use rp_eval::{AllRows, Rows, Totals, View, condition};
+use rp_query::{Condition, Edge, Expr, Function};
 use rp_value::{Comparison, Row, Value};
 use rp_words::{End, Label, Seen};
-use std::alloc::Global;
+use std::alloc::{AllocError, Global};
+use std::process::Abort;
 use std::test::Fail;
 
 /// Rows, and a count of the calls that asked for one.
@@ -59,13 +61,6 @@ impl Rows for Counted {
     ghost dropped = { λ c row column low. none_below_one c.rows.rows.items row column low };
 }
 
-fn sum(number: usize) -> Expr {
-    Expr::Aggregate {
-        number,
-        is_final: false,
-    }
-}
-
 fn at_most(value: Expr, number: i64) -> Condition {
     Condition::Compare(
         Comparison::LessOrEqual,
@@ -92,38 +87,81 @@ fn two_runs(
     Ok(labels)
 }
 
+/// At each row of a match of ones, a sum of them is at hand.
+fn ones_are_summed(
+    rt: &impl Abort,
+    rows: &Counted,
+    labels: &[Label],
+    totals: &Totals,
+) -> Result<(), AllocError>
+    requires on_rows { length labels.now ≤ length rows.now.rows.rows.items }
+    requires totals { AreTotals totals.now rows.now.rows.rows.items 1 labels.now }
+{
+    let few = at_most(total(0, false), 10);
+    let all = total(1, false);
+    let mut want = 0_i64;
+    for current in 1..1001 {
+        let view = View {
+            rows,
+            start: 1,
+            labels,
+            current,
+            number: 1,
+            totals,
+        };
+        assert_eq!(rt; condition(&few, &view) == Seen::True, current <= 10);
+        want = want.saturating_add(1);
+        is_number(rt, &all, &view, want)?;
+    }
+    Ok(())
+}
+
+/// Whether sums over these rows of ones read no row.
+fn no_row_is_read(
+    rt: &impl Abort,
+    alloc: Global,
+    rows: &Counted,
+    labels: &[Label],
+) -> Result<(), Fail> {
+    let planned = [(Of::A, Function::Sum(1)), (Of::Every, Function::Sum(1))];
+    assert!(rt; labels.len() == 1000 && rows.last() == 1000);
+    let totals = totals_of(alloc, &planned, rows, labels)?;
+    rows.asked.set(0);
+    ones_are_summed(rt, rows, labels, &totals)?;
+    assert_eq!(rt; rows.asked.get(), 0);
+    Ok(())
+}
+
 /// A sum of many rows is at hand without a row being read, at each row of the match.
 #[test]
 fn sum_reads_no_row(rt: HostRuntime) -> Result<(), Fail> {
     let alloc = rt.alloc();
-    let totals = [(Of::A, Function::Sum(1)), (Of::Every, Function::Sum(1))];
-    let plan = plan(alloc, &totals)?;
     let rows = Counted::new(numbered(alloc, &[1; 1000], End::Open)?);
     let labels = two_runs(alloc, 0, 1000, 0, 0)?;
-    assert!(rt; labels.len() == 1000 && rows.last() == 1000);
-    let totals = entered(alloc, &plan, &rows, 1, &labels)?;
-    let few = at_most(sum(0), 10);
-    let all = sum(1);
+    no_row_is_read(&rt, alloc, &rows, &labels)
+}
+
+/// Whether `LAST(A.p, 3)` over these rows of fives is one look.
+fn one_row_is_read(
+    rt: &impl Abort,
+    alloc: Global,
+    rows: &Counted,
+    labels: &[Label],
+) -> Result<(), Fail> {
+    assert!(rt; labels.len() == 1004 && rows.last() == 1004);
+    let totals = totals_of(alloc, &[(Of::A, Function::Listed)], rows, labels)?;
+    let view = View {
+        rows,
+        start: 1,
+        labels,
+        current: 1004,
+        number: 1,
+        totals: &totals,
+    };
+    let at_most_5 = at_most(placed(0, Edge::Last, 3), 5);
     rows.asked.set(0);
-    let mut want = 0_i64;
-    for current in 1..1001 {
-        let view = View {
-            rows: &rows,
-            start: 1,
-            labels: &labels,
-            current,
-            number: 1,
-            totals: &totals,
-        };
-        let seen = condition(&few, &view);
-        assert_eq!(rt; seen == Seen::True, current <= 10);
-        want = want.saturating_add(1);
-        match measure(&all, &view)? {
-            Cell::Ready(Value::Int(sum)) => assert_eq!(rt; sum, want),
-            _ => assert!(rt; false, "a sum"),
-        }
-    }
-    assert_eq!(rt; rows.asked.get(), 0);
+    assert_eq!(rt; condition(&at_most_5, &view), Seen::True);
+    assert_eq!(rt; rows.asked.get(), 1);
     Ok(())
 }
 
@@ -131,29 +169,7 @@ fn sum_reads_no_row(rt: HostRuntime) -> Result<(), Fail> {
 #[test]
 fn last_reads_one_row(rt: HostRuntime) -> Result<(), Fail> {
     let alloc = rt.alloc();
-    let plan = plan(alloc, &[(Of::A, Function::Listed)])?;
     let rows = Counted::new(numbered(alloc, &[5; 1004], End::Open)?);
     let labels = two_runs(alloc, 0, 4, 1, 1000)?;
-    assert!(rt; labels.len() == 1004 && rows.last() == 1004);
-    let totals = entered(alloc, &plan, &rows, 1, &labels)?;
-    let last = Expr::Navigation(Navigation {
-        rows_of: RowsOf::Listed(0),
-        is_final: false,
-        edge: Edge::Last,
-        places: 3,
-        step: Step::Ahead(0),
-        column: 1,
-    });
-    let view = View {
-        rows: &rows,
-        start: 1,
-        labels: &labels,
-        current: 1004,
-        number: 1,
-        totals: &totals,
-    };
-    rows.asked.set(0);
-    assert_eq!(rt; condition(&at_most(last, 5), &view), Seen::True);
-    assert_eq!(rt; rows.asked.get(), 1);
-    Ok(())
+    one_row_is_read(&rt, alloc, &rows, &labels)
 }

@@ -1,11 +1,14 @@
 //! Long matches. What a row costs doesn't go up with their length, which `.ci/cost` shows.
-use super::plans::{Of, entered, numbered, plan};
+ghost use Rattle.std.specs.Prelude.{◌≡◌, ◌≤◌, length};
+ghost use Rattle.rp_eval.specs.Entered.{AreTotals};
+
+use super::plans::{Of, is_number, numbered, placed, total, totals_of};
 use crate::support::label;
-use rp_eval::{AllRows, Cell, Rows, View, condition, measure};
-use rp_query::{Condition, Edge, Expr, Function, Navigation, RowsOf, Step};
-use rp_value::{Comparison, Value};
+use rp_eval::{AllRows, Rows, Totals, View, condition};
+use rp_query::{Condition, Edge, Function};
+use rp_value::Comparison;
 use rp_words::{End, Label, Seen};
-use std::alloc::Global;
+use std::alloc::{AllocError, Global};
 use std::process::Abort;
 use std::test::Fail;
 
@@ -31,54 +34,47 @@ fn labels_of_a(alloc: Global, count: usize) -> Result<Vec<Label>, Fail> {
     Ok(labels)
 }
 
-/// `FIRST(A.p, places)` or `LAST(A.p, places)`
-fn placed(edge: Edge, places: u64) -> Expr {
-    Expr::Navigation(Navigation {
-        rows_of: RowsOf::Listed(0),
-        is_final: false,
-        edge,
-        places,
-        step: Step::Ahead(0),
-        column: 1,
-    })
-}
-
-/// Each label is entered. At each row `FIRST(A.p, 2) = LAST(A.p, 3)` is true from the fourth row on, and `SUM(p)` is 7
-/// more than before.
-fn match_of(rt: &impl Abort, alloc: Global, count: usize) -> Result<(), Fail> {
-    let totals = [(Of::A, Function::Listed), (Of::Every, Function::Sum(1))];
-    let plan = plan(alloc, &totals)?;
-    let rows = sevens(alloc, count)?;
-    let labels = labels_of_a(alloc, count)?;
-    assert_eq!(rt; labels.len(), rows.rows.len());
-    let totals = entered(alloc, &plan, &rows, 1, &labels)?;
+/// At each row `FIRST(A.p, 2) = LAST(A.p, 3)` is true from the fourth row on, and `SUM(p)` is 7 more than before.
+fn sevens_are_summed(
+    rt: &impl Abort,
+    rows: &AllRows,
+    labels: &[Label],
+    totals: &Totals,
+) -> Result<(), AllocError>
+    requires on_rows { length labels.now ≤ length rows.now.rows.items }
+    requires totals { AreTotals totals.now rows.now.rows.items 1 labels.now }
+{
     let is_same = Condition::Compare(
         Comparison::Equal,
-        placed(Edge::First, 2),
-        placed(Edge::Last, 3),
+        placed(0, Edge::First, 2),
+        placed(0, Edge::Last, 3),
     );
-    let sum = Expr::Aggregate {
-        number: 1,
-        is_final: false,
-    };
+    let sum = total(1, false);
     let mut want = 0_i64;
     for current in 1..rows.last() + 1 {
         let view = View {
-            rows: &rows,
+            rows,
             start: 1,
-            labels: &labels,
+            labels,
             current,
             number: 1,
-            totals: &totals,
+            totals,
         };
         assert_eq!(rt; condition(&is_same, &view) == Seen::True, current >= 4);
         want = want.saturating_add(7);
-        match measure(&sum, &view)? {
-            Cell::Ready(Value::Int(number)) => assert_eq!(rt; number, want),
-            _ => assert!(rt; false),
-        }
+        is_number(rt, &sum, &view, want)?;
     }
     Ok(())
+}
+
+/// Each label of a match of sevens is entered.
+fn match_of(rt: &impl Abort, alloc: Global, count: usize) -> Result<(), Fail> {
+    let planned = [(Of::A, Function::Listed), (Of::Every, Function::Sum(1))];
+    let rows = sevens(alloc, count)?;
+    let labels = labels_of_a(alloc, count)?;
+    assert_eq!(rt; labels.len(), rows.rows.len());
+    let totals = totals_of(alloc, &planned, &rows, &labels)?;
+    Ok(sevens_are_summed(rt, &rows, &labels, &totals)?)
 }
 
 #[test]

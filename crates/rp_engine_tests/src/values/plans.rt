@@ -1,17 +1,41 @@
 //! Rows in a list, plans and labels.
 ghost use Rattle.std.specs.Prelude.{◌≡◌, ◌+◌, ◌-◌, ◌^◌, ◌<◌, ◌≤◌, IfOk, length};
 ghost use Rattle.rp_eval.specs.Entered.{AreTotals};
+ghost use Rattle.rp_eval.specs.Looks.{Looks};
 
 use rp_eval::{AllRows, Cell, Rows, Totals, View, measure};
-use rp_query::{Expr, Function, Total, Variables};
-use rp_value::{Kind, Table, Text, Value};
+use rp_query::{Edge, Expr, Function, Navigation, RowsOf, Step, Total, Variables};
+use rp_value::{Kind, Row, Table, Text, Value};
 use rp_words::{End, Label};
 use std::alloc::{AllocError, Global};
+use std::process::Abort;
 use std::rc::Rc;
 use std::test::Fail;
 
-pub fn text(alloc: Global, letters: &str) -> Result<Value, AllocError> {
+fn text(alloc: Global, letters: &str) -> Result<Value, AllocError> {
     Ok(Value::Text(Text::new(alloc, String::from_str(alloc, letters)?)?))
+}
+
+/// The columns p, of whole numbers, and t, of texts.
+fn columns(alloc: Global) -> Result<Table, Fail> {
+    let p = (String::from_str(alloc, "p")?, Kind::Int);
+    let t = (String::from_str(alloc, "t")?, Kind::Text);
+    Ok(Table::new(alloc, vec![in alloc; p, t]?)?)
+}
+
+/// A row of these cells. What isn't given is null.
+fn row_of(
+    alloc: Global,
+    table: &Table,
+    number: Option<i64>,
+    letters: Option<&str>,
+) -> Result<Row, Fail> {
+    let p = number.map_or(Value::Null, Value::Int);
+    let t = match letters {
+        None => Value::Null,
+        Some(letters) => text(alloc, letters)?,
+    };
+    Ok(table.row(alloc, vec![in alloc; p, t]?)?)
 }
 
 /// Rows of a whole number and a text.
@@ -20,17 +44,10 @@ pub fn rows_of_cells(
     cells: &[(Option<i64>, Option<&str>)],
     end: End,
 ) -> Result<AllRows, Fail> {
-    let p = (String::from_str(alloc, "p")?, Kind::Int);
-    let t = (String::from_str(alloc, "t")?, Kind::Text);
-    let table = Table::new(alloc, vec![in alloc; p, t]?)?;
+    let table = columns(alloc)?;
     let mut rows = Vec::new(alloc);
     for (number, letters) in cells {
-        let p = number.map_or(Value::Null, Value::Int);
-        let t = match letters {
-            None => Value::Null,
-            Some(letters) => text(alloc, letters)?,
-        };
-        rows.push(table.row(alloc, vec![in alloc; p, t]?)?)?;
+        rows.push(row_of(alloc, &table, *number, *letters)?)?;
     }
     Ok(AllRows { rows, end })
 }
@@ -92,6 +109,53 @@ pub fn entered<R: Rows>(
         totals.enter(rows, start, &labels[..depth + 1])?;
     }
     Ok(totals)
+}
+
+/// The totals of these labels from row 1 on, by a plan.
+pub fn totals_of<R: Rows>(
+    alloc: Global,
+    totals: &[(Of, Function)],
+    rows: &R,
+    labels: &[Label],
+) -> Result<Totals, Fail>
+    requires { length labels.now ≤ length (R.known rows.now) }
+    ensures { IfOk result (λ totals. AreTotals totals (R.known rows.now) 1 labels.now) }
+{
+    let plan = plan(alloc, totals)?;
+    Ok(entered(alloc, &plan, rows, 1, labels)?)
+}
+
+/// A total of the plan by its number.
+pub fn total(number: usize, is_final: bool) -> Expr {
+    Expr::Aggregate { number, is_final }
+}
+
+/// `FIRST(p, places)` or `LAST(p, places)`, of the rows in this list of the plan.
+pub fn placed(list: usize, edge: Edge, places: u64) -> Expr {
+    Expr::Navigation(Navigation {
+        rows_of: RowsOf::Listed(list),
+        is_final: false,
+        edge,
+        places,
+        step: Step::Ahead(0),
+        column: 1,
+    })
+}
+
+/// Whether a measure is this number at the current row.
+pub fn is_number<'a, R: Rows>(
+    rt: &impl Abort,
+    expr: &'a Expr,
+    view: &View<'a, R>,
+    want: i64,
+) -> Result<(), AllocError>
+    requires { Looks R.known view.now }
+{
+    match measure(expr, view)? {
+        Cell::Ready(Value::Int(number)) => assert_eq!(rt; number, want),
+        _ => assert!(rt; false, "a number"),
+    }
+    Ok(())
 }
 
 /// A value as text: `7`, `'a'`, `null` or `open`.

@@ -1,16 +1,16 @@
 //! A call that is refused memory, made again, answers as with ample memory.
 ghost use Rattle.std.specs.Prelude.{◌≡◌, ◌+◌, ◌≤◌, ℕ, [], IfOk, length};
 ghost use Rattle.rp_eval.specs.Entered.{AreTotals};
+ghost use Rattle.rp_eval.specs.Looks.{Looks};
 ghost use Rattle.rp_eval.specs.Partition.{Rows as Known};
 
-use super::plans::{Of, plan, rows_of_cells, shown};
-use crate::support::{label, refused_twice};
-use rp_compile::compile;
+use super::plans::{Of, placed, plan, rows_of_cells, shown, total};
+use crate::support::{label, query_of, refused_twice};
 use rp_eval::{Rows, Totals, View};
-use rp_query::{Edge, Expr, Function, Navigation, Query, RowsOf, Step, Total};
-use rp_syntax::read_table;
+use rp_query::{Edge, Expr, Function, Query, Total};
 use rp_words::{End, Label};
-use std::alloc::Global;
+use std::alloc::{AllocError, Global};
+use std::process::Abort;
 use std::rc::Rc;
 use std::test::Fail;
 
@@ -51,15 +51,63 @@ const PLANNED: [(Of, Function); 4] = [
     (Of::AOrB, Function::Sum(1)),
 ];
 
+/// The totals of that plan.
+fn planned_again<R: Rows>(alloc: Global, rows: &R, labels: &[Label]) -> Result<Totals, Fail>
+    requires { length labels.now ≤ length (R.known rows.now) }
+    ensures { IfOk result (λ totals. AreTotals totals (R.known rows.now) 1 labels.now) }
+{
+    let plan = plan(alloc, &PLANNED)?;
+    entered_again(alloc, &plan, rows, labels)
+}
+
+/// The values of a measure at each of the six rows. Where one is refused, all are worked out again.
+fn again<R: Rows>(alloc: Global, expr: &Expr, view: &View<R>) -> Result<String, Fail>
+    requires { Looks R.known view.now }
+{
+    match shown(alloc, expr, view, 6) {
+        Ok(shown) => Ok(shown),
+        Err(_) => match shown(alloc, expr, view, 6) {
+            Ok(shown) => Ok(shown),
+            Err(_) => Err(refused_twice()),
+        },
+    }
+}
+
+/// Whether a measure has these values at each of the six rows.
+fn is_told<R: Rows>(
+    rt: &impl Abort,
+    alloc: Global,
+    expr: &Expr,
+    view: &View<R>,
+    want: &str,
+) -> Result<(), Fail>
+    requires { Looks R.known view.now }
+{
+    let told = again(alloc, expr, view)?;
+    assert_eq!(rt; told.as_str(), want);
+    Ok(())
+}
+
+/// Whether each total of the plan is told.
+fn are_told<R: Rows>(rt: &impl Abort, alloc: Global, view: &View<R>) -> Result<(), Fail>
+    requires { Looks R.known view.now }
+{
+    let six_texts =
+        "'a longer text' 'a longer text' 'a longer text' 'a longer text' 'a longer text' 'a longer text'";
+    is_told(rt, alloc, &total(3, false), view, "1 2 3 4 4 5")?;
+    is_told(rt, alloc, &total(1, true), view, six_texts)?;
+    let first_of_b = placed(2, Edge::First, 1);
+    is_told(rt, alloc, &first_of_b, view, "null null 1 1 1 1")
+}
+
 #[test]
 fn refused_totals(rt: HostRuntime) -> Result<(), Fail> {
     let alloc = rt.alloc();
-    let plan = plan(alloc, &PLANNED)?;
     let cells = [(Some(1), Some("a longer text")); 12];
     let rows = rows_of_cells(alloc, &cells, End::Open)?;
     let labels = [label(0), label(1), label(1), label(0), label(3), label(0)];
     assert!(rt; rows.last() == 12);
-    let totals = entered_again(alloc, &plan, &rows, &labels)?;
+    let totals = planned_again(alloc, &rows, &labels)?;
     let view = View {
         rows: &rows,
         start: 1,
@@ -68,29 +116,7 @@ fn refused_totals(rt: HostRuntime) -> Result<(), Fail> {
         number: 1,
         totals: &totals,
     };
-    let sum = Expr::Aggregate {
-        number: 3,
-        is_final: false,
-    };
-    assert_eq!(rt; again(alloc, &sum, &view)?.as_str(), "1 2 3 4 4 5");
-    let greatest = Expr::Aggregate {
-        number: 1,
-        is_final: true,
-    };
-    assert_eq!(rt;
-        again(alloc, &greatest, &view)?.as_str(),
-        "'a longer text' 'a longer text' 'a longer text' 'a longer text' 'a longer text' 'a longer text'"
-    );
-    let first = Expr::Navigation(Navigation {
-        rows_of: RowsOf::Listed(2),
-        is_final: false,
-        edge: Edge::First,
-        places: 1,
-        step: Step::Ahead(0),
-        column: 1,
-    });
-    assert_eq!(rt; again(alloc, &first, &view)?.as_str(), "null null 1 1 1 1");
-    Ok(())
+    are_told(&rt, alloc, &view)
 }
 
 /// The totals of a query. A call that is refused is made again.
@@ -106,16 +132,35 @@ fn made_again(alloc: Global, query: &Query) -> Result<Totals, Fail>
     }
 }
 
-/// In an empty match nothing is counted, summed or found.
-#[test]
-fn refused_totals_of_a_query(rt: HostRuntime) -> Result<(), Fail> {
-    let alloc = rt.alloc();
-    let table = read_table(alloc, "p int, t text")?;
-    let text =
-        "MEASURES COUNT(*) AS c, SUM(p) AS s, FIRST(A.p) AS f, LAST(p) AS l, 7 AS k, CLASSIFIER() AS v PATTERN (A) DEFINE A AS p > 0";
-    let query = compile(alloc, text, &table)?;
-    let totals = made_again(alloc, &query)?;
+/// A measure at row 1, and a blank.
+fn push_measure<R: Rows>(
+    alloc: Global,
+    told: &mut String,
+    measure: &Expr,
+    view: &View<R>,
+) -> Result<(), AllocError>
+    requires { Looks R.known view.now }
+{
+    let shown = shown(alloc, measure, view, 1)?;
+    told.push_str(shown.as_str())?;
+    told.push(' ')
+}
+
+/// The measures of a query at row 1.
+fn measured<R: Rows>(alloc: Global, query: &Query, view: &View<R>) -> Result<String, AllocError>
+    requires { Looks R.known view.now }
+{
+    let mut told = String::new(alloc);
+    for measure in query.plan().measures.iter() {
+        push_measure(alloc, &mut told, measure, view)?;
+    }
+    Ok(told)
+}
+
+/// What is told of a query's totals in an empty match.
+fn told_of_nothing(alloc: Global, query: &Query) -> Result<String, Fail> {
     let rows = rows_of_cells(alloc, &[(Some(4), None)], End::Open)?;
+    let totals = made_again(alloc, query)?;
     let view = View {
         rows: &rows,
         start: 1,
@@ -124,26 +169,16 @@ fn refused_totals_of_a_query(rt: HostRuntime) -> Result<(), Fail> {
         number: 1,
         totals: &totals,
     };
-    let mut told = String::new(alloc);
-    for measure in query.plan().measures.iter() {
-        told.push_str(shown(alloc, measure, &view, 1)?.as_str())?;
-        told.push(' ')?;
-    }
-    assert_eq!(rt; told.as_str(), "0 null null null 7 null ");
-    Ok(())
+    Ok(measured(alloc, query, &view)?)
 }
 
-/// The values of a measure at each of the six rows. Where one is refused, all are worked out again.
-fn again<R: Rows>(alloc: Global, expr: &Expr, view: &View<R>) -> Result<String, Fail>
-    requires from_one { 1 ≤ view.now.start }
-    requires on_rows { view.now.start + length view.now.labels.now ≤ length (R.known view.now.rows.now) + 1 }
-    requires totals { AreTotals view.now.totals.now (R.known view.now.rows.now) view.now.start view.now.labels.now }
-{
-    match shown(alloc, expr, view, 6) {
-        Ok(shown) => Ok(shown),
-        Err(_) => match shown(alloc, expr, view, 6) {
-            Ok(shown) => Ok(shown),
-            Err(_) => Err(refused_twice()),
-        },
-    }
+/// In an empty match nothing is counted, summed or found.
+#[test]
+fn refused_totals_of_a_query(rt: HostRuntime) -> Result<(), Fail> {
+    let text =
+        "MEASURES COUNT(*) AS c, SUM(p) AS s, FIRST(A.p) AS f, LAST(p) AS l, 7 AS k, CLASSIFIER() AS v PATTERN (A) DEFINE A AS p > 0";
+    let query = query_of(rt.alloc(), "p int, t text", text)?;
+    let told = told_of_nothing(rt.alloc(), &query)?;
+    assert_eq!(rt; told.as_str(), "0 null null null 7 null ");
+    Ok(())
 }

@@ -1,5 +1,5 @@
 use Rattle.rp_engine_tests.proofs.GoingOn.{stands_on}
-use Rattle.rp_engine_tests.proofs.conditions.searched.counted.Goals as goal
+use Rattle.rp_engine_tests.proofs.conditions.searched.tell_each.Goals as goal
 
 pub run-requires-clause-stands : goal.run-requires-clause-stands
 run-requires-clause-stands g c =
