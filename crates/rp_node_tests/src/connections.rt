@@ -5,7 +5,7 @@ ghost use Rattle.rp_node.specs.GoingBack.{CanRestart};
 
 use super::support::{V, fixed_hasher, query_of, refused_twice};
 use rp_io::{MemoryInput, MemoryOutput};
-use rp_node::{Node, RestartFault, begin};
+use rp_node::{Begun, Node, RestartFault, begin};
 use rp_query::Query;
 use rp_serve::{RoundEnd, ServeFault, round};
 use std::alloc::{AllocError, Global};
@@ -154,16 +154,23 @@ fn saved_at_the_end(rt: HostRuntime) -> Result<(), Fail> {
 
 const TWO_ROWS: &str = "{\"row\":1,\"cells\":[\"x\",1,10]}\n{\"row\":2,\"cells\":[\"x\",2,8]}\n";
 
+/// The end of a second connection to a node that took the row, whose first reply isn't written.
+fn after_a_failed_write(alloc: Global) -> Result<RoundEnd<Node>, Fail>
+    ensures again { IfOk result (λ end. ForSome end.saved (λ bytes. CanRestart end.node.query bytes.items)) }
+{
+    let failing = Failing { write: 1, ..NONE };
+    let one = first(alloc, ROW, NONE)?.end;
+    Ok(connection(alloc, one.node, one.saved, TWO_ROWS, failing)?.end)
+}
+
 /// Where a reply isn't written the node goes back to what was saved before, and the next connection finds it so.
 #[test]
 fn goes_back(rt: HostRuntime) -> Result<(), Fail> {
-    let failing = Failing { write: 1, ..NONE };
-    let one = first(rt.alloc(), ROW, NONE)?;
-    let two = connection(rt.alloc(), one.end.node, one.end.saved, TWO_ROWS, failing)?;
-    assert!(rt; two.end.fault == Some(ServeFault::Write));
-    assert!(rt; holds(&two.end.saved, KEY));
-    let three = connection(rt.alloc(), two.end.node, two.end.saved, TWO_ROWS, NONE)?;
-    assert!(rt; three.writer.bytes() == "{\"taken\":\"repeat\"}\n{\"taken\":\"new\"}\n".as_bytes());
+    let end = after_a_failed_write(rt.alloc())?;
+    assert!(rt; end.fault == Some(ServeFault::Write));
+    assert!(rt; holds(&end.saved, KEY));
+    let next = connection(rt.alloc(), end.node, end.saved, TWO_ROWS, NONE)?;
+    assert!(rt; next.writer.bytes() == "{\"taken\":\"repeat\"}\n{\"taken\":\"new\"}\n".as_bytes());
     Ok(())
 }
 
@@ -229,32 +236,45 @@ fn saved_row(alloc: Global) -> Result<Option<Vec<u8>>, Fail> {
 #[test]
 fn begins_at_what_was_saved(rt: HostRuntime) -> Result<(), Fail> {
     let alloc = rt.alloc();
-    let begun = begin(
-        alloc,
-        query_of(alloc, V)?,
-        fixed_hasher()?,
-        saved_row(alloc)?,
-    )?;
+    let begun = begun(alloc, V, saved_row(alloc)?)?;
     assert!(rt; begun.refused.is_none());
     let ended = connection(alloc, begun.node, begun.saved, ROW, NONE)?;
     assert!(rt; ended.writer.bytes() == "{\"taken\":\"repeat\"}\n".as_bytes());
     Ok(())
 }
 
-/// Bytes that were cut, or are of another clause, are refused, and the node begins with nothing.
+/// How a node of a clause begins from these bytes.
+fn begun(alloc: Global, clause: &str, saved: Option<Vec<u8>>) -> Result<Begun, Fail>
+    ensures again { IfOk result (λ begun. ForSome begun.saved (λ bytes. CanRestart begun.node.query bytes.items)) }
+{
+    Ok(begin(alloc, query_of(alloc, clause)?, fixed_hasher()?, saved)?)
+}
+
+/// A node begins with nothing where nothing was saved.
 #[test]
 fn begins_with_nothing(rt: HostRuntime) -> Result<(), Fail> {
-    let alloc = rt.alloc();
-    let begun = begin(alloc, query_of(alloc, V)?, fixed_hasher()?, None)?;
+    let begun = begun(rt.alloc(), V, None)?;
     assert!(rt; begun.refused.is_none() && begun.saved.is_none());
-    let mut cut = saved_row(alloc)?;
+    Ok(())
+}
+
+/// Bytes that were cut are refused, and the node begins with nothing.
+#[test]
+fn begins_without_cut_bytes(rt: HostRuntime) -> Result<(), Fail> {
+    let mut cut = saved_row(rt.alloc())?;
     if let Some(bytes) = &mut cut {
         let _last = bytes.pop();
     }
-    let begun = begin(alloc, query_of(alloc, V)?, fixed_hasher()?, cut)?;
+    let begun = begun(rt.alloc(), V, cut)?;
     assert!(rt; begun.refused == Some(RestartFault::Digest) && begun.saved.is_none());
-    let other = query_of(alloc, "PATTERN (A) DEFINE A AS p = 1")?;
-    let begun = begin(alloc, other, fixed_hasher()?, saved_row(alloc)?)?;
+    Ok(())
+}
+
+/// So are those of another clause.
+#[test]
+fn begins_without_those_of_another_clause(rt: HostRuntime) -> Result<(), Fail> {
+    let saved = saved_row(rt.alloc())?;
+    let begun = begun(rt.alloc(), "PATTERN (A) DEFINE A AS p = 1", saved)?;
     assert!(rt; begun.refused == Some(RestartFault::ClauseDiffers) && begun.saved.is_none());
     Ok(())
 }

@@ -15,7 +15,7 @@ use rp_query::Query;
 use rp_reference::Dice;
 use rp_search::Steps;
 use simulated::{Simulated, Whole};
-use std::alloc::Global;
+use std::alloc::{AllocError, Global};
 use std::env;
 use std::env::VarError;
 use std::marker::Brand;
@@ -77,8 +77,7 @@ fn schedules<L: Ledger>(blank: Blank, alloc: Global, query: &Query, seed: u64) -
     let mut dice = Dice::new(seed);
     let partition = Partition::new(alloc, query, &mut dice)?;
     for schedule in 0..SCHEDULES {
-        let text = query.text().as_str();
-        let name = format!(in alloc; "{text}, seed {seed}, schedule {schedule}")?;
+        let name = name_of(alloc, query, seed, schedule)?;
         let whole = Whole {
             name: name.as_str(),
             query,
@@ -89,6 +88,12 @@ fn schedules<L: Ledger>(blank: Blank, alloc: Global, query: &Query, seed: u64) -
     Ok(())
 }
 
+/// What a schedule is called where it fails.
+fn name_of(alloc: Global, query: &Query, seed: u64, schedule: usize) -> Result<String, AllocError> {
+    let text = query.text().as_str();
+    format!(in alloc; "{text}, seed {seed}, schedule {schedule}")
+}
+
 /// One schedule of three nodes.
 fn run<L: Ledger>(
     alloc: Global,
@@ -96,17 +101,32 @@ fn run<L: Ledger>(
     dice: &mut Dice,
     steps: &mut Steps<L>,
 ) -> Result<(), Fail> {
-    let mut first = Simulated::new(alloc, whole)?;
-    let mut second = Simulated::new(alloc, whole)?;
-    let mut third = Simulated::new(alloc, whole)?;
+    let mut nodes = Vec::new(alloc);
+    for _ in 0..3 {
+        nodes.push(Simulated::new(alloc, whole)?)?;
+    }
+    act(nodes.as_mut_slice(), dice, steps)?;
+    finish(nodes.as_mut_slice(), steps)
+}
+
+/// Events, each of any of the nodes.
+fn act<L: Ledger>(
+    nodes: &mut [Simulated<'_>],
+    dice: &mut Dice,
+    steps: &mut Steps<L>,
+) -> Result<(), Fail> {
     for _event in 0..EVENTS {
-        match dice.below(3) {
-            0 => first.act(dice, steps)?,
-            1 => second.act(dice, steps)?,
-            _ => third.act(dice, steps)?,
+        if let Some(node) = nodes.get_mut(dice.below(3)) {
+            node.act(dice, steps)?;
         }
     }
-    first.finish(1, steps)?;
-    second.finish(100_000, steps)?;
-    third.finish(7, steps)
+    Ok(())
+}
+
+/// All nodes take all that is left, and are polled by other budgets.
+fn finish<L: Ledger>(nodes: &mut [Simulated<'_>], steps: &mut Steps<L>) -> Result<(), Fail> {
+    for (node, budget) in nodes.iter_mut().zip([1, 100_000, 7]) {
+        node.finish(budget, steps)?;
+    }
+    Ok(())
 }

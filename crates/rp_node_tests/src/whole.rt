@@ -3,6 +3,7 @@
 mod forms;
 mod lines;
 mod records;
+mod running;
 mod told;
 
 /// A match for each row.

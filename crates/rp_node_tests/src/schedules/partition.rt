@@ -22,24 +22,37 @@ pub struct Partition {
 
 impl Partition {
     pub fn new(alloc: Global, query: &Query, dice: &mut Dice) -> Result<Partition, Fail> {
-        let mut rows = AllRows {
-            rows: Vec::new(alloc),
-            end: End::Open,
+        let mut partition = Partition {
+            rows: AllRows {
+                rows: Vec::new(alloc),
+                end: End::Open,
+            },
+            answer: Vec::new(alloc),
+            known: Vec::new(alloc),
         };
-        let mut known = Vec::new(alloc);
-        known.push(known_items(alloc, query, &rows)?.len())?;
+        partition.fill(alloc, query, dice)?;
+        Ok(partition)
+    }
+
+    /// Rows come, one after another, and then the close.
+    fn fill(&mut self, alloc: Global, query: &Query, dice: &mut Dice) -> Result<(), Fail> {
+        self.count_known(alloc, query)?;
         for place in 0..dice.below(MANY_ROWS as u64) {
             let number = (place as u64).saturating_add(1);
-            rows.rows.push(row_of(alloc, number, cell(dice))?)?;
-            known.push(known_items(alloc, query, &rows)?.len())?;
+            let row = row_of(alloc, number, cell(dice))?;
+            self.rows.rows.push(row)?;
+            self.count_known(alloc, query)?;
         }
-        rows.end = End::Closed;
-        let answer = known_items(alloc, query, &rows)?;
-        Ok(Partition {
-            rows,
-            answer,
-            known,
-        })
+        self.rows.end = End::Closed;
+        self.answer = known_items(alloc, query, &self.rows)?;
+        Ok(())
+    }
+
+    /// Counts the items that are known of the rows so far.
+    fn count_known(&mut self, alloc: Global, query: &Query) -> Result<(), Fail> {
+        let items = known_items(alloc, query, &self.rows)?;
+        self.known.push(items.len())?;
+        Ok(())
     }
 
     pub fn count(&self) -> usize {

@@ -3,7 +3,10 @@ use super::TICKS;
 use crate::support::{V, fixed_hasher, key_of, query_of};
 use rp_input::rows_of;
 use rp_io::MemoryOutput;
+use rp_query::Query;
+use rp_value::Row;
 use rp_whole::{Unwatched, write_csv, write_lines, write_objects};
+use std::alloc::Global;
 use std::num::NonZeroU64;
 use std::test::Fail;
 
@@ -16,42 +19,23 @@ x,1,10,6,9
 {\"SYM\":\"x\",\"N\":1,\"A\":10,\"LO\":6,\"HI\":9}
 ";
 
+/// The rows of the ticks.
+fn ticks(alloc: Global, query: &Query) -> Result<Vec<Row>, Fail> {
+    Ok(rows_of(alloc, TICKS.as_bytes(), query.table())?)
+}
+
 /// One query answers the same rows as lines, as CSV and as objects, one behind the other.
 #[test]
 fn each_form(rt: HostRuntime) -> Result<(), Fail> {
     let alloc = rt.alloc();
     let query = query_of(alloc, V)?;
-    let mut sink = MemoryOutput::new(alloc, 4096, 100, 0)?;
-    let rows = rows_of(alloc, TICKS.as_bytes(), query.table())?;
-    let given_up = write_lines(
-        alloc,
-        &query,
-        rows,
-        None,
-        &mut sink,
-        &mut Unwatched,
-        fixed_hasher()?,
-    )?;
-    let rows = rows_of(alloc, TICKS.as_bytes(), query.table())?;
-    let in_csv = write_csv(
-        alloc,
-        &query,
-        rows,
-        None,
-        &mut sink,
-        &mut Unwatched,
-        fixed_hasher()?,
-    )?;
-    let rows = rows_of(alloc, TICKS.as_bytes(), query.table())?;
-    let in_objects = write_objects(
-        alloc,
-        &query,
-        rows,
-        None,
-        &mut sink,
-        &mut Unwatched,
-        fixed_hasher()?,
-    )?;
+    let (mut sink, watch) = (MemoryOutput::new(alloc, 4096, 100, 0)?, &mut Unwatched);
+    let (rows, hasher) = (ticks(alloc, &query)?, fixed_hasher()?);
+    let given_up = write_lines(alloc, &query, rows, None, &mut sink, watch, hasher)?;
+    let (rows, hasher) = (ticks(alloc, &query)?, fixed_hasher()?);
+    let in_csv = write_csv(alloc, &query, rows, None, &mut sink, watch, hasher)?;
+    let (rows, hasher) = (ticks(alloc, &query)?, fixed_hasher()?);
+    let in_objects = write_objects(alloc, &query, rows, None, &mut sink, watch, hasher)?;
     assert!(rt; given_up.is_empty());
     assert!(rt; in_csv.stopped.is_empty() && in_csv.halted.is_empty());
     assert!(rt; in_objects.stopped.is_empty() && in_objects.halted.is_empty());

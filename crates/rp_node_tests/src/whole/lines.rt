@@ -1,10 +1,11 @@
 //! Answers as lines, over devices in memory.
-use super::{EACH, TICKS};
-use crate::support::{V, fixed_hasher, query_of, refused_twice};
+use super::TICKS;
+use super::running::{Form, each_write_fails, refused, run, second_block_fails};
+use crate::support::{V, fixed_hasher, query_of};
 use rp_input::CsvFault;
 use rp_io::{MemoryInput, MemoryOutput};
 use rp_value::Cells;
-use rp_whole::{Unwatched, Watch, WholeFault, run_whole};
+use rp_whole::{Watch, WholeFault, run_whole};
 use std::alloc::{AllocError, Global};
 use std::test::Fail;
 
@@ -14,30 +15,6 @@ const TICKS_ANSWERED: &str = "\
 {\"end\":true,\"key\":[\"y\"],\"place\":\"1\"}
 ";
 
-/// Answers a clause, and says how the run ended. A run that is out of memory ends the test.
-fn run(
-    alloc: Global,
-    clause: &str,
-    source: &mut MemoryInput,
-    sink: &mut MemoryOutput,
-    reads: u64,
-) -> Result<Option<WholeFault>, Fail> {
-    let query = query_of(alloc, clause)?;
-    match run_whole(
-        alloc,
-        query,
-        source,
-        sink,
-        &mut Unwatched,
-        reads,
-        fixed_hasher()?,
-    ) {
-        Ok(()) => Ok(None),
-        Err(WholeFault::OutOfMemory) => Err(Fail::from(WholeFault::OutOfMemory)),
-        Err(fault) => Ok(Some(fault)),
-    }
-}
-
 /// The input of 51 bytes comes in seven reads of at most eight bytes, and the end in another.
 #[test]
 fn each_read_fails(rt: HostRuntime) -> Result<(), Fail> {
@@ -45,7 +22,7 @@ fn each_read_fails(rt: HostRuntime) -> Result<(), Fail> {
     for failing in 1..9 {
         let mut source = MemoryInput::new(TICKS.as_bytes(), 8, failing);
         let mut sink = MemoryOutput::new(alloc, 4096, 100, 0)?;
-        let fault = run(alloc, V, &mut source, &mut sink, 1_000)?;
+        let fault = run(alloc, Form::Lines, V, &mut source, &mut sink, 1_000)?;
         assert_eq!(rt; fault, Some(WholeFault::Csv(CsvFault::Read)));
         assert_eq!(rt; source.calls(), failing);
         assert!(rt; sink.bytes().is_empty());
@@ -53,7 +30,7 @@ fn each_read_fails(rt: HostRuntime) -> Result<(), Fail> {
     for reads in 0..8 {
         let mut source = MemoryInput::new(TICKS.as_bytes(), 8, 0);
         let mut sink = MemoryOutput::new(alloc, 4096, 100, 0)?;
-        let fault = run(alloc, V, &mut source, &mut sink, reads)?;
+        let fault = run(alloc, Form::Lines, V, &mut source, &mut sink, reads)?;
         assert_eq!(rt; fault, Some(WholeFault::Csv(CsvFault::Turns)));
         assert_eq!(rt; source.calls(), reads);
         assert!(rt; sink.bytes().is_empty());
@@ -61,23 +38,16 @@ fn each_read_fails(rt: HostRuntime) -> Result<(), Fail> {
     Ok(())
 }
 
-/// The 134 bytes go in twenty writes of at most seven. One that fails leaves what those before it took.
+/// The 134 bytes go in twenty writes of at most seven.
 #[test]
-fn each_write_fails(rt: HostRuntime) -> Result<(), Fail> {
+fn each_write(rt: HostRuntime) -> Result<(), Fail> {
     let alloc = rt.alloc();
-    let want = TICKS_ANSWERED.as_bytes();
-    for taken in 0..20 {
-        let mut source = MemoryInput::new(TICKS.as_bytes(), 1_000, 0);
-        let mut sink = MemoryOutput::new(alloc, 4096, 7, taken + 1)?;
-        let fault = run(alloc, V, &mut source, &mut sink, 1_000)?;
-        assert_eq!(rt; fault, Some(WholeFault::Write));
-        assert_eq!(rt; sink.bytes().len() as u64, 7 * taken);
-        assert!(rt; want.starts_with(sink.bytes()));
-    }
+    each_write_fails(&rt, alloc, Form::Lines, TICKS_ANSWERED, 20)?;
     let mut source = MemoryInput::new(TICKS.as_bytes(), 1_000, 0);
     let mut sink = MemoryOutput::new(alloc, 4096, 7, 21)?;
-    assert_eq!(rt; run(alloc, V, &mut source, &mut sink, 1_000)?, None);
-    assert!(rt; sink.bytes() == want);
+    let fault = run(alloc, Form::Lines, V, &mut source, &mut sink, 1_000)?;
+    assert_eq!(rt; fault, None);
+    assert!(rt; sink.bytes() == TICKS_ANSWERED.as_bytes());
     Ok(())
 }
 
@@ -95,23 +65,12 @@ fn many(alloc: Global) -> Result<(String, String), AllocError> {
     Ok((input, want))
 }
 
-/// Some 110 KB of lines are more than a block. Where the second block can't be written, the first one stays.
+/// Some 110 KB of lines are more than a block.
 #[test]
 fn more_than_a_block(rt: HostRuntime) -> Result<(), Fail> {
     let alloc = rt.alloc();
     let (input, want) = many(alloc)?;
-    let want = want.as_str().as_bytes();
-    let mut source = MemoryInput::new(input.as_str().as_bytes(), 1_000_000, 0);
-    let mut sink = MemoryOutput::new(alloc, want.len(), 1_000_000, 0)?;
-    assert_eq!(rt; run(alloc, EACH, &mut source, &mut sink, 9)?, None);
-    assert!(rt; sink.bytes() == want);
-    let mut source = MemoryInput::new(input.as_str().as_bytes(), 1_000_000, 0);
-    let mut sink = MemoryOutput::new(alloc, want.len(), 1_000_000, 2)?;
-    let fault = run(alloc, EACH, &mut source, &mut sink, 9)?;
-    assert_eq!(rt; fault, Some(WholeFault::Write));
-    assert!(rt; sink.bytes().len() >= 65_536);
-    assert!(rt; want.starts_with(sink.bytes()));
-    Ok(())
+    second_block_fails(&rt, alloc, Form::Lines, input.as_str(), want.as_str())
 }
 
 /// Partition `a` is answered at once. In `b`, whose last part never comes, each start row has twice as many words to be
@@ -139,7 +98,7 @@ fn found_is_written_early(rt: HostRuntime) -> Result<(), Fail> {
     let input = slow(alloc)?;
     let mut source = MemoryInput::new(input.as_str().as_bytes(), 1_000, 0);
     let mut sink = MemoryOutput::new(alloc, 4096, 1_000, 2)?;
-    let fault = run(alloc, SLOW, &mut source, &mut sink, 9)?;
+    let fault = run(alloc, Form::Lines, SLOW, &mut source, &mut sink, 9)?;
     assert_eq!(rt; fault, Some(WholeFault::Write));
     assert!(rt; sink.bytes() == want.as_bytes());
     Ok(())
@@ -200,47 +159,8 @@ fn progress_is_told(rt: HostRuntime) -> Result<(), Fail> {
     Ok(())
 }
 
-/// A run that is refused memory has written a front of the answer, and made again gives what it gives with ample memory.
+/// Lines that are refused memory.
 #[test]
 fn refused_whole(rt: HostRuntime) -> Result<(), Fail> {
-    let alloc = rt.alloc();
-    let query = query_of(alloc, V)?;
-    let again = query.share()?;
-    let want = TICKS_ANSWERED.as_bytes();
-    let mut sink = MemoryOutput::new(alloc, 4096, 100, 0)?;
-    let mut source = MemoryInput::new(TICKS.as_bytes(), 1_000, 0);
-    match run_whole(
-        alloc,
-        query,
-        &mut source,
-        &mut sink,
-        &mut Unwatched,
-        9,
-        fixed_hasher()?,
-    ) {
-        Err(WholeFault::OutOfMemory) => {
-            assert!(rt; want.starts_with(sink.bytes()));
-            let mut sink = MemoryOutput::new(alloc, 4096, 100, 0)?;
-            let mut source = MemoryInput::new(TICKS.as_bytes(), 1_000, 0);
-            if run_whole(
-                alloc,
-                again,
-                &mut source,
-                &mut sink,
-                &mut Unwatched,
-                9,
-                fixed_hasher()?,
-            )
-            .is_err()
-            {
-                return Err(refused_twice());
-            }
-            assert!(rt; sink.bytes() == want);
-        }
-        first => {
-            first?;
-            assert!(rt; sink.bytes() == want);
-        }
-    }
-    Ok(())
+    refused(&rt, rt.alloc(), Form::Lines, TICKS_ANSWERED)
 }
