@@ -1,11 +1,10 @@
 //! Columns and variables that aren't there.
 
-use crate::words::{BEHIND, is_missing_function};
+use crate::words::{is_missing_function, misplaced_behind};
 use rp_lexer::{Keyword, TokenKind};
 use rp_value::Table;
 use rp_wording::{
-    Advice, Pieces, Reading, column_names, index_of, inside_quotes, look_up, meant, nearest,
-    upper_case,
+    Advice, Pieces, Reading, column_names, index_of, inside_quotes, meant, nearest, upper_case,
 };
 use std::alloc::{AllocError, Global};
 
@@ -43,7 +42,7 @@ fn column_guess(
     if let Some(index) = nearest(alloc, written, names)? {
         return Ok(name_line(alloc, names, index));
     }
-    match look_up(&BEHIND, written) {
+    match misplaced_behind(written) {
         Some(found) => Ok(Pieces::filled(alloc, "{}\n", &[found.help])),
         None => Ok(Pieces::new(alloc)),
     }

@@ -6,9 +6,9 @@ use crate::instead::instead;
 use crate::parts::{of_parts, of_structure};
 use crate::pattern_hints::of_pattern;
 use crate::rewriting::rewritten;
-use crate::words::{BEHIND, FUNCTIONS, HERE, KNOWN};
+use crate::words::{KNOWN, misplaced_behind, misplaced_word, missing_function};
 use rp_lexer::{Keyword, TokenKind};
-use rp_wording::{Advice, Hint, Part, Pieces, Reading, is_one_of, look_up, nearest, said};
+use rp_wording::{Advice, Hint, Part, Pieces, Reading, is_one_of, nearest, said};
 use std::alloc::{AllocError, Global};
 
 /// The words with which the parts of a clause begin.
@@ -99,7 +99,7 @@ fn outside(reading: &Reading<'_>) -> Option<Hint> {
         return said("no bracket is open here", "leave this one out");
     }
     if reading.at == 0 && reading.kind(0) == Some(TokenKind::Keyword(Keyword::With)) {
-        return look_up(&HERE, "SELECT");
+        return misplaced_word("SELECT");
     }
     None
 }
@@ -107,17 +107,17 @@ fn outside(reading: &Reading<'_>) -> Option<Hint> {
 /// What the tables say of the word here and of the word before it.
 fn of_words(reading: &Reading<'_>) -> Option<Hint> {
     if reading.is_name() {
-        if let Some(found) = look_up(&HERE, reading.here()) {
+        if let Some(found) = misplaced_word(reading.here()) {
             return Some(found);
         }
     }
     if reading.here().eq_ignore_ascii_case("NOT") {
-        if let Some(found) = look_up(&HERE, reading.next(1)) {
+        if let Some(found) = misplaced_word(reading.next(1)) {
             return Some(found);
         }
     }
     if reading.kind_back(1) == Some(TokenKind::Name) {
-        return look_up(&BEHIND, reading.back(1));
+        return misplaced_behind(reading.back(1));
     }
     None
 }
@@ -133,7 +133,7 @@ fn is_call(reading: &Reading<'_>) -> bool {
 /// A function that there isn't.
 fn no_function(alloc: Global, name: &str) -> Result<Advice, AllocError> {
     let what = Pieces::filled(alloc, "there is no function {}", &[name]);
-    if let Some(found) = look_up(&FUNCTIONS, name) {
+    if let Some(found) = missing_function(name) {
         return Ok(Advice::with_what(alloc, what, found.help));
     }
     let mut help = guess(alloc, name, KNOWN)?;

@@ -27,7 +27,7 @@ const CASES: &str = "write a variable for each case, joined by |, and CLASSIFIER
 const COLUMN: &str = "let one more column of the file have the value";
 
 /// Words that can't stand where they are met.
-pub(crate) const HERE: [Entry; 25] = [
+const HERE: [Entry; 25] = [
     ("SELECT FROM CREATE INSERT UNION JOIN", ROUND, COLUMNS),
     (
         "WHERE HAVING FILTER QUALIFY",
@@ -124,7 +124,7 @@ pub(crate) const HERE: [Entry; 25] = [
 ];
 
 /// Words after which a clause can't go on as they are meant.
-pub(crate) const BEHIND: [Entry; 7] = [
+const BEHIND: [Entry; 7] = [
     (
         "SELECT",
         "there are no subqueries",
@@ -147,7 +147,7 @@ pub(crate) const BEHIND: [Entry; 7] = [
 ];
 
 /// Functions that there aren't, and what to write in place of each.
-pub(crate) const FUNCTIONS: [Entry; 15] = [
+const FUNCTIONS: [Entry; 15] = [
     (
         "AVG MEAN AVERAGE",
         "there is no such function",
@@ -229,9 +229,24 @@ pub(crate) const FUNCTIONS: [Entry; 15] = [
 /// The functions that there are.
 pub(crate) const KNOWN: &str = "COUNT SUM MIN MAX FIRST LAST PREV NEXT CLASSIFIER MATCH_NUMBER";
 
+/// What is told of a word that can't stand where it is met. (Each function that names a table has all of it to prove.)
+pub(crate) fn misplaced_word(word: &str) -> Option<Hint> {
+    look_up(&HERE, word)
+}
+
+/// What is told of a word after which a clause can't go on as it is meant.
+pub(crate) fn misplaced_behind(word: &str) -> Option<Hint> {
+    look_up(&BEHIND, word)
+}
+
+/// What is told of the name of a function that there isn't.
+pub(crate) fn missing_function(name: &str) -> Option<Hint> {
+    look_up(&FUNCTIONS, name)
+}
+
 /// Whether a word, in any case, is the name of a function that people know from elsewhere and that there isn't.
 pub fn is_missing_function(word: &str) -> bool {
-    look_up(&FUNCTIONS, word).is_some()
+    missing_function(word).is_some()
 }
 
 /// What is told where SQL round the clause is met, and what to write in place of it.
