@@ -1,6 +1,7 @@
 //! Why a CSV input is no rows of columns that are computed.
 
 use crate::csv_text::write_at;
+use crate::fault_lines::{csv_fault_line, name_of, source_of};
 use crate::field::{Wanted, at_record, place_told, record_at};
 use crate::first_line::{BLANKS, empty_input, push_fields};
 use crate::heading::of_above;
@@ -41,7 +42,8 @@ pub fn explain_csv_by(
         layout,
         bytes,
     };
-    let mut report = headline(alloc, &input, fault)?;
+    let line = csv_fault_line(alloc, input.columns, fault)?;
+    let mut report = Report::of(alloc, "csv", line.as_str())?;
     explain(alloc, &mut report, &input, fault)?;
     Ok(report)
 }
@@ -73,51 +75,6 @@ pub fn explain_no_header(alloc: Global, bytes: &[u8], delimiter: u8) -> Result<R
     let mut report = Report::new(alloc, "csv", &ColumnsCsvFault::Header)?;
     of_no_header(alloc, &mut report, bytes, delimiter)?;
     Ok(report)
-}
-
-/// The fault's own line, with the name of its column.
-fn headline(
-    alloc: Global,
-    input: &Input<'_>,
-    fault: &ColumnsCsvFault,
-) -> Result<Report, AllocError> {
-    match fault {
-        ColumnsCsvFault::Missing(index) => of_source(alloc, input, "Missing {}", *index),
-        ColumnsCsvFault::Double(index) => of_source(alloc, input, "Double {}", *index),
-        ColumnsCsvFault::Field(number, index, why) => {
-            let name = name_of(input.columns, *index);
-            let told = format!(in alloc; "{why} at record {number}, column {name}")?;
-            Report::of(alloc, "csv", told.as_str())
-        }
-        fault => Report::new(alloc, "csv", fault),
-    }
-}
-
-/// A fault's own line that has the name that the header should have for a column.
-fn of_source(
-    alloc: Global,
-    input: &Input<'_>,
-    form: &str,
-    index: usize,
-) -> Result<Report, AllocError> {
-    let told = Pieces::filled(alloc, form, &[source_of(input.columns, index)]);
-    Report::of(alloc, "csv", told.text()?)
-}
-
-/// The name of a column, by its index.
-fn name_of(columns: &[InputColumn], index: usize) -> &str {
-    match columns.get(index) {
-        Some(column) => column.name.as_str(),
-        None => "",
-    }
-}
-
-/// The name that the header has for a column, by its index.
-fn source_of(columns: &[InputColumn], index: usize) -> &str {
-    match columns.get(index) {
-        Some(column) => column.source.as_str(),
-        None => "",
-    }
 }
 
 /// Explains an input that has no header.

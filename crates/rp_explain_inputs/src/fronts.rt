@@ -105,11 +105,8 @@ const FRONTS: [(&[u8], &str, &str); 22] = [
 
 /// What the bytes are, where they are no text.
 pub(crate) fn of_front(bytes: &[u8]) -> Option<Hint> {
-    let text = without_mark(bytes);
-    for (front, what, help) in &FRONTS {
-        if text.starts_with(front) {
-            return said(what, help);
-        }
+    if let Some(found) = known_front(without_mark(bytes)) {
+        return Some(found);
     }
     if bytes.contains(&0) {
         return said(
@@ -123,8 +120,16 @@ pub(crate) fn of_front(bytes: &[u8]) -> Option<Hint> {
 /// Whether the bytes begin as those of a file do that is no CSV. A header may begin with a bracket, and a text have a byte 0.
 pub(crate) fn is_foreign(bytes: &[u8]) -> bool {
     let bytes = without_mark(bytes);
-    let known = FRONTS
-        .iter()
-        .any(|(front, _what, _help)| bytes.starts_with(front));
-    known && (!bytes.starts_with(b"[") || bytes.starts_with(b"[{"))
+    let is_list = bytes.starts_with(b"[") && !bytes.starts_with(b"[{");
+    known_front(bytes).is_some() && !is_list
+}
+
+/// What the bytes are, where they begin as those of a file do that is no CSV.
+fn known_front(bytes: &[u8]) -> Option<Hint> {
+    for (front, what, help) in &FRONTS {
+        if bytes.starts_with(front) {
+            return said(what, help);
+        }
+    }
+    None
 }

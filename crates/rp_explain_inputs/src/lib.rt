@@ -8,6 +8,7 @@
 mod by_columns;
 mod columns_text;
 mod csv_text;
+mod fault_lines;
 mod field;
 mod first_line;
 mod fronts;
@@ -27,6 +28,7 @@ mod stray_lines;
 pub use by_columns::{explain_csv_by, explain_no_header};
 pub use columns_text::{explain_columns, explain_zone};
 pub use csv_text::explain_csv;
+pub use fault_lines::{csv_fault_line, objects_fault_line};
 pub use lost_zeros::describe_zeros;
 pub use objects::explain_objects;
 pub use proposal_notes::explain_proposal;

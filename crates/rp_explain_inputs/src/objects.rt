@@ -1,5 +1,6 @@
 //! Why lines of JSON are no rows of columns.
 
+use crate::fault_lines::objects_fault_line;
 use rp_columns::{Columns, InputColumn};
 use rp_objects::{FieldFault, ObjectsFault};
 use rp_place::Place;
@@ -40,7 +41,8 @@ pub fn explain_objects(
             let Some(column) = columns.as_slice().get(*index) else {
                 return Report::new(alloc, "json", fault);
             };
-            of_field(alloc, bytes, *line, column, *why)
+            let told = objects_fault_line(alloc, columns.as_slice(), fault)?;
+            of_field(alloc, bytes, *line, column, *why, told.as_str())
         }
         ObjectsFault::OutOfMemory => Report::new(alloc, "json", fault),
     }
@@ -53,11 +55,10 @@ fn of_field(
     line: u64,
     column: &InputColumn,
     why: FieldFault,
+    told: &str,
 ) -> Result<Report, AllocError> {
-    let name = column.name.as_str();
-    let told = format!(in alloc; "{why} at line {line}, column {name}")?;
     let mut what = Pieces::of(alloc, "column ");
-    what.push_name(name);
+    what.push_name(column.name.as_str());
     what.push_filled(
         ", which comes from {}, has no value here",
         &[column.source.as_str()],
