@@ -4,6 +4,7 @@ use crate::progress::Progress;
 use crate::zones::with_zones;
 use rp_columns::{Columns, InputColumn, read_columns};
 use rp_command::{InputFormat, InputOptions};
+use rp_explain_inputs::{csv_fault_line, objects_fault_line};
 use rp_input::{
     ColumnsCsvFault, CsvLayout, is_delimiter, read_rows, read_rows_by, rows_by, rows_of,
 };
@@ -11,7 +12,6 @@ use rp_io::{CountedDevice, Intake, READS};
 use rp_objects::{ObjectsFault, rows_by_objects};
 use rp_syntax::read_table;
 use rp_value::{Row, Table, Text};
-use rp_wording::shown_text;
 use std::alloc::{AllocError, Global};
 use std::fs::File;
 use std::io::{self, Read};
@@ -352,38 +352,12 @@ fn columns_fault(
         ColumnsCsvFault::OutOfMemory => ProgramFault::OutOfMemory,
         ColumnsCsvFault::Header => ProgramFault::CsvHeader,
         ColumnsCsvFault::Record(number) => ProgramFault::CsvRecord(number),
-        ColumnsCsvFault::Missing(index) => {
-            let source = shown_text(alloc, source_of(columns, index))?;
-            ProgramFault::Input(format!(in alloc; "csv: Missing {source}")?)
-        }
-        ColumnsCsvFault::Double(index) => {
-            let source = shown_text(alloc, source_of(columns, index))?;
-            ProgramFault::Input(format!(in alloc; "csv: Double {source}")?)
-        }
-        ColumnsCsvFault::Field(number, index, why) => {
-            let column = shown_text(alloc, name_of(columns, index))?;
-            ProgramFault::Input(format!(in alloc;
-                "csv: {why} at record {number}, column {column}"
-            )?)
+        fault => {
+            let line = csv_fault_line(alloc, columns, &fault)?;
+            ProgramFault::Input(format!(in alloc; "csv: {line}")?)
         }
     };
     in_file(alloc, name, fault)
-}
-
-/// The name of a column, by its index.
-fn name_of(columns: &[InputColumn], index: usize) -> &str {
-    match columns.get(index) {
-        Some(column) => column.name.as_str(),
-        None => "",
-    }
-}
-
-/// The name that the header has for a column, by its index.
-fn source_of(columns: &[InputColumn], index: usize) -> &str {
-    match columns.get(index) {
-        Some(column) => column.source.as_str(),
-        None => "",
-    }
 }
 
 /// The fault of objects, as `json: Form at line 3, column CENTS`.
@@ -393,13 +367,10 @@ fn objects_fault(
     columns: &[InputColumn],
     fault: ObjectsFault,
 ) -> Result<ProgramFault, AllocError> {
-    let told = match fault {
-        ObjectsFault::OutOfMemory => return Ok(ProgramFault::OutOfMemory),
-        ObjectsFault::Field(line, index, why) => {
-            let column = shown_text(alloc, name_of(columns, index))?;
-            format!(in alloc; "json: {why} at line {line}, column {column}")?
-        }
-        fault => format!(in alloc; "json: {fault}")?,
-    };
+    if fault == ObjectsFault::OutOfMemory {
+        return Ok(ProgramFault::OutOfMemory);
+    }
+    let line = objects_fault_line(alloc, columns, &fault)?;
+    let told = format!(in alloc; "json: {line}")?;
     in_file(alloc, name, ProgramFault::Input(told))
 }

@@ -10,6 +10,7 @@ use crate::fault::ProgramFault;
 use crate::input::table_of;
 use crate::seed::seeded_hasher;
 use crate::state::StateFile;
+use crate::telling::tell;
 use rp_command::NodeJob;
 use rp_compile::compile;
 use rp_io::{CountedDevice, Outlet, READS, write_all};
@@ -185,7 +186,7 @@ fn tell_refused(
     why: RestartFault,
 ) -> Result<(), ProgramFault> {
     let fault = ProgramFault::Checkpoint(why);
-    let _ = eprintln!(rt; "rowmatch: {fault}");
+    tell(rt, &fault);
     if why == RestartFault::ClauseDiffers
         && let Some(bytes) = file.read(rt)?
     {
@@ -194,9 +195,7 @@ fn tell_refused(
             Some(place) => {
                 let _ = eprintln!(rt; "rowmatch: clause differs from byte {place} on");
             }
-            None => {
-                let _ = eprintln!(rt; "rowmatch: table differs");
-            }
+            None => tell(rt, &"table differs"),
         }
     }
     Ok(())
@@ -214,9 +213,9 @@ fn tell_listening(rt: &HostRuntime, job: &NodeJob, listener: &TcpListener) {
 /// A fault is told always, and with `--verbose` how many lines were answered too.
 fn tell_end(rt: &HostRuntime, job: &NodeJob, number: u64, end: &RoundEnd<Node>, is_http: bool) {
     if is_http {
-        let _ = eprintln!(rt; "rowmatch: a client that speaks HTTP was turned away");
+        tell(rt, &"a client that speaks HTTP was turned away");
     } else if let Some(fault) = end.fault {
-        let _ = eprintln!(rt; "rowmatch: {fault}");
+        tell(rt, &fault);
     }
     if !job.verbose {
         return;

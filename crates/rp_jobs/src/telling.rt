@@ -1,13 +1,14 @@
-//! What a fault prints on standard error.
+//! What is printed on standard error.
 use crate::fault::ProgramFault;
+use std::fmt::Display;
 
 /// Tells the fault, and gives the one to end with: where help can't be written, that is a device's fault. What standard
 /// error doesn't take is lost.
 pub fn told(rt: &HostRuntime, fault: ProgramFault) -> ProgramFault {
     let ProgramFault::CommandLine(error) = &fault else {
-        let _ = eprintln!(rt; "rowmatch: {fault}");
+        tell(rt, &fault);
         if let ProgramFault::Refused(_, Some(text)) = &fault {
-            let _ = eprintln!(rt; "rowmatch: {text}");
+            tell(rt, text);
         }
         return fault;
     };
@@ -15,6 +16,11 @@ pub fn told(rt: &HostRuntime, fault: ProgramFault) -> ProgramFault {
         return fault;
     }
     let unwritten = ProgramFault::Write;
-    let _ = eprintln!(rt; "rowmatch: {unwritten}");
+    tell(rt, &unwritten);
     unwritten
+}
+
+/// Prints a line after the program's name. What standard error doesn't take is lost.
+pub(crate) fn tell<T: Display>(rt: &HostRuntime, line: &T) {
+    let _ = eprintln!(rt; "rowmatch: {line}");
 }
