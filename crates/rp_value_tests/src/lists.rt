@@ -1,5 +1,5 @@
 //! Lists of rows that share blocks of cells.
-use super::support::text;
+use super::support::{holds, same, text};
 use rp_value::{Row, RowList, Value};
 use std::alloc::{AllocError, Global};
 use std::test::Fail;
@@ -31,8 +31,8 @@ fn are_numbered(rows: &[Row]) -> bool {
 #[test]
 fn rows_of_several_blocks(rt: HostRuntime) -> Result<(), Fail> {
     let rows = numbered(rt.alloc(), 5000)?;
-    assert_eq!(rt; rows.len(), 5000);
-    assert!(rt; are_numbered(&rows));
+    same(&rt, rows.len(), 5000);
+    holds(&rt, are_numbered(&rows));
     Ok(())
 }
 
@@ -55,7 +55,7 @@ fn rows_of_several_widths(rt: HostRuntime) -> Result<(), Fail> {
         .iter()
         .map(|row| row.cells().len())
         .collect(rt.alloc())?;
-    assert_eq!(rt; widths.as_slice(), [2, 0, 0, 1].as_slice());
+    same(&rt, widths.as_slice(), [2, 0, 0, 1].as_slice());
     Ok(())
 }
 
@@ -63,9 +63,9 @@ fn rows_of_several_widths(rt: HostRuntime) -> Result<(), Fail> {
 fn cells_of_listed_rows(rt: HostRuntime) -> Result<(), Fail> {
     let rows = of_several_widths(rt.alloc())?;
     let second = rows.first().and_then(|row| row.cell(2));
-    assert_eq!(rt; second, Some(&Value::Int(2)));
+    same(&rt, second, Some(&Value::Int(2)));
     let last = rows.last().and_then(|row| row.cell(1));
-    assert_eq!(rt; last, Some(&Value::Null));
+    same(&rt, last, Some(&Value::Null));
     Ok(())
 }
 
@@ -75,13 +75,13 @@ fn listed_cells_are_taken(rt: HostRuntime) -> Result<(), Fail> {
     let mut list = RowList::new(rt.alloc());
     let mut cells = vec![in rt.alloc(); Value::Int(2)]?;
     list.push(&mut cells)?;
-    assert_eq!(rt; cells.len(), 0);
+    same(&rt, cells.len(), 0);
     Ok(())
 }
 
 #[test]
 fn a_list_of_no_rows(rt: HostRuntime) -> Result<(), Fail> {
-    assert_eq!(rt; RowList::new(rt.alloc()).into_rows()?.len(), 0);
+    same(&rt, RowList::new(rt.alloc()).into_rows()?.len(), 0);
     Ok(())
 }
 
@@ -94,10 +94,11 @@ fn rows_of_many_columns(rt: HostRuntime) -> Result<(), Fail> {
         list.push(&mut cells)?;
     }
     let rows = list.into_rows()?;
-    assert_eq!(rt; rows.len(), 20);
-    assert_eq!(rt;
+    same(&rt, rows.len(), 20);
+    same(
+        &rt,
         rows.last().and_then(|row| row.cell(1000)),
-        Some(&Value::Int(1000))
+        Some(&Value::Int(1000)),
     );
     Ok(())
 }

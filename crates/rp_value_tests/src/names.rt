@@ -1,5 +1,5 @@
 //! Names of columns.
-use super::support::{at_last, column};
+use super::support::{at_last, column, holds, same};
 use rp_value::{Kind, Table, TableFault, is_name_byte, upper_case_name};
 use std::alloc::{AllocError, Global};
 use std::process::Abort;
@@ -39,8 +39,11 @@ fn upper_case_names(rt: HostRuntime) -> Result<(), Fail> {
 
 #[test]
 fn bytes_of_names(rt: HostRuntime) {
-    assert!(rt; b"azAZ09_".iter().all(|byte| is_name_byte(*byte)));
-    assert!(rt; !b"@[`{/: $-.\xc3".iter().any(|byte| is_name_byte(*byte)));
+    holds(&rt, b"azAZ09_".iter().all(|byte| is_name_byte(*byte)));
+    holds(
+        &rt,
+        !b"@[`{/: $-.\xc3".iter().any(|byte| is_name_byte(*byte)),
+    );
 }
 
 /// What a table of one column of this name is refused with, unless memory is out.
@@ -63,8 +66,12 @@ fn names(rt: HostRuntime) -> Result<(), Fail> {
     let alloc = rt.alloc();
     let longest = "n".repeat(alloc, 128)?;
     let longer = "n".repeat(alloc, 129)?;
-    assert_eq!(rt; refusal(alloc, longest.as_str())?, None);
-    assert_eq!(rt; refusal(alloc, longer.as_str())?, Some(TableFault::BadName));
-    assert_eq!(rt; refusal(alloc, "")?, Some(TableFault::BadName));
+    same(&rt, refusal(alloc, longest.as_str())?, None);
+    same(
+        &rt,
+        refusal(alloc, longer.as_str())?,
+        Some(TableFault::BadName),
+    );
+    same(&rt, refusal(alloc, "")?, Some(TableFault::BadName));
     Ok(())
 }

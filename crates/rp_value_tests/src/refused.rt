@@ -1,5 +1,5 @@
 //! A call that is refused memory, made again, gives what it gives with ample memory.
-use super::support::{at_last, sale, sales, text};
+use super::support::{at_last, holds, sale, sales, same, text};
 use rp_value::{Cells, Kind, Row, RowFault, RowList, Table, TableFault, Value, same_values};
 use std::alloc::{AllocError, Global};
 use std::test::Fail;
@@ -36,11 +36,11 @@ fn refused_rows(rt: HostRuntime) -> Result<(), Fail> {
         .iter()
         .map(|row| row.cells().len())
         .collect(rt.alloc())?;
-    assert_eq!(rt; widths.as_slice(), [1, 2, 1].as_slice());
+    same(&rt, widths.as_slice(), [1, 2, 1].as_slice());
     let first = rows.first().and_then(|row| row.cell(1));
-    assert_eq!(rt; first, Some(&Value::Int(1)));
+    same(&rt, first, Some(&Value::Int(1)));
     let last = rows.last().and_then(|row| row.cell(1));
-    assert_eq!(rt; last, Some(&Value::Int(4)));
+    same(&rt, last, Some(&Value::Int(4)));
     Ok(())
 }
 
@@ -53,7 +53,7 @@ fn refused_texts(rt: HostRuntime) -> Result<(), Fail> {
     let alloc = rt.alloc();
     let value = text(alloc, "x").or_else(|_| at_last(text(alloc, "x")))?;
     let copy = value.share()?;
-    assert_eq!(rt; copy, value);
+    same(&rt, copy, value);
     Ok(())
 }
 
@@ -62,9 +62,9 @@ fn refused_keys(rt: HostRuntime) -> Result<(), Fail> {
     let alloc = rt.alloc();
     let key = Cells::new(sale(alloc)?);
     let copy = key.share(alloc).or_else(|_| at_last(key.share(alloc)))?;
-    assert!(rt; copy.same(&key));
-    assert!(rt; same_values(copy.as_slice(), key.as_slice()));
-    assert_eq!(rt; copy.into_vec(), key.into_vec());
+    holds(&rt, copy.same(&key));
+    holds(&rt, same_values(copy.as_slice(), key.as_slice()));
+    same(&rt, copy.into_vec(), key.into_vec());
     Ok(())
 }
 
@@ -73,14 +73,17 @@ fn refused_tables_and_rows(rt: HostRuntime) -> Result<(), Fail> {
     let alloc = rt.alloc();
     let table = sales(alloc).or_else(|_| at_last(sales(alloc)))?;
     let copy = table.share()?;
-    assert_eq!(rt; copy, table);
-    assert!(rt; copy.same(&table));
+    same(&rt, &copy, &table);
+    holds(&rt, copy.same(&table));
     let row = row_of(alloc, &copy).or_else(|_| at_last(row_of(alloc, &copy)))?;
     let twin = row.share()?;
-    assert!(rt; twin.same(&row));
-    assert_eq!(rt; twin, row);
-    assert!(rt; row.cell(1).is_some_and(|cell| Kind::Text.admits(cell)));
-    assert!(rt; row.cell(2).is_some_and(|cell| !Kind::Text.admits(cell)));
+    holds(&rt, twin.same(&row));
+    same(&rt, &twin, &row);
+    holds(&rt, row.cell(1).is_some_and(|cell| Kind::Text.admits(cell)));
+    holds(
+        &rt,
+        row.cell(2).is_some_and(|cell| !Kind::Text.admits(cell)),
+    );
     Ok(())
 }
 
@@ -100,7 +103,7 @@ fn boxed_kind(alloc: Global) -> Result<Box<Kind>, TableFault> {
 #[test]
 fn faults_of_memory(rt: HostRuntime) -> Result<(), Fail> {
     let alloc = rt.alloc();
-    assert_eq!(rt; *boxed_row(alloc, Value::Int(1))?, Value::Null);
-    assert_eq!(rt; *boxed_kind(alloc)?, Kind::Int);
+    same(&rt, &*boxed_row(alloc, Value::Int(1))?, &Value::Null);
+    same(&rt, &*boxed_kind(alloc)?, &Kind::Int);
     Ok(())
 }

@@ -1,6 +1,8 @@
 //! Cells, columns and tables for the tests.
 use rp_value::{Kind, Table, TableFault, Text, Value};
 use std::alloc::{AllocError, Global};
+use std::fmt;
+use std::process::Abort;
 use std::test::Fail;
 
 pub fn text(alloc: Global, letters: &str) -> Result<Value, AllocError> {
@@ -38,4 +40,15 @@ pub fn at_last<T, E: Drop>(given: Result<T, E>) -> Result<T, Fail> {
         Ok(value) => Ok(value),
         Err(_) => Err(refused_twice()),
     }
+}
+
+/// Ends a test in which a value isn't the one that is wanted. (In an `assert_eq!` of its own a test would have the text of its failure
+/// to prove as well.)
+pub fn same<T: PartialEq + fmt::Debug + Drop>(rt: &impl Abort, came: T, wanted: T) {
+    assert_eq!(rt; came, wanted);
+}
+
+/// Ends a test in which something doesn't hold.
+pub fn holds(rt: &impl Abort, is_so: bool) {
+    assert!(rt; is_so);
 }

@@ -2,7 +2,7 @@
 ghost use Rattle.std.specs.Prelude.{◌≡◌, [], ◌∷◌, IfOk, IfErr, string_bytes};
 ghost use Rattle.rp_value.specs.Tables.{kinds_of};
 
-use super::support::{column, sale, sales, text};
+use super::support::{column, holds, sale, sales, same, text};
 use rp_value::{Kind, Row, RowFault, Table, TableFault, Text, Value, check_cells};
 use std::alloc::{AllocError, Global};
 use std::fmt::Display;
@@ -28,11 +28,11 @@ fn fault_of_names(
 fn columns_that_make_no_table(rt: HostRuntime) -> Result<(), Fail> {
     let alloc = rt.alloc();
     let none = Table::new(alloc, Vec::new(alloc)).err();
-    assert_eq!(rt; none, Some(TableFault::NoColumns));
+    same(&rt, none, Some(TableFault::NoColumns));
     let double = fault_of_names(alloc, "A", None)?;
-    assert_eq!(rt; double, Some(TableFault::DoubleName));
+    same(&rt, double, Some(TableFault::DoubleName));
     let nameless = fault_of_names(alloc, "A", Some(""))?;
-    assert_eq!(rt; nameless, Some(TableFault::BadName));
+    same(&rt, nameless, Some(TableFault::BadName));
     Ok(())
 }
 
@@ -44,7 +44,7 @@ fn kinds_of_a_table(rt: HostRuntime) -> Result<(), Fail> {
         .iter()
         .map(|column| column.kind)
         .collect(rt.alloc())?;
-    assert_eq!(rt; kinds.as_slice(), [Kind::Text, Kind::Int].as_slice());
+    same(&rt, kinds.as_slice(), [Kind::Text, Kind::Int].as_slice());
     Ok(())
 }
 
@@ -72,7 +72,7 @@ fn a_priced_stock(rt: HostRuntime) -> Result<(), Fail> {
     let alloc = rt.alloc();
     let table = prices(alloc)?;
     let row = priced(alloc, &table, String::from_str(alloc, "ACME")?, 17)?;
-    assert_eq!(rt; row.cell(2), Some(&Value::Int(17)));
+    same(&rt, row.cell(2), Some(&Value::Int(17)));
     Ok(())
 }
 
@@ -94,7 +94,7 @@ fn one_text(alloc: Global) -> Result<Vec<Value>, AllocError> {
 
 /// Whether a table has no row of these cells, for this reason.
 fn is_refused(rt: &impl Abort, alloc: Global, table: &Table, cells: Vec<Value>, why: RowFault) {
-    assert_eq!(rt; table.row(alloc, cells).err(), Some(why));
+    same(rt, table.row(alloc, cells).err(), Some(why));
 }
 
 #[test]
@@ -111,9 +111,9 @@ fn cells_that_make_no_row(rt: HostRuntime) -> Result<(), Fail> {
 fn a_row(rt: HostRuntime) -> Result<(), Fail> {
     let table = sales(rt.alloc())?;
     let row = table.row(rt.alloc(), sale(rt.alloc())?)?;
-    assert_eq!(rt; row.cell(0), None);
-    assert_eq!(rt; row.cell(2), Some(&Value::Int(2)));
-    assert_eq!(rt; row.cell(3), None);
+    same(&rt, row.cell(0), None);
+    same(&rt, row.cell(2), Some(&Value::Int(2)));
+    same(&rt, row.cell(3), None);
     Ok(())
 }
 
@@ -126,17 +126,17 @@ fn nulls(alloc: Global, table: &Table) -> Result<Row, RowFault> {
 fn a_row_of_nulls(rt: HostRuntime) -> Result<(), Fail> {
     let table = sales(rt.alloc())?;
     let nulls = nulls(rt.alloc(), &table)?;
-    assert_eq!(rt; nulls.cells().len(), 2);
+    same(&rt, nulls.cells().len(), 2);
     let row = table.row(rt.alloc(), sale(rt.alloc())?)?;
-    assert!(rt; !row.same(&nulls));
+    holds(&rt, !row.same(&nulls));
     Ok(())
 }
 
 /// Whether the cells of a row fit columns of these kinds so, and never fewer columns.
 fn are_checked_so(rt: &impl Abort, cells: &[Value], kinds: &[([Kind; 2], Result<(), RowFault>)]) {
     for (kinds, expected) in kinds {
-        assert_eq!(rt; check_cells(kinds, cells), *expected);
-        assert_eq!(rt; check_cells(&kinds[..1], cells), Err(RowFault::Width));
+        same(rt, check_cells(kinds, cells), *expected);
+        same(rt, check_cells(&kinds[..1], cells), Err(RowFault::Width));
     }
 }
 
@@ -148,9 +148,9 @@ fn cells_of_kinds(rt: HostRuntime) -> Result<(), Fail> {
         ([Kind::Int, Kind::Text], Err(RowFault::Kind(1))),
     ];
     let cells = sale(rt.alloc())?;
-    assert_eq!(rt; cells.len(), 2);
+    same(&rt, cells.len(), 2);
     are_checked_so(&rt, &cells, &kinds);
-    assert_eq!(rt; check_cells(&[], &[]), Ok(()));
+    same(&rt, check_cells(&[], &[]), Ok(()));
     Ok(())
 }
 
@@ -162,7 +162,7 @@ fn is_told<F: Display + Drop>(
     want: &str,
 ) -> Result<(), Fail> {
     let text = format!(in alloc; "{fault}")?;
-    assert_eq!(rt; text.as_str(), want);
+    same(rt, text.as_str(), want);
     Ok(())
 }
 

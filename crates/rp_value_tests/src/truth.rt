@@ -1,4 +1,5 @@
 //! The three truth values, and judgements that a row still to come may change.
+use crate::support::same;
 use rp_value::{Judged, Tri};
 use std::process::Abort;
 use std::test::Fail;
@@ -6,10 +7,10 @@ use std::test::Fail;
 /// Two truth values with their AND and their OR.
 fn are_joined_so(rt: &impl Abort, table: &[(Tri, Tri, Tri, Tri)]) {
     for (left, right, least, greatest) in table {
-        assert_eq!(rt; left.and(*right), *least);
-        assert_eq!(rt; right.and(*left), *least);
-        assert_eq!(rt; left.or(*right), *greatest);
-        assert_eq!(rt; right.or(*left), *greatest);
+        same(rt, left.and(*right), *least);
+        same(rt, right.and(*left), *least);
+        same(rt, left.or(*right), *greatest);
+        same(rt, right.or(*left), *greatest);
     }
 }
 
@@ -24,19 +25,19 @@ fn three_truth_values(rt: HostRuntime) -> Result<(), Fail> {
         (Tri::False, Tri::False, Tri::False, Tri::False),
     ];
     are_joined_so(&rt, &table);
-    assert_eq!(rt; Tri::True.not(), Tri::False);
-    assert_eq!(rt; Tri::False.not(), Tri::True);
-    assert_eq!(rt; Tri::Unknown.not(), Tri::Unknown);
+    same(&rt, Tri::True.not(), Tri::False);
+    same(&rt, Tri::False.not(), Tri::True);
+    same(&rt, Tri::Unknown.not(), Tri::Unknown);
     Ok(())
 }
 
 /// Two judgements with their AND and their OR.
 fn are_judged_so(rt: &impl Abort, table: &[(Judged, Judged, Judged, Judged)]) {
     for (left, right, both, either) in table {
-        assert_eq!(rt; left.and(*right), *both);
-        assert_eq!(rt; right.and(*left), *both);
-        assert_eq!(rt; left.or(*right), *either);
-        assert_eq!(rt; right.or(*left), *either);
+        same(rt, left.and(*right), *both);
+        same(rt, right.and(*left), *both);
+        same(rt, left.or(*right), *either);
+        same(rt, right.or(*left), *either);
     }
 }
 
@@ -59,9 +60,9 @@ fn a_decided_side_decides(rt: HostRuntime) -> Result<(), Fail> {
         (open, open, open, open),
     ];
     are_judged_so(&rt, &table);
-    assert_eq!(rt; yes.not(), no);
-    assert_eq!(rt; no.not(), yes);
-    assert_eq!(rt; unknown.not(), unknown);
-    assert_eq!(rt; open.not(), open);
+    same(&rt, yes.not(), no);
+    same(&rt, no.not(), yes);
+    same(&rt, unknown.not(), unknown);
+    same(&rt, open.not(), open);
     Ok(())
 }

@@ -1,5 +1,5 @@
 //! Comparisons of values, arithmetic and exact sums.
-use super::support::text;
+use super::support::{holds, same, text};
 use rp_value::{
     Cells, Comparison, RunningSum, Tri, Value, law_sum, law_told_stays, law_value_order, total,
 };
@@ -29,9 +29,9 @@ fn compare_so(
 fn comparisons(rt: HostRuntime) -> Result<(), Fail> {
     let alloc = rt.alloc();
     let one = Value::Int(1);
-    assert_eq!(rt; one.compare(&Value::Null), None);
-    assert_eq!(rt; one.compare(&text(alloc, "1")?), None);
-    assert_eq!(rt; one.compare(&Value::Int(-2)), Some(Ordering::Greater));
+    same(&rt, one.compare(&Value::Null), None);
+    same(&rt, one.compare(&text(alloc, "1")?), None);
+    same(&rt, one.compare(&Value::Int(-2)), Some(Ordering::Greater));
     let texts = [
         ("a", "B", Ordering::Greater),
         ("ab", "b", Ordering::Less),
@@ -51,13 +51,21 @@ fn are_compared_so(rt: &impl Abort, word: &Value, comparisons: &[Compared]) {
     let null = Value::Null;
     for (comparison, less, equal, greater) in comparisons {
         let comparison = *comparison;
-        assert_eq!(rt; Value::Int(-5).comparison_truth(comparison, &five), *less);
-        assert_eq!(rt; five.comparison_truth(comparison, &five), *equal);
-        assert_eq!(rt; word.comparison_truth(comparison, word), *equal);
-        assert_eq!(rt; five.comparison_truth(comparison, &Value::Int(4)), *greater);
-        assert_eq!(rt; five.comparison_truth(comparison, &null), Tri::Unknown);
-        assert_eq!(rt; null.comparison_truth(comparison, &null), Tri::Unknown);
-        assert_eq!(rt; word.comparison_truth(comparison, &five), Tri::Unknown);
+        same(
+            rt,
+            Value::Int(-5).comparison_truth(comparison, &five),
+            *less,
+        );
+        same(rt, five.comparison_truth(comparison, &five), *equal);
+        same(rt, word.comparison_truth(comparison, word), *equal);
+        same(
+            rt,
+            five.comparison_truth(comparison, &Value::Int(4)),
+            *greater,
+        );
+        same(rt, five.comparison_truth(comparison, &null), Tri::Unknown);
+        same(rt, null.comparison_truth(comparison, &null), Tri::Unknown);
+        same(rt, word.comparison_truth(comparison, &five), Tri::Unknown);
     }
 }
 
@@ -87,10 +95,10 @@ fn ascending(alloc: Global) -> Result<Vec<Value>, AllocError> {
 
 fn are_in_order(rt: &impl Abort, values: &[Value]) {
     for (lower, higher) in values.iter().zip(values.iter().skip(1)) {
-        assert_eq!(rt; lower.cmp(higher), Ordering::Less);
-        assert_eq!(rt; higher.cmp(lower), Ordering::Greater);
-        assert_eq!(rt; lower.cmp(lower), Ordering::Equal);
-        assert!(rt; lower < higher);
+        same(rt, lower.cmp(higher), Ordering::Less);
+        same(rt, higher.cmp(lower), Ordering::Greater);
+        same(rt, lower.cmp(lower), Ordering::Equal);
+        holds(rt, lower < higher);
     }
 }
 
@@ -106,9 +114,9 @@ fn cells_in_order(rt: HostRuntime) -> Result<(), Fail> {
     let front = Cells::new(vec![in alloc; Value::Int(1)]?);
     let long = Cells::new(vec![in alloc; Value::Int(1), Value::Null]?);
     let high = Cells::new(vec![in alloc; Value::Int(2)]?);
-    assert_eq!(rt; front.cmp(&long), Ordering::Less);
-    assert_eq!(rt; high.cmp(&long), Ordering::Greater);
-    assert!(rt; front < high);
+    same(&rt, front.cmp(&long), Ordering::Less);
+    same(&rt, high.cmp(&long), Ordering::Greater);
+    holds(&rt, front < high);
     Ok(())
 }
 
@@ -124,9 +132,9 @@ fn are_computed_so(rt: &impl Abort, numbers: &[Computed]) {
     for (left, right, sum, difference, product) in numbers {
         let left = Value::Int(*left);
         let right = Value::Int(*right);
-        assert_eq!(rt; left.plus(&right), number(*sum));
-        assert_eq!(rt; left.minus(&right), number(*difference));
-        assert_eq!(rt; left.times(&right), number(*product));
+        same(rt, left.plus(&right), number(*sum));
+        same(rt, left.minus(&right), number(*difference));
+        same(rt, left.times(&right), number(*product));
     }
 }
 
@@ -139,23 +147,27 @@ fn arithmetic(rt: HostRuntime) -> Result<(), Fail> {
         (5, -7, Some(-2), Some(12), Some(-35)),
     ];
     are_computed_so(&rt, &numbers);
-    assert_eq!(rt; Value::Int(5).minus(&Value::Null), Value::Null);
-    assert_eq!(rt; Value::Int(5).plus(&text(rt.alloc(), "1")?), Value::Null);
+    same(&rt, Value::Int(5).minus(&Value::Null), Value::Null);
+    same(
+        &rt,
+        Value::Int(5).plus(&text(rt.alloc(), "1")?),
+        Value::Null,
+    );
     Ok(())
 }
 
 #[test]
 fn totals(rt: HostRuntime) {
-    assert_eq!(rt; total(&[GREATEST, 1, -1]), Value::Int(GREATEST));
-    assert_eq!(rt; total(&[GREATEST, 1]), Value::Null);
-    assert_eq!(rt; total(&[]), Value::Int(0));
+    same(&rt, total(&[GREATEST, 1, -1]), Value::Int(GREATEST));
+    same(&rt, total(&[GREATEST, 1]), Value::Null);
+    same(&rt, total(&[]), Value::Int(0));
 }
 
 #[test]
 fn a_sum_of_nothing(rt: HostRuntime) {
     let sum = RunningSum::default();
-    assert_eq!(rt; sum.sum_or_null(), Value::Null);
-    assert_eq!(rt; sum.count(), 0);
+    same(&rt, sum.sum_or_null(), Value::Null);
+    same(&rt, sum.count(), 0);
 }
 
 /// A sum that goes below the least number comes back, and a copy of it stays as it is.
@@ -165,18 +177,18 @@ fn sums_are_exact(rt: HostRuntime) {
     sum.add(LEAST);
     let half_way = sum;
     sum.add(-1);
-    assert_eq!(rt; sum.value(), Value::Null);
+    same(&rt, sum.value(), Value::Null);
     sum.add(1);
-    assert_eq!(rt; sum.value(), Value::Int(LEAST));
-    assert_eq!(rt; sum.count(), 3);
+    same(&rt, sum.value(), Value::Int(LEAST));
+    same(&rt, sum.count(), 3);
     is_least(&rt, &half_way);
 }
 
 /// Whether a sum is of the least number alone.
 fn is_least(rt: &impl Abort, sum: &RunningSum) {
-    assert_eq!(rt; sum.value(), Value::Int(LEAST));
-    assert_eq!(rt; sum.count(), 1);
-    assert_eq!(rt; sum.sum_or_null(), Value::Int(LEAST));
+    same(rt, sum.value(), Value::Int(LEAST));
+    same(rt, sum.count(), 1);
+    same(rt, sum.sum_or_null(), Value::Int(LEAST));
 }
 
 /// Calls of the laws do nothing.
