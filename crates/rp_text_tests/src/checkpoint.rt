@@ -1,7 +1,7 @@
 //! Checkpoints, against bytes written by hand. The digests in full are those of `sha256sum`.
 mod chance;
 
-use crate::support::{all_told, at_last, text_of};
+use crate::support::{all_told, at_last, holds, same, text_of};
 use rp_checkpoint::{
     CheckpointFault, Columns, NodeData, Partitions, checkpoint_of, read_checkpoint,
 };
@@ -78,19 +78,19 @@ fn read_again(alloc: Global, bytes: &str) -> Result<Vec<u8>, CheckpointFault> {
 fn fresh_node(rt: HostRuntime) -> Result<(), Fail> {
     let alloc = rt.alloc();
     let bytes = checkpoint_of(alloc, &fresh(alloc)?)?;
-    assert_eq!(rt; bytes.len(), 157);
-    assert!(rt; bytes.as_slice() == FRESH.as_bytes());
+    same(&rt, bytes.len(), 157);
+    holds(&rt, bytes.as_slice() == FRESH.as_bytes());
     let node = read_checkpoint(alloc, bytes.as_slice())?;
-    assert_eq!(rt; node.clause.as_str(), "PATTERN (A) DEFINE A AS p = 1");
-    assert_eq!(rt; node.table.as_slice().len(), 1);
-    assert_eq!(rt; node.partitions.as_slice().len(), 0);
+    same(&rt, node.clause.as_str(), "PATTERN (A) DEFINE A AS p = 1");
+    same(&rt, node.table.as_slice().len(), 1);
+    same(&rt, node.partitions.as_slice().len(), 0);
     Ok(())
 }
 
 #[test]
 fn version_2_there_and_back(rt: HostRuntime) -> Result<(), Fail> {
     let again = read_again(rt.alloc(), SECOND)?;
-    assert!(rt; again.as_slice() == SECOND.as_bytes());
+    holds(&rt, again.as_slice() == SECOND.as_bytes());
     Ok(())
 }
 
@@ -100,22 +100,28 @@ fn version_1_is_read(rt: HostRuntime) -> Result<(), Fail> {
     let [first, second] = node.partitions.as_slice() else {
         return Err("two partitions".into());
     };
-    assert_eq!(rt;
+    same(
+        &rt,
         (first.at, first.close, first.covered, first.first),
-        (6, None, 5, 5)
+        (6, None, 5, 5),
     );
-    assert_eq!(rt;
+    same(
+        &rt,
         (first.given, first.here, first.matches, first.over),
-        (1, 0, 1, false)
+        (1, 0, 1, false),
     );
-    assert_eq!(rt; first.rows.as_slice().len(), 2);
-    assert_eq!(rt; second.close, Some(1_099_511_627_776));
-    assert_eq!(rt;
+    same(&rt, first.rows.as_slice().len(), 2);
+    same(&rt, second.close, Some(1_099_511_627_776));
+    same(
+        &rt,
         (second.given, second.here),
-        (18_446_744_073_709_551_615, u64::MAX)
+        (18_446_744_073_709_551_615, u64::MAX),
     );
-    assert_eq!(rt; (second.over, second.rows.as_slice().len()), (true, 0));
-    assert!(rt; second.key.as_slice() == [Value::Null, Value::Int(-1)].as_slice());
+    same(&rt, (second.over, second.rows.as_slice().len()), (true, 0));
+    holds(
+        &rt,
+        second.key.as_slice() == [Value::Null, Value::Int(-1)].as_slice(),
+    );
     Ok(())
 }
 
@@ -131,7 +137,7 @@ fn version_1_is_written_as_2(rt: HostRuntime) -> Result<(), Fail> {
     let Some(object) = want.as_bytes().get(65..) else {
         return Err("an object".into());
     };
-    assert!(rt; again.as_slice() == sealed(alloc, object)?.as_slice());
+    holds(&rt, again.as_slice() == sealed(alloc, object)?.as_slice());
     Ok(())
 }
 
@@ -180,7 +186,7 @@ fn digest_of_other_bytes(rt: HostRuntime) -> Result<(), Fail> {
 #[test]
 fn blanks_in_an_object(rt: HostRuntime) -> Result<(), Fail> {
     let blanks = " {\"version\" : 1, \"table\" : [], \"partitions\" : [], \"clause\" : \"\" } ";
-    assert_eq!(rt; fault_in(rt.alloc(), blanks)?, None);
+    same(&rt, fault_in(rt.alloc(), blanks)?, None);
     Ok(())
 }
 
@@ -215,6 +221,6 @@ fn refused_checkpoint(rt: HostRuntime) -> Result<(), Fail> {
     let bytes = SECOND.as_bytes();
     let node = read_at_last(alloc, bytes)?;
     let again = checkpoint_of(alloc, &node).or_else(|_| checkpoint_of(alloc, &node));
-    assert!(rt; at_last(again)?.as_slice() == bytes);
+    holds(&rt, at_last(again)?.as_slice() == bytes);
     Ok(())
 }

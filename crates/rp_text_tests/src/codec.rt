@@ -1,5 +1,5 @@
 //! Lines of packets, of polls and of replies, against texts written by hand.
-use crate::support::{at_last, text};
+use crate::support::{at_last, holds, same, text};
 use rp_feed::{Packet, Taken};
 use rp_protocol::{
     Field, Refusal, Reply, packet_line, poll_line, push_item_line, push_reply_line, reply_line,
@@ -33,7 +33,7 @@ fn line_of_a_match(rt: HostRuntime) -> Result<(), Fail> {
     };
     let reply = reply(alloc, vec![in alloc; text(alloc, "x")?]?, 1, item);
     let want = "{\"cells\":[\"x\",1,10,6,9],\"key\":[\"x\"],\"number\":1,\"place\":\"1\"}";
-    assert_eq!(rt; reply_line(alloc, &reply)?.as_str(), want);
+    same(&rt, reply_line(alloc, &reply)?.as_str(), want);
     Ok(())
 }
 
@@ -52,14 +52,14 @@ fn line_at_the_limits(rt: HostRuntime) -> Result<(), Fail> {
     let reply = reply(alloc, key, u128::MAX, item);
     let want = "{\"cells\":[-9223372036854775808,null,\"\"],\"key\":[\"a\\\"\\\\\\n\\u0001é\"],\
                 \"number\":18446744073709551615,\"place\":\"340282366920938463463374607431768211455\"}";
-    assert_eq!(rt; reply_line(alloc, &reply)?.as_str(), want);
+    same(&rt, reply_line(alloc, &reply)?.as_str(), want);
     Ok(())
 }
 
 /// Whether each reply has its line.
 fn all_written(rt: &impl Abort, alloc: Global, replies: &[(Reply, &str)]) -> Result<(), Fail> {
     for (reply, line) in replies {
-        assert_eq!(rt; reply_line(alloc, reply)?.as_str(), *line);
+        same(rt, reply_line(alloc, reply)?.as_str(), *line);
     }
     Ok(())
 }
@@ -119,9 +119,9 @@ fn lines_of_other_replies(rt: HostRuntime) -> Result<(), Fail> {
 
 #[test]
 fn words_of_refusals(rt: HostRuntime) -> Result<(), Fail> {
-    assert_eq!(rt; Refusal::TooFar.word(), "TooFar");
-    assert_eq!(rt; Refusal::BadField(Field::Key).word(), "BadField key");
-    assert_eq!(rt; Refusal::BadRowKind(3).word(), "BadRow kind ");
+    same(&rt, Refusal::TooFar.word(), "TooFar");
+    same(&rt, Refusal::BadField(Field::Key).word(), "BadField key");
+    same(&rt, Refusal::BadRowKind(3).word(), "BadRow kind ");
     Ok(())
 }
 
@@ -136,7 +136,7 @@ fn lines_go_into_one_buffer(rt: HostRuntime) -> Result<(), Fail> {
     }
     let want =
         "{\"end\":true,\"key\":[],\"place\":\"1\"}\n{\"end\":true,\"key\":[],\"place\":\"2\"}\n";
-    assert!(rt; buffer.as_slice() == want.as_bytes());
+    holds(&rt, buffer.as_slice() == want.as_bytes());
     Ok(())
 }
 
@@ -155,7 +155,7 @@ fn item_lines_go_into_one_buffer(rt: HostRuntime) -> Result<(), Fail> {
     push_item_line(alloc, &mut buffer, &key, 2, &Item::End)?;
     let want =
         "x\n{\"cells\":[7,\"y\"],\"key\":[7],\"number\":1,\"place\":\"1\"}\n{\"end\":true,\"key\":[7],\"place\":\"2\"}";
-    assert!(rt; buffer.as_slice() == want.as_bytes());
+    holds(&rt, buffer.as_slice() == want.as_bytes());
     Ok(())
 }
 
@@ -178,12 +178,15 @@ const POLL_LINE: &str = "{\"budget\":50,\"poll\":[\"x\"]}";
 fn lines_of_packets_and_polls(rt: HostRuntime) -> Result<(), Fail> {
     let alloc = rt.alloc();
     let row = packet_line(alloc, &first_row(alloc)?)?;
-    assert!(rt; row.as_slice() == ROW_LINE.as_bytes());
+    holds(&rt, row.as_slice() == ROW_LINE.as_bytes());
     let key = Cells::new(vec![in alloc; text(alloc, "x")?]?);
     let poll = poll_line(alloc, &key, 50)?;
-    assert!(rt; poll.as_slice() == POLL_LINE.as_bytes());
+    holds(&rt, poll.as_slice() == POLL_LINE.as_bytes());
     let close = packet_line(alloc, &Packet::Close { key, count: 1 })?;
-    assert!(rt; close.as_slice() == b"{\"close\":1,\"key\":[\"x\"]}".as_slice());
+    holds(
+        &rt,
+        close.as_slice() == b"{\"close\":1,\"key\":[\"x\"]}".as_slice(),
+    );
     Ok(())
 }
 
@@ -196,8 +199,8 @@ fn refused_packet_and_poll(rt: HostRuntime) -> Result<(), Fail> {
     let key = Cells::new(vec![in alloc; text(alloc, "x")?]?);
     let row = at_last(packet_line(alloc, &packet).or_else(|_| packet_line(alloc, &packet)))?;
     let poll = at_last(poll_line(alloc, &key, 50).or_else(|_| poll_line(alloc, &key, 50)))?;
-    assert!(rt; row.as_slice() == ROW_LINE.as_bytes());
-    assert!(rt; poll.as_slice() == POLL_LINE.as_bytes());
+    holds(&rt, row.as_slice() == ROW_LINE.as_bytes());
+    holds(&rt, poll.as_slice() == POLL_LINE.as_bytes());
     Ok(())
 }
 
@@ -207,9 +210,10 @@ fn refused_reply_line(rt: HostRuntime) -> Result<(), Fail> {
     let key = vec![in alloc; text(alloc, "x")?]?;
     let reply = reply(alloc, key, 3, Item::End);
     let line = at_last(reply_line(alloc, &reply).or_else(|_| reply_line(alloc, &reply)))?;
-    assert_eq!(rt;
+    same(
+        &rt,
         line.as_str(),
-        "{\"end\":true,\"key\":[\"x\"],\"place\":\"3\"}"
+        "{\"end\":true,\"key\":[\"x\"],\"place\":\"3\"}",
     );
     Ok(())
 }
@@ -221,11 +225,11 @@ fn refused_reply_in_a_buffer(rt: HostRuntime) -> Result<(), Fail> {
     let reply = reply(alloc, Vec::new(alloc), 3, Item::End);
     let mut buffer = Vec::from_slice(alloc, b"x\n")?;
     if push_reply_line(alloc, &mut buffer, &reply).is_err() {
-        assert!(rt; buffer.as_slice() == b"x\n".as_slice());
+        holds(&rt, buffer.as_slice() == b"x\n".as_slice());
         at_last(push_reply_line(alloc, &mut buffer, &reply))?;
     }
     let want = "x\n{\"end\":true,\"key\":[],\"place\":\"3\"}";
-    assert!(rt; buffer.as_slice() == want.as_bytes());
+    holds(&rt, buffer.as_slice() == want.as_bytes());
     Ok(())
 }
 
@@ -236,11 +240,11 @@ fn refused_item_in_a_buffer(rt: HostRuntime) -> Result<(), Fail> {
     let key = Cells::new(vec![in alloc; Value::Int(7)]?);
     let mut buffer = Vec::from_slice(alloc, b"x\n")?;
     if push_item_line(alloc, &mut buffer, &key, 3, &Item::End).is_err() {
-        assert!(rt; buffer.as_slice().starts_with(b"x\n"));
+        holds(&rt, buffer.as_slice().starts_with(b"x\n"));
         buffer.truncate(2);
         at_last(push_item_line(alloc, &mut buffer, &key, 3, &Item::End))?;
     }
     let want = "x\n{\"end\":true,\"key\":[7],\"place\":\"3\"}";
-    assert!(rt; buffer.as_slice() == want.as_bytes());
+    holds(&rt, buffer.as_slice() == want.as_bytes());
     Ok(())
 }

@@ -1,5 +1,5 @@
 //! Feeds at work.
-use crate::support::all_told;
+use crate::support::{all_told, holds, same};
 use rp_feed::{Feed, FeedFault, Taken};
 use rp_value::{Kind, Row, RowFault, Table, TableFault, Value};
 use std::alloc::{AllocError, Global};
@@ -59,18 +59,18 @@ impl Prices {
 fn conflicting_row(rt: HostRuntime) -> Result<(), Fail> {
     let alloc = rt.alloc();
     let mut prices = Prices::new(alloc, Feed::new(alloc))?;
-    assert_eq!(rt; prices.feed.front(), 0);
-    assert_eq!(rt; prices.take(1, 10)?, Ok(Taken::New));
-    assert_eq!(rt; prices.take(3, 6)?, Ok(Taken::New));
-    assert_eq!(rt; prices.take(3, 7)?, Err(FeedFault::Conflict));
-    assert!(rt; prices.has(3, 6));
-    assert_eq!(rt; prices.take(3, 6)?, Ok(Taken::Repeat));
-    assert_eq!(rt; prices.feed.front(), 1);
-    assert_eq!(rt; prices.take(2, 8)?, Ok(Taken::New));
-    assert_eq!(rt; prices.feed.front(), 3);
-    assert!(rt; prices.has(2, 8));
-    assert!(rt; prices.feed.row(4).is_none());
-    assert!(rt; prices.feed.row(0).is_none());
+    same(&rt, prices.feed.front(), 0);
+    same(&rt, prices.take(1, 10)?, Ok(Taken::New));
+    same(&rt, prices.take(3, 6)?, Ok(Taken::New));
+    same(&rt, prices.take(3, 7)?, Err(FeedFault::Conflict));
+    holds(&rt, prices.has(3, 6));
+    same(&rt, prices.take(3, 6)?, Ok(Taken::Repeat));
+    same(&rt, prices.feed.front(), 1);
+    same(&rt, prices.take(2, 8)?, Ok(Taken::New));
+    same(&rt, prices.feed.front(), 3);
+    holds(&rt, prices.has(2, 8));
+    holds(&rt, prices.feed.row(4).is_none());
+    holds(&rt, prices.feed.row(0).is_none());
     Ok(())
 }
 
@@ -78,26 +78,28 @@ fn conflicting_row(rt: HostRuntime) -> Result<(), Fail> {
 fn feed_refusals(rt: HostRuntime) -> Result<(), Fail> {
     let alloc = rt.alloc();
     let mut prices = Prices::new(alloc, Feed::new(alloc))?;
-    assert_eq!(rt; prices.take(0, 1)?, Err(FeedFault::NumberRange));
-    assert_eq!(rt;
+    same(&rt, prices.take(0, 1)?, Err(FeedFault::NumberRange));
+    same(
+        &rt,
         prices.take(1_099_511_627_777, 1)?,
-        Err(FeedFault::NumberRange)
+        Err(FeedFault::NumberRange),
     );
-    assert_eq!(rt; prices.take(4_097, 1)?, Err(FeedFault::TooFar));
-    assert_eq!(rt; prices.take(4_096, 1)?, Ok(Taken::New));
-    assert_eq!(rt;
+    same(&rt, prices.take(4_097, 1)?, Err(FeedFault::TooFar));
+    same(&rt, prices.take(4_096, 1)?, Ok(Taken::New));
+    same(
+        &rt,
         prices.feed.close(1_099_511_627_777),
-        Err(FeedFault::NumberRange)
+        Err(FeedFault::NumberRange),
     );
-    assert_eq!(rt; prices.feed.close(4_000), Err(FeedFault::CloseBelow));
-    assert_eq!(rt; prices.feed.closed(), None);
-    assert_eq!(rt; prices.feed.close(4_096), Ok(Taken::New));
-    assert_eq!(rt; prices.feed.close(4_096), Ok(Taken::Repeat));
-    assert_eq!(rt; prices.feed.close(5_000), Err(FeedFault::CloseDiffers));
-    assert_eq!(rt; prices.take(4_097, 1)?, Err(FeedFault::PastClose));
-    assert_eq!(rt; prices.take(4_096, 2)?, Err(FeedFault::Conflict));
-    assert_eq!(rt; prices.feed.closed(), Some(4_096));
-    assert_eq!(rt; prices.feed.front(), 0);
+    same(&rt, prices.feed.close(4_000), Err(FeedFault::CloseBelow));
+    same(&rt, prices.feed.closed(), None);
+    same(&rt, prices.feed.close(4_096), Ok(Taken::New));
+    same(&rt, prices.feed.close(4_096), Ok(Taken::Repeat));
+    same(&rt, prices.feed.close(5_000), Err(FeedFault::CloseDiffers));
+    same(&rt, prices.take(4_097, 1)?, Err(FeedFault::PastClose));
+    same(&rt, prices.take(4_096, 2)?, Err(FeedFault::Conflict));
+    same(&rt, prices.feed.closed(), Some(4_096));
+    same(&rt, prices.feed.front(), 0);
     Ok(())
 }
 
@@ -105,9 +107,13 @@ fn feed_refusals(rt: HostRuntime) -> Result<(), Fail> {
 fn far_number_in_a_fresh_feed(rt: HostRuntime) -> Result<(), Fail> {
     let alloc = rt.alloc();
     let mut prices = Prices::new(alloc, Feed::new(alloc))?;
-    assert_eq!(rt; prices.take(2_147_483_648, 1)?, Err(FeedFault::TooFar));
-    assert_eq!(rt; prices.take(1_099_511_627_776, 1)?, Err(FeedFault::TooFar));
-    assert_eq!(rt; prices.feed.close(1_099_511_627_776), Ok(Taken::New));
+    same(&rt, prices.take(2_147_483_648, 1)?, Err(FeedFault::TooFar));
+    same(
+        &rt,
+        prices.take(1_099_511_627_776, 1)?,
+        Err(FeedFault::TooFar),
+    );
+    same(&rt, prices.feed.close(1_099_511_627_776), Ok(Taken::New));
     Ok(())
 }
 
@@ -116,28 +122,28 @@ fn dropped_rows(rt: HostRuntime) -> Result<(), Fail> {
     let alloc = rt.alloc();
     let mut prices = Prices::new(alloc, Feed::new(alloc))?;
     for number in 1..7 {
-        assert_eq!(rt; prices.take(number, 9)?, Ok(Taken::New));
+        same(&rt, prices.take(number, 9)?, Ok(Taken::New));
     }
     let front = prices.feed.front();
-    assert!(rt; front == 6);
+    holds(&rt, front == 6);
     prices.feed.forget(5);
-    assert_eq!(rt; prices.feed.rows(alloc)?.len(), 2);
-    assert_eq!(rt; prices.feed.first(), 5);
-    assert_eq!(rt; prices.feed.front(), 6);
-    assert_eq!(rt; prices.take(4, 9)?, Ok(Taken::Old));
-    assert_eq!(rt; prices.take(4, 1)?, Ok(Taken::Old));
-    assert_eq!(rt; prices.take(5, 9)?, Ok(Taken::Repeat));
-    assert_eq!(rt; prices.take(5, 1)?, Err(FeedFault::Conflict));
-    assert_eq!(rt; prices.feed.close(6), Ok(Taken::New));
+    same(&rt, prices.feed.rows(alloc)?.len(), 2);
+    same(&rt, prices.feed.first(), 5);
+    same(&rt, prices.feed.front(), 6);
+    same(&rt, prices.take(4, 9)?, Ok(Taken::Old));
+    same(&rt, prices.take(4, 1)?, Ok(Taken::Old));
+    same(&rt, prices.take(5, 9)?, Ok(Taken::Repeat));
+    same(&rt, prices.take(5, 1)?, Err(FeedFault::Conflict));
+    same(&rt, prices.feed.close(6), Ok(Taken::New));
     let front = prices.feed.front();
-    assert!(rt; front == 6);
+    holds(&rt, front == 6);
     prices.feed.forget(7);
-    assert_eq!(rt; prices.feed.first(), 7);
-    assert_eq!(rt; prices.feed.front(), 6);
-    assert!(rt; prices.feed.rows(alloc)?.is_empty());
-    assert_eq!(rt; prices.take(1, 9)?, Ok(Taken::Old));
-    assert_eq!(rt; prices.take(7, 9)?, Err(FeedFault::PastClose));
-    assert_eq!(rt; prices.feed.close(6), Ok(Taken::Repeat));
+    same(&rt, prices.feed.first(), 7);
+    same(&rt, prices.feed.front(), 6);
+    holds(&rt, prices.feed.rows(alloc)?.is_empty());
+    same(&rt, prices.take(1, 9)?, Ok(Taken::Old));
+    same(&rt, prices.take(7, 9)?, Err(FeedFault::PastClose));
+    same(&rt, prices.feed.close(6), Ok(Taken::Repeat));
     Ok(())
 }
 
@@ -145,15 +151,19 @@ fn dropped_rows(rt: HostRuntime) -> Result<(), Fail> {
 fn later_start(rt: HostRuntime) -> Result<(), Fail> {
     let alloc = rt.alloc();
     let mut prices = Prices::new(alloc, Feed::starting(alloc, 1_099_511_627_770))?;
-    assert_eq!(rt; prices.feed.front(), 1_099_511_627_769);
-    assert_eq!(rt; prices.take(5, 9)?, Ok(Taken::Old));
-    assert_eq!(rt; prices.feed.close(5), Err(FeedFault::CloseBelow));
-    assert_eq!(rt; prices.take(1_099_511_627_770, 9)?, Ok(Taken::New));
-    assert_eq!(rt; prices.feed.front(), 1_099_511_627_770);
+    same(&rt, prices.feed.front(), 1_099_511_627_769);
+    same(&rt, prices.take(5, 9)?, Ok(Taken::Old));
+    same(&rt, prices.feed.close(5), Err(FeedFault::CloseBelow));
+    same(&rt, prices.take(1_099_511_627_770, 9)?, Ok(Taken::New));
+    same(&rt, prices.feed.front(), 1_099_511_627_770);
     let mut full = Feed::starting(alloc, 1_099_511_627_777);
-    assert_eq!(rt; full.front(), 1_099_511_627_776);
-    assert_eq!(rt; full.close(1_099_511_627_775), Err(FeedFault::CloseBelow));
-    assert_eq!(rt; full.close(1_099_511_627_776), Ok(Taken::New));
+    same(&rt, full.front(), 1_099_511_627_776);
+    same(
+        &rt,
+        full.close(1_099_511_627_775),
+        Err(FeedFault::CloseBelow),
+    );
+    same(&rt, full.close(1_099_511_627_776), Ok(Taken::New));
     Ok(())
 }
 

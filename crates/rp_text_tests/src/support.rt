@@ -1,9 +1,10 @@
 //! Values, numbers that look random, and texts of faults, for the tests. A call that is refused memory is made again, and where it
 //! is refused twice, its test fails.
-ghost use Rattle.std.specs.Prelude.{◌<◌};
+ghost use Rattle.std.specs.Prelude.{◌≡◌, ◌<◌, true};
 
 use rp_value::{Text, Value};
 use std::alloc::{AllocError, Global};
+use std::fmt;
 use std::fmt::Display;
 use std::process::Abort;
 use std::test::Fail;
@@ -98,4 +99,17 @@ impl Chance {
         }
         Ok(values)
     }
+}
+
+/// Ends a test in which a value isn't the one that is wanted. (In an `assert_eq!` of its own a test would have the text of its failure
+/// to prove as well.)
+pub fn same<T: PartialEq + fmt::Debug + Drop>(rt: &impl Abort, came: T, wanted: T) {
+    assert_eq!(rt; came, wanted);
+}
+
+/// Ends a test in which something doesn't hold. Where it goes on, that is known to hold.
+pub fn holds(rt: &impl Abort, is_so: bool)
+    ensures { is_so ≡ true }
+{
+    assert!(rt; is_so);
 }

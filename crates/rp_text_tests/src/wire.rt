@@ -3,7 +3,7 @@ mod chance;
 mod compact;
 mod long;
 
-use crate::support::{all_told, at_last};
+use crate::support::{all_told, at_last, holds, same};
 use rp_feed::Packet;
 use rp_protocol::{
     Field, LineFault, Refusal, Reply, Request, reply_line, reply_of, request_line, request_of,
@@ -45,7 +45,7 @@ fn replied_again(alloc: Global, line: &str) -> Result<String, LineFault> {
 #[test]
 fn bytes_that_are_no_text(rt: HostRuntime) -> Result<(), Fail> {
     let fault = fault_of(rt.alloc(), b"\xff")?;
-    assert_eq!(rt; fault, Some(LineFault::NotJson));
+    same(&rt, fault, Some(LineFault::NotJson));
     Ok(())
 }
 
@@ -54,14 +54,18 @@ fn bytes_that_are_no_text(rt: HostRuntime) -> Result<(), Fail> {
 fn blanks_around_a_line(rt: HostRuntime) -> Result<(), Fail> {
     let alloc = rt.alloc();
     let asked = asked_again(alloc, " { \"cells\" : [ null ] , \"row\" : 1 } ")?;
-    assert!(rt; asked.as_slice() == b"{\"cells\":[null],\"row\":1}".as_slice());
+    holds(
+        &rt,
+        asked.as_slice() == b"{\"cells\":[null],\"row\":1}".as_slice(),
+    );
     let replied = replied_again(
         alloc,
         " {\"place\":0 , \"key\":[], \"fault\":\"SkipSame\"} ",
     )?;
-    assert_eq!(rt;
+    same(
+        &rt,
         replied.as_str(),
-        "{\"fault\":\"SkipSame\",\"key\":[],\"place\":\"0\"}"
+        "{\"fault\":\"SkipSame\",\"key\":[],\"place\":\"0\"}",
     );
     Ok(())
 }
@@ -73,14 +77,17 @@ fn request_that_is_read(rt: HostRuntime) -> Result<(), Fail> {
     let Request::Packet(Packet::Row { number, cells }) = request else {
         return Err("no row".into());
     };
-    assert_eq!(rt; number, 7);
-    assert!(rt; cells.cells() == [Value::Null, Value::Int(-1)].as_slice());
+    same(&rt, number, 7);
+    holds(
+        &rt,
+        cells.cells() == [Value::Null, Value::Int(-1)].as_slice(),
+    );
     let request = request_of(alloc, b"{\"poll\":[3],\"budget\":50}")?;
     let Request::Poll { key, budget } = request else {
         return Err("no poll".into());
     };
-    assert_eq!(rt; budget, 50);
-    assert!(rt; key.as_slice() == [Value::Int(3)].as_slice());
+    same(&rt, budget, 50);
+    holds(&rt, key.as_slice() == [Value::Int(3)].as_slice());
     Ok(())
 }
 
@@ -88,9 +95,15 @@ fn request_that_is_read(rt: HostRuntime) -> Result<(), Fail> {
 fn refusal_that_is_read(rt: HostRuntime) -> Result<(), Fail> {
     let alloc = rt.alloc();
     let reply = reply_of(alloc, b"{\"refused\":\"BadRow kind 12\"}")?;
-    assert!(rt; matches!(&reply, Reply::Refused(Refusal::BadRowKind(12))));
+    holds(
+        &rt,
+        matches!(&reply, Reply::Refused(Refusal::BadRowKind(12))),
+    );
     let reply = reply_of(alloc, b"{\"refused\":\"BadField key\"}")?;
-    assert!(rt; matches!(&reply, Reply::Refused(Refusal::BadField(Field::Key))));
+    holds(
+        &rt,
+        matches!(&reply, Reply::Refused(Refusal::BadField(Field::Key))),
+    );
     Ok(())
 }
 
@@ -124,8 +137,8 @@ fn refused_request(rt: HostRuntime) -> Result<(), Fail> {
     let alloc = rt.alloc();
     let want = b"{\"cells\":[\"x\",null,10],\"row\":1}".as_slice();
     let other = b"{\"row\":1,\"cells\":[\"x\",null,10]}".as_slice();
-    assert!(rt; asked_at_last(alloc, want)?.as_slice() == want);
-    assert!(rt; asked_at_last(alloc, other)?.as_slice() == want);
+    holds(&rt, asked_at_last(alloc, want)?.as_slice() == want);
+    holds(&rt, asked_at_last(alloc, other)?.as_slice() == want);
     Ok(())
 }
 
@@ -142,8 +155,8 @@ fn replied_at_last(alloc: Global, line: &str) -> Result<String, Fail> {
 fn refused_reply(rt: HostRuntime) -> Result<(), Fail> {
     let alloc = rt.alloc();
     let item = "{\"cells\":[\"x\"],\"key\":[\"y\"],\"number\":1,\"place\":\"1\"}";
-    assert_eq!(rt; replied_at_last(alloc, item)?.as_str(), item);
+    same(&rt, replied_at_last(alloc, item)?.as_str(), item);
     let refusal = "{\"refused\":\"BadRow kind 12\"}";
-    assert_eq!(rt; replied_at_last(alloc, refusal)?.as_str(), refusal);
+    same(&rt, replied_at_last(alloc, refusal)?.as_str(), refusal);
     Ok(())
 }

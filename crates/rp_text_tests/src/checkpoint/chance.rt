@@ -1,5 +1,5 @@
 //! Nodes that look random, each written and read.
-use crate::support::{Chance, text_of};
+use crate::support::{Chance, holds, text_of};
 use rp_checkpoint::{
     Columns, HeldRow, HeldRows, NodeData, PartitionData, Partitions, ascend, checkpoint_of,
     read_checkpoint,
@@ -84,7 +84,7 @@ fn random_nodes_there_and_back(rt: HostRuntime) -> Result<(), Fail> {
         let node = random_node(&mut chance, alloc)?;
         let bytes = checkpoint_of(alloc, &node)?;
         let again = read_checkpoint(alloc, bytes.as_slice())?;
-        assert!(rt; same_node(&again, &node));
+        holds(&rt, same_node(&again, &node));
     }
     Ok(())
 }

@@ -2,7 +2,7 @@
 ghost use Rattle.std.specs.Prelude.{◌≤◌};
 
 use super::{price_table, row_of};
-use crate::support::Chance;
+use crate::support::{Chance, same};
 use rp_feed::{Feed, FeedFault, Taken};
 use rp_value::Row;
 use std::alloc::{AllocFailed, Global};
@@ -181,9 +181,9 @@ fn random_orders(rt: HostRuntime) -> Result<(), Fail> {
         for _ in 0..150 {
             let next = next_arrival(&mut chance, order, plain.front());
             assert!(rt; agree(&mut feed, &mut plain, &rows, next)?, "order {order}");
-            assert_eq!(rt; feed.front(), plain.front());
-            assert_eq!(rt; feed.first(), plain.first);
-            assert_eq!(rt; feed.closed(), plain.closed);
+            same(&rt, feed.front(), plain.front());
+            same(&rt, feed.first(), plain.first);
+            same(&rt, feed.closed(), plain.closed);
         }
         assert!(rt;
             hold_the_same(alloc, &feed, &plain, &rows)?,

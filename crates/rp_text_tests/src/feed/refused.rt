@@ -1,7 +1,7 @@
 //! A call that is refused memory, made again, answers as with ample memory.
 
 use super::{price_table, row_of};
-use crate::support::at_last;
+use crate::support::{at_last, same};
 use rp_feed::{Feed, FeedFault, Taken};
 use rp_value::Row;
 use std::test::Fail;
@@ -26,15 +26,15 @@ fn refused_rows(rt: HostRuntime) -> Result<(), Fail> {
     let row = row_of(alloc, &price_table(alloc)?, 7)?;
     let mut feed = Feed::new(alloc);
     for number in [1, 2, 3, 4, 5, 40, 200, 1_000, 4_101, 6] {
-        assert_eq!(rt; take_again(&mut feed, number, &row)?, Taken::New);
-        assert_eq!(rt; take_again(&mut feed, number, &row)?, Taken::Repeat);
+        same(&rt, take_again(&mut feed, number, &row)?, Taken::New);
+        same(&rt, take_again(&mut feed, number, &row)?, Taken::Repeat);
     }
-    assert_eq!(rt; feed.front(), 6);
+    same(&rt, feed.front(), 6);
     let rows = at_last(feed.rows(alloc).or_else(|_| feed.rows(alloc)))?;
     let mut numbers = rows.iter().map(|(number, _)| *number);
     for expected in [1, 2, 3, 4, 5, 6, 40, 200, 1_000, 4_101] {
-        assert_eq!(rt; numbers.next(), Some(expected));
+        same(&rt, numbers.next(), Some(expected));
     }
-    assert_eq!(rt; numbers.next(), None);
+    same(&rt, numbers.next(), None);
     Ok(())
 }

@@ -1,5 +1,5 @@
 //! Conversations over devices in memory. What is expected is worked out by hand.
-use crate::support::text;
+use crate::support::{holds, same, text};
 use rp_compile::compile;
 use rp_drive::{Conversation, DriveFault, drive};
 use rp_feed::Packet;
@@ -128,9 +128,9 @@ fn driven_in_pieces(rt: &impl Abort, alloc: Global, pieces: &[usize]) -> Result<
             ..WIDE
         };
         let ended = driven(alloc, REPLIES, limits)?;
-        assert!(rt; ended.fault == None);
-        assert!(rt; ended.writer.bytes() == SENT.as_bytes());
-        assert!(rt; ended.out.bytes() == ITEMS.as_bytes());
+        holds(rt, ended.fault == None);
+        holds(rt, ended.writer.bytes() == SENT.as_bytes());
+        holds(rt, ended.out.bytes() == ITEMS.as_bytes());
     }
     Ok(())
 }
@@ -147,13 +147,13 @@ fn paused(rt: HostRuntime) -> Result<(), Fail> {
         "{\"taken\":\"new\"}\n{\"paused\":[\"x\"]}\n{\"cells\":[1],\"key\":[\"x\"],\"number\":1,\"place\":\"1\"}\n\
          {\"idle\":[\"x\"]}\n{\"refused\":\"Conflict\"}\n";
     let ended = driven(rt.alloc(), replies, WIDE)?;
-    assert!(rt; ended.fault == Some(DriveFault::Refused));
+    holds(&rt, ended.fault == Some(DriveFault::Refused));
     let sent =
         "{\"cells\":[\"x\",1,10],\"row\":1}\n{\"budget\":50,\"poll\":[\"x\"]}\n{\"budget\":50,\"poll\":[\"x\"]}\n\
          {\"budget\":50,\"poll\":[\"x\"]}\n{\"close\":1,\"key\":[\"x\"]}\n";
-    assert!(rt; ended.writer.bytes() == sent.as_bytes());
+    holds(&rt, ended.writer.bytes() == sent.as_bytes());
     let items = "1 {\"cells\":[1],\"key\":[\"x\"],\"number\":1,\"place\":\"1\"}\n";
-    assert!(rt; ended.out.bytes() == items.as_bytes());
+    holds(&rt, ended.out.bytes() == items.as_bytes());
     Ok(())
 }
 
@@ -179,8 +179,8 @@ fn each_ends(rt: &impl Abort, alloc: Global, cases: &[(&str, DriveFault)]) -> Re
         };
         let ended = driven(alloc, replies, limits)?;
         assert!(rt; ended.fault == Some(*want), "{replies}");
-        assert!(rt; ended.writer.bytes() == FIRST.as_bytes());
-        assert!(rt; ended.out.bytes().is_empty());
+        holds(rt, ended.writer.bytes() == FIRST.as_bytes());
+        holds(rt, ended.out.bytes().is_empty());
     }
     Ok(())
 }
@@ -209,8 +209,8 @@ fn each_poll_ends(
         let ended = driven(alloc, replies.as_str(), WIDE)?;
         assert!(rt; ended.fault == Some(*want), "{reply}");
         let sent = "{\"cells\":[\"x\",1,10],\"row\":1}\n{\"budget\":50,\"poll\":[\"x\"]}\n";
-        assert!(rt; ended.writer.bytes() == sent.as_bytes());
-        assert!(rt; ended.out.bytes().is_empty());
+        holds(rt, ended.writer.bytes() == sent.as_bytes());
+        holds(rt, ended.out.bytes().is_empty());
     }
     Ok(())
 }
@@ -228,8 +228,8 @@ fn last_reply(rt: HostRuntime) -> Result<(), Fail> {
         "{\"taken\":\"new\"}\n{\"paused\":[\"x\"]}",
         WIDE,
     )?;
-    assert!(rt; ended.fault == Some(DriveFault::BadReply));
-    assert_eq!(rt; ended.calls, 2);
+    holds(&rt, ended.fault == Some(DriveFault::BadReply));
+    same(&rt, ended.calls, 2);
     Ok(())
 }
 
@@ -243,9 +243,9 @@ fn failed_reads(rt: HostRuntime) -> Result<(), Fail> {
             ..WIDE
         };
         let ended = driven(rt.alloc(), REPLIES, limits)?;
-        assert!(rt; ended.fault == Some(DriveFault::Read));
-        assert!(rt; SENT.as_bytes().starts_with(ended.writer.bytes()));
-        assert!(rt; ITEMS.as_bytes().starts_with(ended.out.bytes()));
+        holds(&rt, ended.fault == Some(DriveFault::Read));
+        holds(&rt, SENT.as_bytes().starts_with(ended.writer.bytes()));
+        holds(&rt, ITEMS.as_bytes().starts_with(ended.out.bytes()));
     }
     Ok(())
 }
@@ -259,9 +259,9 @@ fn failed_writes(rt: HostRuntime) -> Result<(), Fail> {
             ..WIDE
         };
         let ended = driven(rt.alloc(), REPLIES, limits)?;
-        assert!(rt; ended.fault == Some(DriveFault::Write));
-        assert!(rt; SENT.as_bytes().starts_with(ended.writer.bytes()));
-        assert!(rt; ended.writer.bytes().len() < SENT.as_bytes().len());
+        holds(&rt, ended.fault == Some(DriveFault::Write));
+        holds(&rt, SENT.as_bytes().starts_with(ended.writer.bytes()));
+        holds(&rt, ended.writer.bytes().len() < SENT.as_bytes().len());
     }
     Ok(())
 }
@@ -274,13 +274,14 @@ fn failed_item(rt: HostRuntime) -> Result<(), Fail> {
         ..WIDE
     };
     let ended = driven(rt.alloc(), REPLIES, limits)?;
-    assert!(rt; ended.fault == Some(DriveFault::Write));
-    assert!(rt; ended.out.bytes().is_empty());
-    assert!(rt; SENT.as_bytes().starts_with(ended.writer.bytes()));
-    assert!(rt;
+    holds(&rt, ended.fault == Some(DriveFault::Write));
+    holds(&rt, ended.out.bytes().is_empty());
+    holds(&rt, SENT.as_bytes().starts_with(ended.writer.bytes()));
+    holds(
+        &rt,
         ended.writer.bytes().ends_with(
-            "{\"close\":1,\"key\":[\"x\"]}\n{\"budget\":50,\"poll\":[\"x\"]}\n".as_bytes()
-        )
+            "{\"close\":1,\"key\":[\"x\"]}\n{\"budget\":50,\"poll\":[\"x\"]}\n".as_bytes(),
+        ),
     );
     Ok(())
 }
@@ -288,8 +289,8 @@ fn failed_item(rt: HostRuntime) -> Result<(), Fail> {
 #[test]
 fn no_reads(rt: HostRuntime) -> Result<(), Fail> {
     let ended = driven(rt.alloc(), REPLIES, Limits { reads: 0, ..WIDE })?;
-    assert!(rt; ended.fault == Some(DriveFault::Turns));
-    assert_eq!(rt; ended.calls, 0);
-    assert!(rt; ended.writer.bytes() == FIRST.as_bytes());
+    holds(&rt, ended.fault == Some(DriveFault::Turns));
+    same(&rt, ended.calls, 0);
+    holds(&rt, ended.writer.bytes() == FIRST.as_bytes());
     Ok(())
 }

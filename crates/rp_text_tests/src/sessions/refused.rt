@@ -1,7 +1,7 @@
 //! A call that is refused memory, made again, answers as with ample memory.
 use super::driving::{ITEMS, REPLIES, SENT, packets, query};
 use super::node::SmallNode;
-use crate::support::{at_last, refused_twice};
+use crate::support::{at_last, holds, refused_twice};
 use rp_drive::{Conversation, DriveFault, drive};
 use rp_feed::Packet;
 use rp_io::{MemoryInput, MemoryOutput};
@@ -46,7 +46,7 @@ fn refused_rounds(rt: HostRuntime) -> Result<(), Fail> {
         None => at_last(replied(rt.alloc()))?,
     };
     match &replied {
-        Some(writer) => assert!(rt; writer.bytes() == REPLIES.as_bytes()),
+        Some(writer) => holds(&rt, writer.bytes() == REPLIES.as_bytes()),
         None => return Err(refused_twice()),
     }
     Ok(())
@@ -69,13 +69,13 @@ fn refused_sessions(rt: HostRuntime) -> Result<(), Fail> {
     let alloc = rt.alloc();
     let mut writer = output(alloc)?;
     if !served(alloc, &mut writer)? {
-        assert!(rt; REPLIES.as_bytes().starts_with(writer.bytes()));
+        holds(&rt, REPLIES.as_bytes().starts_with(writer.bytes()));
         writer = at_last(output(alloc))?;
         if !served(alloc, &mut writer)? {
             return Err(refused_twice());
         }
     }
-    assert!(rt; writer.bytes() == REPLIES.as_bytes());
+    holds(&rt, writer.bytes() == REPLIES.as_bytes());
     Ok(())
 }
 
@@ -111,15 +111,15 @@ fn refused_drives(rt: HostRuntime) -> Result<(), Fail> {
     let mut writer = output(alloc)?;
     let mut out = output(alloc)?;
     if !driven(alloc, &query, packets.as_slice(), &mut writer, &mut out)? {
-        assert!(rt; SENT.as_bytes().starts_with(writer.bytes()));
-        assert!(rt; ITEMS.as_bytes().starts_with(out.bytes()));
+        holds(&rt, SENT.as_bytes().starts_with(writer.bytes()));
+        holds(&rt, ITEMS.as_bytes().starts_with(out.bytes()));
         writer = at_last(output(alloc))?;
         out = at_last(output(alloc))?;
         if !driven(alloc, &query, packets.as_slice(), &mut writer, &mut out)? {
             return Err(refused_twice());
         }
     }
-    assert!(rt; writer.bytes() == SENT.as_bytes());
-    assert!(rt; out.bytes() == ITEMS.as_bytes());
+    holds(&rt, writer.bytes() == SENT.as_bytes());
+    holds(&rt, out.bytes() == ITEMS.as_bytes());
     Ok(())
 }

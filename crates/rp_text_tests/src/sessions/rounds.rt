@@ -1,5 +1,6 @@
 //! Connections over devices in memory, after which a node is saved or goes back.
 use super::node::SmallNode;
+use crate::support::{holds, same};
 use rp_io::{MemoryInput, MemoryOutput};
 use rp_serve::{RoundEnd, ServeFault, round};
 use std::alloc::{AllocError, Global};
@@ -36,9 +37,9 @@ fn is_saved(saved: &Option<Vec<u8>>, bytes: &[u8]) -> bool {
 #[test]
 fn nothing_saved(rt: HostRuntime) -> Result<(), Fail> {
     let end = connection(rt.alloc(), None, ROW, 0, 1)?;
-    assert!(rt; end.fault == Some(ServeFault::Write));
-    assert_eq!(rt; end.node.rows(), 0);
-    assert!(rt; end.saved.is_none());
+    holds(&rt, end.fault == Some(ServeFault::Write));
+    same(&rt, end.node.rows(), 0);
+    holds(&rt, end.saved.is_none());
     Ok(())
 }
 
@@ -48,9 +49,9 @@ fn saved_before(rt: HostRuntime) -> Result<(), Fail> {
     let mut saved = Vec::new(rt.alloc());
     saved.extend_from_slice(&[7, 1, 0])?;
     let end = connection(rt.alloc(), Some(saved), ROW, 0, 1)?;
-    assert!(rt; end.fault == Some(ServeFault::Write));
-    assert_eq!(rt; end.node.rows(), 7);
-    assert!(rt; is_saved(&end.saved, &[7, 1, 0]));
+    holds(&rt, end.fault == Some(ServeFault::Write));
+    same(&rt, end.node.rows(), 7);
+    holds(&rt, is_saved(&end.saved, &[7, 1, 0]));
     Ok(())
 }
 
@@ -58,9 +59,9 @@ fn saved_before(rt: HostRuntime) -> Result<(), Fail> {
 #[test]
 fn saved_at_the_end(rt: HostRuntime) -> Result<(), Fail> {
     let end = connection(rt.alloc(), None, ROW, 0, 0)?;
-    assert!(rt; end.fault == None);
-    assert_eq!(rt; end.node.rows(), 1);
-    assert!(rt; is_saved(&end.saved, &[1, 0, 0]));
+    holds(&rt, end.fault == None);
+    same(&rt, end.node.rows(), 1);
+    holds(&rt, is_saved(&end.saved, &[1, 0, 0]));
     Ok(())
 }
 
@@ -68,8 +69,8 @@ fn saved_at_the_end(rt: HostRuntime) -> Result<(), Fail> {
 #[test]
 fn saved_after_a_failed_read(rt: HostRuntime) -> Result<(), Fail> {
     let end = connection(rt.alloc(), None, ROW, 2, 0)?;
-    assert!(rt; end.fault == Some(ServeFault::Read));
-    assert_eq!(rt; end.node.rows(), 1);
-    assert!(rt; is_saved(&end.saved, &[1, 0, 0]));
+    holds(&rt, end.fault == Some(ServeFault::Read));
+    same(&rt, end.node.rows(), 1);
+    holds(&rt, is_saved(&end.saved, &[1, 0, 0]));
     Ok(())
 }

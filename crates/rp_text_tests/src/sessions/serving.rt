@@ -1,5 +1,6 @@
 //! Sessions over devices in memory.
 use super::node::SmallNode;
+use crate::support::{holds, same};
 use rp_io::{MemoryInput, MemoryOutput};
 use rp_serve::{ServeFault, serve};
 use std::alloc::{AllocError, Global};
@@ -95,10 +96,10 @@ fn served_in_pieces(rt: &impl Abort, alloc: Global, pieces: &[usize]) -> Result<
             ..WIDE
         };
         let ended = run_session(alloc, LINES.as_bytes(), limits)?;
-        assert!(rt; ended.fault == None);
-        assert_eq!(rt; ended.lines, 12);
-        assert_eq!(rt; ended.rows, 1);
-        assert!(rt; ended.writer.bytes() == REPLIES.as_bytes());
+        holds(rt, ended.fault == None);
+        same(rt, ended.lines, 12);
+        same(rt, ended.rows, 1);
+        holds(rt, ended.writer.bytes() == REPLIES.as_bytes());
     }
     Ok(())
 }
@@ -112,9 +113,9 @@ fn lines_in_pieces(rt: HostRuntime) -> Result<(), Fail> {
 #[test]
 fn no_lines(rt: HostRuntime) -> Result<(), Fail> {
     let ended = run_session(rt.alloc(), b"", WIDE)?;
-    assert!(rt; ended.fault == None);
-    assert_eq!(rt; ended.lines, 0);
-    assert!(rt; ended.writer.bytes().is_empty());
+    holds(&rt, ended.fault == None);
+    same(&rt, ended.lines, 0);
+    holds(&rt, ended.writer.bytes().is_empty());
     Ok(())
 }
 
@@ -133,13 +134,14 @@ fn failed_reads(rt: HostRuntime) -> Result<(), Fail> {
             ..WIDE
         };
         let ended = run_session(rt.alloc(), LINES.as_bytes(), limits)?;
-        assert!(rt; ended.fault == Some(ServeFault::Read));
-        assert_eq!(rt; ended.calls, failing_read);
-        assert!(rt; REPLIES.as_bytes().starts_with(ended.writer.bytes()));
+        holds(&rt, ended.fault == Some(ServeFault::Read));
+        same(&rt, ended.calls, failing_read);
+        holds(&rt, REPLIES.as_bytes().starts_with(ended.writer.bytes()));
         let came = LINES.as_bytes().len().min((failing_read as usize - 1) * 24);
-        assert_eq!(rt;
+        same(
+            &rt,
             lines_in(ended.writer.bytes()),
-            lines_in(&LINES.as_bytes()[..came])
+            lines_in(&LINES.as_bytes()[..came]),
         );
     }
     Ok(())
@@ -156,8 +158,8 @@ fn failed_writes(rt: HostRuntime) -> Result<(), Fail> {
             ..WIDE
         };
         let ended = run_session(rt.alloc(), LINES.as_bytes(), limits)?;
-        assert!(rt; ended.fault == Some(ServeFault::Write));
-        assert!(rt; REPLIES.as_bytes().starts_with(ended.writer.bytes()));
+        holds(&rt, ended.fault == Some(ServeFault::Write));
+        holds(&rt, REPLIES.as_bytes().starts_with(ended.writer.bytes()));
     }
     Ok(())
 }
@@ -170,23 +172,23 @@ fn one_write(rt: HostRuntime) -> Result<(), Fail> {
         ..WIDE
     };
     let ended = run_session(rt.alloc(), LINES.as_bytes(), limits)?;
-    assert!(rt; ended.fault == Some(ServeFault::Write));
-    assert_eq!(rt; lines_in(ended.writer.bytes()), 11);
+    holds(&rt, ended.fault == Some(ServeFault::Write));
+    same(&rt, lines_in(ended.writer.bytes()), 11);
     let limits = Limits {
         failing_write: 3,
         ..WIDE
     };
     let ended = run_session(rt.alloc(), LINES.as_bytes(), limits)?;
-    assert!(rt; ended.fault == None);
+    holds(&rt, ended.fault == None);
     Ok(())
 }
 
 #[test]
 fn no_turns(rt: HostRuntime) -> Result<(), Fail> {
     let ended = run_session(rt.alloc(), LINES.as_bytes(), Limits { turns: 0, ..WIDE })?;
-    assert!(rt; ended.fault == Some(ServeFault::Turns));
-    assert_eq!(rt; ended.calls, 0);
-    assert!(rt; ended.writer.bytes().is_empty());
+    holds(&rt, ended.fault == Some(ServeFault::Turns));
+    same(&rt, ended.calls, 0);
+    holds(&rt, ended.writer.bytes().is_empty());
     Ok(())
 }
 
@@ -199,8 +201,11 @@ fn one_turn(rt: HostRuntime) -> Result<(), Fail> {
         ..WIDE
     };
     let ended = run_session(rt.alloc(), LINES.as_bytes(), limits)?;
-    assert!(rt; ended.fault == Some(ServeFault::Turns));
-    assert!(rt; ended.writer.bytes() == "{\"taken\":\"new\"}\n{\"paused\":[\"x\"]}\n".as_bytes());
+    holds(&rt, ended.fault == Some(ServeFault::Turns));
+    holds(
+        &rt,
+        ended.writer.bytes() == "{\"taken\":\"new\"}\n{\"paused\":[\"x\"]}\n".as_bytes(),
+    );
     Ok(())
 }
 
@@ -219,9 +224,9 @@ fn long_lines(rt: HostRuntime) -> Result<(), Fail> {
         ..WIDE
     };
     let ended = run_session(alloc, lines.as_slice(), wide)?;
-    assert!(rt; ended.fault == None);
-    assert_eq!(rt; ended.lines, 3);
+    holds(&rt, ended.fault == None);
+    same(&rt, ended.lines, 3);
     let want = "{\"refused\":\"TooLong\"}\n{\"refused\":\"NotJson\"}\n{\"refused\":\"TooLong\"}\n";
-    assert!(rt; ended.writer.bytes() == want.as_bytes());
+    holds(&rt, ended.writer.bytes() == want.as_bytes());
     Ok(())
 }

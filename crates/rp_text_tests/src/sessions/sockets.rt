@@ -1,6 +1,7 @@
 //! Both sides over one connection on loopback.
 use super::driving::{ITEMS, REPLIES, packets, query};
 use super::node::SmallNode;
+use crate::support::{holds, same};
 use rp_drive::{Conversation, drive};
 use rp_io::{CountedDevice, MemoryOutput};
 use rp_serve::serve;
@@ -30,13 +31,13 @@ fn loopback(rt: HostRuntime) -> Result<(), Fail> {
         node_number: 1,
     };
     drive(alloc, &conversation, &mut reader, &mut writer, &mut out)?;
-    assert!(rt; out.bytes() == ITEMS.as_bytes());
+    holds(&rt, out.bytes() == ITEMS.as_bytes());
     source.shutdown(Shutdown::Write)?;
     let mut lines = CountedDevice::new(&node);
     let mut served = MemoryOutput::new(alloc, 4_096, 1_000, 0)?;
     let mut small = SmallNode::new(alloc);
     let count = serve(alloc, &mut lines, &mut served, &mut small, 1_000)?;
-    assert_eq!(rt; count.lines, 5);
-    assert!(rt; served.bytes() == REPLIES.as_bytes());
+    same(&rt, count.lines, 5);
+    holds(&rt, served.bytes() == REPLIES.as_bytes());
     Ok(())
 }

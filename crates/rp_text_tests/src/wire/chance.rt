@@ -1,5 +1,5 @@
 //! Requests and replies that look random, each written and read.
-use crate::support::Chance;
+use crate::support::{Chance, holds};
 use rp_feed::{Packet, Taken};
 use rp_protocol::{Refusal, Reply, Request, reply_line, reply_of, request_line, request_of};
 use rp_query::{Item, SkipFault};
@@ -101,7 +101,7 @@ fn random_requests_there_and_back(rt: HostRuntime) -> Result<(), Fail> {
     for _ in 0..1000 {
         let request = random_request(&mut chance, alloc)?;
         let line = request_line(alloc, &request)?;
-        assert!(rt; request_of(alloc, line.as_slice())? == request);
+        holds(&rt, request_of(alloc, line.as_slice())? == request);
     }
     Ok(())
 }
@@ -114,7 +114,7 @@ fn random_replies_there_and_back(rt: HostRuntime) -> Result<(), Fail> {
         let reply = random_reply(&mut chance, alloc)?;
         let line = reply_line(alloc, &reply)?;
         let again = reply_of(alloc, line.as_bytes())?;
-        assert!(rt; same_reply(&again, &reply));
+        holds(&rt, same_reply(&again, &reply));
     }
     Ok(())
 }

@@ -1,6 +1,6 @@
 //! Compact lines beside what the tree of JSON gives of them.
 use super::chance::random_request;
-use crate::support::{Chance, at_last};
+use crate::support::{Chance, at_last, holds};
 use rp_protocol::{LineFault, compact_request, request_line, request_of};
 use std::alloc::Global;
 use std::process::Abort;
@@ -59,10 +59,10 @@ fn compact_lines_and_altered_ones(rt: HostRuntime) -> Result<(), Fail> {
     let mut chance = Chance { state: 3 };
     for _ in 0..2500 {
         let line = request_line(alloc, &random_request(&mut chance, alloc)?)?;
-        assert!(rt; agree(alloc, line.as_slice())?);
+        holds(&rt, agree(alloc, line.as_slice())?);
         for _ in 0..3 {
             let other = altered(alloc, line.as_slice(), &mut chance)?;
-            assert!(rt; agree(alloc, other.as_slice())?);
+            holds(&rt, agree(alloc, other.as_slice())?);
         }
     }
     Ok(())
@@ -142,6 +142,6 @@ fn refused_compact_request(rt: HostRuntime) -> Result<(), Fail> {
     let line = b"{\"cells\":[\"x\",null,10],\"row\":1}".as_slice();
     let read = compact_request(alloc, line).or_else(|_| compact_request(alloc, line));
     let request = at_last(read)?.ok_or("a request")?;
-    assert!(rt; request_line(alloc, &request)?.as_slice() == line);
+    holds(&rt, request_line(alloc, &request)?.as_slice() == line);
     Ok(())
 }

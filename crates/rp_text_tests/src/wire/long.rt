@@ -1,5 +1,6 @@
 //! Lines about as long as a line may be.
 use super::{fault_of, reply_fault_of};
+use crate::support::{holds, same};
 use rp_feed::Packet;
 use rp_protocol::{LineFault, Reply, Request, reply_line, reply_of, request_line, request_of};
 use rp_query::Item;
@@ -37,16 +38,18 @@ fn longest_line(rt: HostRuntime) -> Result<(), Fail> {
     let brackets = filled(alloc, b'[', 200)?;
     let longer = filled(alloc, b' ', 65_537)?;
     let unread = Some(LineFault::NotJson);
-    assert_eq!(rt; fault_of(alloc, spaces.as_slice())?, unread);
-    assert_eq!(rt; fault_of(alloc, brackets.as_slice())?, unread);
-    assert_eq!(rt;
+    same(&rt, fault_of(alloc, spaces.as_slice())?, unread);
+    same(&rt, fault_of(alloc, brackets.as_slice())?, unread);
+    same(
+        &rt,
         fault_of(alloc, longer.as_slice())?,
-        Some(LineFault::TooLong)
+        Some(LineFault::TooLong),
     );
-    assert_eq!(rt; reply_fault_of(alloc, spaces.as_slice())?, unread);
-    assert_eq!(rt;
+    same(&rt, reply_fault_of(alloc, spaces.as_slice())?, unread);
+    same(
+        &rt,
         reply_fault_of(alloc, longer.as_slice())?,
-        Some(LineFault::TooLong)
+        Some(LineFault::TooLong),
     );
     Ok(())
 }
@@ -68,22 +71,23 @@ fn longest_request(rt: HostRuntime) -> Result<(), Fail> {
     let alloc = rt.alloc();
     let text = filled(alloc, b'x', 65_514)?;
     let line = between(alloc, b"{\"cells\":[\"", text.as_slice(), b"\"],\"row\":1}")?;
-    assert_eq!(rt; line.len(), 65_536);
+    same(&rt, line.len(), 65_536);
     let request = request_of(alloc, line.as_slice())?;
     let found = text_of_row(&request).ok_or("a row")?;
-    assert!(rt; found.as_bytes() == text.as_slice());
+    holds(&rt, found.as_bytes() == text.as_slice());
     let again = request_line(alloc, &request)?;
-    assert!(rt; again.as_slice() == line.as_slice());
+    holds(&rt, again.as_slice() == line.as_slice());
     let longer = between(
         alloc,
         b"{\"cells\":[\"x",
         text.as_slice(),
         b"\"],\"row\":1}",
     )?;
-    assert_eq!(rt; longer.len(), 65_537);
-    assert_eq!(rt;
+    same(&rt, longer.len(), 65_537);
+    same(
+        &rt,
         fault_of(alloc, longer.as_slice())?,
-        Some(LineFault::TooLong)
+        Some(LineFault::TooLong),
     );
     Ok(())
 }
@@ -99,19 +103,20 @@ fn longest_request_with_a_space(rt: HostRuntime) -> Result<(), Fail> {
         text.as_slice(),
         b"\"], \"row\":1}",
     )?;
-    assert_eq!(rt; line.len(), 65_536);
+    same(&rt, line.len(), 65_536);
     let request = request_of(alloc, line.as_slice())?;
     let found = text_of_row(&request).ok_or("a row")?;
-    assert!(rt; found.as_bytes() == text.as_slice());
+    holds(&rt, found.as_bytes() == text.as_slice());
     let longer = between(
         alloc,
         b"{\"cells\":[\"x",
         text.as_slice(),
         b"\"], \"row\":1}",
     )?;
-    assert_eq!(rt;
+    same(
+        &rt,
         fault_of(alloc, longer.as_slice())?,
-        Some(LineFault::TooLong)
+        Some(LineFault::TooLong),
     );
     Ok(())
 }
@@ -134,14 +139,15 @@ fn long_reply(alloc: Global, count: usize) -> Result<Reply, Fail> {
 fn longest_reply(rt: HostRuntime) -> Result<(), Fail> {
     let alloc = rt.alloc();
     let line = reply_line(alloc, &long_reply(alloc, 65_487)?)?;
-    assert_eq!(rt; line.len(), 65_536);
+    same(&rt, line.len(), 65_536);
     let again = reply_of(alloc, line.as_bytes())?;
-    assert!(rt; reply_line(alloc, &again)?.as_str() == line.as_str());
+    holds(&rt, reply_line(alloc, &again)?.as_str() == line.as_str());
     let longer = reply_line(alloc, &long_reply(alloc, 65_488)?)?;
-    assert_eq!(rt; longer.len(), 65_537);
-    assert_eq!(rt;
+    same(&rt, longer.len(), 65_537);
+    same(
+        &rt,
         reply_fault_of(alloc, longer.as_bytes())?,
-        Some(LineFault::TooLong)
+        Some(LineFault::TooLong),
     );
     Ok(())
 }
@@ -156,7 +162,7 @@ fn long_cell_there_and_back(rt: HostRuntime) -> Result<(), Fail> {
     )?;
     let request = Request::Packet(Packet::Row { number: 9, cells });
     let line = request_line(alloc, &request)?;
-    assert_eq!(rt; line.len(), 60_028);
-    assert!(rt; request_of(alloc, line.as_slice())? == request);
+    same(&rt, line.len(), 60_028);
+    holds(&rt, request_of(alloc, line.as_slice())? == request);
     Ok(())
 }
