@@ -1,6 +1,6 @@
 //! Columns that no text gives, and an input by columns whose reads fail or are too few. Texts of columns, fields and rows are in
 //! cases/columns.script.
-use super::support::prices;
+use super::support::{holds, prices, same};
 use rp_columns::{Columns, InputColumn, Reading, Unit};
 use rp_input::{ColumnsCsvFault, CsvLayout, is_delimiter, read_rows_by};
 use rp_io::MemoryInput;
@@ -39,7 +39,7 @@ fn columns_of_a_table(rt: HostRuntime) -> Result<(), Fail> {
     let alloc = rt.alloc();
     let table: Table = prices(alloc)?;
     let columns = Columns::of_table(alloc, &table)?;
-    assert!(rt; columns.table().same(&table));
+    holds(&rt, columns.table().same(&table));
     let nulls = nulls(alloc)?;
     let mut source = MemoryInput::new(b"p,sym,t\n2,x,1\n,y,3\n", 8, 0);
     let rows = read_rows_by(
@@ -50,9 +50,9 @@ fn columns_of_a_table(rt: HostRuntime) -> Result<(), Fail> {
         nulls.as_slice(),
         9,
     )?;
-    assert_eq!(rt; rows.len(), 2);
-    assert!(rt; matches!(rows[1].cell(2), Some(Value::Int(3))));
-    assert!(rt; matches!(rows[1].cell(3), Some(Value::Null)));
+    holds(&rt, rows.len() == 2);
+    holds(&rt, matches!(rows[1].cell(2), Some(Value::Int(3))));
+    holds(&rt, matches!(rows[1].cell(3), Some(Value::Null)));
     Ok(())
 }
 
@@ -63,17 +63,17 @@ fn columns_of_a_list(rt: HostRuntime) -> Result<(), Fail> {
     list.push(column(alloc, "N", Reading::Record)?)?;
     list.push(column(alloc, "T", Reading::Instant(Unit::Second, None))?)?;
     let columns = Columns::new(alloc, list)?;
-    assert_eq!(rt; columns.as_slice().len(), 2);
+    same(&rt, columns.as_slice().len(), 2);
     let mut list = Vec::new(alloc);
     list.push(column(alloc, "N", Reading::Record)?)?;
     list.push(column(alloc, "N", Reading::Day)?)?;
     match Columns::new(alloc, list) {
         Err(TableFault::OutOfMemory) => return Err(Fail::from(TableFault::OutOfMemory)),
-        Err(fault) => assert_eq!(rt; fault, TableFault::DoubleName),
-        Ok(_) => assert!(rt; false),
+        Err(fault) => same(&rt, fault, TableFault::DoubleName),
+        Ok(_) => holds(&rt, false),
     }
-    assert!(rt; is_delimiter(b';'));
-    assert!(rt; !is_delimiter(b'"'));
+    holds(&rt, is_delimiter(b';'));
+    holds(&rt, !is_delimiter(b'"'));
     Ok(())
 }
 
@@ -86,17 +86,19 @@ fn each_read_by_columns_fails_once(rt: HostRuntime) -> Result<(), Fail> {
     // Twenty bytes by pieces of eight are three reads, and the fourth tells the end.
     for failing in 1..5u64 {
         let mut source = MemoryInput::new(text, 8, failing);
-        assert_eq!(rt;
+        same(
+            &rt,
             fault_of(read_rows_by(alloc, &mut source, layout, &columns, &[], 9))?,
-            Some(ColumnsCsvFault::Read)
+            Some(ColumnsCsvFault::Read),
         );
-        assert_eq!(rt; source.calls(), failing);
+        same(&rt, source.calls(), failing);
     }
     let mut source = MemoryInput::new(text, 8, 0);
-    assert_eq!(rt;
+    same(
+        &rt,
         fault_of(read_rows_by(alloc, &mut source, layout, &columns, &[], 3))?,
-        Some(ColumnsCsvFault::Turns)
+        Some(ColumnsCsvFault::Turns),
     );
-    assert!(rt; !source.ended());
+    holds(&rt, !source.ended());
     Ok(())
 }

@@ -3,7 +3,7 @@ ghost use Rattle.std.specs.Prelude.{IfOk};
 ghost use Rattle.std.specs.Option.{ForSome};
 ghost use Rattle.rp_node.specs.GoingBack.{CanRestart};
 
-use super::support::{V, fixed_hasher, query_of, refused_twice};
+use super::support::{V, fixed_hasher, holds, query_of, refused_twice, same};
 use rp_io::{MemoryInput, MemoryOutput};
 use rp_node::{Begun, Node, RestartFault, begin};
 use rp_query::Query;
@@ -102,20 +102,20 @@ fn first(alloc: Global, lines: &str, failing: Failing) -> Result<Ended, Fail>
 #[test]
 fn worked_lines(rt: HostRuntime) -> Result<(), Fail> {
     let ended = first(rt.alloc(), LINES, NONE)?;
-    assert!(rt; ended.end.fault == None);
-    assert_eq!(rt; ended.end.lines, 6);
-    assert!(rt; ended.writer.bytes() == REPLIES.as_bytes());
+    holds(&rt, ended.end.fault == None);
+    same(&rt, ended.end.lines, 6);
+    holds(&rt, ended.writer.bytes() == REPLIES.as_bytes());
     Ok(())
 }
 
 #[test]
 fn faulty_lines(rt: HostRuntime) -> Result<(), Fail> {
     let ended = first(rt.alloc(), REFUSED, NONE)?;
-    assert!(rt; ended.writer.bytes() == REFUSALS.as_bytes());
+    holds(&rt, ended.writer.bytes() == REFUSALS.as_bytes());
     Ok(())
 }
 
-fn holds(saved: &Option<Vec<u8>>, text: &str) -> bool {
+fn has_text(saved: &Option<Vec<u8>>, text: &str) -> bool {
     let size = text.len();
     if size == 0 {
         return true;
@@ -136,10 +136,10 @@ const KEY: &str = "\"key\":[\"x\"]";
 #[test]
 fn nothing_saved(rt: HostRuntime) -> Result<(), Fail> {
     let ended = first(rt.alloc(), ROW, Failing { write: 1, ..NONE })?;
-    assert!(rt; ended.end.fault == Some(ServeFault::Write));
-    assert!(rt; ended.end.saved.is_none());
+    holds(&rt, ended.end.fault == Some(ServeFault::Write));
+    holds(&rt, ended.end.saved.is_none());
     let bytes = ended.end.node.save()?;
-    assert!(rt; !holds(&Some(bytes), KEY));
+    holds(&rt, !has_text(&Some(bytes), KEY));
     Ok(())
 }
 
@@ -147,8 +147,8 @@ fn nothing_saved(rt: HostRuntime) -> Result<(), Fail> {
 #[test]
 fn saved_at_the_end(rt: HostRuntime) -> Result<(), Fail> {
     let ended = first(rt.alloc(), ROW, NONE)?;
-    assert!(rt; ended.end.fault == None);
-    assert!(rt; holds(&ended.end.saved, KEY));
+    holds(&rt, ended.end.fault == None);
+    holds(&rt, has_text(&ended.end.saved, KEY));
     Ok(())
 }
 
@@ -167,10 +167,13 @@ fn after_a_failed_write(alloc: Global) -> Result<RoundEnd<Node>, Fail>
 #[test]
 fn goes_back(rt: HostRuntime) -> Result<(), Fail> {
     let end = after_a_failed_write(rt.alloc())?;
-    assert!(rt; end.fault == Some(ServeFault::Write));
-    assert!(rt; holds(&end.saved, KEY));
+    holds(&rt, end.fault == Some(ServeFault::Write));
+    holds(&rt, has_text(&end.saved, KEY));
     let next = connection(rt.alloc(), end.node, end.saved, TWO_ROWS, NONE)?;
-    assert!(rt; next.writer.bytes() == "{\"taken\":\"repeat\"}\n{\"taken\":\"new\"}\n".as_bytes());
+    holds(
+        &rt,
+        next.writer.bytes() == "{\"taken\":\"repeat\"}\n{\"taken\":\"new\"}\n".as_bytes(),
+    );
     Ok(())
 }
 
@@ -184,12 +187,12 @@ fn after_a_read(rt: &impl Abort, alloc: Global, number: u64) -> Result<(), Fail>
             ..NONE
         },
     )?;
-    assert!(rt; ended.end.fault == Some(ServeFault::Read));
-    assert!(rt; ended.end.saved.is_some());
-    assert!(rt; REPLIES.as_bytes().starts_with(ended.writer.bytes()));
+    holds(rt, ended.end.fault == Some(ServeFault::Read));
+    holds(rt, ended.end.saved.is_some());
+    holds(rt, REPLIES.as_bytes().starts_with(ended.writer.bytes()));
     let again = connection(alloc, ended.end.node, ended.end.saved, ROW, NONE)?;
     let is_new = again.writer.bytes() == "{\"taken\":\"new\"}\n".as_bytes();
-    assert_eq!(rt; is_new, ended.writer.bytes().is_empty());
+    same(rt, is_new, ended.writer.bytes().is_empty());
     Ok(())
 }
 
@@ -211,9 +214,9 @@ fn each_write(rt: HostRuntime) -> Result<(), Fail> {
             ..NONE
         };
         let ended = first(rt.alloc(), LINES, failing)?;
-        assert!(rt; ended.end.fault == Some(ServeFault::Write));
-        assert!(rt; ended.end.saved.is_none());
-        assert!(rt; REPLIES.as_bytes().starts_with(ended.writer.bytes()));
+        holds(&rt, ended.end.fault == Some(ServeFault::Write));
+        holds(&rt, ended.end.saved.is_none());
+        holds(&rt, REPLIES.as_bytes().starts_with(ended.writer.bytes()));
     }
     Ok(())
 }
@@ -221,9 +224,9 @@ fn each_write(rt: HostRuntime) -> Result<(), Fail> {
 #[test]
 fn no_turns(rt: HostRuntime) -> Result<(), Fail> {
     let ended = first(rt.alloc(), LINES, Failing { turns: 0, ..NONE })?;
-    assert!(rt; ended.end.fault == Some(ServeFault::Turns));
-    assert_eq!(rt; ended.end.lines, 0);
-    assert!(rt; ended.end.saved.is_some());
+    holds(&rt, ended.end.fault == Some(ServeFault::Turns));
+    same(&rt, ended.end.lines, 0);
+    holds(&rt, ended.end.saved.is_some());
     Ok(())
 }
 
@@ -237,9 +240,12 @@ fn saved_row(alloc: Global) -> Result<Option<Vec<u8>>, Fail> {
 fn begins_at_what_was_saved(rt: HostRuntime) -> Result<(), Fail> {
     let alloc = rt.alloc();
     let begun = begun(alloc, V, saved_row(alloc)?)?;
-    assert!(rt; begun.refused.is_none());
+    holds(&rt, begun.refused.is_none());
     let ended = connection(alloc, begun.node, begun.saved, ROW, NONE)?;
-    assert!(rt; ended.writer.bytes() == "{\"taken\":\"repeat\"}\n".as_bytes());
+    holds(
+        &rt,
+        ended.writer.bytes() == "{\"taken\":\"repeat\"}\n".as_bytes(),
+    );
     Ok(())
 }
 
@@ -254,7 +260,7 @@ fn begun(alloc: Global, clause: &str, saved: Option<Vec<u8>>) -> Result<Begun, F
 #[test]
 fn begins_with_nothing(rt: HostRuntime) -> Result<(), Fail> {
     let begun = begun(rt.alloc(), V, None)?;
-    assert!(rt; begun.refused.is_none() && begun.saved.is_none());
+    holds(&rt, begun.refused.is_none() && begun.saved.is_none());
     Ok(())
 }
 
@@ -266,7 +272,10 @@ fn begins_without_cut_bytes(rt: HostRuntime) -> Result<(), Fail> {
         let _last = bytes.pop();
     }
     let begun = begun(rt.alloc(), V, cut)?;
-    assert!(rt; begun.refused == Some(RestartFault::Digest) && begun.saved.is_none());
+    holds(
+        &rt,
+        begun.refused == Some(RestartFault::Digest) && begun.saved.is_none(),
+    );
     Ok(())
 }
 
@@ -275,7 +284,10 @@ fn begins_without_cut_bytes(rt: HostRuntime) -> Result<(), Fail> {
 fn begins_without_those_of_another_clause(rt: HostRuntime) -> Result<(), Fail> {
     let saved = saved_row(rt.alloc())?;
     let begun = begun(rt.alloc(), "PATTERN (A) DEFINE A AS p = 1", saved)?;
-    assert!(rt; begun.refused == Some(RestartFault::ClauseDiffers) && begun.saved.is_none());
+    holds(
+        &rt,
+        begun.refused == Some(RestartFault::ClauseDiffers) && begun.saved.is_none(),
+    );
     Ok(())
 }
 
@@ -303,6 +315,6 @@ fn refused_rounds(rt: HostRuntime) -> Result<(), Fail> {
             Ok(None) | Err(AllocError) => return Err(refused_twice()),
         },
     };
-    assert!(rt; writer.bytes() == REPLIES.as_bytes());
+    holds(&rt, writer.bytes() == REPLIES.as_bytes());
     Ok(())
 }

@@ -1,6 +1,6 @@
 //! Rows of an input whose reads fail or are too few, and calls with refused memory. Rows of texts, their order and the faults of
 //! texts are in cases/inputs.cases.
-use super::support::{fixed_hasher, prices, query_of, refused_twice};
+use super::support::{fixed_hasher, holds, prices, query_of, refused_twice, same};
 use rp_feed::Packet;
 use rp_input::{CsvFault, Part, number_rows, order_rows, partitions, read_rows, rows_of};
 use rp_io::MemoryInput;
@@ -105,20 +105,22 @@ fn each_read_fails_once(rt: HostRuntime) -> Result<(), Fail> {
     // Twenty bytes by pieces of eight are three reads, and the fourth tells the end.
     for failing in 1..5u64 {
         let mut source = MemoryInput::new(text, 8, failing);
-        assert_eq!(rt;
+        same(
+            &rt,
             fault_of(read_rows(alloc, &mut source, &table, 9))?,
-            Some(CsvFault::Read)
+            Some(CsvFault::Read),
         );
-        assert_eq!(rt; source.calls(), failing);
-        assert!(rt; !source.ended());
+        same(&rt, source.calls(), failing);
+        holds(&rt, !source.ended());
     }
     let mut source = MemoryInput::new(text, 8, 5);
     let rows = read_rows(alloc, &mut source, &table, 4)?;
-    assert_eq!(rt;
+    same(
+        &rt,
         show_rows(alloc, rows.as_slice())?.as_str(),
-        " 'x' 1 2; 'y' 3 4;"
+        " 'x' 1 2; 'y' 3 4;",
     );
-    assert!(rt; source.ended());
+    holds(&rt, source.ended());
     Ok(())
 }
 
@@ -128,17 +130,19 @@ fn too_few_reads(rt: HostRuntime) -> Result<(), Fail> {
     let table = prices(alloc)?;
     for reads in 0..4u64 {
         let mut source = MemoryInput::new(b"sym,t,p\nx,1,2\ny,3,4\n", 8, 0);
-        assert_eq!(rt;
+        same(
+            &rt,
             fault_of(read_rows(alloc, &mut source, &table, reads))?,
-            Some(CsvFault::Turns)
+            Some(CsvFault::Turns),
         );
-        assert_eq!(rt; source.calls(), reads);
-        assert!(rt; !source.ended());
+        same(&rt, source.calls(), reads);
+        holds(&rt, !source.ended());
     }
     let mut source = MemoryInput::new(b"", 8, 0);
-    assert_eq!(rt;
+    same(
+        &rt,
         fault_of(read_rows(alloc, &mut source, &table, 1))?,
-        Some(CsvFault::Header)
+        Some(CsvFault::Header),
     );
     Ok(())
 }
@@ -160,9 +164,10 @@ fn refused_rows(rt: HostRuntime) -> Result<(), Fail> {
         }
         first => first?,
     };
-    assert_eq!(rt;
+    same(
+        &rt,
         show_rows(alloc, rows.as_slice())?.as_str(),
-        " 'x' 1 2; 'y' 3 -;"
+        " 'x' 1 2; 'y' 3 -;",
     );
     Ok(())
 }
@@ -182,8 +187,8 @@ fn refused_packets(rt: HostRuntime) -> Result<(), Fail> {
         },
         first => first?,
     };
-    assert_eq!(rt; show_packets(alloc, packets.as_slice())?.as_str(), want);
-    assert!(rt; packets_of(alloc, &query, "sym,t,p\n")?.is_empty());
+    same(&rt, show_packets(alloc, packets.as_slice())?.as_str(), want);
+    holds(&rt, packets_of(alloc, &query, "sym,t,p\n")?.is_empty());
     Ok(())
 }
 
@@ -200,7 +205,7 @@ fn refused_partitions(rt: HostRuntime) -> Result<(), Fail> {
         first => first?,
     };
     let came = show_parts(alloc, parts.as_slice())?;
-    assert_eq!(rt; came.as_str(), " 'x': 'x' 2 8; 'x' 1 10; 'y': 'y' 1 5;");
+    same(&rt, came.as_str(), " 'x': 'x' 2 8; 'x' 1 10; 'y': 'y' 1 5;");
     Ok(())
 }
 
@@ -214,6 +219,10 @@ fn refused_order(rt: HostRuntime) -> Result<(), Fail> {
     if order_rows(&query, &mut rows).is_err() && order_rows(&query, &mut rows).is_err() {
         return Err(refused_twice());
     }
-    assert_eq!(rt; show_rows(alloc, rows.as_slice())?.as_str(), want.as_str());
+    same(
+        &rt,
+        show_rows(alloc, rows.as_slice())?.as_str(),
+        want.as_str(),
+    );
     Ok(())
 }

@@ -1,13 +1,16 @@
 //! Tables, queries and rows for the tests, and how a test ends that is refused memory twice.
+ghost use Rattle.std.specs.Prelude.{◌≡◌, true};
+
 use rp_compile::compile;
 use rp_query::Query;
 use rp_syntax::read_table;
 use rp_value::{Row, Table, Text, Value};
 use std::alloc::{AllocError, Global};
 use std::collections::hash_map::RandomState;
-use std::io;
+use std::process::Abort;
 use std::random::RandomSource;
 use std::test::Fail;
+use std::{fmt, io};
 
 /// A fall and then a rise.
 pub const V: &str =
@@ -66,4 +69,17 @@ pub fn fixed_hasher() -> Result<RandomState, AllocError> {
         Ok(hasher) => Ok(hasher),
         Err(_) => Err(AllocError),
     }
+}
+
+/// Ends a test in which a value isn't the one that is wanted. (In an `assert_eq!` of its own a test would have the text of its failure
+/// to prove as well.)
+pub fn same<T: PartialEq + fmt::Debug + Drop>(rt: &impl Abort, came: T, wanted: T) {
+    assert_eq!(rt; came, wanted);
+}
+
+/// Ends a test in which something doesn't hold. Where it goes on, that is known to hold.
+pub fn holds(rt: &impl Abort, is_so: bool)
+    ensures { is_so ≡ true }
+{
+    assert!(rt; is_so);
 }

@@ -1,6 +1,6 @@
 //! Answers over rows that were read before, in each form.
 use super::TICKS;
-use crate::support::{V, fixed_hasher, key_of, query_of};
+use crate::support::{V, fixed_hasher, holds, key_of, query_of, same};
 use rp_input::rows_of;
 use rp_io::MemoryOutput;
 use rp_query::Query;
@@ -36,10 +36,13 @@ fn each_form(rt: HostRuntime) -> Result<(), Fail> {
     let in_csv = write_csv(alloc, &query, rows, None, &mut sink, watch, hasher)?;
     let (rows, hasher) = (ticks(alloc, &query)?, fixed_hasher()?);
     let in_objects = write_objects(alloc, &query, rows, None, &mut sink, watch, hasher)?;
-    assert!(rt; given_up.is_empty());
-    assert!(rt; in_csv.stopped.is_empty() && in_csv.halted.is_empty());
-    assert!(rt; in_objects.stopped.is_empty() && in_objects.halted.is_empty());
-    assert!(rt; sink.bytes() == ANSWERED.as_bytes());
+    holds(&rt, given_up.is_empty());
+    holds(&rt, in_csv.stopped.is_empty() && in_csv.halted.is_empty());
+    holds(
+        &rt,
+        in_objects.stopped.is_empty() && in_objects.halted.is_empty(),
+    );
+    holds(&rt, sink.bytes() == ANSWERED.as_bytes());
     Ok(())
 }
 
@@ -72,9 +75,12 @@ fn given_up_at_a_limit(rt: HostRuntime) -> Result<(), Fail> {
         &mut Unwatched,
         fixed_hasher()?,
     )?;
-    assert_eq!(rt; given_up.len(), 1);
-    assert_eq!(rt; given_up[0].row, 1);
-    assert!(rt; given_up[0].key.as_slice() == key_of(alloc, &query)?.as_slice());
-    assert!(rt; sink.bytes() == OTHERS.as_bytes());
+    holds(&rt, given_up.len() == 1);
+    same(&rt, given_up[0].row, 1);
+    holds(
+        &rt,
+        given_up[0].key.as_slice() == key_of(alloc, &query)?.as_slice(),
+    );
+    holds(&rt, sink.bytes() == OTHERS.as_bytes());
     Ok(())
 }

@@ -1,7 +1,7 @@
 //! Answers as lines, over devices in memory.
 use super::TICKS;
 use super::running::{Form, each_write_fails, refused, run, second_block_fails};
-use crate::support::{V, fixed_hasher, query_of};
+use crate::support::{V, fixed_hasher, holds, query_of, same};
 use rp_input::CsvFault;
 use rp_io::{MemoryInput, MemoryOutput};
 use rp_value::Cells;
@@ -23,17 +23,17 @@ fn each_read_fails(rt: HostRuntime) -> Result<(), Fail> {
         let mut source = MemoryInput::new(TICKS.as_bytes(), 8, failing);
         let mut sink = MemoryOutput::new(alloc, 4096, 100, 0)?;
         let fault = run(alloc, Form::Lines, V, &mut source, &mut sink, 1_000)?;
-        assert_eq!(rt; fault, Some(WholeFault::Csv(CsvFault::Read)));
-        assert_eq!(rt; source.calls(), failing);
-        assert!(rt; sink.bytes().is_empty());
+        same(&rt, fault, Some(WholeFault::Csv(CsvFault::Read)));
+        same(&rt, source.calls(), failing);
+        holds(&rt, sink.bytes().is_empty());
     }
     for reads in 0..8 {
         let mut source = MemoryInput::new(TICKS.as_bytes(), 8, 0);
         let mut sink = MemoryOutput::new(alloc, 4096, 100, 0)?;
         let fault = run(alloc, Form::Lines, V, &mut source, &mut sink, reads)?;
-        assert_eq!(rt; fault, Some(WholeFault::Csv(CsvFault::Turns)));
-        assert_eq!(rt; source.calls(), reads);
-        assert!(rt; sink.bytes().is_empty());
+        same(&rt, fault, Some(WholeFault::Csv(CsvFault::Turns)));
+        same(&rt, source.calls(), reads);
+        holds(&rt, sink.bytes().is_empty());
     }
     Ok(())
 }
@@ -46,8 +46,8 @@ fn each_write(rt: HostRuntime) -> Result<(), Fail> {
     let mut source = MemoryInput::new(TICKS.as_bytes(), 1_000, 0);
     let mut sink = MemoryOutput::new(alloc, 4096, 7, 21)?;
     let fault = run(alloc, Form::Lines, V, &mut source, &mut sink, 1_000)?;
-    assert_eq!(rt; fault, None);
-    assert!(rt; sink.bytes() == TICKS_ANSWERED.as_bytes());
+    same(&rt, fault, None);
+    holds(&rt, sink.bytes() == TICKS_ANSWERED.as_bytes());
     Ok(())
 }
 
@@ -99,8 +99,8 @@ fn found_is_written_early(rt: HostRuntime) -> Result<(), Fail> {
     let mut source = MemoryInput::new(input.as_str().as_bytes(), 1_000, 0);
     let mut sink = MemoryOutput::new(alloc, 4096, 1_000, 2)?;
     let fault = run(alloc, Form::Lines, SLOW, &mut source, &mut sink, 9)?;
-    assert_eq!(rt; fault, Some(WholeFault::Write));
-    assert!(rt; sink.bytes() == want.as_bytes());
+    same(&rt, fault, Some(WholeFault::Write));
+    holds(&rt, sink.bytes() == want.as_bytes());
     Ok(())
 }
 
@@ -152,10 +152,10 @@ fn progress_is_told(rt: HostRuntime) -> Result<(), Fail> {
         9,
         fixed_hasher()?,
     )?;
-    assert_eq!(rt; counts.partitions, 2);
-    assert!(rt; counts.pauses > 0);
-    assert!(rt; counts.row > 0);
-    assert_eq!(rt; counts.odd, 0);
+    same(&rt, counts.partitions, 2);
+    holds(&rt, counts.pauses > 0);
+    holds(&rt, counts.row > 0);
+    same(&rt, counts.odd, 0);
     Ok(())
 }
 

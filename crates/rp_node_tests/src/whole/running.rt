@@ -1,6 +1,6 @@
 //! Runs of a clause as lines and as records, and what both have in common.
 use super::{EACH, TICKS};
-use crate::support::{V, fixed_hasher, query_of, refused_twice};
+use crate::support::{V, fixed_hasher, holds, query_of, refused_twice, same};
 use rp_io::{MemoryInput, MemoryOutput};
 use rp_query::Query;
 use rp_whole::{Unwatched, WholeFault, run_whole, run_whole_csv};
@@ -65,9 +65,9 @@ pub(super) fn each_write_fails(
         let mut source = MemoryInput::new(TICKS.as_bytes(), 1_000, 0);
         let mut sink = MemoryOutput::new(alloc, 4096, 7, taken + 1)?;
         let fault = run(alloc, form, V, &mut source, &mut sink, 1_000)?;
-        assert_eq!(rt; fault, Some(WholeFault::Write));
-        assert_eq!(rt; sink.bytes().len() as u64, 7 * taken);
-        assert!(rt; want.as_bytes().starts_with(sink.bytes()));
+        same(rt, fault, Some(WholeFault::Write));
+        same(rt, sink.bytes().len() as u64, 7 * taken);
+        holds(rt, want.as_bytes().starts_with(sink.bytes()));
     }
     Ok(())
 }
@@ -83,14 +83,14 @@ pub(super) fn second_block_fails(
     let want = want.as_bytes();
     let mut source = MemoryInput::new(input.as_bytes(), 1_000_000, 0);
     let mut sink = MemoryOutput::new(alloc, want.len(), 1_000_000, 0)?;
-    assert_eq!(rt; run(alloc, form, EACH, &mut source, &mut sink, 9)?, None);
-    assert!(rt; sink.bytes() == want);
+    same(rt, run(alloc, form, EACH, &mut source, &mut sink, 9)?, None);
+    holds(rt, sink.bytes() == want);
     let mut source = MemoryInput::new(input.as_bytes(), 1_000_000, 0);
     let mut sink = MemoryOutput::new(alloc, want.len(), 1_000_000, 2)?;
     let fault = run(alloc, form, EACH, &mut source, &mut sink, 9)?;
-    assert_eq!(rt; fault, Some(WholeFault::Write));
-    assert!(rt; sink.bytes().len() >= 65_536);
-    assert!(rt; want.starts_with(sink.bytes()));
+    same(rt, fault, Some(WholeFault::Write));
+    holds(rt, sink.bytes().len() >= 65_536);
+    holds(rt, want.starts_with(sink.bytes()));
     Ok(())
 }
 
@@ -103,17 +103,17 @@ pub(super) fn refused(rt: &impl Abort, alloc: Global, form: Form, want: &str) ->
     let mut source = MemoryInput::new(TICKS.as_bytes(), 1_000, 0);
     match run_query(alloc, form, query, &mut source, &mut sink, 9)? {
         Err(WholeFault::OutOfMemory) => {
-            assert!(rt; want.starts_with(sink.bytes()));
+            holds(rt, want.starts_with(sink.bytes()));
             let mut sink = MemoryOutput::new(alloc, 4096, 100, 0)?;
             let mut source = MemoryInput::new(TICKS.as_bytes(), 1_000, 0);
             if run_query(alloc, form, again, &mut source, &mut sink, 9)?.is_err() {
                 return Err(refused_twice());
             }
-            assert!(rt; sink.bytes() == want);
+            holds(rt, sink.bytes() == want);
         }
         first => {
             first?;
-            assert!(rt; sink.bytes() == want);
+            holds(rt, sink.bytes() == want);
         }
     }
     Ok(())
