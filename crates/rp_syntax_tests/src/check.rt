@@ -1,5 +1,5 @@
 //! The query of a clause.
-use crate::support::{compiled, prices, refused_twice};
+use crate::support::{compiled, holds, prices, refused_twice, same};
 use rp_check::{CheckKind, Fault};
 use rp_compile::CompileFault;
 use rp_query::{Condition, Query};
@@ -32,14 +32,15 @@ fn framed_clause(rt: HostRuntime) -> Result<(), Fail> {
     let query = query_of(alloc, FALL_AND_RISE)?;
     let text = format!(in alloc; "MATCH_RECOGNIZE ({FALL_AND_RISE})")?;
     let framed = query_of(alloc, text.as_str())?;
-    assert_eq!(rt; query.text().as_str(), FALL_AND_RISE);
-    assert_eq!(rt; framed.text().as_str(), text.as_str());
-    assert!(rt; has_output(&framed, &["SYM", "N", "A", "LO", "HI"]));
-    assert_eq!(rt; framed.reach(), 1);
+    same(&rt, query.text().as_str(), FALL_AND_RISE);
+    same(&rt, framed.text().as_str(), text.as_str());
+    holds(&rt, has_output(&framed, &["SYM", "N", "A", "LO", "HI"]));
+    same(&rt, framed.reach(), 1);
     let pattern = format!(in alloc; "{:?}", query.pattern())?;
-    assert_eq!(rt;
+    same(
+        &rt,
         format!(in alloc; "{:?}", framed.pattern())?.as_str(),
-        pattern.as_str()
+        pattern.as_str(),
     );
     Ok(())
 }
@@ -50,10 +51,16 @@ fn definitions_by_variable(rt: HostRuntime) -> Result<(), Fail> {
         rt.alloc(),
         "PATTERN (A B C) DEFINE C AS p IS NULL, B AS p = 1",
     )?;
-    assert!(rt; query.definition(0).is_none());
-    assert!(rt; matches!(query.definition(1), Some(Condition::Compare(..))));
-    assert!(rt; matches!(query.definition(2), Some(Condition::IsNull(_))));
-    assert!(rt; query.definition(3).is_none());
+    holds(&rt, query.definition(0).is_none());
+    holds(
+        &rt,
+        matches!(query.definition(1), Some(Condition::Compare(..))),
+    );
+    holds(
+        &rt,
+        matches!(query.definition(2), Some(Condition::IsNull(_))),
+    );
+    holds(&rt, query.definition(3).is_none());
     Ok(())
 }
 
@@ -73,13 +80,13 @@ fn refused_queries(rt: HostRuntime) -> Result<(), Fail> {
     let query = query_of(rt.alloc(), FALL_AND_RISE)?;
     let further = shared(&query)?;
     for owner in [&query, &further] {
-        assert_eq!(rt; owner.text().as_str(), FALL_AND_RISE);
-        assert!(rt; has_output(owner, &["SYM", "N", "A", "LO", "HI"]));
-        assert_eq!(rt; owner.reach(), 1);
-        assert!(rt; owner.partition() == [1].as_slice());
-        assert_eq!(rt; owner.plan().measures.len(), 4);
-        assert!(rt; owner.definition(0).is_none());
-        assert!(rt; owner.definition(2).is_some());
+        same(&rt, owner.text().as_str(), FALL_AND_RISE);
+        holds(&rt, has_output(owner, &["SYM", "N", "A", "LO", "HI"]));
+        same(&rt, owner.reach(), 1);
+        holds(&rt, owner.partition() == [1].as_slice());
+        same(&rt, owner.plan().measures.len(), 4);
+        holds(&rt, owner.definition(0).is_none());
+        holds(&rt, owner.definition(2).is_some());
     }
     Ok(())
 }
@@ -94,8 +101,8 @@ fn refused_faults(rt: HostRuntime) -> Result<(), Fail> {
         offset: 95,
     });
     match compiled(rt.alloc(), text, &table)? {
-        Ok(_) => assert!(rt; false, "no fault"),
-        Err(fault) => assert_eq!(rt; fault, wanted),
+        Ok(_) => holds(&rt, false),
+        Err(fault) => same(&rt, fault, wanted),
     }
     Ok(())
 }

@@ -1,4 +1,5 @@
 //! Jobs with the values that are read, where no output shows them. The other jobs and all texts are in cases/command.cases.
+use crate::support::{holds, same};
 use rp_command::{AnswerFormat, InputFormat, Job, JobFault, ReportFormat, read_command};
 use std::alloc::{AllocError, Global};
 use std::test::Fail;
@@ -45,22 +46,22 @@ fn whole_command_of_many(rt: HostRuntime) -> Result<(), Fail> {
     ];
     match &job_of(rt.alloc(), words.as_slice())? {
         Job::Whole(whole) => {
-            assert_eq!(rt; shown(&whole.input.table), "");
-            assert_eq!(rt; shown(&whole.input.columns), "t = seconds(Time)");
-            assert_eq!(rt; shown(&whole.input.delimiter), "\\t");
-            assert_eq!(rt; whole.input.nulls.len(), 2);
-            assert_eq!(rt; whole.input.nulls[0].as_str(), "");
-            assert_eq!(rt; whole.input.nulls[1].as_str(), "n/a");
-            assert!(rt; whole.input.no_header);
-            assert_eq!(rt; whole.input.from, InputFormat::JsonLines);
-            assert_eq!(rt; whole.format, AnswerFormat::Objects);
-            assert_eq!(rt; shown(&whole.filter), "p > 0");
-            assert_eq!(rt; whole.most_turns, Some(4_294_967_295));
-            assert_eq!(rt; whole.files.len(), 2);
-            assert_eq!(rt; whole.files[0].as_str(), "a.csv");
-            assert_eq!(rt; whole.files[1].as_str(), "b.csv");
+            same(&rt, shown(&whole.input.table), "");
+            same(&rt, shown(&whole.input.columns), "t = seconds(Time)");
+            same(&rt, shown(&whole.input.delimiter), "\\t");
+            holds(&rt, whole.input.nulls.len() == 2);
+            same(&rt, whole.input.nulls[0].as_str(), "");
+            same(&rt, whole.input.nulls[1].as_str(), "n/a");
+            holds(&rt, whole.input.no_header);
+            same(&rt, whole.input.from, InputFormat::JsonLines);
+            same(&rt, whole.format, AnswerFormat::Objects);
+            same(&rt, shown(&whole.filter), "p > 0");
+            same(&rt, whole.most_turns, Some(4_294_967_295));
+            holds(&rt, whole.files.len() == 2);
+            same(&rt, whole.files[0].as_str(), "a.csv");
+            same(&rt, whole.files[1].as_str(), "b.csv");
         }
-        _ => assert!(rt; false),
+        _ => holds(&rt, false),
     }
     Ok(())
 }
@@ -70,18 +71,18 @@ fn whole_command_of_many(rt: HostRuntime) -> Result<(), Fail> {
 fn whole_command_of_few_words(rt: HostRuntime) -> Result<(), Fail> {
     match &job_of(rt.alloc(), &["whole", "--clause=c"])? {
         Job::Whole(whole) => {
-            assert!(rt; whole.input.table.is_none());
-            assert!(rt; whole.input.columns.is_none());
-            assert!(rt; whole.input.delimiter.is_none());
-            assert!(rt; whole.input.nulls.is_empty());
-            assert!(rt; !whole.input.no_header);
-            assert_eq!(rt; whole.input.from, InputFormat::Csv);
-            assert_eq!(rt; whole.format, AnswerFormat::Lines);
-            assert!(rt; whole.filter.is_none());
-            assert_eq!(rt; whole.most_turns, None);
-            assert!(rt; whole.files.is_empty());
+            holds(&rt, whole.input.table.is_none());
+            holds(&rt, whole.input.columns.is_none());
+            holds(&rt, whole.input.delimiter.is_none());
+            holds(&rt, whole.input.nulls.is_empty());
+            holds(&rt, !whole.input.no_header);
+            same(&rt, whole.input.from, InputFormat::Csv);
+            same(&rt, whole.format, AnswerFormat::Lines);
+            holds(&rt, whole.filter.is_none());
+            same(&rt, whole.most_turns, None);
+            holds(&rt, whole.files.is_empty());
         }
-        _ => assert!(rt; false),
+        _ => holds(&rt, false),
     }
     Ok(())
 }
@@ -93,11 +94,11 @@ fn check_command_of_a_file(rt: HostRuntime) -> Result<(), Fail> {
     for (count, format) in [(1, ReportFormat::Text), (3, ReportFormat::Json)] {
         match &job_of(rt.alloc(), &words.as_slice()[..count])? {
             Job::Check(check) => {
-                assert_eq!(rt; check.format, format);
-                assert_eq!(rt; check.file.is_some(), count == 3);
-                assert!(rt; check.clause.is_none());
+                same(&rt, check.format, format);
+                same(&rt, check.file.is_some(), count == 3);
+                holds(&rt, check.clause.is_none());
             }
-            _ => assert!(rt; false),
+            _ => holds(&rt, false),
         }
     }
     Ok(())
@@ -109,8 +110,8 @@ fn whole_command(rt: HostRuntime) -> Result<(), Fail> {
     let words = ["whole", "--table=p int", "--clause=c", "--progress"];
     for (count, reports) in [(3, false), (4, true)] {
         match &job_of(rt.alloc(), &words.as_slice()[..count])? {
-            Job::Whole(whole) => assert_eq!(rt; whole.progress, reports),
-            _ => assert!(rt; false),
+            Job::Whole(whole) => same(&rt, whole.progress, reports),
+            _ => holds(&rt, false),
         }
     }
     Ok(())
@@ -135,16 +136,16 @@ fn node_command(rt: HostRuntime) -> Result<(), Fail> {
     ];
     match &job_of(rt.alloc(), words.as_slice())? {
         Job::Node(node) => {
-            assert_eq!(rt; node.table.as_str(), "p int");
-            assert_eq!(rt; node.clause.as_str(), "a clause");
-            assert_eq!(rt; node.listen.as_str(), "127.0.0.1:7000");
-            assert_eq!(rt; node.state.as_str(), "node.state");
-            assert_eq!(rt; node.connections, Some(4_294_967_295));
-            assert_eq!(rt; node.idle, Some(1));
-            assert!(rt; node.verbose);
-            assert!(rt; !node.acknowledge);
+            same(&rt, node.table.as_str(), "p int");
+            same(&rt, node.clause.as_str(), "a clause");
+            same(&rt, node.listen.as_str(), "127.0.0.1:7000");
+            same(&rt, node.state.as_str(), "node.state");
+            same(&rt, node.connections, Some(4_294_967_295));
+            same(&rt, node.idle, Some(1));
+            holds(&rt, node.verbose);
+            holds(&rt, !node.acknowledge);
         }
-        _ => assert!(rt; false),
+        _ => holds(&rt, false),
     }
     Ok(())
 }
@@ -162,12 +163,12 @@ fn node_command_of_few_words(rt: HostRuntime) -> Result<(), Fail> {
     ];
     match &job_of(rt.alloc(), words.as_slice())? {
         Job::Node(node) => {
-            assert_eq!(rt; node.connections, None);
-            assert_eq!(rt; node.idle, None);
-            assert!(rt; !node.verbose);
-            assert!(rt; node.acknowledge);
+            same(&rt, node.connections, None);
+            same(&rt, node.idle, None);
+            holds(&rt, !node.verbose);
+            holds(&rt, node.acknowledge);
         }
-        _ => assert!(rt; false),
+        _ => holds(&rt, false),
     }
     Ok(())
 }
@@ -185,17 +186,17 @@ fn source_command(rt: HostRuntime) -> Result<(), Fail> {
     ];
     match &job_of(rt.alloc(), words.as_slice())? {
         Job::Source(source) => {
-            assert_eq!(rt; shown(&source.input.table), "p int");
-            assert_eq!(rt; shown(&source.input.columns), "");
-            assert_eq!(rt; source.clause.as_str(), "a clause");
-            assert_eq!(rt; source.budget, 100_000);
-            assert_eq!(rt; source.idle, None);
-            assert!(rt; !source.acknowledge);
-            assert!(rt; !source.verbose);
-            assert_eq!(rt; source.addresses.len(), 1);
-            assert_eq!(rt; source.addresses[0].as_str(), "127.0.0.1:7000");
+            same(&rt, shown(&source.input.table), "p int");
+            same(&rt, shown(&source.input.columns), "");
+            same(&rt, source.clause.as_str(), "a clause");
+            same(&rt, source.budget, 100_000);
+            same(&rt, source.idle, None);
+            holds(&rt, !source.acknowledge);
+            holds(&rt, !source.verbose);
+            holds(&rt, source.addresses.len() == 1);
+            same(&rt, source.addresses[0].as_str(), "127.0.0.1:7000");
         }
-        _ => assert!(rt; false),
+        _ => holds(&rt, false),
     }
     Ok(())
 }
@@ -217,16 +218,16 @@ fn source_command_of_many(rt: HostRuntime) -> Result<(), Fail> {
     ];
     match &job_of(rt.alloc(), words.as_slice())? {
         Job::Source(source) => {
-            assert_eq!(rt; source.budget, 7);
-            assert_eq!(rt; source.idle, Some(30));
-            assert!(rt; source.acknowledge);
-            assert!(rt; source.verbose);
-            assert_eq!(rt; source.addresses.len(), 3);
-            assert_eq!(rt; source.addresses[0].as_str(), "b:2");
-            assert_eq!(rt; source.addresses[1].as_str(), "a:1");
-            assert_eq!(rt; source.addresses[2].as_str(), "b:2");
+            same(&rt, source.budget, 7);
+            same(&rt, source.idle, Some(30));
+            holds(&rt, source.acknowledge);
+            holds(&rt, source.verbose);
+            holds(&rt, source.addresses.len() == 3);
+            same(&rt, source.addresses[0].as_str(), "b:2");
+            same(&rt, source.addresses[1].as_str(), "a:1");
+            same(&rt, source.addresses[2].as_str(), "b:2");
         }
-        _ => assert!(rt; false),
+        _ => holds(&rt, false),
     }
     Ok(())
 }
@@ -246,14 +247,14 @@ fn why_command_of_many(rt: HostRuntime) -> Result<(), Fail> {
     ];
     match &job_of(rt.alloc(), words.as_slice())? {
         Job::Why(why) => {
-            assert_eq!(rt; why.clause.as_str(), "c");
-            assert_eq!(rt; why.format, ReportFormat::Json);
-            assert_eq!(rt; shown(&why.key), "[1]");
-            assert_eq!(rt; why.row, Some(7));
-            assert_eq!(rt; shown(&why.filter), "p > 0");
-            assert_eq!(rt; why.most_turns, Some(8));
-            assert_eq!(rt; why.files.len(), 1);
-            assert_eq!(rt; why.files[0].as_str(), "a.csv");
+            same(&rt, why.clause.as_str(), "c");
+            same(&rt, why.format, ReportFormat::Json);
+            same(&rt, shown(&why.key), "[1]");
+            same(&rt, why.row, Some(7));
+            same(&rt, shown(&why.filter), "p > 0");
+            same(&rt, why.most_turns, Some(8));
+            holds(&rt, why.files.len() == 1);
+            same(&rt, why.files[0].as_str(), "a.csv");
             Ok(())
         }
         _ => Err(Fail::from("the words name no why")),

@@ -1,5 +1,6 @@
 //! What is drawn of parts that a text is cut into anywhere. The marks were set by hand, by the columns that a terminal gives each
 //! character. What `check` draws of faults is in cases/drawings.cases.
+use crate::support::same;
 use rp_place::{Place, Span, draw};
 use std::alloc::{AllocError, Global};
 use std::process::Abort;
@@ -20,10 +21,7 @@ fn drawn(alloc: Global, text: &str, start: usize, end: usize) -> Result<String, 
 fn all_drawn(rt: &impl Abort, alloc: Global, cases: &[Case]) -> Result<(), AllocError> {
     for (text, start, end, wanted) in cases {
         let out = drawn(alloc, text, *start, *end)?;
-        assert!(rt;
-            out.as_str() == *wanted,
-            "{text} from {start} to {end}:\n{out}"
-        );
+        same(rt, out.as_str(), *wanted);
     }
     Ok(())
 }
@@ -241,9 +239,10 @@ fn front_of_69(rt: HostRuntime) -> Result<(), Fail> {
     wanted.push_str("Z\n     | ")?;
     repeated(&mut wanted, " ", 69)?;
     wanted.push_str("^ here\n")?;
-    assert_eq!(rt;
+    same(
+        &rt,
         drawn(rt.alloc(), text.as_str(), 69, 70)?.as_str(),
-        wanted.as_str()
+        wanted.as_str(),
     );
     Ok(())
 }
@@ -261,9 +260,10 @@ fn front_of_70(rt: HostRuntime) -> Result<(), Fail> {
     wanted.push_str("Z\n     | ")?;
     repeated(&mut wanted, " ", 102)?;
     wanted.push_str("^ here\n")?;
-    assert_eq!(rt;
+    same(
+        &rt,
         drawn(rt.alloc(), text.as_str(), 170, 171)?.as_str(),
-        wanted.as_str()
+        wanted.as_str(),
     );
     Ok(())
 }
@@ -281,13 +281,15 @@ fn long_rests(rt: HostRuntime) -> Result<(), Fail> {
     short.push_str("^^ here\n")?;
     repeated(&mut long, "^", 80)?;
     long.push_str(" here\n")?;
-    assert_eq!(rt;
+    same(
+        &rt,
         drawn(rt.alloc(), text.as_str(), 0, 2)?.as_str(),
-        short.as_str()
+        short.as_str(),
     );
-    assert_eq!(rt;
+    same(
+        &rt,
         drawn(rt.alloc(), text.as_str(), 0, 85)?.as_str(),
-        long.as_str()
+        long.as_str(),
     );
     Ok(())
 }
@@ -313,7 +315,7 @@ fn all_numbered(
 ) -> Result<(), AllocError> {
     for (line, what, wanted) in cases {
         let out = drawn_at(alloc, *line, what)?;
-        assert!(rt; out.as_str() == *wanted, "{line}:\n{out}");
+        same(rt, out.as_str(), *wanted);
     }
     Ok(())
 }

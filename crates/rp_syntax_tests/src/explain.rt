@@ -1,5 +1,5 @@
 //! What is told of a clause, a table and an input, where memory is refused in between too.
-use crate::support::{compiled, prices, refused_twice};
+use crate::support::{compiled, prices, refused_twice, same};
 use rp_check::{CheckKind, Fault};
 use rp_compile::CompileFault;
 use rp_explain_clauses::{explain_clause, explain_table};
@@ -43,7 +43,7 @@ fn told_of_clause(alloc: Global) -> Result<String, Fail> {
 #[test]
 fn refused_clause(rt: HostRuntime) -> Result<(), Fail> {
     let told = told_of_clause(rt.alloc())?;
-    assert_eq!(rt; told.as_str(), TOLD_OF_CLAUSE);
+    same(&rt, told.as_str(), TOLD_OF_CLAUSE);
     Ok(())
 }
 
@@ -70,7 +70,7 @@ fn told_of_table(alloc: Global) -> Result<String, Fail> {
 #[test]
 fn refused_table(rt: HostRuntime) -> Result<(), Fail> {
     let told = told_of_table(rt.alloc())?;
-    assert_eq!(rt; told.as_str(), TOLD_OF_TABLE);
+    same(&rt, told.as_str(), TOLD_OF_TABLE);
     Ok(())
 }
 
@@ -101,7 +101,7 @@ fn told_of_input(alloc: Global) -> Result<String, Fail> {
 #[test]
 fn refused_input(rt: HostRuntime) -> Result<(), Fail> {
     let told = told_of_input(rt.alloc())?;
-    assert_eq!(rt; told.as_str(), TOLD_OF_INPUT);
+    same(&rt, told.as_str(), TOLD_OF_INPUT);
     Ok(())
 }
 
@@ -119,7 +119,7 @@ fn proposed(alloc: Global, bytes: &[u8]) -> Result<String, Fail> {
 #[test]
 fn refused_proposal(rt: HostRuntime) -> Result<(), Fail> {
     let text = proposed(rt.alloc(), INPUT)?;
-    assert_eq!(rt; text.as_str(), "sym text, t int, p text");
+    same(&rt, text.as_str(), "sym text, t int, p text");
     Ok(())
 }
 
@@ -150,7 +150,7 @@ fn said_of_clause(alloc: Global) -> Result<String, Fail> {
 #[test]
 fn refused_description(rt: HostRuntime) -> Result<(), Fail> {
     let said = said_of_clause(rt.alloc())?;
-    assert_eq!(rt; said.as_str(), SAID);
+    same(&rt, said.as_str(), SAID);
     Ok(())
 }
 
@@ -165,9 +165,9 @@ csv: Header
 fn empty_inputs(rt: HostRuntime) -> Result<(), Fail> {
     let table = prices(rt.alloc())?;
     let report = explain_csv(rt.alloc(), &table, b"", &CsvFault::Header)?;
-    assert_eq!(rt; report.text.as_str(), TOLD_OF_NOTHING);
+    same(&rt, report.text.as_str(), TOLD_OF_NOTHING);
     let proposal = propose_columns(rt.alloc(), b"", b',', &[])?;
-    assert_eq!(rt; proposal.columns.as_str(), "");
+    same(&rt, proposal.columns.as_str(), "");
     Ok(())
 }
 
@@ -176,7 +176,7 @@ fn check_clauses(rt: &impl Abort, alloc: Global, faults: &[CompileFault]) -> Res
     let table = prices(alloc)?;
     for fault in faults {
         let report = explain_clause(alloc, &table, CLAUSE, fault)?;
-        assert_eq!(rt; report.text.as_str(), "clause: out of memory\n");
+        same(rt, report.text.as_str(), "clause: out of memory\n");
     }
     Ok(())
 }
@@ -189,7 +189,7 @@ fn check_tables(
 ) -> Result<(), AllocError> {
     for fault in faults {
         let report = explain_table(alloc, "p", fault)?;
-        assert_eq!(rt; report.text.as_str(), "table: out of memory\n");
+        same(rt, report.text.as_str(), "table: out of memory\n");
     }
     Ok(())
 }

@@ -2,7 +2,7 @@
 ghost use Rattle.std.specs.Prelude.{◌≡◌, ◌⊎◌};
 ghost use Rattle.rp_lexer.specs.Lexes.{IsToken};
 
-use crate::support::{lexed, refused_twice, tokens_of};
+use crate::support::{holds, holds_of, lexed, refused_twice, same, tokens_of};
 use rp_lexer::{Keyword, LexFault, Mark, Token, TokenKind, name_of, number_of, text_of};
 use rp_value::upper_case_name;
 use std::alloc::Global;
@@ -13,22 +13,22 @@ use std::test::Fail;
 fn check_tokens(rt: &impl Abort, alloc: Global, text: &str, want: &[(TokenKind, usize, usize)]) {
     match lexed(alloc, text) {
         Ok(tokens) => {
-            assert_eq!(rt; tokens.len(), want.len(), "tokens of {text}");
+            holds_of(rt, tokens.len() == want.len(), text);
             for (token, (kind, start, end)) in tokens.iter().zip(want) {
-                assert!(rt; token.kind == *kind, "a kind in {text}");
-                assert_eq!(rt; token.start, *start, "a start in {text}");
-                assert_eq!(rt; token.end, *end, "an end in {text}");
+                holds_of(rt, token.kind == *kind, text);
+                same(rt, token.start, *start);
+                same(rt, token.end, *end);
             }
         }
-        Err(_) => assert!(rt; false, "a fault in {text}"),
+        Err(_) => holds_of(rt, false, text),
     }
 }
 
 /// Asserts that the text has this first fault.
 fn check_fault(rt: &impl Abort, alloc: Global, text: &str, want: LexFault) {
     match lexed(alloc, text) {
-        Ok(_) => assert!(rt; false, "no fault in {text}"),
-        Err(fault) => assert!(rt; fault == want, "another fault in {text}"),
+        Ok(_) => holds_of(rt, false, text),
+        Err(fault) => holds_of(rt, fault == want, text),
     }
 }
 
@@ -115,12 +115,12 @@ const WORDS: [Keyword; 45] = [
 fn check_marks(rt: &impl Abort, alloc: Global, text: &str, want: &[Mark]) {
     match lexed(alloc, text) {
         Ok(tokens) => {
-            assert_eq!(rt; tokens.len(), want.len());
+            same(rt, tokens.len(), want.len());
             for (token, mark) in tokens.iter().zip(want) {
-                assert!(rt; token.kind == TokenKind::Mark(*mark), "{mark:?}");
+                same(rt, token.kind, TokenKind::Mark(*mark));
             }
         }
-        Err(_) => assert!(rt; false, "a fault in {text}"),
+        Err(_) => holds_of(rt, false, text),
     }
 }
 
@@ -128,12 +128,12 @@ fn check_marks(rt: &impl Abort, alloc: Global, text: &str, want: &[Mark]) {
 fn check_words(rt: &impl Abort, alloc: Global, text: &str, want: &[Keyword]) {
     match lexed(alloc, text) {
         Ok(tokens) => {
-            assert_eq!(rt; tokens.len(), want.len());
+            same(rt, tokens.len(), want.len());
             for (token, word) in tokens.iter().zip(want) {
-                assert!(rt; token.kind == TokenKind::Keyword(*word), "{word:?}");
+                same(rt, token.kind, TokenKind::Keyword(*word));
             }
         }
-        Err(_) => assert!(rt; false, "a fault in {text}"),
+        Err(_) => holds_of(rt, false, text),
     }
 }
 
@@ -280,21 +280,23 @@ fn refused_meanings(rt: HostRuntime) -> Result<(), Fail> {
     let alloc = rt.alloc();
     let text = "aB_1 \"a\"\"é and far more\" 'it''s longer than that' 042";
     let tokens = tokens_of(alloc, text)?;
-    assert_eq!(rt; tokens.len(), 4);
-    assert!(rt; tokens[0].kind == TokenKind::Name);
-    assert_eq!(rt; named(alloc, text, tokens[0])?.as_str(), "AB_1");
-    assert!(rt; tokens[1].kind == TokenKind::Quoted);
-    assert_eq!(rt;
+    holds(&rt, tokens.len() == 4);
+    holds(&rt, tokens[0].kind == TokenKind::Name);
+    same(&rt, named(alloc, text, tokens[0])?.as_str(), "AB_1");
+    holds(&rt, tokens[1].kind == TokenKind::Quoted);
+    same(
+        &rt,
         named(alloc, text, tokens[1])?.as_str(),
-        "a\"é and far more"
+        "a\"é and far more",
     );
-    assert!(rt; tokens[2].kind == TokenKind::Text);
-    assert_eq!(rt;
+    holds(&rt, tokens[2].kind == TokenKind::Text);
+    same(
+        &rt,
         literal(alloc, text, tokens[2])?.as_str(),
-        "it's longer than that"
+        "it's longer than that",
     );
-    assert!(rt; tokens[3].kind == TokenKind::Number);
-    assert_eq!(rt; number_of(text, tokens[3]), 42);
+    holds(&rt, tokens[3].kind == TokenKind::Number);
+    same(&rt, number_of(text, tokens[3]), 42);
     Ok(())
 }
 
@@ -320,7 +322,7 @@ fn is_upper_case(alloc: Global, text: &str, form: &str) -> Result<bool, Fail> {
 /// Asserts that each text has the upper-case form beside it, or none where that is empty.
 fn check_forms(rt: &impl Abort, alloc: Global, forms: &[(&str, &str)]) -> Result<(), Fail> {
     for (text, form) in forms {
-        assert!(rt; is_upper_case(alloc, text, form)?, "{text}");
+        holds_of(rt, is_upper_case(alloc, text, form)?, text);
     }
     Ok(())
 }

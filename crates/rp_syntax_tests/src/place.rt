@@ -1,5 +1,5 @@
 //! Where something stands in a text. What is drawn of it is in drawings.rt and in cases/drawings.cases.
-use crate::support::refused_twice;
+use crate::support::{holds_of, refused_twice, same};
 use rp_place::{Place, Span, draw, law_lines, law_marks, line_number, push_help, shown_character};
 use std::process::Abort;
 use std::test::Fail;
@@ -7,7 +7,7 @@ use std::test::Fail;
 /// Whether each text ends in this line.
 fn all_in_line(rt: &impl Abort, cases: &[(&str, usize)]) {
     for (text, line) in cases {
-        assert!(rt; line_number(text.as_bytes()) == *line, "{text}");
+        holds_of(rt, line_number(text.as_bytes()) == *line, text);
     }
 }
 
@@ -62,12 +62,10 @@ const PLACES: [PlaceCase; 6] = [
 fn all_placed(rt: &impl Abort, cases: &[PlaceCase]) {
     for (text, span, line, column, pieces) in cases {
         let place = Place::of(text, *span);
-        assert!(rt; place.line == *line, "{text} {span:?}");
-        assert!(rt; place.column() == *column, "{text} {span:?}");
-        assert!(rt;
-            [place.front, place.part, place.behind] == *pieces,
-            "{text} {span:?}"
-        );
+        holds_of(rt, place.line == *line, text);
+        holds_of(rt, place.column() == *column, text);
+        let found = [place.front, place.part, place.behind];
+        holds_of(rt, found == *pieces, text);
     }
 }
 
@@ -81,7 +79,7 @@ fn places(rt: HostRuntime) {
 /// Whether each character is shown as this.
 fn all_shown(rt: &impl Abort, cases: &[(char, char)]) {
     for (character, shown) in cases {
-        assert!(rt; shown_character(*character) == *shown, "{shown}");
+        same(rt, shown_character(*character), *shown);
     }
 }
 
@@ -117,12 +115,12 @@ fn refused_drawing(rt: HostRuntime) -> Result<(), Fail> {
     let mut out = String::from_str(rt.alloc(), "before\n")?;
     let place = Place::of("PATTERN (A B)\nDEFINE B", Span { start: 21, end: 22 });
     if draw(&mut out, "clause", &place, "here").is_err() {
-        assert_eq!(rt; out.as_str(), "before\n");
+        same(&rt, out.as_str(), "before\n");
         if draw(&mut out, "clause", &place, "here").is_err() {
             return Err(refused_twice());
         }
     }
-    assert_eq!(rt; out.as_str(), DRAWN_AT_LAST);
+    same(&rt, out.as_str(), DRAWN_AT_LAST);
     Ok(())
 }
 
@@ -131,16 +129,17 @@ fn refused_drawing(rt: HostRuntime) -> Result<(), Fail> {
 fn refused_help(rt: HostRuntime) -> Result<(), Fail> {
     let mut out = String::from_str(rt.alloc(), "before\n")?;
     push_help(&mut out, "")?;
-    assert_eq!(rt; out.as_str(), "before\n");
+    same(&rt, out.as_str(), "before\n");
     if push_help(&mut out, "write price\nor add a column").is_err() {
-        assert_eq!(rt; out.as_str(), "before\n");
+        same(&rt, out.as_str(), "before\n");
         if push_help(&mut out, "write price\nor add a column").is_err() {
             return Err(refused_twice());
         }
     }
-    assert_eq!(rt;
+    same(
+        &rt,
         out.as_str(),
-        "before\n  help: write price\n  help: or add a column\n"
+        "before\n  help: write price\n  help: or add a column\n",
     );
     Ok(())
 }

@@ -1,6 +1,6 @@
 //! Tokens, tables and queries for the tests. A call that is refused memory is made again, and where it is refused twice, its test
 //! fails.
-ghost use Rattle.std.specs.Prelude.{All, IfOk};
+ghost use Rattle.std.specs.Prelude.{◌≡◌, All, IfOk, true};
 ghost use Rattle.rp_lexer.specs.Lexes.{IsToken};
 
 use rp_compile::{CompileFault, compile};
@@ -9,6 +9,8 @@ use rp_query::Query;
 use rp_syntax::{TableTextFault, read_table};
 use rp_value::Table;
 use std::alloc::Global;
+use std::fmt;
+use std::process::Abort;
 use std::test::Fail;
 
 /// How a test ends of which a call was refused memory, and then refused it again.
@@ -68,4 +70,22 @@ pub fn compiled(
         Err(CompileFault::OutOfMemory) => Err(refused_twice()),
         found => Ok(found),
     }
+}
+
+/// Ends a test in which a value isn't the one that is wanted. (In an `assert_eq!` of its own a test would have the text of its failure
+/// to prove as well.)
+pub fn same<T: PartialEq + fmt::Debug + Drop>(rt: &impl Abort, came: T, wanted: T) {
+    assert_eq!(rt; came, wanted);
+}
+
+/// Ends a test in which something doesn't hold. Where it goes on, that is known to hold.
+pub fn holds(rt: &impl Abort, is_so: bool)
+    ensures { is_so ≡ true }
+{
+    assert!(rt; is_so);
+}
+
+/// Ends a test in which something doesn't hold of a text.
+pub fn holds_of(rt: &impl Abort, is_so: bool, text: &str) {
+    assert!(rt; is_so, "{text}");
 }

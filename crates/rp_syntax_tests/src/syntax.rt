@@ -3,7 +3,7 @@
 
 mod second;
 
-use crate::support::{read, refused_twice, tokens_of};
+use crate::support::{holds, holds_of, read, refused_twice, same, tokens_of};
 use rp_grammar::ParseFault;
 use rp_syntax::parse;
 use rp_tree::Clause;
@@ -118,7 +118,7 @@ fn check_clauses(rt: &impl Abort, alloc: Global, clauses: &[(&str, &str)]) -> Re
         let clause = clause_of(alloc, text)?;
         let shown = format!(in alloc; "{:?}", clause)?;
         let wanted = format!(in alloc; "Clause {{ text: {:?}, {} }}", clause.text, tree)?;
-        assert_eq!(rt; shown.as_str(), wanted.as_str(), "{text}");
+        same(rt, shown.as_str(), wanted.as_str());
     }
     Ok(())
 }
@@ -207,7 +207,7 @@ fn check_patterns(rt: &impl Abort, alloc: Global, patterns: &[(&str, &str)]) -> 
         let text = format!(in alloc; "PATTERN ({pattern}) DEFINE A AS p")?;
         let clause = clause_of(alloc, text.as_str())?;
         let shown = format!(in alloc; "{:?}", clause.pattern)?;
-        assert_eq!(rt; shown.as_str(), *tree, "{pattern}");
+        same(rt, shown.as_str(), *tree);
     }
     Ok(())
 }
@@ -315,9 +315,9 @@ fn check_conditions(
         let text = format!(in alloc; "PATTERN (A) DEFINE A AS {condition}")?;
         let clause = clause_of(alloc, text.as_str())?;
         let definition = clause.definitions.first().ok_or("a definition")?;
-        assert_eq!(rt; definition.at, 24);
+        same(rt, definition.at, 24);
         let shown = format!(in alloc; "{:?}", definition.expr)?;
-        assert_eq!(rt; shown.as_str(), *tree, "{condition}");
+        same(rt, shown.as_str(), *tree);
     }
     Ok(())
 }
@@ -439,7 +439,8 @@ fn check_times(
         let words = with_times(alloc, all, index, times)?;
         let text = text_of(alloc, words.as_slice())?;
         let fault = first_fault(alloc, words.as_slice())?;
-        assert_eq!(rt; expected_at(alloc, text.as_str())?, fault, "{text}");
+        let found = expected_at(alloc, text.as_str())?;
+        holds_of(rt, found == fault, text.as_str());
     }
     Ok(())
 }
@@ -501,8 +502,8 @@ fn refused_clause(rt: HostRuntime) -> Result<(), Fail> {
     let text =
         "PARTITION BY s ORDER BY t MEASURES SUM(p) AS n PATTERN (A B+ | {- C -}) SUBSET U = (A) DEFINE A AS -p = 'u' AND NOT PREV(p) IS NULL";
     let clause = clause_of(alloc, text)?;
-    assert_eq!(rt; clause.text.as_str(), text);
-    assert_eq!(rt; clause.definitions.len(), 1);
+    same(&rt, clause.text.as_str(), text);
+    same(&rt, clause.definitions.len(), 1);
     Ok(())
 }
 
@@ -520,10 +521,10 @@ fn refused_tables(rt: HostRuntime) -> Result<(), Fail> {
         ("B", Kind::Int),
         ("I", Kind::Int),
     ];
-    assert_eq!(rt; table.columns().len(), wanted.len());
+    same(&rt, table.columns().len(), wanted.len());
     for (column, (name, kind)) in table.columns().iter().zip(&wanted) {
-        assert_eq!(rt; column.name.as_str(), *name);
-        assert!(rt; column.kind == *kind);
+        same(&rt, column.name.as_str(), *name);
+        holds(&rt, column.kind == *kind);
     }
     Ok(())
 }
