@@ -4,7 +4,6 @@ ghost use Rattle.rp_lexer.specs.Lexes.{IsToken};
 
 use crate::support::{holds, holds_of, lexed, refused_twice, same, tokens_of};
 use rp_lexer::{Keyword, LexFault, Mark, Token, TokenKind, name_of, number_of, text_of};
-use rp_value::upper_case_name;
 use std::alloc::Global;
 use std::process::Abort;
 use std::test::Fail;
@@ -298,50 +297,4 @@ fn refused_meanings(rt: HostRuntime) -> Result<(), Fail> {
     holds(&rt, tokens[3].kind == TokenKind::Number);
     same(&rt, number_of(text, tokens[3]), 42);
     Ok(())
-}
-
-/// The upper-case form of a text, if it has the form of a name. A call that is refused is made again.
-fn upper_case(alloc: Global, text: &str) -> Result<Option<String>, Fail> {
-    if let Ok(found) = upper_case_name(alloc, text) {
-        return Ok(found);
-    }
-    match upper_case_name(alloc, text) {
-        Ok(found) => Ok(found),
-        Err(_) => Err(refused_twice()),
-    }
-}
-
-/// Whether the upper-case form of the text is this one, or none where that is empty.
-fn is_upper_case(alloc: Global, text: &str, form: &str) -> Result<bool, Fail> {
-    match upper_case(alloc, text)? {
-        Some(name) => Ok(name.as_str() == form),
-        None => Ok(form.is_empty()),
-    }
-}
-
-/// Asserts that each text has the upper-case form beside it, or none where that is empty.
-fn check_forms(rt: &impl Abort, alloc: Global, forms: &[(&str, &str)]) -> Result<(), Fail> {
-    for (text, form) in forms {
-        holds_of(rt, is_upper_case(alloc, text, form)?, text);
-    }
-    Ok(())
-}
-
-#[test]
-fn upper_case_names(rt: HostRuntime) -> Result<(), Fail> {
-    check_forms(
-        &rt,
-        rt.alloc(),
-        &[
-            ("aB_1", "AB_1"),
-            ("order", "ORDER"),
-            ("_", "_"),
-            ("", ""),
-            ("1a", ""),
-            ("a b", ""),
-            ("a$", ""),
-            ("aé", ""),
-            ("\"a\"", ""),
-        ],
-    )
 }
