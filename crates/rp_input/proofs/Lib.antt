@@ -5,15 +5,9 @@ mod CsvRecords
 mod Takes
 mod TakenRecords
 mod Filled
-mod Orders
-mod RowsFit
-mod Sinking
 mod NotText
-mod Numbering
-mod Gathering
 mod Telling
 mod Placing
 mod TakenByColumns
-mod ColumnsFit
 mod SameFields
 mod SameRows

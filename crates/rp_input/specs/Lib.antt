@@ -1,4 +1,4 @@
--- What contracts of public calls cite: the records and the rows of a text, what a fault says, and the packets of rows.
+-- What contracts of public calls cite: the records and the rows of a text, and what a fault says.
 pub mod Fields
 pub mod Headers
 pub mod CsvRows
@@ -6,11 +6,6 @@ pub mod Layouts
 pub mod Placed
 pub mod ByColumns
 pub mod Devices
-pub mod Orders
-pub mod Partitions
-pub mod Gathering
-pub mod Numbered
-pub mod Fitting
 pub mod SameFields
 pub mod Standing
 -- The inside of reading a text.

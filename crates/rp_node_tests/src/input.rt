@@ -2,8 +2,9 @@
 //! texts are in cases/inputs.cases.
 use super::support::{fixed_hasher, holds, prices, query_of, refused_twice, same};
 use rp_feed::Packet;
-use rp_input::{CsvFault, Part, number_rows, order_rows, partitions, read_rows, rows_of};
+use rp_input::{CsvFault, read_rows, rows_of};
 use rp_io::MemoryInput;
+use rp_numbering::{Part, number_rows, order_rows, partitions};
 use rp_query::Query;
 use rp_value::{Row, Value};
 use std::alloc::{AllocError, Global};

@@ -1,5 +1,5 @@
-//! The tests of rp_node, rp_columns, rp_input and rp_whole, in a crate of their own: they compile clauses, which those don't, and what they
-//! test is proved once, and not again with them.
+//! The tests of rp_node, rp_columns, rp_numbering, rp_input and rp_whole, in a crate of their own: they compile clauses, which those
+//! don't, and what they test is proved once, and not again with them.
 #![tactic(auto)]
 
 #[cfg(test)]

@@ -3,7 +3,7 @@ use Rattle.std.proofs.Common.{◌≡◌, Bool, None, length, take, refl, arith}
 use Rattle.std.proofs.lemmas.List.{take_all}
 use Rattle.rp_query.specs.declared.query.QueryData.{QueryData}
 use Rattle.rp_known.specs.Walk.{known}
-use Rattle.rp_input.specs.Partitions.{Part}
+use Rattle.rp_numbering.specs.Partitions.{Part}
 use Rattle.rp_whole.specs.Answers.{IsShown, Shown, closed}
 use Rattle.rp_whole.specs.Writing.{shown_of}
 

@@ -9,11 +9,11 @@ use Rattle.std.specs.List.{flat_map}
 use Rattle.rp_value.specs.declared.value.Value.{Value}
 use Rattle.rp_query.specs.declared.query.QueryData.{QueryData}
 use Rattle.rp_io.specs.Devices.{AppendsFront, Moves}
-use Rattle.rp_input.specs.Gathering.{parts_of}
-use Rattle.rp_input.specs.Numbered.{AreOrdered}
-use Rattle.rp_input.specs.Orders.{IsOrdered, OrderExists}
-use Rattle.rp_input.specs.Partitions.{Part}
-use Rattle.rp_input.specs.declared.partition.Part.{Part as Kept}
+use Rattle.rp_numbering.specs.Gathering.{parts_of}
+use Rattle.rp_numbering.specs.Numbered.{AreOrdered}
+use Rattle.rp_numbering.specs.Orders.{IsOrdered, OrderExists}
+use Rattle.rp_numbering.specs.Partitions.{Part}
+use Rattle.rp_numbering.specs.declared.partition.Part.{Part as Kept}
 use Rattle.rp_whole.specs.Answers.{Form, IsShown, Shown, bytes_from, halted_at, part_bytes, shown_bytes, shown_halted, shown_stops}
 use Rattle.rp_whole.specs.Writing.{WritesPart, WritesParts, WritesPartsFront, shown_of}
 use Rattle.rp_whole.specs.declared.halted.Halted.{Halted}

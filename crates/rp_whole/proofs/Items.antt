@@ -8,7 +8,7 @@ use Rattle.rp_query.specs.declared.query.QueryData.{QueryData}
 use Rattle.rp_query.specs.declared.item.Item.{Item}
 use Rattle.rp_known.specs.Walk.{known}
 use Rattle.rp_io.specs.Devices.{AppendsFront, Moves}
-use Rattle.rp_input.specs.Partitions.{Part}
+use Rattle.rp_numbering.specs.Partitions.{Part}
 use Rattle.rp_walker.specs.declared.poll.Poll.TheVariants.{Item as ItemPoll}
 use Rattle.rp_walker.specs.declared.record.MatcherState.{MatcherState}
 use Rattle.rp_walker.specs.Polls.{AnswerIs}

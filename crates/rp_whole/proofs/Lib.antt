@@ -5,4 +5,6 @@ mod Items
 mod InOrder
 mod Told
 mod Wrote
+mod RowsFit
+mod ColumnsFit
 mod Named

@@ -19,14 +19,14 @@ use Rattle.rp_known.specs.Plans.{setting_of, shown_in, shown_alone}
 use Rattle.rp_known.specs.Typed.{AreTyped, IsTyped, KnownIsTyped}
 use Rattle.rp_known.specs.Walk.{known}
 use Rattle.rp_protocol.specs.ObjectsRead.{HasCells, ObjectsHaveCells, ObjectsReadBack}
-use Rattle.rp_input.specs.Fitting.{PartsFit}
-use Rattle.rp_input.specs.Partitions.{Part}
+use Rattle.rp_numbering.specs.Partitions.{Part}
 use Rattle.rp_table.specs.ReadBack.{Reads, ReadsBack, records_text}
 use Rattle.rp_table.specs.RecordTexts.{field_of, cells_record}
 use Rattle.rp_whole.specs.Answers.{bytes_from, closed, part_bytes}
 use Rattle.rp_whole.specs.AnswerObjects.{object_line}
 use Rattle.rp_whole.specs.AnswerRecords.{header_text}
 use Rattle.rp_whole.specs.AnswerRows.{output_names, row_form}
+use Rattle.rp_whole.specs.Fitting.{PartsFit}
 use Rattle.rp_whole.specs.Named.{AreOfTable, AreOutputRows, HeaderNames, HeaderNamesOf, IsOutputRow, ObjectsName, header_and_rows}
 
 -- the cells of an item

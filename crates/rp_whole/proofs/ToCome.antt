@@ -7,7 +7,7 @@ use Rattle.rp_query.specs.declared.item.Item.{Item}
 use Rattle.rp_known.specs.Known.{Known}
 use Rattle.rp_known.specs.WalkLaws.{GoesOnFrom}
 use Rattle.rp_known.specs.Walk.{known}
-use Rattle.rp_input.specs.Partitions.{Part}
+use Rattle.rp_numbering.specs.Partitions.{Part}
 use Rattle.rp_walker.specs.FitLaws.{AgreesFrom}
 use Rattle.rp_walker.specs.declared.record.MatcherState.{MatcherState}
 use Rattle.rp_whole.specs.Answers.{Form, bytes_from, closed}

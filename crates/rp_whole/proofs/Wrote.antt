@@ -9,9 +9,9 @@ use Rattle.rp_query.specs.declared.item.Item.{Item}
 use Rattle.rp_known.specs.Walk.{known}
 use Rattle.rp_io.proofs.Writes.{front_none}
 use Rattle.rp_input.specs.CsvRows.{AreRowsOf}
-use Rattle.rp_input.specs.Numbered.{AreOrdered}
-use Rattle.rp_input.specs.Orders.{OrderExists}
-use Rattle.rp_input.specs.Partitions.{Part, partitions}
+use Rattle.rp_numbering.specs.Numbered.{AreOrdered}
+use Rattle.rp_numbering.specs.Orders.{OrderExists}
+use Rattle.rp_numbering.specs.Partitions.{Part, partitions}
 use Rattle.rp_whole.specs.Answers.{AreAnswersOf, AreAnswersOver, AreAnswersWithin, Form, IsShown, Shown, WritesFrontOf, WritesFrontOver, WritesFrontWithin, WritesOf, WritesOver, WritesWithin}
 use Rattle.rp_whole.specs.Answers.{bytes_from, closed, halted_at, items_shown, part_bytes, part_stops, shown_bytes, shown_halted, shown_stops}
 use Rattle.rp_whole.specs.AnswerLines.{line_form}

@@ -10,8 +10,8 @@ use Rattle.rp_known.specs.Known.{Known}
 use Rattle.rp_known.specs.Walk.{known}
 use Rattle.rp_io.specs.Devices.{AppendsFront}
 use Rattle.rp_input.specs.CsvRows.{AreRowsOf}
-use Rattle.rp_input.specs.Numbered.{AreOrderedParts}
-use Rattle.rp_input.specs.Partitions.{Part}
+use Rattle.rp_numbering.specs.Numbered.{AreOrderedParts}
+use Rattle.rp_numbering.specs.Partitions.{Part}
 use Rattle.rp_whole.specs.declared.halted.Halted.{Halted}
 use Rattle.rp_whole.specs.declared.stopped.Stopped.{Stopped}
 

@@ -10,7 +10,7 @@ use Rattle.rp_protocol.specs.ObjectsRead.{AreNamedApart, HasCells, IsReadBack}
 use Rattle.rp_protocol.specs.Within.{AreCells}
 use Rattle.rp_known.specs.Named.{IsNamed}
 use Rattle.rp_known.specs.Typed.{AreTyped}
-use Rattle.rp_input.specs.Partitions.{Part}
+use Rattle.rp_numbering.specs.Partitions.{Part}
 use Rattle.rp_table.specs.ReadBack.{Reads, records_text}
 use Rattle.rp_table.specs.RecordTexts.{field_of}
 use Rattle.rp_whole.specs.Answers.{closed}

@@ -5,8 +5,8 @@ use Rattle.std.specs.List.{flat_map}
 use Rattle.rp_query.specs.declared.query.QueryData.{QueryData}
 use Rattle.rp_known.specs.Walk.{known}
 use Rattle.rp_io.specs.Devices.{AppendsFront, Moves}
-use Rattle.rp_input.specs.Numbered.{AreOrdered}
-use Rattle.rp_input.specs.Partitions.{Part}
+use Rattle.rp_numbering.specs.Numbered.{AreOrdered}
+use Rattle.rp_numbering.specs.Partitions.{Part}
 use Rattle.rp_walker.specs.declared.record.MatcherState.{MatcherState}
 use Rattle.rp_whole.specs.declared.closed.Part.{Part as Closed}
 use Rattle.rp_whole.specs.declared.stopped.Stopped.{Stopped}

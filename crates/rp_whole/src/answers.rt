@@ -16,8 +16,8 @@ use crate::records::RowRecords;
 use crate::stopped::Stopped;
 use crate::turns::Counting;
 use crate::watch::Watch;
-use rp_input::{law_orders, partitions};
 use rp_io::Outlet;
+use rp_numbering::{law_orders, partitions};
 use rp_query::Query;
 use rp_value::Row;
 use std::alloc::Global;
@@ -47,7 +47,7 @@ pub struct EndedEarly {
 /// of a poll (100,000, or the limit if that is less) always is. Without a limit each answer is whole (`law_limits`).
 ///
 /// Bytes are written in blocks, so after a fault of the writer or of memory some lines may be missing. The hasher finds the
-/// partition of a key, as in `rp_input::partitions`.
+/// partition of a key, as in `rp_numbering::partitions`.
 pub fn write_lines<W: Outlet, V: Watch>(
     alloc: Global,
     query: &Query,

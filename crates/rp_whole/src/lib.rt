@@ -33,7 +33,7 @@ mod whole;
 pub use answers::{EndedEarly, write_csv, write_lines, write_objects};
 pub use fault::WholeFault;
 pub use halted::Halted;
-pub use laws::{law_header, law_limits};
+pub use laws::{law_fitting, law_fitting_columns, law_header, law_limits};
 pub use shown::shown_number;
 pub use stopped::Stopped;
 pub use watch::{Unwatched, Watch};

@@ -1,6 +1,6 @@
 //! The items of partitions.
 ghost use Rattle.std.specs.Prelude.{◌≡◌, ◌<◌, is_some, IfErr, IfOk, OnErr};
-ghost use Rattle.rp_input.specs.Gathering.{parts_of};
+ghost use Rattle.rp_numbering.specs.Gathering.{parts_of};
 ghost use Rattle.rp_whole.specs.Faults.{IsOfOutput, TellsWrite};
 ghost use Rattle.rp_whole.specs.Writing.{PartsAreWritten, WritesPartsFront};
 
@@ -11,8 +11,8 @@ use crate::halted::{Halted, push_halted};
 use crate::part::write_part;
 use crate::turns::{Counting, Turns};
 use crate::watch::Watch;
-use rp_input::{Part as InputPart, law_orders, order_rows};
 use rp_io::Outlet;
+use rp_numbering::{Part as InputPart, law_orders, order_rows};
 use rp_query::Query;
 use std::alloc::Global;
 use std::sync::ledger::Ledger;

@@ -1,7 +1,7 @@
 use Rattle.std.proofs.Common.{◌≡◌, Err, [], rules, subst}
 use Rattle.std.specs.Prelude.{is_some}
-use Rattle.rp_input.specs.Gathering.{parts_of}
-use Rattle.rp_input.specs.Partitions.{partitions}
+use Rattle.rp_numbering.specs.Gathering.{parts_of}
+use Rattle.rp_numbering.specs.Partitions.{partitions}
 use Rattle.rp_whole.specs.declared.fault.WholeFault.TheVariants.{OutOfMemory}
 use Rattle.rp_whole.specs.Writing.{WritesParts, WritesPartsFront}
 use Rattle.rp_whole.proofs.Wrote.{front_within, none_within, wrote_within}

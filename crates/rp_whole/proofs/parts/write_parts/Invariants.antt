@@ -1,7 +1,7 @@
 use Rattle.std.proofs.Common.{◌≡◌}
 use Rattle.std.specs.Prelude.{is_some}
 use Rattle.std.specs.Vec.Iter.{into_iter_items}
-use Rattle.rp_input.specs.Gathering.{parts_of}
+use Rattle.rp_numbering.specs.Gathering.{parts_of}
 use Rattle.rp_whole.proofs.InOrder.{HasWritten}
 use Rattle.rp_whole.proofs.parts.write_parts.Given as goal
 

@@ -1,0 +1,4 @@
+pub mod Orders
+mod Sinking
+mod Numbering
+mod Gathering
