@@ -1,3 +1,3 @@
 mod NodeObjects
 mod NodeTexts
-mod Sealing
+mod Opening

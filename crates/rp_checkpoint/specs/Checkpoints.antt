@@ -9,9 +9,9 @@ use Rattle.rp_value.specs.declared.value.Value.{Value}
 use Rattle.rp_json.specs.Digits.{digits_of}
 use Rattle.rp_json.specs.Forms.{cells_data, cells_of, list_items, list_of, named, optional_data, optional_of, place_data, whole_data, whole_of}
 use Rattle.rp_json.specs.Objects.{field, object_of, only}
+use Rattle.rp_seal.specs.Sealed.{opened, sealed}
 use Rattle.rp_checkpoint.specs.HeldRows.{ascend}
 use Rattle.rp_checkpoint.specs.ObjectTexts.{kind_text, node_text}
-use Rattle.rp_checkpoint.specs.Sealed.{opened, sealed}
 use Rattle.rp_checkpoint.specs.declared.node_data.HeldRow.{HeldRow}
 use Rattle.rp_checkpoint.specs.declared.node_data.PartitionData.{PartitionData}
 use Rattle.rp_checkpoint.specs.declared.node_data.NodeData.{NodeData}

@@ -1,8 +1,7 @@
 //! Checkpoints: what a node remembers when its machine is lost.
 //!
-//! The bytes are a digest and an object of JSON. The digest is the SHA-256 of the object's bytes as 64 lower-case
-//! hexadecimal digits, a line feed stands between them, and nothing follows. A checkpoint is written in version 2, and
-//! versions 1 and 2 are read. The fields and their forms are said in `specs/Checkpoints`, the object's text in
+//! The bytes are an object of JSON behind its digest, as rp_seal has them, and nothing follows. A checkpoint is written in
+//! version 2, and versions 1 and 2 are read. The fields and their forms are said in `specs/Checkpoints`, the object's text in
 //! `specs/ObjectTexts`.
 //!
 //! What is read is whatever has the form: whether a node can go on from it is for the node to say.
@@ -10,7 +9,6 @@
 
 mod node_data;
 mod restore;
-mod seal;
 mod write_checkpoint;
 
 pub use node_data::{

@@ -9,8 +9,8 @@ ghost use Rattle.rp_checkpoint.specs.Checkpoints.{column_of, given_of, if_ascend
 use crate::node_data::{
     CheckpointFault, Columns, HeldRow, HeldRows, NodeData, PartitionData, Partitions, ascend,
 };
-use crate::seal::open;
 use rp_json::{cells, cells_of, digits_of, has_fields, object_of, optional, whole};
+use rp_seal::open;
 use rp_value::{Cells, Column, Kind, Row, Text};
 use serde_json::Value as Json;
 use std::alloc::{AllocError, Global};

@@ -6,8 +6,8 @@ ghost use Rattle.rp_json.specs.Forms.{list_in, list_items};
 ghost use Rattle.rp_checkpoint.specs.Checkpoints.{checkpoint, column_data, column_of, node_data, partition_data, partition_of, restored, restored_object, row_data, row_of, rows_of};
 
 use crate::node_data::{HeldRow, HeldRows, NodeData, PartitionData};
-use crate::seal::seal;
 use rp_json::{json_of_cells, json_of_optional, json_of_place};
+use rp_seal::seal;
 use rp_value::{Column, Kind};
 use serde_json::{Map, Value as Json};
 use std::alloc::{AllocError, Global};

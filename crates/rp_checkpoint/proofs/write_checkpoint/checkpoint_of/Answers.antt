@@ -5,10 +5,11 @@ use Rattle.serde_json.specs.Data.{depth}
 use Rattle.serde_json.specs.Find.{as_object}
 use Rattle.serde_json.specs.View.{view}
 use Rattle.serde_json.specs.Written.{compact_text, has_float}
-use Rattle.rp_checkpoint.specs.Sealed.{opened, sealed}
+use Rattle.rp_seal.specs.Sealed.{opened, sealed}
+use Rattle.rp_seal.proofs.Sealing.{opened-sealed}
 use Rattle.rp_checkpoint.proofs.NodeObjects.{node_depth, node_has_no_float, node_is_object}
 use Rattle.rp_checkpoint.proofs.NodeTexts.{node_written}
-use Rattle.rp_checkpoint.proofs.Sealing.{opened-sealed, restored_from}
+use Rattle.rp_checkpoint.proofs.Opening.{restored_from}
 use Rattle.rp_checkpoint.proofs.write_checkpoint.checkpoint_of.Goals as goal
 
 pub returns-clause-bytes : goal.returns-clause-bytes

@@ -3,13 +3,13 @@ ghost use Rattle.std.specs.Prelude.{◌≡◌, ◌++◌, ◌∷◌, IfOk, Some, 
 ghost use Rattle.std.specs.Cmp.Lexicographic.{pointwise};
 ghost use Rattle.sha2.specs.Sha256.{sha256};
 ghost use Rattle.hex.specs.Hex.{encode_lower};
-ghost use Rattle.rp_checkpoint.specs.Sealed.{sealed, opened};
+ghost use Rattle.rp_seal.specs.Sealed.{sealed, opened};
 
 use sha2::{Digest, Sha256};
 use std::alloc::{AllocError, Global};
 
 /// An object behind its digest.
-pub(crate) fn seal(alloc: Global, object: &[u8]) -> Result<Vec<u8>, AllocError>
+pub fn seal(alloc: Global, object: &[u8]) -> Result<Vec<u8>, AllocError>
     ensures { IfOk result (λ v. v.items ≡ sealed object.now) }
 {
     let digest = Sha256::digest(object);
@@ -21,7 +21,7 @@ pub(crate) fn seal(alloc: Global, object: &[u8]) -> Result<Vec<u8>, AllocError>
 }
 
 /// The object behind a digest, if that is right.
-pub(crate) fn open(bytes: &[u8]) -> Option<&[u8]>
+pub fn open(bytes: &[u8]) -> Option<&[u8]>
     ensures { option_map (λ s. s.now) result ≡ opened bytes.now }
 {
     if bytes.len() < 65 {

@@ -1,20 +1,14 @@
 -- An object that is sealed is opened again.
-use Rattle.std.proofs.Common.{◌≡◌, ◌≤◌, ℕ, List, ◌∷◌, ◌++◌, refl, true, length, take, drop, arith, length-append, subst}
-use Rattle.std.specs.Prelude.{Some, Ok, is_some, IsUtf8}
+use Rattle.std.proofs.Common.{◌≡◌, ◌≤◌, ℕ, List, ◌∷◌, ◌++◌, refl, length, take, drop, arith, length-append, subst}
+use Rattle.std.specs.Prelude.{Some}
 use Rattle.std.specs.Cmp.Lexicographic.{bytes_decides}
 use Rattle.std.proofs.lemmas.Bool.{le-ltb}
 use Rattle.std.proofs.Math.Seq.{take-append_seam, drop-append_seam}
-use Rattle.serde_json.specs.Data.{Data}
-use Rattle.serde_json.specs.Read.{read}
-use Rattle.serde_json.specs.Find.{as_object}
 use Rattle.sha2.specs.Sha256.{sha256}
 use Rattle.sha2.proofs.Facts256.{length-sha256}
 use Rattle.hex.specs.Hex.{encode_lower, lower_digits}
 use Rattle.hex.proofs.HexLemmas.{length-encode_with}
-use Rattle.rp_checkpoint.specs.Checkpoints.{restored, restored_object}
-use Rattle.rp_checkpoint.specs.Sealed.{opened, sealed}
-use Rattle.rp_checkpoint.specs.declared.node_data.NodeData.{NodeData}
-use Rattle.rp_json.proofs.Reading.{object_read}
+use Rattle.rp_seal.specs.Sealed.{opened, sealed}
 
 length-digits : (object : List ℕ) → length (encode_lower (sha256 object)) ≡ 64
 length-digits object = let a = length-encode_with lower_digits (sha256 object) in let b = length-sha256 object in omega (arith, a, b)
@@ -32,6 +26,3 @@ opened-sealed object =
     let digits = encode_lower (sha256 object) in
     let s = seam digits object (length-digits object) in
     rw (le-ltb (length (sealed object)) 65 s.2, s.0, s.1, (bytes_decides digits digits).1 refl) refl
-
-pub restored_from : (bytes object : List ℕ) (d : Data) (n : NodeData) → opened bytes ≡ Some object → IsUtf8 object → read object ≡ Some d → is_some (as_object d) ≡ true → restored_object d ≡ Ok n → restored bytes ≡ Ok n
-restored_from bytes object d n opens text is whole back = rw (opens, object_read object d text is whole, back) refl
