@@ -15,26 +15,27 @@ use Rattle.rp_query.specs.declared.plan.Condition.{Condition}
 use Rattle.rp_query.specs.declared.query.OutputColumn.{OutputColumn}
 use Rattle.rp_query.specs.declared.query.QueryData.{QueryData}
 use Rattle.rp_check.specs.QueryOf.{IsQueryOf, measured_totals, measuring, defining}
-use Rattle.rp_check.specs.ClauseFaults.{faults, each, name_faults, listing_faults, expression_faults, pattern_faults, union_faults, partition_faults, order_faults, measure_faults, definition_faults, skip_faults}
+use Rattle.rp_check.specs.ClauseFaults.{faults, name_faults, listing_faults, expression_faults}
+use Rattle.rp_resolution.specs.PartFaults.{each, pattern_faults, union_faults, partition_faults, order_faults, measure_faults, definition_faults, skip_faults}
 use Rattle.rp_query.specs.Allowed.{each_leaf, goes_near, runs, asks_rows_alone, is_running, is_of_rows, is_near, is_of_variables, skips_to_variables}
 use Rattle.rp_query.specs.Kinds.{are_texts, is_value, is_truth}
 use Rattle.rp_value.specs.declared.value.Value.TheVariants as value
-use Rattle.rp_check.specs.Context.{Context, column_named, is_name}
+use Rattle.rp_resolution.specs.Context.{Context, column_named, is_name}
 use Rattle.rp_query.specs.Definitions.{condition_at}
 use Rattle.rp_query.specs.Formulas.{Formula, PlainTotal, plain_total, value_formula, condition_formula}
-use Rattle.rp_check.specs.Queries.{formulas, totals_of, terms_of_measures, terms_of_definitions, definition_place, order_column, greatest}
+use Rattle.rp_resolution.specs.Queries.{formulas, totals_of, terms_of_measures, terms_of_definitions, definition_place, order_column, greatest}
 use Rattle.rp_query.specs.SkipRules.{rule_of}
 use Rattle.rp_query.specs.Reach.{reach, condition_reach}
-use Rattle.rp_check.specs.Resolved.{number_at, totals}
+use Rattle.rp_resolution.specs.Resolved.{number_at, totals}
 use Rattle.rp_query.specs.Sound.{IsSound, IsColumn, source_is_of}
-use Rattle.rp_check.specs.Output.{texts, key_columns, measure_columns, other_columns, output_of}
-use Rattle.rp_check.proofs.ColumnsFit.{AllFit, columns_fit, others_fit, in_order_fits, measures_fit, source_by_formula}
-use Rattle.rp_check.specs.Variables.{variables_of}
-use Rattle.rp_check.proofs.Clean.{none_left, none_right, holds, each_clean, found_within}
-use Rattle.rp_check.proofs.KindsAgree.{measures_well, definitions_well}
-use Rattle.rp_check.proofs.Leaves.{measures_pass, definitions_pass, pass_near, pass_running, pass_of_rows}
-use Rattle.rp_check.proofs.VariablesBelow.{variables_below}
-use Rattle.rp_check.proofs.VariablesMeant.{all_both, sets_named, all_totals_named, skip_named}
+use Rattle.rp_resolution.specs.Output.{texts, key_columns, measure_columns, other_columns, output_of}
+use Rattle.rp_resolution.proofs.ColumnsFit.{AllFit, columns_fit, others_fit, in_order_fits, measures_fit, source_by_formula}
+use Rattle.rp_resolution.specs.Variables.{variables_of}
+use Rattle.rp_resolution.proofs.Clean.{none_left, none_right, holds, each_clean, found_within}
+use Rattle.rp_resolution.proofs.KindsAgree.{measures_well, definitions_well}
+use Rattle.rp_resolution.proofs.Leaves.{measures_pass, definitions_pass, pass_near, pass_running, pass_of_rows}
+use Rattle.rp_resolution.proofs.VariablesBelow.{variables_below}
+use Rattle.rp_resolution.proofs.VariablesMeant.{all_both, sets_named, all_totals_named, skip_named}
 
 each_made : {A B : Type 0} (P : B → Type 0) (f : A → B) (xs : List A) → AllByRecursion (λ x. P (f x)) xs → AllByRecursion P (map f xs)
 each_made P f [] h = tt

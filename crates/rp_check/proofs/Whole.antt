@@ -11,22 +11,22 @@ use Rattle.rp_tree.specs.Clauses.{ClauseTree}
 use Rattle.rp_check.specs.declared.checking.Named.{Named}
 use Rattle.rp_check.specs.declared.checking.Places.{Places}
 use Rattle.rp_check.specs.declared.checking.Planned.{Planned}
-use Rattle.rp_check.specs.declared.fault.CheckFault.{CheckFault}
+use Rattle.rp_resolution.specs.declared.fault.CheckFault.{CheckFault}
 use Rattle.rp_query.specs.declared.query.QueryData.{QueryData}
 use Rattle.rp_check.specs.QueryOf.{IsQueryOf, measuring, defining}
-use Rattle.rp_check.specs.declared.fault.Fault.{Fault}
-use Rattle.rp_check.specs.Checked.{Tells, FirstFaultOr}
+use Rattle.rp_resolution.specs.declared.fault.Fault.{Fault}
+use Rattle.rp_resolution.specs.Checked.{Tells, FirstFaultOr}
 use Rattle.rp_check.specs.Checking.{IsNamed, ArePlaces, IsPlanned, IsMadeOf, spoken}
 use Rattle.rp_check.specs.ClauseFaults.{faults, name_faults, listing_faults, expression_faults, shown_faults}
-use Rattle.rp_check.specs.Context.{naming_of}
-use Rattle.rp_check.specs.Output.{output_with}
+use Rattle.rp_resolution.specs.Context.{naming_of}
+use Rattle.rp_resolution.specs.Output.{output_with}
 use Rattle.rp_query.specs.Formulas.{value_formula, condition_formula, plain_total}
 use Rattle.rp_query.specs.SkipRules.{rule_of}
-use Rattle.rp_check.specs.Reading.{Reads}
+use Rattle.rp_resolution.specs.Reading.{Reads}
 use Rattle.rp_same_query.specs.Shapes.{shape_of}
-use Rattle.rp_check.specs.Shapes.{shaped}
-use Rattle.rp_check.specs.Variables.{variables_of, context, numbered, union_of}
-use Rattle.rp_check.proofs.Telling.{tells_front, tells_behind, none_in_both}
+use Rattle.rp_resolution.specs.Shapes.{shaped}
+use Rattle.rp_resolution.specs.Variables.{variables_of, context, numbered, union_of}
+use Rattle.rp_resolution.proofs.Telling.{tells_front, tells_behind, none_in_both}
 
 pub is_named : (c : ClauseTree) (n : Named) (f : Form) → Reads [] c.pattern n.variables.items f → form_of n.pattern ≡ f
     → map naming_of n.sets.items ≡ numbered 0 n.variables.items ++ map (union_of n.variables.items) c.subsets → n.classes.value.items ≡ map value.Text n.variables.items → IsNamed c n

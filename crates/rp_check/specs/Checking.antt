@@ -13,17 +13,17 @@ use Rattle.rp_check.specs.declared.checking.Named.{Named}
 use Rattle.rp_check.specs.declared.checking.Places.{Places}
 use Rattle.rp_check.specs.declared.checking.Planned.{Planned}
 use Rattle.rp_query.specs.declared.query.QueryData.{QueryData}
-use Rattle.rp_check.specs.declared.names.NamedSet.{NamedSet}
-use Rattle.rp_check.specs.Context.{Context, naming_of, column_named}
+use Rattle.rp_resolution.specs.declared.names.NamedSet.{NamedSet}
+use Rattle.rp_resolution.specs.Context.{Context, naming_of, column_named}
 use Rattle.rp_query.specs.Formulas.{value_formula, condition_formula, plain_total}
-use Rattle.rp_check.specs.Queries.{formulas, totals_of, terms_of_measures, terms_of_definitions, rule_meant, rows_shown, definition_place, order_column, greatest}
-use Rattle.rp_check.specs.Output.{measure_columns, output_with}
+use Rattle.rp_resolution.specs.Queries.{formulas, totals_of, terms_of_measures, terms_of_definitions, rule_meant, rows_shown, definition_place, order_column, greatest}
+use Rattle.rp_resolution.specs.Output.{measure_columns, output_with}
 use Rattle.rp_query.specs.SkipRules.{rule_of}
 use Rattle.rp_query.specs.Reach.{reach, condition_reach}
-use Rattle.rp_check.specs.Resolved.{number_at}
+use Rattle.rp_resolution.specs.Resolved.{number_at}
 use Rattle.rp_same_query.specs.Shapes.{shape_of}
-use Rattle.rp_check.specs.Shapes.{shaped}
-use Rattle.rp_check.specs.Variables.{variables_of, numbered, union_of}
+use Rattle.rp_resolution.specs.Shapes.{shaped}
+use Rattle.rp_resolution.specs.Variables.{variables_of, numbered, union_of}
 
 -- what may be named, with these sets and classes
 abbrev pub spoken : List NamedSet → List Column → Rc (Vec Value Global) Global → Bool → Context

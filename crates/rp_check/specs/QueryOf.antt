@@ -4,16 +4,16 @@ use Rattle.rp_value.specs.declared.table.Column.{Column}
 use Rattle.rp_words.specs.PatternForm.{form_of}
 use Rattle.rp_tree.specs.Clauses.{ClauseTree}
 use Rattle.rp_query.specs.declared.query.QueryData.{QueryData}
-use Rattle.rp_check.specs.Context.{Context, column_named}
+use Rattle.rp_resolution.specs.Context.{Context, column_named}
 use Rattle.rp_query.specs.Formulas.{PlainTotal, value_formula, condition_formula, plain_total}
-use Rattle.rp_check.specs.Queries.{formulas, totals_of, terms_of_measures, terms_of_definitions, rule_meant, rows_shown, definition_place, greatest, order_column}
-use Rattle.rp_check.specs.Output.{output_of}
+use Rattle.rp_resolution.specs.Queries.{formulas, totals_of, terms_of_measures, terms_of_definitions, rule_meant, rows_shown, definition_place, greatest, order_column}
+use Rattle.rp_resolution.specs.Output.{output_of}
 use Rattle.rp_query.specs.SkipRules.{rule_of}
 use Rattle.rp_query.specs.Reach.{reach, condition_reach}
-use Rattle.rp_check.specs.Resolved.{number_at}
+use Rattle.rp_resolution.specs.Resolved.{number_at}
 use Rattle.rp_same_query.specs.Shapes.{shape_of}
-use Rattle.rp_check.specs.Shapes.{shaped}
-use Rattle.rp_check.specs.Variables.{variables_of, context}
+use Rattle.rp_resolution.specs.Shapes.{shaped}
+use Rattle.rp_resolution.specs.Variables.{variables_of, context}
 
 abbrev pub measuring : ClauseTree → List Column → Context
 measuring c columns = context (variables_of c.pattern) c.subsets columns false

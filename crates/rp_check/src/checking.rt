@@ -3,28 +3,22 @@
 ghost use Rattle.std.specs.Prelude.{◌≡◌, [], true, false, IfOk, IfErr};
 ghost use Rattle.rp_query.specs.Sound.{IsSound};
 ghost use Rattle.rp_tree.specs.Clauses.{clause_tree};
-ghost use Rattle.rp_check.specs.Checked.{FirstFaultOr, Tells};
-ghost use Rattle.rp_check.specs.ClauseFaults.{faults, name_faults, listing_faults, expression_faults, shown_faults, unmatched_faults};
+ghost use Rattle.rp_resolution.specs.Checked.{FirstFaultOr, Tells};
+ghost use Rattle.rp_resolution.specs.Queries.{rows_shown};
+ghost use Rattle.rp_check.specs.ClauseFaults.{faults, name_faults, listing_faults, expression_faults, shown_faults};
 ghost use Rattle.rp_check.specs.QueryOf.{IsQueryOf};
-ghost use Rattle.rp_check.specs.Queries.{rows_shown};
 ghost use Rattle.rp_check.specs.Checking.{IsNamed, ArePlaces, IsPlanned, IsMadeOf, spoken};
-ghost use Rattle.rp_tree.specs.Tree.{tree_of};
 
-use crate::expressions::{conditions, measures, skip_to};
-use crate::fault::{CheckFault, CheckKind};
-use crate::lists::{
-    add_unions, allow_definitions, allow_measures, order_columns, partition_columns, variable_sets,
-};
-use crate::names::{NamedSet, Names};
-use crate::output::output_of;
-use crate::pattern::{first_exclusion, read};
-use crate::place::fault;
-use crate::shown::{classes, definition_places, whole_reach};
 use rp_query::{
     Condition, Expr, OrderColumn, OutputColumn, Plan, Query, QueryData, RowsPerMatch as RowsShown,
     SkipTo, Total,
 };
-use rp_tree::{Clause, Pattern as Written, RowsPerMatch};
+use rp_resolution::{
+    CheckFault, NamedSet, Names, add_unions, allow_definitions, allow_measures, allow_unmatched,
+    classes, conditions, definition_places, measures, order_columns, output_of, partition_columns,
+    read, skip_to, variable_sets, whole_reach,
+};
+use rp_tree::{Clause, RowsPerMatch};
 use rp_value::{Column, Table, Text, Value};
 use rp_words::Pattern;
 use std::alloc::{AllocError, Global};
@@ -165,21 +159,6 @@ fn plan_all(
         },
     )?;
     Ok(planned)
-}
-
-/// Rows that no match has aren't given beside rows that aren't shown.
-fn allow_unmatched(rows: RowsPerMatch, pattern: &Written) -> Result<(), CheckFault>
-    ensures { FirstFaultOr (unmatched_faults rows (tree_of pattern.now)) (λ u. Unit {0}) result }
-{
-    match rows {
-        RowsPerMatch::One => Ok(()),
-        RowsPerMatch::AllShowEmpty => Ok(()),
-        RowsPerMatch::AllOmitEmpty => Ok(()),
-        RowsPerMatch::AllWithUnmatched => match first_exclusion(pattern) {
-            None => Ok(()),
-            Some(at) => Err(fault(CheckKind::ExclusionWithUnmatched, at)),
-        },
-    }
 }
 
 /// What the output has is named once, and unmatched rows and exclusion don't stand together.

@@ -6,7 +6,7 @@ use Rattle.rp_lexer.specs.Laws.{OneTokenList, NoTokensWithFault}
 use Rattle.rp_tree.specs.Clauses.{ClauseTree}
 use Rattle.rp_syntax.specs.ClauseGrammar.{Derives}
 use Rattle.rp_compile.specs.declared.compiling.CompileFault.TheVariants as fault
-use Rattle.rp_check.specs.declared.fault.Fault.{Fault}
+use Rattle.rp_resolution.specs.declared.fault.Fault.{Fault}
 use Rattle.rp_query.specs.declared.query.QueryData.{QueryData}
 use Rattle.rp_query.specs.declared.plan.Expr.{Expr}
 use Rattle.rp_query.specs.declared.plan.Expr.TheOpen.{Expr-F, Literal, Navigation, Aggregate, MatchNumber, Classifier, Arithmetic}
@@ -22,7 +22,7 @@ use Rattle.rp_query.specs.Formulas as F
 use Rattle.rp_query.specs.Formulas.{Formula, value_formula, value_step, condition_formula, condition_step}
 use Rattle.rp_compile.specs.OneQuery.{OneQuery, NoQueryWithFault}
 use Rattle.rp_same_query.specs.SameQuery.{IsSameQuery}
-use Rattle.rp_check.specs.Queries.{greatest}
+use Rattle.rp_resolution.specs.Queries.{greatest}
 use Rattle.rp_check.specs.QueryOf.{IsQueryOf}
 use Rattle.rp_query.specs.Reach.{rows_back, reach, reach_step, condition_reach, condition_reach_step}
 

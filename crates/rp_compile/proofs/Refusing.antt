@@ -12,9 +12,9 @@ use Rattle.rp_grammar.specs.declared.fault.ParseFault.TheVariants as parse_fault
 use Rattle.rp_tree.specs.Clauses.{ClauseTree}
 use Rattle.rp_syntax.specs.ClauseGrammar.{Derives}
 use Rattle.rp_syntax.specs.Derived.{DerivesNone, DerivesOnly}
-use Rattle.rp_check.specs.declared.fault.Fault.{Fault}
-use Rattle.rp_check.specs.declared.fault.CheckFault.{CheckFault}
-use Rattle.rp_check.specs.Checked.{Tells, first_fault, no_memory}
+use Rattle.rp_resolution.specs.declared.fault.Fault.{Fault}
+use Rattle.rp_resolution.specs.declared.fault.CheckFault.{CheckFault}
+use Rattle.rp_resolution.specs.Checked.{Tells, first_fault, no_memory}
 use Rattle.rp_check.specs.ClauseFaults.{faults}
 use Rattle.rp_compile.specs.Compiled.{IsClauseOf, IsCompileFault, told_lex, told_parse, told_check}
 

@@ -12,9 +12,9 @@ use Rattle.rp_grammar.specs.declared.fault.ParseFault.TheVariants as parse_fault
 use Rattle.rp_tree.specs.Clauses.{ClauseTree}
 use Rattle.rp_syntax.specs.ClauseGrammar.{Derives}
 use Rattle.rp_syntax.specs.Derived.{DerivesNone, DerivesOnly}
-use Rattle.rp_check.specs.declared.fault.Fault.{Fault}
-use Rattle.rp_check.specs.declared.fault.CheckFault.{CheckFault}
-use Rattle.rp_check.specs.declared.fault.CheckFault.TheVariants as check_fault
+use Rattle.rp_resolution.specs.declared.fault.Fault.{Fault}
+use Rattle.rp_resolution.specs.declared.fault.CheckFault.{CheckFault}
+use Rattle.rp_resolution.specs.declared.fault.CheckFault.TheVariants as check_fault
 use Rattle.rp_compile.specs.declared.compiling.CompileFault.{CompileFault}
 use Rattle.rp_compile.specs.declared.compiling.CompileFault.TheVariants as fault
 use Rattle.rp_query.specs.declared.query.QueryData.{QueryData}

@@ -8,10 +8,11 @@ ghost use Rattle.rp_syntax.specs.ClauseGrammar.{Derives};
 ghost use Rattle.rp_compile.specs.Compiled.{IsCompiled, IsCompileFault, told_check, told_lex, told_parse};
 ghost use Rattle.rp_compile.specs.declared.compiling.CompileFault.TheVariants.{OutOfMemory};
 
-use rp_check::{CheckFault, Fault, check};
+use rp_check::check;
 use rp_grammar::ParseFault;
 use rp_lexer::{LexFault, Token, lex};
 use rp_query::Query;
+use rp_resolution::{CheckFault, Fault};
 use rp_syntax::parse;
 use rp_tree::Clause;
 use rp_value::Table;

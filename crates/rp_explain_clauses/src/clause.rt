@@ -1,10 +1,10 @@
 //! Why a clause is refused.
 
 use crate::meaning::meaning;
-use rp_check::Fault;
 use rp_compile::CompileFault;
 use rp_grammar::ParseFault;
 use rp_hints::unexpected;
+use rp_resolution::Fault;
 use rp_value::Table;
 use rp_wording::{Advice, Reading, Report, Source, TextReport, explain_lex};
 use std::alloc::{AllocError, Global};

@@ -1,8 +1,8 @@
 //! Clauses that can be read and mean nothing.
 
-use rp_check::CheckKind;
 use rp_hints::{unknown_column, unknown_variable};
 use rp_lexer::TokenKind;
+use rp_resolution::CheckKind;
 use rp_value::Table;
 use rp_wording::{
     Advice, Part, Pieces, Reading, is_date, is_name, is_one_of, kind_word, meant, operand_end,

@@ -8,10 +8,10 @@ ghost use Rattle.rp_filter.specs.Meets.{clause_of};
 
 use crate::fault::FilterFault;
 use crate::filter::Filter;
-use rp_check::Fault;
 use rp_compile::{CompileFault, compile};
 use rp_grammar::ParseFault;
 use rp_lexer::LexFault;
+use rp_resolution::Fault;
 use rp_value::Table;
 use std::alloc::{AllocError, Global};
 

@@ -1,8 +1,8 @@
 //! The query of a clause.
 use crate::support::{compiled, holds, prices, refused_twice, same};
-use rp_check::{CheckKind, Fault};
 use rp_compile::CompileFault;
 use rp_query::{Condition, Query};
+use rp_resolution::{CheckKind, Fault};
 use std::alloc::Global;
 use std::test::*;
 

@@ -1,6 +1,5 @@
 //! What is told of a clause, a table and an input, where memory is refused in between too.
 use crate::support::{compiled, prices, refused_twice, same};
-use rp_check::{CheckKind, Fault};
 use rp_compile::CompileFault;
 use rp_explain_clauses::{explain_clause, explain_table};
 use rp_explain_inputs::{explain_csv, propose_columns};
@@ -8,6 +7,7 @@ use rp_explain_queries::describe;
 use rp_grammar::ParseFault;
 use rp_input::CsvFault;
 use rp_lexer::LexFault;
+use rp_resolution::{CheckKind, Fault};
 use rp_syntax::TableTextFault;
 use std::alloc::{AllocError, Global};
 use std::process::Abort;

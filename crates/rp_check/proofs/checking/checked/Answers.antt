@@ -1,11 +1,11 @@
 use Rattle.std.proofs.Common.{rules, ◌≡◌, [], false, true}
 use Rattle.rp_tree.specs.Clauses.{clause_tree}
 use Rattle.rp_check.specs.QueryOf.{IsQueryOf}
-use Rattle.rp_check.specs.Checked.{Tells}
+use Rattle.rp_resolution.specs.Checked.{Tells}
 use Rattle.rp_check.specs.Checking.{ArePlaces, IsPlanned, spoken}
 use Rattle.rp_check.specs.ClauseFaults.{faults, name_faults, listing_faults, expression_faults, shown_faults}
 use Rattle.rp_check.proofs.Soundness.{sound}
-use Rattle.rp_check.proofs.Telling.{telling, tells_front}
+use Rattle.rp_resolution.proofs.Telling.{telling, tells_front}
 use Rattle.rp_check.proofs.Whole.{planned_in, is_query, allowed_pattern, list_wrong, plan_wrong, output_wrong, none_wrong}
 use Rattle.rp_check.proofs.checking.checked.Goals as goal
 

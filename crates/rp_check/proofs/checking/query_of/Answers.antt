@@ -1,5 +1,5 @@
 use Rattle.std.proofs.Common.{rules}
-use Rattle.rp_check.proofs.Telling.{telling}
+use Rattle.rp_resolution.proofs.Telling.{telling}
 use Rattle.rp_check.proofs.checking.query_of.Goals as goal
 
 pub returns-in_err-query : goal.returns-in_err-query

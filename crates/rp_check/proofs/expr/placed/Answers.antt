@@ -1,6 +1,0 @@
-use Rattle.std.proofs.Common.{rules}
-use Rattle.rp_check.proofs.Telling.{telling}
-use Rattle.rp_check.proofs.expr.placed.Goals as goal
-
-pub returns-in_err-valued : goal.returns-in_err-valued
-returns-in_err-valued c = search (rules, telling)

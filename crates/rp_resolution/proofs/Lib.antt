@@ -1,0 +1,14 @@
+pub mod Telling
+pub mod Chains
+pub mod Each
+pub mod Joining
+pub mod Permuting
+pub mod Parts
+pub mod OneTree
+pub mod Terms
+pub mod Clean
+pub mod KindsAgree
+pub mod Leaves
+pub mod VariablesMeant
+pub mod VariablesBelow
+pub mod ColumnsFit

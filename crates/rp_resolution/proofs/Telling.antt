@@ -1,0 +1,63 @@
+-- Faults of a part are faults of the whole.
+use Rattle.std.proofs.Common.{◌≡◌, ℕ, Bool, true, false, ◌&&◌, Option, None, Some, List, [], ◌++◌, Result, Ok, Err, refl}
+use Rattle.std.specs.Prelude.{IsErr, IfOk}
+use Rattle.rp_resolution.specs.declared.fault.Fault.{Fault}
+use Rattle.rp_resolution.specs.declared.fault.CheckKind.{CheckKind}
+use Rattle.rp_resolution.specs.declared.fault.CheckFault.{CheckFault}
+use Rattle.rp_resolution.specs.declared.fault.CheckFault.TheVariants as refusal
+use Rattle.rp_value.specs.declared.value.Kind.TheVariants.{Int, Text}
+use Rattle.rp_resolution.specs.Sorts.{Sort, Valued, Truth, may_be_value, comparable}
+use Rattle.rp_resolution.specs.ExprFaults.{unless}
+use Rattle.rp_resolution.specs.Checked.{Tells, first_fault, no_memory}
+
+-- the first of the first part's faults is the first of all
+pub tells_front : (e : CheckFault) (fs gs : List Fault) → Tells e fs → Tells e (fs ++ gs)
+tells_front e fs gs (first_fault fault others) = first_fault fault (others ++ gs)
+tells_front e fs gs (no_memory faults) = no_memory (faults ++ gs)
+
+-- where the first part has none, the first of the second part's is the first of all
+pub tells_behind : (e : CheckFault) (fs gs : List Fault) → fs ≡ [] → Tells e gs → Tells e (fs ++ gs)
+tells_behind e fs gs none told = rw none told
+
+pub none_in_both : (fs gs : List Fault) → fs ≡ [] → gs ≡ [] → fs ++ gs ≡ []
+none_in_both fs gs f g = rw f g
+
+-- the one fault of a test that doesn't hold
+pub tells_test : (e : CheckFault) (test : Bool) (kind : CheckKind) (at : ℕ) → e ≡ refusal.Fault (record { kind = kind; offset = at }) → test ≡ false → Tells e (unless test kind at)
+tells_test e test kind at is failed = rw (is, failed) (first_fault (record { kind = kind; offset = at }) [])
+
+pub passed : (test : Bool) (kind : CheckKind) (at : ℕ) → test ≡ true → unless test kind at ≡ []
+passed test kind at holds = rw holds refl
+
+-- want of memory may be told at any time
+pub tells_memory : (e : CheckFault) (fs : List Fault) → e ≡ refusal.OutOfMemory → Tells e fs
+tells_memory e fs is = rw is (no_memory fs)
+
+-- where an error is answered, anything holds of what is given else
+pub not_given : {X E : Type 0} (r : Result X E) (P : X → Type 0) → IsErr r → IfOk r P
+not_given (Ok x) P e = absurd cc
+not_given (Err e) P is = tt
+
+pub ruleset telling = (tells_front, tells_behind, none_in_both, tells_test, passed, tells_memory)
+
+-- the same, where two tests are joined
+pub left_fails : (p q : Bool) → p ≡ false → p && q ≡ false
+left_fails p q e = rw e refl
+
+pub right_fails : (p q : Bool) → p ≡ true → q ≡ false → p && q ≡ false
+right_fails p q d e = rw (d, e) refl
+
+pub no_value_left : (a b : Option Sort) → may_be_value a ≡ false → comparable a b ≡ false
+no_value_left None b e = cc
+no_value_left (Some (Valued Int)) b e = cc
+no_value_left (Some (Valued Text)) b e = cc
+no_value_left (Some Truth) b e = refl
+
+pub no_value_right : (a b : Option Sort) → may_be_value b ≡ false → comparable a b ≡ false
+no_value_right a None e = cc
+no_value_right a (Some (Valued Int)) e = cc
+no_value_right a (Some (Valued Text)) e = cc
+no_value_right None (Some Truth) e = refl
+no_value_right (Some (Valued Int)) (Some Truth) e = refl
+no_value_right (Some (Valued Text)) (Some Truth) e = refl
+no_value_right (Some Truth) (Some Truth) e = refl

@@ -1,0 +1,9 @@
+use Rattle.std.proofs.Common.{rules}
+use Rattle.rp_resolution.proofs.Telling.{telling}
+use Rattle.rp_resolution.proofs.expr.classifier.Goals as goal
+
+pub returns-in_err-classes : goal.returns-in_err-classes
+returns-in_err-classes c = search (rules, telling)
+
+pub returns-in_err-valued : goal.returns-in_err-valued
+returns-in_err-valued c = search (rules, telling)

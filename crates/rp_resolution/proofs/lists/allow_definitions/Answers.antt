@@ -1,0 +1,10 @@
+use Rattle.std.proofs.Common.{rules}
+use Rattle.rp_resolution.specs.PartFaults.{defined_faults}
+use Rattle.rp_tree.specs.Clauses.{definition_tree}
+use Rattle.rp_resolution.proofs.Each.{goes_wrong}
+use Rattle.rp_resolution.proofs.lists.allow_definitions.Goals as goal
+
+pub returns-in_err-allow_definition : goal.returns-in_err-allow_definition
+returns-in_err-allow_definition c =
+    let told = goes_wrong definition_tree (defined_faults c.args.variables.now) c.args.definitions.now c.loop-i.i c.index-definitions-i.result c.in_err-allow_definition.field-0.0 c.loop-i-test.true c.index-definitions-i.is c.loop-i.invariant c.in_err-allow_definition.ensures in
+    search (rules, told)

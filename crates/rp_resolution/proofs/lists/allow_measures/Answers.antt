@@ -1,0 +1,10 @@
+use Rattle.std.proofs.Common.{rules}
+use Rattle.rp_resolution.specs.PartFaults.{output_faults, shown_names}
+use Rattle.rp_tree.specs.Clauses.{measure_tree}
+use Rattle.rp_resolution.proofs.Each.{goes_wrong}
+use Rattle.rp_resolution.proofs.lists.allow_measures.Goals as goal
+
+pub returns-in_err-allow_measure : goal.returns-in_err-allow_measure
+returns-in_err-allow_measure c =
+    let told = goes_wrong measure_tree (output_faults (shown_names c.args.rows c.args.partition.now c.args.columns.now)) c.args.measures.now c.loop-i.i c.index-measures-i.result c.in_err-allow_measure.field-0.0 c.loop-i-test.true c.index-measures-i.is c.loop-i.invariant c.in_err-allow_measure.ensures in
+    search (rules, told)

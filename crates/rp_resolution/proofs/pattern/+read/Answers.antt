@@ -1,0 +1,107 @@
+use Rattle.std.proofs.Common.{rules, ◌≡◌, ◌≤◌, ◌+◌, [], ◌++◌, map, take, drop, length, ap, arith}
+use Rattle.std.specs.Prelude.{nat_le}
+use Rattle.std.proofs.lemmas.List.{drop_all, take_all, length-map}
+use Rattle.std.proofs.lemmas.Bool.Decides.{nat_tests}
+use Rattle.rp_tree.specs.Tree as tree
+use Rattle.rp_tree.specs.Tree.{tree_of}
+use Rattle.rp_resolution.specs.declared.fault.CheckKind.TheVariants.{TooManyPermuted}
+use Rattle.rp_resolution.specs.ExprFaults.{unless}
+use Rattle.rp_resolution.specs.PartFaults.{pattern_faults, part_count}
+use Rattle.rp_resolution.specs.Joints.{tree_joint, shape_joint}
+use Rattle.rp_same_query.specs.Shapes as shape
+use Rattle.rp_same_query.specs.Shapes.{shape_of}
+use Rattle.rp_resolution.specs.Shapes.{shaped}
+use Rattle.rp_resolution.proofs.Telling.{telling, tells_front, tells_behind}
+use Rattle.rp_resolution.proofs.Each.{cut, one_taken}
+use Rattle.rp_resolution.proofs.Joining.{beside, by_joint, faults_joined, reads_joined, reads_permuted}
+use Rattle.rp_resolution.proofs.OneTree.{few_parts}
+use Rattle.rp_resolution.proofs.Parts.{none_read, one_read, one_wrong, all_read}
+use Rattle.rp_resolution.proofs.pattern.+read.Goals as goal
+
+pub exclusion-returns-in_err-form : goal.exclusion-returns-in_err-form
+exclusion-returns-in_err-form t c = search (rules, telling)
+
+pub quantified-returns-in_err-body : goal.quantified-returns-in_err-body
+quantified-returns-in_err-body t c = search (rules, telling)
+
+pub quantified-returns-in_err-form : goal.quantified-returns-in_err-form
+quantified-returns-in_err-form t c = search (rules, telling)
+
+pub permutation-returns-in_err-require : goal.permutation-returns-in_err-require
+permutation-returns-in_err-require t c =
+    let told = rw (few_parts c.args.parts.now) at c.in_err-require.ensures in
+    let all = tells_front c.in_err-require.field-0.0 (unless (nat_le (part_count (tree.joined_all tree.Beside (map tree_of c.args.parts.now))) 8) TooManyPermuted c.args.at) (pattern_faults (tree.joined_all tree.Beside (map tree_of c.args.parts.now))) told in
+    search (rules, all)
+
+pub permutation-returns-in_err-forms : goal.permutation-returns-in_err-forms
+permutation-returns-in_err-forms t c =
+    let ts = map tree_of c.args.parts.now in
+    let none = rw (few_parts c.args.parts.now) at c.in_ok-require.ensures.0 in
+    let told = rw (← faults_joined tree.Beside shape.Beside beside ts) at c.in_err-forms.ensures in
+    let all = tells_behind c.in_err-forms.field-0.0 (unless (nat_le (part_count (tree.joined_all tree.Beside ts)) 8) TooManyPermuted c.args.at) (pattern_faults (tree.joined_all tree.Beside ts)) none told in
+    search (rules, all)
+
+pub permutation-in_any_order-requires : goal.permutation-in_any_order-requires
+permutation-in_any_order-requires t c =
+    let ts = map tree_of c.args.parts.now in
+    let few : length c.args.parts.now ≤ 8 = let e = c.in_ok-require.ensures.1 in grind (arith, nat_tests) in
+    let same : length (map shape_of c.in_ok-forms.forms.items) ≡ length (map (shaped (c.read_all.new.names.items ++ [])) ts) = ap length (c.in_ok-forms.ensures.1.shapes []) in
+    omega (arith, same, length-map c.in_ok-forms.forms.items shape_of, length-map ts (shaped (c.read_all.new.names.items ++ [])), length-map c.args.parts.now tree_of)
+
+pub permutation-returns-in_err-form : goal.permutation-returns-in_err-form
+permutation-returns-in_err-form t c = search (rules, telling)
+
+pub permutation-returns : goal.permutation-returns
+permutation-returns t c =
+    let ts = map tree_of c.args.parts.now in
+    let none = rw (few_parts c.args.parts.now) at c.in_ok-require.ensures.0 in (
+      rw (none, faults_joined tree.Beside shape.Beside beside ts) c.in_ok-forms.ensures.0,
+      reads_permuted c.args.names.now.items c.args.at ts c.read_all.new.names.items c.in_ok-forms.forms.items c.in_ok-form.form c.in_ok-forms.ensures.1 c.in_ok-form.ensures.shape (c.in_ok-form.ensures.allowed c.in_ok-forms.ensures.1.allowed),
+    )
+
+pub joined-returns-in_err-forms : goal.joined-returns-in_err-forms
+joined-returns-in_err-forms t c =
+    let told = rw (← faults_joined (tree_joint c.args.joint) (shape_joint c.args.joint) (by_joint c.args.joint) (map tree_of c.args.parts.now)) at c.in_err-forms.ensures in
+    search (rules, told)
+
+pub joined-returns-in_err-form : goal.joined-returns-in_err-form
+joined-returns-in_err-form t c = search (rules, telling)
+
+pub joined-returns : goal.joined-returns
+joined-returns t c =
+    let ts = map tree_of c.args.parts.now in
+    let joins = by_joint c.args.joint in (
+      rw (faults_joined (tree_joint c.args.joint) (shape_joint c.args.joint) joins ts) c.in_ok-forms.ensures.0,
+      reads_joined (tree_joint c.args.joint) (shape_joint c.args.joint) joins c.args.names.now.items ts c.read_all.new.names.items c.in_ok-forms.forms.items c.in_ok-form.form c.in_ok-forms.ensures.1 c.in_ok-form.ensures.shape (c.in_ok-form.ensures.allowed c.in_ok-forms.ensures.1.allowed),
+    )
+
+pub read_all-loop-part-init : goal.read_all-loop-part-init
+read_all-loop-part-init t c = rw c.new-forms.ensures.items (none_read c.args.names.now.items (map tree_of c.args.parts.now))
+
+pub read_all-loop-part-preserved : goal.read_all-loop-part-preserved
+read_all-loop-part-preserved t c =
+    let xs = c.args.parts.now in
+    let i = c.loop-part.part-index in
+    let next = cut tree_of xs i c.part-item.result c.loop-part-test.true c.part-item.is in
+    let so = rw next at c.loop-part.invariant in
+    rw (one_taken tree_of xs i c.part-item.result c.loop-part-test.true c.part-item.is, c.in_ok-push.ensures.items)
+    (one_read c.args.names.now.items (map tree_of xs) (map tree_of (take i xs)) (map tree_of (drop (i + 1) xs)) c.loop-part.names.items c.read.new.names.items c.loop-part.forms.items (tree_of c.part-item.result) c.in_ok-form.form so c.in_ok-form.ensures.0 c.in_ok-form.ensures.1)
+
+pub read_all-returns-in_err-form : goal.read_all-returns-in_err-form
+read_all-returns-in_err-form t c =
+    let xs = c.args.parts.now in
+    let i = c.loop-part.part-index in
+    let next = cut tree_of xs i c.part-item.result c.loop-part-test.true c.part-item.is in
+    let so = rw next at c.loop-part.invariant in
+    let told = one_wrong c.args.names.now.items (map tree_of xs) (map tree_of (take i xs)) (map tree_of (drop (i + 1) xs)) c.loop-part.names.items c.loop-part.forms.items (tree_of c.part-item.result) c.in_err-form.field-0.0 so c.in_err-form.ensures in
+    search (rules, told)
+
+pub read_all-returns-in_err-push : goal.read_all-returns-in_err-push
+read_all-returns-in_err-push t c = search (rules, telling)
+
+pub read_all-returns : goal.read_all-returns
+read_all-returns t c =
+    let xs = c.args.parts.now in
+    let i = c.loop-part.part-index in
+    let so = rw (drop_all i xs c.loop-part-test.false, take_all i xs c.loop-part-test.false) at c.loop-part.invariant in
+    all_read c.args.names.now.items (map tree_of xs) c.loop-part.names.items c.loop-part.forms.items so

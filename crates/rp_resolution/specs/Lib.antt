@@ -1,0 +1,13 @@
+pub mod Context
+pub mod Sorts
+pub mod ExprFaults
+pub mod Resolved
+pub mod Checked
+pub mod Grouping
+pub mod Variables
+pub mod PartFaults
+pub mod Shapes
+pub mod Reading
+pub mod Joints
+pub mod Queries
+pub mod Output
