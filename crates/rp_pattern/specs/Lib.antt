@@ -2,11 +2,10 @@
 pub mod Choices
 pub mod Outlooks
 pub mod Prepared
--- The inside: continuations, what is taken up, and lists on the way.
+-- The inside: continuations, and what is taken up.
 pub mod PermutedParts
 pub mod Continuations
 pub mod Splits
-pub mod Listing
 -- Ways to go on, by linked parts or by places of a program.
 pub mod Rests
 pub mod Linked

@@ -90,11 +90,7 @@ impl Choices {
     }
 
     /// The same on linked parts: each open word is a choice of its own.
-    pub(crate) fn linked(
-        alloc: Global,
-        pattern: &Pattern,
-        start: u64,
-    ) -> Result<Choices, AllocError>
+    pub fn linked(alloc: Global, pattern: &Pattern, start: u64) -> Result<Choices, AllocError>
         requires { 1 ≤ start }
         ensures linked { IfOk result (λ c. IsNumbered (kept c) → ⊥) }
         ensures remaining { IfOk result (λ c. (n : ℕ) (e : End) →

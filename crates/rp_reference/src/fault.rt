@@ -1,5 +1,5 @@
 //! Why the plain program doesn't tell the items.
-use rp_pattern::ListFault;
+use rp_word_lists::ListFault;
 use std::alloc::{AllocError, AllocFailed};
 use thiserror::Error;
 

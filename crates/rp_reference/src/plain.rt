@@ -7,9 +7,9 @@ ghost use Rattle.rp_eval.specs.Entered.{AreTotals};
 use crate::fault::PlainFault;
 use crate::text::row_text;
 use rp_eval::{AllRows, Cell, Rows, Totals, View, condition, measure};
-use rp_pattern::list_words;
 use rp_query::{Query, RowsPerMatch, SkipTo, Variables};
 use rp_value::Value;
+use rp_word_lists::list_words;
 use rp_words::{End, Label, Mark, Seen, Word};
 use std::alloc::Global;
 

@@ -3,14 +3,14 @@ ghost use Rattle.std.specs.Prelude.{◌≡◌, ℕ, ◌+◌, ◌<◌, ◌≤◌,
 ghost use Rattle.rp_pattern.specs.Choices.{HasTop, entered, kept, remaining, turns_left, below, turns_left_below};
 ghost use Rattle.rp_pattern.specs.Ways.{IsNumbered};
 ghost use Rattle.rp_words.specs.declared.word.End.{End};
-ghost use Rattle.rp_pattern.specs.Listing.{ListsNext};
+ghost use Rattle.rp_word_lists.specs.Listing.{ListsNext};
 ghost use Rattle.rp_words.specs.Mapping.{marked};
 ghost use Rattle.rp_words.specs.Numbers.{most_u64};
 ghost use Rattle.rp_words.specs.PatternForm.{form_of};
 ghost use Rattle.rp_words.specs.Words.{words};
-ghost use Rattle.rp_pattern.specs.declared.list.ListFault.TheVariants.{OutOfMemory};
+ghost use Rattle.rp_word_lists.specs.declared.list.ListFault.TheVariants.{OutOfMemory};
 
-use crate::choices::{Choices, Taken};
+use rp_pattern::{Choices, Taken};
 use rp_words::{End, Mark, Pattern, Word};
 use std::alloc::{AllocError, AllocFailed, Global};
 use thiserror::Error;

@@ -3,7 +3,7 @@ use Rattle.rp_words.specs.PatternForm.{form_of}
 use Rattle.rp_words.specs.Words.{words}
 use Rattle.rp_pattern.specs.Choices.{kept, remaining, turns_left}
 use Rattle.rp_pattern.specs.Ways.{IsNumbered}
-use Rattle.rp_pattern.proofs.list.list_words.Given as goal
+use Rattle.rp_word_lists.proofs.list.list_words.Given as goal
 
 -- the words listed, and those to come
 abbrev pub invariant-loop-list : goal.invariant-loop-list

@@ -3,7 +3,7 @@ use Rattle.rp_words.specs.Mapping.{Open}
 use Rattle.rp_words.specs.Later.{IsLater}
 use Rattle.rp_pattern.specs.Choices.{IsOpenWord, entered, remaining, below}
 use Rattle.rp_pattern.specs.Ways.{IsNumbered}
-use Rattle.rp_pattern.proofs.list.list_next.Goals as goal
+use Rattle.rp_word_lists.proofs.list.list_next.Goals as goal
 
 pub returns-in_ok-list_word-in-Open-clause-lists : goal.returns-in_ok-list_word-in-Open-clause-lists
 returns-in_ok-list_word-in-Open-clause-lists c =

@@ -1,0 +1,2 @@
+-- The inside: lists on the way.
+pub mod Listing
