@@ -2,7 +2,7 @@
 
 use crate::columns::kind_word;
 use crate::written::Written;
-use json::Writer;
+use rp_json_line::JsonLine;
 use rp_query::{Condition, Expr, Function, OutputColumn, Query, RowsPerMatch, Source, Total};
 use rp_value::Column;
 use std::alloc::{AllocError, Global};
@@ -10,23 +10,24 @@ use std::alloc::{AllocError, Global};
 /// Writes what a query reads and gives.
 pub(crate) fn write_clause(
     alloc: Global,
-    writer: &mut Writer,
+    line: &mut JsonLine,
     query: &Query,
 ) -> Result<(), AllocError> {
-    let columns = query.table().columns();
-    writer.begin_object()?;
-    writer.key("order_by")?;
-    write_order(writer, query)?;
-    writer.key("output")?;
-    write_output(alloc, writer, query)?;
-    writer.key("partition_by")?;
-    write_names(writer, columns, query.partition())?;
-    writer.key("reads")?;
+    let written = Written::of(alloc, query.text().as_str())?;
     let reads = columns_read(alloc, query)?;
-    write_names(writer, columns, reads.as_slice())?;
-    writer.key("rows_per_match")?;
-    writer.string(rows_word(query.plan().rows))?;
-    writer.end_object()
+    let columns = query.table().columns();
+    line.begin_object();
+    line.name("order_by");
+    write_order(line, query);
+    line.name("output");
+    write_output(line, query, &written);
+    line.name("partition_by");
+    write_names(line, columns, query.partition());
+    line.name("reads");
+    write_names(line, columns, reads.as_slice());
+    line.text("rows_per_match", rows_word(query.plan().rows));
+    line.end_object();
+    Ok(())
 }
 
 /// The word for which rows a match gives.
@@ -40,25 +41,21 @@ fn rows_word(rows: RowsPerMatch) -> &'static str {
 }
 
 /// Writes the names of the columns of ORDER BY.
-fn write_order(writer: &mut Writer, query: &Query) -> Result<(), AllocError> {
-    writer.begin_array()?;
+fn write_order(line: &mut JsonLine, query: &Query) {
+    line.begin_array();
     for order in query.order() {
-        writer.string(name_of(query.table().columns(), order.column))?;
+        line.string(name_of(query.table().columns(), order.column));
     }
-    writer.end_array()
+    line.end_array();
 }
 
 /// Writes the names of columns, which are given by their numbers, from 1.
-fn write_names(
-    writer: &mut Writer,
-    columns: &[Column],
-    numbers: &[usize],
-) -> Result<(), AllocError> {
-    writer.begin_array()?;
+fn write_names(line: &mut JsonLine, columns: &[Column], numbers: &[usize]) {
+    line.begin_array();
     for number in numbers {
-        writer.string(name_of(columns, *number))?;
+        line.string(name_of(columns, *number));
     }
-    writer.end_array()
+    line.end_array();
 }
 
 /// The name of the column of this number, from 1.
@@ -70,34 +67,30 @@ fn name_of(columns: &[Column], number: usize) -> &str {
 }
 
 /// Writes the output columns.
-fn write_output(alloc: Global, writer: &mut Writer, query: &Query) -> Result<(), AllocError> {
-    let written = Written::of(alloc, query.text().as_str())?;
-    writer.begin_array()?;
+fn write_output(line: &mut JsonLine, query: &Query, written: &Written) {
+    line.begin_array();
     for column in query.output() {
-        write_output_column(writer, query, &written, column)?;
+        write_output_column(line, query, written, column);
     }
-    writer.end_array()
+    line.end_array();
 }
 
 fn write_output_column(
-    writer: &mut Writer,
+    line: &mut JsonLine,
     query: &Query,
     written: &Written,
     column: &OutputColumn,
-) -> Result<(), AllocError> {
-    writer.begin_object()?;
-    writer.key("from")?;
+) {
+    line.begin_object();
+    line.name("from");
     match source_of(query, column.from) {
-        Some(number) => writer.string(name_of(query.table().columns(), number))?,
-        None => writer.null()?,
+        Some(number) => line.string(name_of(query.table().columns(), number)),
+        None => line.null(),
     }
-    writer.key("kind")?;
-    writer.string(kind_word(column.kind))?;
-    writer.key("name")?;
-    writer.string(column.name.as_str())?;
-    writer.key("written")?;
-    writer.string(written.name_of(column))?;
-    writer.end_object()
+    line.text("kind", kind_word(column.kind));
+    line.text("name", column.name.as_str());
+    line.text("written", written.name_of(column));
+    line.end_object();
 }
 
 /// The number of the column whose value an output column has, unchanged.

@@ -1,25 +1,18 @@
 //! The columns that a clause sees.
 
-use json::Writer;
+use rp_json_line::JsonLine;
 use rp_value::{Column, Kind};
-use std::alloc::AllocError;
 
 /// Writes the columns with their kinds.
-pub(crate) fn write_columns(writer: &mut Writer, columns: &[Column]) -> Result<(), AllocError> {
-    writer.begin_array()?;
+pub(crate) fn write_columns(line: &mut JsonLine, columns: &[Column]) {
+    line.begin_array();
     for column in columns {
-        write_column(writer, column)?;
+        line.begin_object();
+        line.text("kind", kind_word(column.kind));
+        line.text("name", column.name.as_str());
+        line.end_object();
     }
-    writer.end_array()
-}
-
-fn write_column(writer: &mut Writer, column: &Column) -> Result<(), AllocError> {
-    writer.begin_object()?;
-    writer.key("kind")?;
-    writer.string(kind_word(column.kind))?;
-    writer.key("name")?;
-    writer.string(column.name.as_str())?;
-    writer.end_object()
+    line.end_array();
 }
 
 /// The word for a kind.

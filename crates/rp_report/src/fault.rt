@@ -1,57 +1,49 @@
 //! Faults.
 
-use json::Writer;
+use rp_json_line::JsonLine;
 use rp_wording::{Mark, Report};
-use std::alloc::AllocError;
 
 /// Writes faults, each with the text in which it is.
-pub(crate) fn write_faults(
-    writer: &mut Writer,
-    faults: &[(&'static str, Report)],
-) -> Result<(), AllocError> {
-    writer.begin_array()?;
+pub(crate) fn write_faults(line: &mut JsonLine, faults: &[(&'static str, Report)]) {
+    line.begin_array();
     for (text, report) in faults {
-        write_fault(writer, text, report)?;
+        write_fault(line, text, report);
     }
-    writer.end_array()
+    line.end_array();
 }
 
-fn write_fault(writer: &mut Writer, text: &str, report: &Report) -> Result<(), AllocError> {
-    writer.begin_object()?;
+fn write_fault(line: &mut JsonLine, text: &str, report: &Report) {
+    line.begin_object();
     if let Some(mark) = report.mark {
-        write_number(writer, "byte", mark.byte)?;
-        write_number(writer, "column", mark.column)?;
+        write_number(line, "byte", mark.byte);
+        write_number(line, "column", mark.column);
     }
-    writer.key("help")?;
-    write_lines(writer, report.help.as_str())?;
-    writer.key("kind")?;
-    writer.string(report.kind.as_str())?;
+    line.name("help");
+    write_lines(line, report.help.as_str());
+    line.text("kind", report.kind.as_str());
     if let Some(mark) = report.mark {
-        write_extent(writer, mark)?;
+        write_extent(line, mark);
     }
-    writer.key("message")?;
-    writer.string(report.message.as_str())?;
-    writer.key("text")?;
-    writer.string(text)?;
-    writer.end_object()
+    line.text("message", report.message.as_str());
+    line.text("text", text);
+    line.end_object();
 }
 
 /// Writes how many bytes are meant, and in which line.
-fn write_extent(writer: &mut Writer, mark: Mark) -> Result<(), AllocError> {
-    write_number(writer, "length", mark.length)?;
-    write_number(writer, "line", mark.line)
+fn write_extent(line: &mut JsonLine, mark: Mark) {
+    write_number(line, "length", mark.length);
+    write_number(line, "line", mark.line);
 }
 
-fn write_number(writer: &mut Writer, name: &str, number: usize) -> Result<(), AllocError> {
-    writer.key(name)?;
-    writer.u64(u64::try_from(number).unwrap_or(u64::MAX))
+fn write_number(line: &mut JsonLine, name: &str, number: usize) {
+    line.count(name, u64::try_from(number).unwrap_or(u64::MAX));
 }
 
 /// Writes the lines of a text.
-fn write_lines(writer: &mut Writer, text: &str) -> Result<(), AllocError> {
-    writer.begin_array()?;
-    for line in text.lines() {
-        writer.string(line)?;
+fn write_lines(line: &mut JsonLine, text: &str) {
+    line.begin_array();
+    for one in text.lines() {
+        line.string(one);
     }
-    writer.end_array()
+    line.end_array();
 }

@@ -3,7 +3,7 @@
 use crate::clause::write_clause;
 use crate::columns::write_columns;
 use crate::fault::write_faults;
-use json::Writer;
+use rp_json_line::JsonLine;
 use rp_query::Query;
 use rp_value::Table;
 use rp_wording::Report;
@@ -24,22 +24,21 @@ pub struct Findings<'a> {
 
 /// The object of what was found, as a line without its line end. The only error is that memory is out.
 pub fn findings_line(alloc: Global, findings: &Findings<'_>) -> Result<Vec<u8>, AllocError> {
-    let mut writer = Writer::new(Vec::new(alloc));
-    writer.begin_object()?;
+    let mut line = JsonLine::new(alloc);
+    line.begin_object();
     if let Some(query) = findings.query {
-        writer.key("clause")?;
-        write_clause(alloc, &mut writer, query)?;
+        line.name("clause");
+        write_clause(alloc, &mut line, query)?;
     }
     if let Some(table) = findings.table {
-        writer.key("columns")?;
-        write_columns(&mut writer, table.columns())?;
+        line.name("columns");
+        write_columns(&mut line, table.columns());
     }
-    writer.key("faults")?;
-    write_faults(&mut writer, findings.faults)?;
+    line.name("faults");
+    write_faults(&mut line, findings.faults);
     if let Some(rows) = findings.rows {
-        writer.key("rows")?;
-        writer.u64(rows)?;
+        line.count("rows", rows);
     }
-    writer.end_object()?;
-    Ok(writer.into_inner())
+    line.end_object();
+    line.finish()
 }

@@ -7,7 +7,7 @@ use crate::reasons::{Finding, Reasons};
 use crate::seeking::Match;
 use crate::sides::Failure;
 use crate::way::{Demand, Way};
-use json::Writer;
+use rp_json_line::JsonLine;
 use rp_query::Query;
 use rp_value::Value;
 use std::alloc::{AllocError, Global};
@@ -20,172 +20,154 @@ pub fn object_line(
     rows: u64,
     finding: &Finding,
 ) -> Result<Vec<u8>, AllocError> {
-    let mut writer = Writer::new(Vec::new(alloc));
-    write_object(&mut writer, query, key, rows, finding)?;
-    Ok(writer.into_inner())
+    let mut line = JsonLine::new(alloc);
+    write_object(&mut line, query, key, rows, finding);
+    line.finish()
 }
 
 /// Writes what is found of the partition of a key.
-fn write_object(
-    writer: &mut Writer,
-    query: &Query,
-    key: &[Value],
-    rows: u64,
-    finding: &Finding,
-) -> Result<(), AllocError> {
-    writer.begin_object()?;
+fn write_object(line: &mut JsonLine, query: &Query, key: &[Value], rows: u64, finding: &Finding) {
+    line.begin_object();
     if let Finding::GivenUp = finding {
-        writer.key("given_up")?;
-        writer.boolean(true)?;
+        line.flag("given_up");
     }
-    writer.key("key")?;
-    write_values(writer, key)?;
-    write_finding(writer, query, finding)?;
-    write_count(writer, "rows", rows)?;
+    line.name("key");
+    write_values(line, key);
+    write_finding(line, query, finding);
+    line.count("rows", rows);
     if let Finding::Unmatched(reasons) = finding {
-        write_count(writer, "untried", reasons.untried)?;
-        write_ways(writer, reasons.ways.as_slice())?;
+        line.count("untried", reasons.untried);
+        write_ways(line, reasons.ways.as_slice());
     }
-    writer.end_object()
+    line.end_object();
 }
 
 /// Writes a match, or how far the searches come.
-fn write_finding(writer: &mut Writer, query: &Query, finding: &Finding) -> Result<(), AllocError> {
+fn write_finding(line: &mut JsonLine, query: &Query, finding: &Finding) {
     match finding {
-        Finding::GivenUp => Ok(()),
+        Finding::GivenUp => {}
         Finding::NoRow(_) => {
-            writer.key("match")?;
-            writer.null()
+            line.name("match");
+            line.null();
         }
         Finding::Matched(found) => {
-            writer.key("match")?;
-            write_match(writer, query, found)
+            line.name("match");
+            write_match(line, query, found);
         }
         Finding::Unmatched(reasons) => {
-            writer.key("match")?;
-            writer.null()?;
-            write_reached(writer, reasons)
+            line.name("match");
+            line.null();
+            write_reached(line, reasons);
         }
     }
 }
 
 /// Writes a match with the variables of its rows.
-fn write_match(writer: &mut Writer, query: &Query, found: &Match) -> Result<(), AllocError> {
-    writer.begin_object()?;
-    write_count(writer, "first", found.first)?;
-    write_count(writer, "last", last_row(found))?;
-    writer.key("variables")?;
-    writer.begin_array()?;
+fn write_match(line: &mut JsonLine, query: &Query, found: &Match) {
+    line.begin_object();
+    line.count("first", found.first);
+    line.count("last", last_row(found));
+    line.name("variables");
+    line.begin_array();
     for label in found.labels.as_slice() {
         match query.variables().get(label.var) {
-            Some(name) => writer.string(name.as_str())?,
-            None => writer.null()?,
+            Some(name) => line.string(name.as_str()),
+            None => line.null(),
         }
     }
-    writer.end_array()?;
-    writer.end_object()
+    line.end_array();
+    line.end_object();
 }
 
 /// Writes how far the searches come.
-fn write_reached(writer: &mut Writer, reasons: &Reasons) -> Result<(), AllocError> {
-    writer.key("reached")?;
+fn write_reached(line: &mut JsonLine, reasons: &Reasons) {
+    line.name("reached");
     let Some(reached) = &reasons.reached else {
-        return writer.null();
+        return line.null();
     };
-    writer.begin_object()?;
-    write_count(writer, "first", reached.found.first)?;
-    write_count(writer, "last", last_row(&reached.found))?;
-    write_parts(writer, reached)?;
-    writer.end_object()
+    line.begin_object();
+    line.count("first", reached.found.first);
+    line.count("last", last_row(&reached.found));
+    write_parts(line, reached);
+    line.end_object();
 }
 
 /// Writes which parts are found, and which isn't.
-fn write_parts(writer: &mut Writer, reached: &Reached) -> Result<(), AllocError> {
-    writer.key("next")?;
-    writer.string(reached.wanted.as_str())?;
-    write_count(writer, "of", reached.of)?;
-    write_count(writer, "parts", reached.parts)
+fn write_parts(line: &mut JsonLine, reached: &Reached) {
+    line.text("next", reached.wanted.as_str());
+    line.count("of", reached.of);
+    line.count("parts", reached.parts);
 }
 
 /// Writes what is in the way.
-fn write_ways(writer: &mut Writer, ways: &[Way]) -> Result<(), AllocError> {
-    writer.key("ways")?;
-    writer.begin_array()?;
+fn write_ways(line: &mut JsonLine, ways: &[Way]) {
+    line.name("ways");
+    line.begin_array();
     for way in ways {
-        write_way(writer, way)?;
+        write_way(line, way);
     }
-    writer.end_array()
+    line.end_array();
 }
 
 /// Writes a demand without which there is a match.
-fn write_way(writer: &mut Writer, way: &Way) -> Result<(), AllocError> {
-    writer.begin_object()?;
-    writer.key("demand")?;
-    write_demand(writer, &way.demand)?;
-    write_count(writer, "first", way.first)?;
-    write_count(writer, "last", way.last)?;
-    writer.end_object()
+fn write_way(line: &mut JsonLine, way: &Way) {
+    line.begin_object();
+    line.name("demand");
+    write_demand(line, &way.demand);
+    line.count("first", way.first);
+    line.count("last", way.last);
+    line.end_object();
 }
 
 /// Writes a demand.
-fn write_demand(writer: &mut Writer, demand: &Demand) -> Result<(), AllocError> {
-    writer.begin_object()?;
+fn write_demand(line: &mut JsonLine, demand: &Demand) {
+    line.begin_object();
     match demand {
         Demand::Term(term) => {
             if let Some(failure) = &term.failure {
-                write_failure(writer, failure)?;
+                write_failure(line, failure);
             }
-            write_text(writer, "term", term.written.as_str())?;
-            write_text(writer, "variables", term.variables.as_str())?;
+            line.text("term", term.written.as_str());
+            line.text("variables", term.variables.as_str());
         }
         Demand::LowerBound(bound) => {
-            write_text(writer, "instead", bound.instead.as_str())?;
-            write_text(writer, "part", bound.part.as_str())?;
-            write_text(writer, "quantifier", bound.written.as_str())?;
+            line.text("instead", bound.instead.as_str());
+            line.text("part", bound.part.as_str());
+            line.text("quantifier", bound.written.as_str());
         }
-        Demand::Anchor(anchor) => write_text(writer, "anchor", anchor.as_str())?,
-        Demand::RowBetween(row) => write_count(writer, "row_between", *row)?,
+        Demand::Anchor(anchor) => line.text("anchor", anchor.as_str()),
+        Demand::RowBetween(row) => line.count("row_between", *row),
     }
-    writer.end_object()
+    line.end_object();
 }
 
 /// Writes where a term isn't true, and its sides there.
-fn write_failure(writer: &mut Writer, failure: &Failure) -> Result<(), AllocError> {
-    write_count(writer, "failing_rows", failure.count)?;
+fn write_failure(line: &mut JsonLine, failure: &Failure) {
+    line.count("failing_rows", failure.count);
     if let Some(sides) = &failure.sides {
-        writer.key("left")?;
-        write_value(writer, &sides.left)?;
-        write_text(writer, "operator", sign_of(sides.comparison))?;
-        writer.key("right")?;
-        write_value(writer, &sides.right)?;
+        line.name("left");
+        write_value(line, &sides.left);
+        line.text("operator", sign_of(sides.comparison));
+        line.name("right");
+        write_value(line, &sides.right);
     }
-    write_count(writer, "row", failure.row)
-}
-
-fn write_text(writer: &mut Writer, name: &str, text: &str) -> Result<(), AllocError> {
-    writer.key(name)?;
-    writer.string(text)
-}
-
-fn write_count(writer: &mut Writer, name: &str, count: u64) -> Result<(), AllocError> {
-    writer.key(name)?;
-    writer.u64(count)
+    line.count("row", failure.row);
 }
 
 /// Writes values.
-fn write_values(writer: &mut Writer, values: &[Value]) -> Result<(), AllocError> {
-    writer.begin_array()?;
+fn write_values(line: &mut JsonLine, values: &[Value]) {
+    line.begin_array();
     for value in values {
-        write_value(writer, value)?;
+        write_value(line, value);
     }
-    writer.end_array()
+    line.end_array();
 }
 
 /// Writes a value.
-fn write_value(writer: &mut Writer, value: &Value) -> Result<(), AllocError> {
+fn write_value(line: &mut JsonLine, value: &Value) {
     match value {
-        Value::Int(number) => writer.i64(*number),
-        Value::Text(text) => writer.string(text.as_str()),
-        Value::Null => writer.null(),
+        Value::Int(number) => line.integer(*number),
+        Value::Text(text) => line.string(text.as_str()),
+        Value::Null => line.null(),
     }
 }
