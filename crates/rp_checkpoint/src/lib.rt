@@ -8,11 +8,13 @@
 #![tactic(auto)]
 
 mod node_data;
+mod restart_fault;
 mod restore;
 mod write_checkpoint;
 
 pub use node_data::{
     CheckpointFault, Columns, HeldRow, HeldRows, NodeData, PartitionData, Partitions, ascend,
 };
+pub use restart_fault::RestartFault;
 pub use restore::read_checkpoint;
 pub use write_checkpoint::checkpoint_of;

@@ -16,8 +16,8 @@ use Rattle.rp_checkpoint.specs.declared.node_data.NodeData.{NodeData}
 use Rattle.rp_checkpoint.specs.declared.node_data.PartitionData.{PartitionData}
 use Rattle.rp_schedules.specs.Records.{Held}
 use Rattle.rp_schedules.specs.SameKnown.{KeyIsSame, KindsAreSame, FirstReadIsSame}
-use Rattle.rp_node.specs.declared.fault.RestartFault.{RestartFault}
-use Rattle.rp_node.specs.declared.fault.RestartFault.TheVariants as fault
+use Rattle.rp_checkpoint.specs.declared.restart_fault.RestartFault.{RestartFault}
+use Rattle.rp_checkpoint.specs.declared.restart_fault.RestartFault.TheVariants as fault
 use Rattle.rp_node.specs.ClauseTexts.{without_blank_end}
 use Rattle.rp_node.specs.NodeSeen.{Entries, entry_at, with_entry}
 use Rattle.rp_node.specs.Resuming.{held_in, feed_in, has_kinds, has_place, fits_table, fits_all, restorable_over}

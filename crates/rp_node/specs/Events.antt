@@ -11,8 +11,8 @@ use Rattle.rp_walker.specs.declared.poll.Poll.{Poll}
 use Rattle.rp_schedules.specs.Schedules.{Done, Refused, Takes, Closes}
 use Rattle.rp_schedules.specs.Records.{Row, Held, Nodes, CallsBySame}
 use Rattle.rp_node.specs.declared.fault.NodeFault.TheVariants.{OutOfMemory}
-use Rattle.rp_node.specs.declared.fault.RestartFault.{RestartFault}
-use Rattle.rp_node.specs.declared.fault.RestartFault.TheVariants.{OutOfMemory as NoMemory}
+use Rattle.rp_checkpoint.specs.declared.restart_fault.RestartFault.{RestartFault}
+use Rattle.rp_checkpoint.specs.declared.restart_fault.RestartFault.TheVariants.{OutOfMemory as NoMemory}
 use Rattle.rp_node.specs.NodeSeen.{NodeSeen, Entries, entry_at}
 use Rattle.rp_node.specs.Accepting.{packet_answer, Accepted}
 use Rattle.rp_partition.specs.Polling.{act_by}

@@ -8,8 +8,8 @@ use Rattle.rp_protocol.specs.declared.request.Request.{Request}
 use Rattle.rp_node.specs.NodeSeen.{Entries, NodeSeen, AllBounded}
 use Rattle.rp_node.specs.Keeping.{kept_of}
 use Rattle.rp_node.specs.Restarting.{IsRefused, RestartsTo}
-use Rattle.rp_node.specs.declared.fault.RestartFault.{RestartFault}
-use Rattle.rp_node.specs.declared.fault.RestartFault.TheVariants.{OutOfMemory}
+use Rattle.rp_checkpoint.specs.declared.restart_fault.RestartFault.{RestartFault}
+use Rattle.rp_checkpoint.specs.declared.restart_fault.RestartFault.TheVariants.{OutOfMemory}
 use Rattle.rp_node.specs.Replies.{Does}
 
 -- the bytes are the node's checkpoint, and a node goes on from them with its records

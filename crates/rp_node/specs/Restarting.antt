@@ -7,8 +7,8 @@ use Rattle.rp_checkpoint.specs.declared.node_data.CheckpointFault.{CheckpointFau
 use Rattle.rp_checkpoint.specs.declared.node_data.CheckpointFault.TheVariants as bytes
 use Rattle.rp_checkpoint.specs.Checkpoints.{restored}
 use Rattle.rp_schedules.specs.Records.{Held}
-use Rattle.rp_node.specs.declared.fault.RestartFault.{RestartFault}
-use Rattle.rp_node.specs.declared.fault.RestartFault.TheVariants.{Digest, NotJson, Version, BadField, ClauseDiffers, BadState, OutOfMemory}
+use Rattle.rp_checkpoint.specs.declared.restart_fault.RestartFault.{RestartFault}
+use Rattle.rp_checkpoint.specs.declared.restart_fault.RestartFault.TheVariants.{Digest, NotJson, Version, BadField, ClauseDiffers, BadState, OutOfMemory}
 use Rattle.rp_node.specs.ClauseTexts.{AreOneClause}
 use Rattle.rp_partition.specs.Joined.{held_of}
 use Rattle.rp_node.specs.NodeSeen.{Entries, Map, AllJoined, entries_by, entry_at, with_entry}

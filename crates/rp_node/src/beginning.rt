@@ -6,8 +6,8 @@ ghost use Rattle.rp_node.specs.Restarting.{IsRefused, RestartsTo};
 ghost use Rattle.rp_serve.specs.Rounds.{kept_bytes};
 ghost use Rattle.rp_node.specs.GoingBack.{Begins, CanRestart};
 
-use crate::fault::RestartFault;
 use crate::node::Node;
+use rp_checkpoint::RestartFault;
 use rp_query::Query;
 use std::alloc::{AllocError, Global};
 use std::collections::hash_map::RandomState;

@@ -4,9 +4,8 @@ ghost use Rattle.rp_node.specs.declared.fault.NodeFault.TheVariants.{OutOfMemory
 ghost use Rattle.rp_node.specs.Accepting.{named, told};
 ghost use Rattle.rp_node.specs.Polling.{told_poll};
 ghost use Rattle.rp_node.specs.Restarting.{bytes_fault};
-ghost use Rattle.rp_node.specs.declared.fault.RestartFault.TheVariants.{OutOfMemory as NoMemory};
 
-use rp_checkpoint::CheckpointFault;
+use rp_checkpoint::{CheckpointFault, RestartFault};
 use rp_feed::{FeedFault, Taken};
 use rp_query::Query;
 use rp_value::RowFault;
@@ -86,40 +85,6 @@ pub(crate) fn told_poll(answer: Result<Poll, AllocError>) -> Result<Poll, NodeFa
     match answer {
         Ok(poll) => Ok(poll),
         Err(_refused) => Err(NodeFault::OutOfMemory),
-    }
-}
-
-/// Why a node doesn't go on from bytes, the first reason in the order of the variants.
-#[derive(Clone, Copy, Debug, PartialEq, Eq, Error)]
-pub enum RestartFault {
-    /// The digest is missing or another's.
-    #[error("Digest")]
-    Digest,
-    /// What follows the digest isn't an object of JSON.
-    #[error("NotJson")]
-    NotJson,
-    /// The version is missing or neither 1 nor 2.
-    #[error("Version")]
-    Version,
-    /// A field is missing, of another form, or one too many.
-    #[error("BadField")]
-    BadField,
-    /// The clause's text or the table is another than the query's.
-    #[error("ClauseDiffers")]
-    ClauseDiffers,
-    /// No node can be in that state.
-    #[error("BadState")]
-    BadState,
-    /// No memory was left. It says nothing of the bytes.
-    #[error("out of memory")]
-    OutOfMemory,
-}
-
-impl From<AllocError> for RestartFault {
-    ghost from_gives = { λ _ fault. fault ≡ NoMemory };
-
-    fn from(_error: AllocError) -> RestartFault {
-        RestartFault::OutOfMemory
     }
 }
 

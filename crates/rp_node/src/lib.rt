@@ -36,6 +36,6 @@ mod save;
 pub use beginning::{Begun, begin};
 pub use clause_text::without_blank_end;
 pub use difference::clause_difference;
-pub use fault::{NodeFault, RestartFault, RestartRefused};
+pub use fault::{NodeFault, RestartRefused};
 pub use laws::law_calls;
 pub use node::Node;

@@ -3,8 +3,9 @@ ghost use Rattle.std.specs.Prelude.{◌≡◌, IfOk, OnErr, Some, None};
 ghost use Rattle.rp_node.specs.Replies.{Does, fault_reply};
 ghost use Rattle.rp_protocol.specs.declared.request.Request.TheVariants as request;
 
-use crate::fault::{NodeFault, RestartFault};
+use crate::fault::NodeFault;
 use crate::node::Node;
+use rp_checkpoint::RestartFault;
 use rp_feed::Packet;
 use rp_protocol::{Refusal, Reply, Request};
 use rp_serve::{Answers, Keeps};

@@ -8,11 +8,11 @@ ghost use Rattle.rp_node.specs.NodeSeen.{AllJoined, entries_by};
 ghost use Rattle.rp_node.specs.Restarting.{IsOfQuery, IsRefused, RestartsTo, RestoredAll, RestoredOne};
 
 use crate::clause_text::are_one_clause;
-use crate::fault::{RestartFault, bytes_fault};
+use crate::fault::bytes_fault;
 use crate::partitions::Partitions;
 use crate::resume::resume;
 use indexmap::IndexMap;
-use rp_checkpoint::{NodeData, PartitionData, read_checkpoint};
+use rp_checkpoint::{NodeData, PartitionData, RestartFault, read_checkpoint};
 use rp_partition::Partition;
 use rp_query::Query;
 use rp_value::{Column, Value};
