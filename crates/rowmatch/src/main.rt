@@ -2,7 +2,8 @@
 #![tactic(auto)]
 
 use rp_command::{not_utf8, read_command};
-use rp_jobs::{ProgramFault, Verdict, run_job, told, with_texts};
+use rp_fault::{ProgramFault, Verdict, told};
+use rp_jobs::{run_job, with_texts};
 use std::process::ExitCode;
 use std::rt::Env;
 use std::{env, io};

@@ -1,12 +1,9 @@
 //! Which job does what, and `trace`.
-use crate::check::{Verdict, run_check};
-use crate::fault::ProgramFault;
-use crate::node::run_node;
-use crate::source::run_source;
-use crate::whole::run_answer;
-use crate::why::run_why;
 use rp_command::Job;
+use rp_fault::{ProgramFault, Verdict};
+use rp_input_jobs::{run_answer, run_check, run_source, run_why};
 use rp_io::{CountedDevice, READS};
+use rp_node_job::run_node;
 use rp_trace::{run_trace, trace_pattern};
 
 /// Does the job. Only `check`, `whole` and `why` have a verdict.

@@ -1,6 +1,6 @@
 //! The values of options on the command line that are texts, before clap reads it: a text may begin with a dash, as a clause does
 //! that begins with a comment, and it may come from a file.
-use crate::fault::ProgramFault;
+use rp_fault::ProgramFault;
 use rp_node::without_blank_end;
 use std::alloc::{AllocError, Global};
 use std::{fs, io};

@@ -21,6 +21,6 @@ pub fn told(rt: &HostRuntime, fault: ProgramFault) -> ProgramFault {
 }
 
 /// Prints a line after the program's name. What standard error doesn't take is lost.
-pub(crate) fn tell<T: Display>(rt: &HostRuntime, line: &T) {
+pub fn tell<T: Display>(rt: &HostRuntime, line: &T) {
     let _ = eprintln!(rt; "rowmatch: {line}");
 }

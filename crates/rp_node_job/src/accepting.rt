@@ -1,5 +1,5 @@
 //! How connections are accepted.
-use crate::fault::ProgramFault;
+use rp_fault::ProgramFault;
 use std::net::{TcpListener, TcpStream};
 use std::time::Duration;
 use std::{io, thread};

@@ -1,13 +1,11 @@
 //! `source`: hands the rows of a CSV to nodes, one node after the other, and prints the items that they give.
-use crate::fault::ProgramFault;
-use crate::input::{InputForm, InputShape, rows_of_input};
-use crate::seed::seeded_hasher;
-use crate::shown::shown_key;
 use rp_command::SourceJob;
 use rp_compile::compile;
 use rp_drive::{Conversation, Counted, DriveFault, Stop, drive_within};
+use rp_fault::ProgramFault;
 use rp_feed::Packet;
 use rp_io::{CountedDevice, Lines, Outlet, READS};
+use rp_job_input::{InputForm, InputShape, rows_of_input, seeded_hasher, shown_key};
 use rp_numbering::number_rows;
 use rp_protocol::{MAX_LINE_LEN, Refusal, Reply, reply_line, saved_of};
 use rp_query::Query;
@@ -26,11 +24,21 @@ type Counter<'a> = Counted<CountedDevice<&'a TcpStream>>;
 /// Hands all rows of standard input to each node in turn. The first fault ends it.
 pub fn run_source(rt: &HostRuntime, job: &SourceJob) -> Result<(), ProgramFault> {
     let form = InputForm::of(rt.alloc(), &job.input)?;
-    let Some(shape) = InputShape::of(rt, &job.input, &form)? else {
-        return Err(ProgramFault::Usage("nodes have a table: give --table or --columns"));
-    };
+    match InputShape::of(rt, &job.input, &form)? {
+        Some(shape) => hand_over_input(rt, job, &shape, &form),
+        None => Err(ProgramFault::Usage("nodes have a table: give --table or --columns")),
+    }
+}
+
+/// Hands the rows of an input of this shape and form to each node.
+fn hand_over_input(
+    rt: &HostRuntime,
+    job: &SourceJob,
+    shape: &InputShape,
+    form: &InputForm,
+) -> Result<(), ProgramFault> {
     let query = compile(rt.alloc(), job.clause.as_str(), shape.table())?;
-    hand_out(rt, job, &query, rows_of_input(rt, &shape, &form)?)
+    hand_out(rt, job, &query, rows_of_input(rt, shape, form)?)
 }
 
 /// Hands the rows of a query to each node.

@@ -1,12 +1,8 @@
 //! `whole`: the answer of a clause over an input, printed as lines, as CSV or as objects.
-use crate::asked::Asked;
-use crate::check::Verdict;
-use crate::fault::ProgramFault;
-use crate::progress::Progress;
-use crate::seed::seeded_hasher;
-use crate::shown::shown_key;
 use rp_command::{AnswerFormat, WholeJob};
+use rp_fault::{ProgramFault, Verdict};
 use rp_io::CountedDevice;
+use rp_job_input::{Asked, Progress, seeded_hasher, shown_key};
 use rp_query::Query;
 use rp_value::Row;
 use rp_whole::{Halted, Stopped, Unwatched, Watch, write_csv, write_lines, write_objects};

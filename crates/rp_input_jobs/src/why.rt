@@ -1,11 +1,8 @@
 //! `why`: what is in the way of a match, partition by partition.
-use crate::asked::Asked;
-use crate::check::Verdict;
-use crate::fault::ProgramFault;
-use crate::seed::seeded_hasher;
-use crate::shown::shown_key;
 use rp_command::{ReportFormat, WhyJob};
+use rp_fault::{ProgramFault, Verdict};
 use rp_io::{CountedDevice, write_all};
+use rp_job_input::{Asked, seeded_hasher, shown_key};
 use rp_json::cells_of;
 use rp_numbering::{Part, order_rows, partitions};
 use rp_query::Query;

@@ -1,11 +1,11 @@
 //! A clause and the rows that it is asked of, by the options that name them.
-use crate::fault::ProgramFault;
 use crate::input::{InputForm, InputShape, bytes_of, columns_of, rows_of_bytes, rows_of_files};
 use crate::progress::Progress;
 use rp_columns::Columns;
 use rp_command::{InputFormat, InputOptions};
 use rp_compile::compile;
 use rp_explain_inputs::propose_columns;
+use rp_fault::ProgramFault;
 use rp_filter::{Filter, read_filter};
 use rp_query::Query;
 use rp_value::{Row, Table};

@@ -1,10 +1,10 @@
 //! The rows of an input, by the options that say how it is read.
-use crate::fault::ProgramFault;
 use crate::progress::Progress;
 use crate::zones::with_zones;
 use rp_columns::{Columns, InputColumn, read_columns};
 use rp_command::{InputFormat, InputOptions};
 use rp_explain_inputs::{csv_fault_line, objects_fault_line};
+use rp_fault::ProgramFault;
 use rp_input::{
     ColumnsCsvFault, CsvLayout, is_delimiter, read_rows, read_rows_by, rows_by, rows_of,
 };
@@ -326,17 +326,26 @@ fn in_file(
     name: Option<&str>,
     fault: ProgramFault,
 ) -> Result<ProgramFault, AllocError> {
-    let Some(name) = name else {
-        return Ok(fault);
-    };
-    match &fault {
-        ProgramFault::Read => unreadable(alloc, name),
-        ProgramFault::CsvHeader
-        | ProgramFault::CsvRecord(_)
-        | ProgramFault::CsvField(_)
-        | ProgramFault::Input(_) => Ok(ProgramFault::Input(format!(in alloc; "{name}: {fault}")?)),
+    match (name, &fault) {
+        (Some(name), ProgramFault::Read) => unreadable(alloc, name),
+        (
+            Some(name),
+            ProgramFault::CsvHeader
+            | ProgramFault::CsvRecord(_)
+            | ProgramFault::CsvField(_)
+            | ProgramFault::Input(_),
+        ) => told_of_file(alloc, name, &fault),
         _ => Ok(fault),
     }
+}
+
+/// The fault of an input behind the name of its file.
+fn told_of_file(
+    alloc: Global,
+    name: &str,
+    fault: &ProgramFault,
+) -> Result<ProgramFault, AllocError> {
+    Ok(ProgramFault::Input(format!(in alloc; "{name}: {fault}")?))
 }
 
 /// The fault of an input by columns, as `csv: Form at record 3, column cents`.

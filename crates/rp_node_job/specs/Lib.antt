@@ -1,0 +1,2 @@
+-- What contracts cite: the names of what lies beside a node's file.
+pub mod Names

@@ -1,0 +1,9 @@
+//! `node`: a node behind connections, and the file in which it is kept between them and after it has ended.
+#![tactic(auto)]
+
+mod accepting;
+mod client;
+mod node;
+mod state;
+
+pub use node::run_node;
