@@ -5,6 +5,8 @@
 #[cfg(test)]
 mod lists;
 #[cfg(test)]
+mod notation;
+#[cfg(test)]
 mod outlooks;
 #[cfg(test)]
 mod patterns;

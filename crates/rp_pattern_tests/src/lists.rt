@@ -1,31 +1,70 @@
-//! Tests of word lists.
-use crate::support::refused_twice;
-use rp_pattern::{ListFault, list_words};
-use rp_words::{End, Form, Label, Mark, Pattern, Word};
+//! Tests of word lists. What is expected is worked out by hand.
+use crate::notation::pattern_of;
+use crate::support::{holds, refused_twice, same};
+use rp_word_lists::{ListFault, list_words};
+use rp_words::{End, Label, Mark, Pattern, Word};
 use std::alloc::{AllocError, Global};
 use std::process::Abort;
 use std::test::Fail;
 
-/// `(A*)*`
-fn nested(alloc: Global) -> Result<Form, AllocError> {
-    let body = Form::quantified(alloc, Form::variable(0), 0, None, false)?;
-    Form::quantified(alloc, body, 0, None, false)
+/// Patterns, the last known row, the end, and the words from row 1 on: a letter for each row, small where it is excluded, and `?` behind
+/// an open word.
+const LISTS: [(&str, u64, End, &str); 17] = [
+    ("A * *", 3, End::Closed, "AAA AAA AA AAA AAA AA A  "),
+    ("A {0,1}? *", 3, End::Closed, "AAA AA A  "),
+    // An iteration beyond the least number takes a row, so that the side of no row is never taken.
+    ("() A or *", 2, End::Closed, "AA A  "),
+    // The required iterations may take none, so that here that side is preferred.
+    ("() A or {2,2}", 2, End::Closed, " A A AA "),
+    ("A * * $ then", 3, End::Closed, "AAA AAA AAA AAA "),
+    ("A {0,1}? * $ then", 3, End::Closed, "AAA "),
+    ("A {1,2}", 2, End::Closed, "AA A "),
+    ("A {1,2}?", 2, End::Closed, "A AA "),
+    ("A {0,0}", 2, End::Closed, " "),
+    ("A {-} B then", 2, End::Closed, "aB "),
+    ("^ A $ then then", 2, End::Closed, ""),
+    ("A ^ then", 2, End::Closed, ""),
+    ("A *", 1, End::Open, "A?A  "),
+    ("A B C &3", 3, End::Closed, "ABC ACB BAC BCA CAB CBA "),
+    ("A *", 3, End::Closed, "AAA AA A  "),
+    ("A {2,3}", 1, End::Closed, ""),
+    ("A B or {2,2}", 2, End::Closed, "AA AB BA BB "),
+];
+
+#[test]
+fn words_are_listed(rt: HostRuntime) -> Result<(), Fail> {
+    all_listed(&rt, rt.alloc(), &LISTS)
 }
 
-/// `(A??)*`
-fn nested_lazy(alloc: Global) -> Result<Form, AllocError> {
-    let body = Form::quantified(alloc, Form::variable(0), 0, Some(1), true)?;
-    Form::quantified(alloc, body, 0, None, false)
+fn all_listed(
+    rt: &impl Abort,
+    alloc: Global,
+    lists: &[(&str, u64, End, &str)],
+) -> Result<(), Fail> {
+    for (text, last, end, wanted) in lists {
+        let words = shown(rt, alloc, text, *last, *end)?;
+        assert!(rt; words.as_str() == *wanted, "{text}: {words}");
+    }
+    Ok(())
 }
 
-/// `() | A`
-fn nothing_or_row(alloc: Global) -> Result<Form, AllocError> {
-    Form::alternation(alloc, Form::Empty, Form::variable(0))
+/// The words of a pattern from row 1 on as texts.
+fn shown(rt: &impl Abort, alloc: Global, text: &str, last: u64, end: End) -> Result<String, Fail> {
+    holds(rt, last < 1000);
+    let pattern = pattern_of(rt, alloc, text)?;
+    let words = list_words(alloc, &pattern, 1, last, end, 100)?;
+    let mut shown = String::new(alloc);
+    for word in &words {
+        write_word(&mut shown, word)?;
+    }
+    Ok(shown)
 }
 
-fn pattern(rt: &impl Abort, form: Form) -> Pattern {
-    assert!(rt; form.is_allowed());
-    Pattern::new(form)
+fn write_word(text: &mut String, word: &Word) -> Result<(), AllocError> {
+    for label in &word.labels {
+        text.push(letter(*label))?;
+    }
+    text.push(if word.mark == Mark::Open { '?' } else { ' ' })
 }
 
 fn letter(label: Label) -> char {
@@ -38,174 +77,41 @@ fn letter(label: Label) -> char {
     }
 }
 
-/// A word as a text: a letter for each label, small where it is excluded, and `?` where the word is open.
-fn write_word(text: &mut String, word: &Word) -> Result<(), AllocError> {
-    for label in &word.labels {
-        text.push(letter(*label))?;
-    }
-    text.push(if word.mark == Mark::Open { '?' } else { ' ' })
-}
-
-/// The words from row 1 on as texts.
-fn shown(
-    rt: &impl Abort,
-    alloc: Global,
-    form: Form,
-    last: u64,
-    end: End,
-) -> Result<String, ListFault> {
-    assert!(rt; last < 1000);
-    let pattern = pattern(rt, form);
-    let words = list_words(alloc, &pattern, 1, last, end, 100)?;
-    let mut text = String::new(alloc);
-    for word in &words {
-        write_word(&mut text, word)?;
-    }
-    Ok(text)
+/// Eight words are listed up to that many, and the words over very many rows are given up at the cap.
+#[test]
+fn words_up_to_the_cap(rt: HostRuntime) -> Result<(), Fail> {
+    holds(&rt, !is_too_many(&rt, rt.alloc(), "A * *", 3, 8)?);
+    holds(&rt, is_too_many(&rt, rt.alloc(), "A * *", 3, 7)?);
+    holds(&rt, is_too_many(&rt, rt.alloc(), "A *?", 1 << 40, 10)?);
+    Ok(())
 }
 
 /// Whether there are more than `cap` words over the rows 1 to `last` of a closed partition.
 fn is_too_many(
     rt: &impl Abort,
     alloc: Global,
-    form: Form,
+    text: &str,
     last: u64,
     cap: usize,
-) -> Result<bool, ListFault> {
-    assert!(rt; last < 1 << 50);
-    let pattern = pattern(rt, form);
+) -> Result<bool, Fail> {
+    holds(rt, last < 1 << 50);
+    let pattern = pattern_of(rt, alloc, text)?;
     match list_words(alloc, &pattern, 1, last, End::Closed, cap) {
         Ok(_) => Ok(false),
         Err(ListFault::TooMany) => Ok(true),
-        Err(ListFault::OutOfMemory) => Err(ListFault::OutOfMemory),
+        Err(ListFault::OutOfMemory) => Err(AllocError.into()),
     }
 }
 
+/// A list that is refused memory, asked for again, is what it is with ample memory.
 #[test]
-fn iterations_of_iterations(rt: HostRuntime) -> Result<(), Fail> {
-    let text = shown(&rt, rt.alloc(), nested(rt.alloc())?, 3, End::Closed)?;
-    assert_eq!(rt; text.as_str(), "AAA AAA AA AAA AAA AA A  ");
-    Ok(())
-}
-
-#[test]
-fn reluctant_iterations(rt: HostRuntime) -> Result<(), Fail> {
-    let text = shown(&rt, rt.alloc(), nested_lazy(rt.alloc())?, 3, End::Closed)?;
-    assert_eq!(rt; text.as_str(), "AAA AA A  ");
-    Ok(())
-}
-
-/// An iteration beyond the least number takes a row, so that in `(() | A)*` the side of no row is never taken.
-#[test]
-fn iterations_of_nothing_or_a_row(rt: HostRuntime) -> Result<(), Fail> {
-    let form = Form::quantified(rt.alloc(), nothing_or_row(rt.alloc())?, 0, None, false)?;
-    let text = shown(&rt, rt.alloc(), form, 2, End::Closed)?;
-    assert_eq!(rt; text.as_str(), "AA A  ");
-    Ok(())
-}
-
-/// The required iterations may take none, so that in `(() | A){2}` that side is preferred.
-#[test]
-fn required_iterations_of_nothing_or_a_row(rt: HostRuntime) -> Result<(), Fail> {
-    let form = Form::quantified(rt.alloc(), nothing_or_row(rt.alloc())?, 2, Some(2), false)?;
-    let text = shown(&rt, rt.alloc(), form, 2, End::Closed)?;
-    assert_eq!(rt; text.as_str(), " A A AA ");
-    Ok(())
-}
-
-#[test]
-fn iterations_to_the_end(rt: HostRuntime) -> Result<(), Fail> {
-    let form = Form::concatenation(rt.alloc(), nested(rt.alloc())?, Form::PartitionEnd)?;
-    let text = shown(&rt, rt.alloc(), form, 3, End::Closed)?;
-    assert_eq!(rt; text.as_str(), "AAA AAA AAA AAA ");
-    Ok(())
-}
-
-#[test]
-fn reluctant_iterations_to_the_end(rt: HostRuntime) -> Result<(), Fail> {
-    let form = Form::concatenation(rt.alloc(), nested_lazy(rt.alloc())?, Form::PartitionEnd)?;
-    let text = shown(&rt, rt.alloc(), form, 3, End::Closed)?;
-    assert_eq!(rt; text.as_str(), "AAA ");
-    Ok(())
-}
-
-/// Eight words are listed up to that many, and the words over very many rows are given up at the cap.
-#[test]
-fn words_up_to_the_cap(rt: HostRuntime) -> Result<(), Fail> {
-    assert!(rt; !is_too_many(&rt, rt.alloc(), nested(rt.alloc())?, 3, 8)?);
-    assert!(rt; is_too_many(&rt, rt.alloc(), nested(rt.alloc())?, 3, 7)?);
-    let form = Form::quantified(rt.alloc(), Form::variable(0), 0, None, true)?;
-    assert!(rt; is_too_many(&rt, rt.alloc(), form, 1 << 40, 10)?);
-    Ok(())
-}
-
-/// The words of A with these bounds over two rows.
-fn bounded(
-    rt: &impl Abort,
-    alloc: Global,
-    lower: u32,
-    upper: u32,
-    reluctant: bool,
-) -> Result<String, ListFault> {
-    let form = Form::quantified(alloc, Form::variable(0), lower, Some(upper), reluctant)?;
-    shown(rt, alloc, form, 2, End::Closed)
-}
-
-#[test]
-fn bounds(rt: HostRuntime) -> Result<(), Fail> {
-    assert_eq!(rt; bounded(&rt, rt.alloc(), 1, 2, false)?.as_str(), "AA A ");
-    assert_eq!(rt; bounded(&rt, rt.alloc(), 1, 2, true)?.as_str(), "A AA ");
-    assert_eq!(rt; bounded(&rt, rt.alloc(), 0, 0, false)?.as_str(), " ");
-    Ok(())
-}
-
-#[test]
-fn excluded_rows(rt: HostRuntime) -> Result<(), Fail> {
-    let hidden = Form::exclusion(rt.alloc(), Form::variable(0))?;
-    let form = Form::concatenation(rt.alloc(), hidden, Form::variable(1))?;
-    let text = shown(&rt, rt.alloc(), form, 2, End::Closed)?;
-    assert_eq!(rt; text.as_str(), "aB ");
-    Ok(())
-}
-
-#[test]
-fn one_row_of_two(rt: HostRuntime) -> Result<(), Fail> {
-    let form = Form::concatenation(rt.alloc(), Form::variable(0), Form::PartitionEnd)?;
-    let form = Form::concatenation(rt.alloc(), Form::PartitionStart, form)?;
-    let text = shown(&rt, rt.alloc(), form, 2, End::Closed)?;
-    assert_eq!(rt; text.as_str(), "");
-    Ok(())
-}
-
-#[test]
-fn start_after_a_row(rt: HostRuntime) -> Result<(), Fail> {
-    let form = Form::concatenation(rt.alloc(), Form::variable(0), Form::PartitionStart)?;
-    let text = shown(&rt, rt.alloc(), form, 2, End::Closed)?;
-    assert_eq!(rt; text.as_str(), "");
-    Ok(())
-}
-
-#[test]
-fn open_end(rt: HostRuntime) -> Result<(), Fail> {
-    let form = Form::quantified(rt.alloc(), Form::variable(0), 0, None, false)?;
-    let text = shown(&rt, rt.alloc(), form, 1, End::Open)?;
-    assert_eq!(rt; text.as_str(), "A?A  ");
-    Ok(())
-}
-
-/// `PERMUTE(A, B, C)`
-fn permuted(alloc: Global) -> Result<Form, AllocError> {
-    let mut parts = Vec::new(alloc);
-    for v in 0..3 {
-        parts.push(Form::variable(v))?;
-    }
-    Form::permute(alloc, parts)
-}
-
-#[test]
-fn orders(rt: HostRuntime) -> Result<(), Fail> {
-    let text = shown(&rt, rt.alloc(), permuted(rt.alloc())?, 3, End::Closed)?;
-    assert_eq!(rt; text.as_str(), "ABC ACB BAC BCA CAB CBA ");
+fn refused_list(rt: HostRuntime) -> Result<(), Fail> {
+    let pattern = pattern_of(&rt, rt.alloc(), "A * *")?;
+    let list = match list_words(rt.alloc(), &pattern, 1, 3, End::Closed, 8) {
+        Err(ListFault::OutOfMemory) => listed_again(rt.alloc(), &pattern)?,
+        other => other?,
+    };
+    same(&rt, list.len(), 8);
     Ok(())
 }
 
@@ -215,16 +121,4 @@ fn listed_again(alloc: Global, pattern: &Pattern) -> Result<Vec<Word>, Fail> {
         Err(ListFault::OutOfMemory) => Err(refused_twice()),
         listed => Ok(listed?),
     }
-}
-
-/// A list that is refused memory, asked for again, is what it is with ample memory.
-#[test]
-fn refused_list(rt: HostRuntime) -> Result<(), Fail> {
-    let pattern = pattern(&rt, nested(rt.alloc())?);
-    let list = match list_words(rt.alloc(), &pattern, 1, 3, End::Closed, 8) {
-        Err(ListFault::OutOfMemory) => listed_again(rt.alloc(), &pattern)?,
-        other => other?,
-    };
-    assert_eq!(rt; list.len(), 8);
-    Ok(())
 }

@@ -3,12 +3,13 @@
 //! listed from the next row on, and its turns with those of choices that are taken up one by one.
 ghost use Rattle.std.specs.Prelude.{◌≤◌};
 
-use crate::support::{refused_twice, some_form};
-use rp_pattern::{Choices, ListFault, Outlook, Sight, Taken, list_words};
+use crate::notation::form_of;
+use crate::support::{holds, refused_twice, same, some_form};
+use rp_pattern::{Choices, Outlook, Sight, Taken};
 use rp_reference::Dice;
+use rp_word_lists::{ListFault, list_words};
 use rp_words::{End, Form, Pattern};
 use std::alloc::{AllocError, Global};
-use std::process::Abort;
 use std::test::Fail;
 
 /// A case that takes more turns than so many is left out.
@@ -168,20 +169,33 @@ fn one_case(alloc: Global, dice: &mut Dice, told: &mut Told) -> Result<(), Alloc
     let form = some_case(alloc, dice)?;
     let few = dice.below(6) as u64 + 1;
     let more = few + dice.below(7) as u64;
-    let Some(mut outlook) = behind_a(alloc, &form)? else {
-        return Ok(());
-    };
-    if !form.is_allowed() {
-        return Ok(());
+    match behind_a(alloc, &form)? {
+        Some(mut outlook) if form.is_allowed() => {
+            let pattern = Pattern::new(form);
+            all_stages(alloc, &pattern, &mut outlook, few, more, told)
+        }
+        _ => Ok(()),
     }
-    let pattern = Pattern::new(form);
-    if !one_stage(alloc, &pattern, &mut outlook, few, End::Open, told)? {
-        return Ok(());
+}
+
+/// An outlook over few rows, more of them, and then the close.
+fn all_stages(
+    alloc: Global,
+    pattern: &Pattern,
+    outlook: &mut Outlook,
+    few: u64,
+    more: u64,
+    told: &mut Told,
+) -> Result<(), AllocError>
+    requires some { 1 ≤ few }
+    requires rising { few ≤ more }
+    requires few { more ≤ 1000 }
+{
+    if one_stage(alloc, pattern, outlook, few, End::Open, told)?
+        && one_stage(alloc, pattern, outlook, more, End::Open, told)?
+    {
+        one_stage(alloc, pattern, outlook, more, End::Closed, told)?;
     }
-    if !one_stage(alloc, &pattern, &mut outlook, more, End::Open, told)? {
-        return Ok(());
-    }
-    one_stage(alloc, &pattern, &mut outlook, more, End::Closed, told)?;
     Ok(())
 }
 
@@ -197,31 +211,24 @@ fn told_of(alloc: Global, seed: u64, cases: u64) -> Result<Told, AllocError> {
 #[test]
 fn random_outlooks(rt: HostRuntime) -> Result<(), Fail> {
     let told = told_of(rt.alloc(), 1, 1_000)?;
-    assert_eq!(rt; (told.wrong, told.longer), (0, 0));
-    assert!(rt; told.played >= 2_000 && told.shorter >= 20);
+    same(&rt, (told.wrong, told.longer), (0, 0));
+    holds(&rt, told.played >= 2_000 && told.shorter >= 20);
     Ok(())
 }
 
-/// `(A | B){12} $`
-fn twelve_to_the_end(alloc: Global) -> Result<Form, AllocError> {
-    let either = Form::alternation(alloc, Form::variable(0), Form::variable(1))?;
-    let rows = Form::quantified(alloc, either, 12, Some(12), false)?;
-    Form::concatenation(alloc, rows, Form::PartitionEnd)
-}
-
 /// What an outlook over `(A | B){12} $` comes to over 20 rows, and in how many turns.
-fn dead_ends(alloc: Global) -> Result<Option<(bool, u32)>, AllocError> {
-    let Some(mut outlook) = behind_a(alloc, &twelve_to_the_end(alloc)?)? else {
+fn dead_ends(alloc: Global, form: &Form) -> Result<Option<(bool, u32)>, AllocError> {
+    let Some(mut outlook) = behind_a(alloc, form)? else {
         return Ok(None);
     };
     looked(&mut outlook, 20, End::Open, 100_000)
 }
 
 /// The same, once more where memory was refused.
-fn dead_ends_again(alloc: Global) -> Result<Option<(bool, u32)>, Fail> {
-    match dead_ends(alloc) {
+fn dead_ends_again(alloc: Global, form: &Form) -> Result<Option<(bool, u32)>, Fail> {
+    match dead_ends(alloc, form) {
         Ok(found) => Ok(found),
-        Err(_) => match dead_ends(alloc) {
+        Err(_) => match dead_ends(alloc, form) {
             Ok(found) => Ok(found),
             Err(_) => Err(refused_twice()),
         },
@@ -233,10 +240,9 @@ fn dead_ends_again(alloc: Global) -> Result<Option<(bool, u32)>, Fail> {
 /// it remembers, it goes on without.
 #[test]
 fn refused_memory_of_dead_ends(rt: HostRuntime) -> Result<(), Fail> {
-    let Some((follows, turns)) = dead_ends_again(rt.alloc())? else {
-        panic!(rt; "more turns than that");
-    };
-    assert!(rt; !follows);
-    assert!(rt; turns > FIRST_TURNS && turns < 16_381);
+    let form = form_of(rt.alloc(), "A B or {12,12} $ then")?;
+    let (follows, turns) = dead_ends_again(rt.alloc(), &form)?.unwrap_or((true, u32::MAX));
+    holds(&rt, !follows);
+    holds(&rt, turns > FIRST_TURNS && turns < 16_381);
     Ok(())
 }

@@ -2,8 +2,10 @@
 ghost use Rattle.std.specs.Prelude.{◌≡◌, ◌≤◌, ◌<◌, length, IfOk, IfSome};
 ghost use Rattle.rp_words.specs.Words.{words};
 
-use crate::support::refused_twice;
-use rp_pattern::{Choices, ListFault, Outlook, Sight, Taken, list_words};
+use crate::notation::{form_of, pattern_of};
+use crate::support::{holds, refused_twice, same};
+use rp_pattern::{Choices, Outlook, Sight, Taken};
+use rp_word_lists::{ListFault, list_words};
 use rp_words::{End, Form, Pattern, law_labels, law_words, permutations};
 use std::alloc::{AllocError, Global};
 use std::process::Abort;
@@ -22,89 +24,77 @@ fn orders_of(alloc: Global, k: usize) -> Result<Vec<Vec<usize>>, Fail>
     }
 }
 
+/// Numbers of parts, and all orders of so many.
+const ORDERS: [(usize, &str); 3] = [(0, " "), (1, "0 "), (3, "012 021 102 120 201 210 ")];
+
 #[test]
-fn orders_of_three(rt: HostRuntime) -> Result<(), Fail> {
-    let orders = orders_of(rt.alloc(), 3)?;
-    let expected = [
-        [0, 1, 2],
-        [0, 2, 1],
-        [1, 0, 2],
-        [1, 2, 0],
-        [2, 0, 1],
-        [2, 1, 0],
-    ];
-    are_orders(&rt, &orders, &expected);
-    Ok(())
+fn orders_of_few_parts(rt: HostRuntime) -> Result<(), Fail> {
+    all_ordered(&rt, rt.alloc(), &ORDERS)
 }
 
-/// Whether these are the orders.
-fn are_orders(rt: &impl Abort, orders: &[Vec<usize>], expected: &[[usize; 3]]) {
-    assert_eq!(rt; orders.len(), expected.len());
-    for (order, wanted) in orders.iter().zip(expected.iter()) {
-        assert_eq!(rt; order.as_slice(), wanted.as_slice());
+fn all_ordered(rt: &impl Abort, alloc: Global, cases: &[(usize, &str)]) -> Result<(), Fail> {
+    for (count, wanted) in cases {
+        holds(rt, *count <= 8);
+        let mut text = String::new(alloc);
+        for order in &orders_of(alloc, *count)? {
+            write_order(&mut text, order)?;
+        }
+        same(rt, text.as_str(), wanted);
     }
+    Ok(())
 }
 
-#[test]
-fn orders_of_none(rt: HostRuntime) -> Result<(), Fail> {
-    let orders = orders_of(rt.alloc(), 0)?;
-    assert_eq!(rt; orders.len(), 1);
-    assert!(rt; orders[0].is_empty());
-    Ok(())
+fn write_order(text: &mut String, order: &[usize]) -> Result<(), AllocError> {
+    for place in order {
+        write!(text, "{place}")?;
+    }
+    text.push(' ')
 }
 
 #[test]
 fn orders_of_eight(rt: HostRuntime) -> Result<(), Fail> {
     let orders = orders_of(rt.alloc(), 8)?;
-    assert_eq!(rt; orders.len(), 40320);
-    assert_eq!(rt; orders[0].as_slice(), [0, 1, 2, 3, 4, 5, 6, 7].as_slice());
-    assert_eq!(rt;
-        orders[40319].as_slice(),
-        [7, 6, 5, 4, 3, 2, 1, 0].as_slice()
-    );
-    Ok(())
-}
-
-/// `PERMUTE` of `count` As.
-fn permuted(alloc: Global, count: usize) -> Result<Form, AllocError> {
-    let mut parts = Vec::new(alloc);
-    for _ in 0..count {
-        parts.push(Form::variable(0))?;
+    same(&rt, orders.len(), 40320);
+    let mut ends = String::new(rt.alloc());
+    for order in orders.first().into_iter().chain(orders.last()) {
+        write_order(&mut ends, order)?;
     }
-    Form::permute(alloc, parts)
-}
-
-/// `A` with these bounds.
-fn quantified(alloc: Global, lower: u32, upper: Option<u32>) -> Result<Form, AllocError> {
-    Form::quantified(alloc, Form::variable(0), lower, upper, false)
-}
-
-#[test]
-fn few_parts_are_allowed(rt: HostRuntime) -> Result<(), Fail> {
-    assert!(rt; !permuted(rt.alloc(), 0)?.is_allowed());
-    assert!(rt; permuted(rt.alloc(), 1)?.is_allowed());
-    assert!(rt; permuted(rt.alloc(), 8)?.is_allowed());
-    assert!(rt; !permuted(rt.alloc(), 9)?.is_allowed());
+    same(&rt, ends.as_str(), "01234567 76543210 ");
     Ok(())
 }
 
+/// Trees, and whether they are patterns: PERMUTE takes one part to eight, and bounds are in order and at most 1,000.
+const TREES: [(&str, bool); 10] = [
+    ("&0", false),
+    ("A &1", true),
+    ("A A A A A A A A &8", true),
+    ("A A A A A A A A A &9", false),
+    ("A {0,0}", true),
+    ("A {1000,1000}", true),
+    ("A {1000,}", true),
+    ("A {2,1}", false),
+    ("A {0,1001}", false),
+    ("A {1001,}", false),
+];
+
 #[test]
-fn bounds_in_order_are_allowed(rt: HostRuntime) -> Result<(), Fail> {
-    assert!(rt; quantified(rt.alloc(), 0, Some(0))?.is_allowed());
-    assert!(rt; quantified(rt.alloc(), 1000, Some(1000))?.is_allowed());
-    assert!(rt; quantified(rt.alloc(), 1000, None)?.is_allowed());
-    assert!(rt; !quantified(rt.alloc(), 2, Some(1))?.is_allowed());
-    assert!(rt; !quantified(rt.alloc(), 0, Some(1001))?.is_allowed());
-    assert!(rt; !quantified(rt.alloc(), 1001, None)?.is_allowed());
+fn trees_that_are_allowed(rt: HostRuntime) -> Result<(), Fail> {
+    all_judged(&rt, rt.alloc(), &TREES)
+}
+
+fn all_judged(rt: &impl Abort, alloc: Global, trees: &[(&str, bool)]) -> Result<(), Fail> {
+    for (text, is_allowed) in trees {
+        let form = form_of(alloc, text)?;
+        assert!(rt; form.is_allowed() == *is_allowed, "{text}");
+    }
     Ok(())
 }
 
 #[test]
 fn variables_are_below(rt: HostRuntime) -> Result<(), Fail> {
-    let first = permuted(rt.alloc(), 2)?;
-    let form = Form::concatenation(rt.alloc(), first, Form::variable(2))?;
-    assert!(rt; form.are_below(3));
-    assert!(rt; !form.are_below(2));
+    let form = form_of(rt.alloc(), "A A &2 C then")?;
+    holds(&rt, form.are_below(3));
+    holds(&rt, !form.are_below(2));
     Ok(())
 }
 
@@ -117,21 +107,17 @@ fn laws(_rt: HostRuntime) {
 
 #[test]
 fn pattern_keeps_its_tree(rt: HostRuntime) -> Result<(), Fail> {
-    let form = quantified(rt.alloc(), 1, Some(2))?;
-    assert!(rt; form.is_allowed());
-    let pattern = Pattern::new(form);
-    match pattern.form() {
+    let pattern = pattern_of(&rt, rt.alloc(), "A {1,2}")?;
+    let is_kept = match pattern.form() {
         Form::Quantified {
             body,
-            lower,
-            upper,
-            reluctant,
-        } => {
-            assert!(rt; matches!(**body, Form::Variable(0)));
-            assert_eq!(rt; (*lower, *upper, *reluctant), (1, Some(2), false));
-        }
-        _ => panic!(rt; "another form"),
-    }
+            lower: 1,
+            upper: Some(2),
+            reluctant: false,
+        } => matches!(**body, Form::Variable(0)),
+        _ => false,
+    };
+    holds(&rt, is_kept);
     Ok(())
 }
 
@@ -141,8 +127,11 @@ fn behind_first(alloc: Global) -> Result<Option<Outlook>, AllocError> {
     if !form.is_allowed() {
         return Ok(None);
     }
-    let pattern = Pattern::new(form);
-    let mut choices = Choices::new(alloc, &pattern, 1)?;
+    behind_row(&mut Choices::new(alloc, &Pattern::new(form), 1)?)
+}
+
+/// What follows the row of the second choice.
+fn behind_row(choices: &mut Choices) -> Result<Option<Outlook>, AllocError> {
     let _split = choices.take_up(1, End::Open)?;
     match choices.take_up(1, End::Open)? {
         Taken::Row => Ok(Some(choices.after_row()?)),
@@ -169,10 +158,10 @@ fn refused_outlook(rt: HostRuntime) -> Result<(), Fail> {
     let waits = Some((Sight::Word, Sight::Word));
     let ends = Some((Sight::Further, Sight::Nothing));
     let passes = Some((Sight::Further, Sight::Word));
-    assert_eq!(rt; sights(alloc, 1, End::Open)?, waits);
-    assert_eq!(rt; sights(alloc, 1, End::Closed)?, ends);
-    assert_eq!(rt; sights(alloc, 2, End::Open)?, passes);
-    assert_eq!(rt; sights(alloc, 2, End::Closed)?, passes);
+    same(&rt, sights(alloc, 1, End::Open)?, waits);
+    same(&rt, sights(alloc, 1, End::Closed)?, ends);
+    same(&rt, sights(alloc, 2, End::Open)?, passes);
+    same(&rt, sights(alloc, 2, End::Closed)?, passes);
     Ok(())
 }
 
@@ -209,10 +198,10 @@ fn count_ways(alloc: Global, form: Form, rows: u64) -> Result<Option<usize>, All
 /// `A*` maps the first three, two or one of three rows, or none.
 #[test]
 fn ways_of_a_loop(rt: HostRuntime) -> Result<(), Fail> {
-    let form = quantified(rt.alloc(), 0, None)?;
-    assert_eq!(rt; count_ways(rt.alloc(), form, 3)?, Some(4));
-    let form = quantified(rt.alloc(), 2, Some(1))?;
-    assert_eq!(rt; count_ways(rt.alloc(), form, 3)?, None);
+    let form = form_of(rt.alloc(), "A *")?;
+    same(&rt, count_ways(rt.alloc(), form, 3)?, Some(4));
+    let form = form_of(rt.alloc(), "A {2,1}")?;
+    same(&rt, count_ways(rt.alloc(), form, 3)?, None);
     Ok(())
 }
 
@@ -271,17 +260,25 @@ fn small(var: usize) -> char {
 #[test]
 fn walked_turns(rt: HostRuntime) -> Result<(), Fail> {
     let alloc = rt.alloc();
-    let pair = Form::concatenation(alloc, Form::variable(0), Form::variable(1))?;
-    let body = Form::alternation(alloc, pair, Form::variable(0))?;
-    let repeated = Form::quantified(alloc, body, 0, None, false)?;
-    let form = Form::concatenation(alloc, repeated, Form::variable(2))?;
-    assert!(rt; form.is_allowed());
-    let pattern = Pattern::new(form);
+    let pattern = pattern_of(&rt, alloc, "A B then A or * C then")?;
     let mut choices = Choices::new(alloc, &pattern, 1)?;
-    let mut signs = String::new(alloc);
-    for _ in 0..15 {
-        signs.push(turn(&mut choices, b"abac")?)?;
-    }
-    assert_eq!(rt; signs.as_str(), "ssABssAbAssaaC.");
+    let signs = turns(alloc, &mut choices, b"abac", 15)?;
+    same(&rt, signs.as_str(), "ssABssAbAssaaC.");
     Ok(())
+}
+
+/// So many turns, as signs.
+fn turns(
+    alloc: Global,
+    choices: &mut Choices,
+    letters: &[u8],
+    count: u64,
+) -> Result<String, AllocError>
+    requires { length letters.now < 100 }
+{
+    let mut signs = String::new(alloc);
+    for _turn in 0..count {
+        signs.push(turn(choices, letters)?)?;
+    }
+    Ok(signs)
 }

@@ -8,165 +8,113 @@ mod turns;
 
 ghost use Rattle.std.specs.Prelude.{◌≡◌, ◌<◌};
 
+use crate::notation::pattern_of;
+use crate::support::{holds, same};
 use grid::Grid;
 use rp_search::{Outcome, Search, Steps, Tests, law_found, law_search};
-use rp_words::{End, Form, Pattern, Seen};
-use script::{MANY, a, any_before_b, b, created, play, two_ways_before_b};
+use rp_words::{End, Form, Pattern};
+use script::{Case, MANY, all_come_to, created, play};
 use std::alloc::Global;
 use std::marker::Brand;
 use std::process::Abort;
 use std::sync::ledger::{Blank, Ledger};
 use std::test::Fail;
 
-/// A shorter match first, where nothing preferred waits.
+/// Searches, with what comes of each stage.
+const SEARCHES: [Case; 6] = [
+    // A shorter match first, where nothing preferred waits.
+    Case {
+        pattern: "A A B then or",
+        reach: 0,
+        first: "",
+        second: "",
+        stages: "1",
+        outcomes: "A ",
+        calls: &[],
+    },
+    // The preferred word runs into row 2. The close takes it away.
+    Case {
+        pattern: "A B then A or",
+        reach: 0,
+        first: "",
+        second: "",
+        stages: "1 1 1$",
+        outcomes: "waits waits A ",
+        calls: &[],
+    },
+    // `$` may hold after the one known row, and doesn't once there is another.
+    Case {
+        pattern: "A $ then A or",
+        reach: 0,
+        first: "",
+        second: "",
+        stages: "1 2",
+        outcomes: "waits A ",
+        calls: &[],
+    },
+    // A test is open, but no word begins with its row.
+    Case {
+        pattern: "A ^ then B or",
+        reach: 5,
+        first: "",
+        second: "",
+        stages: "2",
+        outcomes: "B ",
+        calls: &[],
+    },
+    // A test that is open is asked again over more rows, and the search goes on from there.
+    Case {
+        pattern: "A * B then",
+        reach: 2,
+        first: "++-",
+        second: "",
+        stages: "1 2 3 4 5 5$",
+        outcomes: "waits waits waits waits AAB AAB ",
+        calls: &[],
+    },
+    // One row more at a time, and then the close. Each row is entered once for A and once for B, unless a stage that met a refusal
+    // begins again.
+    Case {
+        pattern: "A * B then",
+        reach: 0,
+        first: "",
+        second: "----",
+        stages: "1 2 3 4 4$",
+        outcomes: "waits waits waits waits none ",
+        calls: &[
+            "A |AA |AAA |AAAA |AAAB AAB AB B |",
+            "!A |AA |AAA |AAAA |AAAB AAB AB B |",
+            "A |!A AA |AAA |AAAA |AAAB AAB AB B |",
+            "A |AA |!A AA AAA |AAAA |AAAB AAB AB B |",
+            "A |AA |AAA |!A AA AAA AAAA |AAAB AAB AB B |",
+            "A |AA |AAA |AAAA |!A AA AAA AAAA AAAB AAB AB B |",
+        ],
+    },
+];
+
 #[test]
-fn first_word_matches(rt: HostRuntime) -> Result<(), Fail> {
-    let alloc = rt.alloc();
-    let pattern = Form::alternation(alloc, a(), Form::concatenation(alloc, a(), b())?)?;
-    let played = play(
-        alloc,
-        pattern,
-        Grid::new(alloc, 0),
-        &[(1, End::Open)],
-        100,
-        MANY,
-    )?;
-    assert_eq!(rt; played.outcomes.as_str(), "A ");
-    Ok(())
-}
-
-/// The preferred word runs into row 2. The close takes it away.
-#[test]
-fn preferred_word_waits(rt: HostRuntime) -> Result<(), Fail> {
-    let alloc = rt.alloc();
-    let pattern = Form::alternation(alloc, Form::concatenation(alloc, a(), b())?, a())?;
-    let stages = [(1, End::Open), (1, End::Open), (1, End::Closed)];
-    let played = play(alloc, pattern, Grid::new(alloc, 0), &stages, 100, MANY)?;
-    assert_eq!(rt; played.outcomes.as_str(), "waits waits A ");
-    Ok(())
-}
-
-/// `$` may hold after the one known row, and doesn't once there is another.
-#[test]
-fn end_waits_for_a_row(rt: HostRuntime) -> Result<(), Fail> {
-    let alloc = rt.alloc();
-    let pattern = Form::alternation(
-        alloc,
-        Form::concatenation(alloc, a(), Form::PartitionEnd)?,
-        a(),
-    )?;
-    let stages = [(1, End::Open), (2, End::Open)];
-    let played = play(alloc, pattern, Grid::new(alloc, 0), &stages, 100, MANY)?;
-    assert_eq!(rt; played.outcomes.as_str(), "waits A ");
-    Ok(())
-}
-
-/// A test is open, but no word begins with its row.
-#[test]
-fn open_test_without_a_word(rt: HostRuntime) -> Result<(), Fail> {
-    let alloc = rt.alloc();
-    let pattern = Form::alternation(
-        alloc,
-        Form::concatenation(alloc, a(), Form::PartitionStart)?,
-        b(),
-    )?;
-    let played = play(
-        alloc,
-        pattern,
-        Grid::new(alloc, 5),
-        &[(2, End::Open)],
-        100,
-        MANY,
-    )?;
-    assert_eq!(rt; played.outcomes.as_str(), "B ");
-    Ok(())
-}
-
-/// A test that is open is asked again over more rows, and the search goes on from there.
-#[test]
-fn open_test_is_asked_again(rt: HostRuntime) -> Result<(), Fail> {
-    asks_again(&rt, rt.alloc(), &[1, 3, 100])
-}
-
-fn asks_again(rt: &impl Abort, alloc: Global, budgets: &[u32]) -> Result<(), Fail> {
-    let third = [Seen::True, Seen::True, Seen::True, Seen::NotTrue];
-    let stages = [
-        (1, End::Open),
-        (2, End::Open),
-        (3, End::Open),
-        (4, End::Open),
-        (5, End::Open),
-        (5, End::Closed),
-    ];
-    for budget in budgets {
-        let grid = Grid::answering(alloc, 2, &third, &[])?;
-        let pattern = any_before_b(alloc)?;
-        let played = play(alloc, pattern, grid, &stages, *budget, MANY)?;
-        let outcomes = played.outcomes.as_str();
-        assert_eq!(rt; outcomes, "waits waits waits waits AAB AAB ");
-    }
-    Ok(())
-}
-
-/// One row more at a time, and then the close. Each row is entered once for A and once for B, unless a stage that met a
-/// refusal begins again.
-#[test]
-fn goes_on_row_by_row(rt: HostRuntime) -> Result<(), Fail> {
-    goes_on(&rt, rt.alloc(), &[1, 2, 1_000])
-}
-
-fn goes_on(rt: &impl Abort, alloc: Global, budgets: &[u32]) -> Result<(), Fail> {
-    let stages = [
-        (1, End::Open),
-        (2, End::Open),
-        (3, End::Open),
-        (4, End::Open),
-        (4, End::Closed),
-    ];
-    let calls = [
-        "A |AA |AAA |AAAA |AAAB AAB AB B |",
-        "!A |AA |AAA |AAAA |AAAB AAB AB B |",
-        "A |!A AA |AAA |AAAA |AAAB AAB AB B |",
-        "A |AA |!A AA AAA |AAAA |AAAB AAB AB B |",
-        "A |AA |AAA |!A AA AAA AAAA |AAAB AAB AB B |",
-        "A |AA |AAA |AAAA |!A AA AAA AAAA AAAB AAB AB B |",
-    ];
-    for budget in budgets {
-        let grid = Grid::answering(alloc, 0, &[], &[Seen::NotTrue; 5])?;
-        let played = play(alloc, any_before_b(alloc)?, grid, &stages, *budget, MANY)?;
-        assert_eq!(rt; played.outcomes.as_str(), "waits waits waits waits none ");
-        assert!(rt; calls.contains(&played.calls.as_str()));
-    }
-    Ok(())
+fn searches_come_to_their_ends(rt: HostRuntime) -> Result<(), Fail> {
+    all_come_to(&rt, rt.alloc(), &SEARCHES)
 }
 
 /// Forty refused rows take more turns than the budget.
 #[test]
 fn forty_rows_pause(rt: HostRuntime) -> Result<(), Fail> {
-    let alloc = rt.alloc();
-    let grid = Grid::answering(alloc, 0, &[], &[Seen::NotTrue; 41])?;
-    let pattern = two_ways_before_b(alloc)?;
-    let played = play(alloc, pattern, grid, &[(40, End::Closed)], 1_000, 1)?;
-    assert_eq!(rt; played.outcomes.as_str(), "paused ");
-    assert!(rt; played.entries <= 1_000);
+    let refused = "----------------------------------------";
+    let grid = Grid::answering(rt.alloc(), 0, "", refused)?;
+    let played = play(rt.alloc(), "A A or * B then", grid, "40$", 1_000, 1)?;
+    same(&rt, played.outcomes.as_str(), "paused ");
+    holds(&rt, played.entries <= 1_000);
     Ok(())
 }
 
 /// The first test is asked before the words are listed, of which there are more than 2 to the 40th.
 #[test]
 fn rows_are_entered_one_by_one(rt: HostRuntime) -> Result<(), Fail> {
-    let alloc = rt.alloc();
-    let pattern = Form::alternation(alloc, a(), two_ways_before_b(alloc)?)?;
-    let played = play(
-        alloc,
-        pattern,
-        Grid::new(alloc, 0),
-        &[(40, End::Closed)],
-        10,
-        2,
-    )?;
-    assert_eq!(rt; played.outcomes.as_str(), "A ");
-    assert!(rt; ["A |", "!A |"].contains(&played.calls.as_str()));
+    let grid = Grid::new(rt.alloc(), 0);
+    let played = play(rt.alloc(), "A A A or * B then or", grid, "40$", 10, 2)?;
+    same(&rt, played.outcomes.as_str(), "A ");
+    holds(&rt, ["A |", "!A |"].contains(&played.calls.as_str()));
     Ok(())
 }
 
@@ -175,33 +123,30 @@ fn rows_are_entered_one_by_one(rt: HostRuntime) -> Result<(), Fail> {
 fn search_begins(rt: HostRuntime) -> Result<(), Fail> {
     law_found();
     law_search();
-    let form = a();
-    assert!(rt; form.is_allowed());
-    let search = Search::new(rt.alloc(), &Pattern::new(form), 3)?;
-    assert_eq!(rt; search.start(), 3);
-    assert!(rt; search.labels().is_empty());
+    let search = Search::new(rt.alloc(), &pattern_of(&rt, rt.alloc(), "A")?, 3)?;
+    same(&rt, search.start(), 3);
+    holds(&rt, search.labels().is_empty());
     Ok(())
 }
 
 /// Each row is asked once. Of `A* B` over AAB these are A, AA, AAA and AAB: the third row isn't admitted for A.
 #[test]
 fn rows_are_asked_once(rt: HostRuntime) -> Result<(), Fail> {
-    let alloc = rt.alloc();
-    let third = [Seen::True, Seen::True, Seen::True, Seen::NotTrue];
-    let pattern = any_before_b(alloc)?;
-    let grid = Grid::answering(alloc, 0, &third, &[])?;
-    let played = play(alloc, pattern, grid, &[(3, End::Closed)], 100, MANY)?;
-    assert_eq!(rt; played.outcomes.as_str(), "AAB ");
-    assert!(rt; played.calls.as_str() == "!A AA AAA AAB |" || played.asked == 4);
+    let grid = Grid::answering(rt.alloc(), 0, "++-", "")?;
+    let played = play(rt.alloc(), "A * B then", grid, "3$", 100, MANY)?;
+    same(&rt, played.outcomes.as_str(), "AAB ");
+    holds(
+        &rt,
+        played.calls.as_str() == "!A AA AAA AAB |" || played.asked == 4,
+    );
     Ok(())
 }
 
 /// A run tells its turns: for A these are the row and the word. A search that restarts does as a new one.
 #[test]
 fn search_restarts(rt: HostRuntime) -> Result<(), Fail> {
-    let alloc = rt.alloc();
-    let found = restarted::<Brand>(Blank::new(1), alloc)?;
-    assert_eq!(rt; found, Some((2, 2)));
+    let found = restarted::<Brand>(Blank::new(1), rt.alloc())?;
+    same(&rt, found, Some((2, 2)));
     Ok(())
 }
 
@@ -216,7 +161,7 @@ fn restarted<L: Ledger>(blank: Blank, alloc: Global) -> Result<Option<(u32, u32)
     if !grid.advance(2, End::Closed) {
         return Ok(None);
     }
-    let form = a();
+    let form = Form::variable(0);
     if !form.is_allowed() || !form.are_below(2) {
         return Ok(None);
     }

@@ -1,12 +1,29 @@
 //! What the tests of several modules use.
+ghost use Rattle.std.specs.Prelude.{◌≡◌, true};
+
 use rp_reference::Dice;
 use rp_words::Form;
 use std::alloc::{AllocError, Global};
+use std::fmt;
+use std::process::Abort;
 use std::test::Fail;
 
 /// A call was refused memory, was made again while memory was ample, and was refused once more.
 pub fn refused_twice() -> Fail {
     Fail::from("memory was refused twice")
+}
+
+/// Ends a test in which a value isn't the one that is wanted. (In an `assert_eq!` of its own a test would have the text of its failure
+/// to prove as well.)
+pub fn same<T: PartialEq + fmt::Debug + Drop>(rt: &impl Abort, came: T, wanted: T) {
+    assert_eq!(rt; came, wanted);
+}
+
+/// Ends a test in which something doesn't hold. Where it goes on, that is known to hold.
+pub fn holds(rt: &impl Abort, is_so: bool)
+    ensures { is_so ≡ true }
+{
+    assert!(rt; is_so);
 }
 
 /// A form of so many levels at most, of variables A and B.

@@ -5,7 +5,7 @@ ghost use Rattle.rp_words.specs.PatternForm.{form_of};
 ghost use Rattle.rp_words.specs.Variables.{are_below};
 ghost use Rattle.rp_trace.specs.Limits.{letter_count};
 
-use crate::support::refused_twice;
+use crate::support::{holds, refused_twice, same};
 use rp_io::{CountedDevice, MemoryInput, MemoryOutput, READS};
 use rp_trace::{BUDGET, TraceFault, TracePatternFault, run_trace, trace_pattern};
 use rp_words::Pattern;
@@ -125,8 +125,8 @@ fn long_line(rt: HostRuntime) -> Result<(), Fail> {
     let mut sink = MemoryOutput::new(rt.alloc(), 100, 100, NEVER)?;
     let result = run_trace(rt.alloc(), &mut source, &mut sink, &pattern, 6);
     if result != Err(TraceFault::OutOfMemory) {
-        assert_eq!(rt; result, Ok(()));
-        assert_eq!(rt; source.calls(), 6);
+        same(&rt, result, Ok(()));
+        same(&rt, source.calls(), 6);
     }
     Ok(())
 }
@@ -152,9 +152,9 @@ fn blocks(rt: HostRuntime) -> Result<(), Fail> {
     let mut sink = MemoryOutput::new(rt.alloc(), 100_000, 7_000, NEVER)?;
     let result = run_trace(rt.alloc(), &mut source, &mut sink, &pattern, 2);
     if result != Err(TraceFault::OutOfMemory) {
-        assert_eq!(rt; result, Ok(()));
+        same(&rt, result, Ok(()));
         let wanted = repeated(rt.alloc(), b"refused\n", 9_000)?;
-        assert!(rt; sink.bytes() == wanted.as_slice());
+        holds(&rt, sink.bytes() == wanted.as_slice());
     }
     Ok(())
 }
@@ -168,8 +168,8 @@ fn first_block(rt: HostRuntime) -> Result<(), Fail> {
     let mut sink = MemoryOutput::new(rt.alloc(), 100_000, 100_000, 1)?;
     let result = run_trace(rt.alloc(), &mut source, &mut sink, &pattern, 10);
     if result != Err(TraceFault::OutOfMemory) {
-        assert_eq!(rt; result, Err(TraceFault::Write));
-        assert_eq!(rt; source.calls(), 1);
+        same(&rt, result, Err(TraceFault::Write));
+        same(&rt, source.calls(), 1);
     }
     Ok(())
 }
@@ -184,8 +184,8 @@ fn failed_reads(rt: HostRuntime) -> Result<(), Fail> {
             reads: 100,
         };
         let ran = run_lines(rt.alloc(), &pattern, LINES.as_bytes(), limits)?;
-        assert_eq!(rt; ran.result, Err(TraceFault::Read));
-        assert!(rt; REPLIES.as_bytes().starts_with(ran.sink.bytes()));
+        same(&rt, ran.result, Err(TraceFault::Read));
+        holds(&rt, REPLIES.as_bytes().starts_with(ran.sink.bytes()));
     }
     Ok(())
 }
@@ -200,8 +200,8 @@ fn failed_writes(rt: HostRuntime) -> Result<(), Fail> {
             reads: 100,
         };
         let ran = run_lines(rt.alloc(), &pattern, LINES.as_bytes(), limits)?;
-        assert_eq!(rt; ran.result, Err(TraceFault::Write));
-        assert!(rt; REPLIES.as_bytes().starts_with(ran.sink.bytes()));
+        same(&rt, ran.result, Err(TraceFault::Write));
+        holds(&rt, REPLIES.as_bytes().starts_with(ran.sink.bytes()));
     }
     Ok(())
 }
@@ -221,8 +221,8 @@ fn reads_allowed(rt: HostRuntime) -> Result<(), Fail> {
         } else {
             Ok(())
         };
-        assert_eq!(rt; ran.result, wanted);
-        assert_eq!(rt; ran.calls, reads);
+        same(&rt, ran.result, wanted);
+        same(&rt, ran.calls, reads);
     }
     Ok(())
 }
@@ -250,7 +250,7 @@ fn all_read(
         };
         let ran = run_lines(alloc, &pattern, lines.as_bytes(), limits)?;
         assert!(rt; ran.result == *wanted, "{lines} in {reads}");
-        assert_eq!(rt; ran.calls, *reads);
+        same(rt, ran.calls, *reads);
     }
     Ok(())
 }
@@ -274,11 +274,11 @@ fn refused_run(rt: HostRuntime) -> Result<(), Fail> {
     let pattern = pattern_of(rt.alloc(), PATTERN)?;
     let mut ran = run_once(rt.alloc(), &pattern, LINES.as_bytes(), ALL)?;
     if ran.result == Err(TraceFault::OutOfMemory) {
-        assert!(rt; REPLIES.as_bytes().starts_with(ran.sink.bytes()));
+        holds(&rt, REPLIES.as_bytes().starts_with(ran.sink.bytes()));
         ran = run_again(rt.alloc(), &pattern, LINES.as_bytes(), ALL)?;
     }
-    assert_eq!(rt; ran.result, Ok(()));
-    assert_eq!(rt; ran.sink.bytes(), REPLIES.as_bytes());
+    same(&rt, ran.result, Ok(()));
+    same(&rt, ran.sink.bytes(), REPLIES.as_bytes());
     Ok(())
 }
 
@@ -289,18 +289,18 @@ fn streams(rt: HostRuntime) -> Result<(), Fail> {
     let mut reader = CountedDevice::new(LINES.as_bytes());
     let mut writer = CountedDevice::new(&mut bytes);
     run_trace(rt.alloc(), &mut reader, &mut writer, &pattern, 2)?;
-    assert_eq!(rt; (reader.calls, reader.failures), (2, 0));
-    assert!(rt; reader.ended);
-    assert_eq!(rt; (writer.calls, writer.failures), (1, 0));
-    assert_eq!(rt; bytes.as_slice(), REPLIES.as_bytes());
+    same(&rt, (reader.calls, reader.failures), (2, 0));
+    holds(&rt, reader.ended);
+    same(&rt, (writer.calls, writer.failures), (1, 0));
+    same(&rt, bytes.as_slice(), REPLIES.as_bytes());
     Ok(())
 }
 
 /// How often the program reads, and the turns of one run of a search.
 #[test]
 fn numbers_of_the_program(rt: HostRuntime) {
-    assert_eq!(rt; READS, 1_000_000_000);
-    assert_eq!(rt; BUDGET, 100_000);
+    same(&rt, READS, 1_000_000_000);
+    same(&rt, BUDGET, 100_000);
 }
 
 /// Faults of a run, and what is told of each.

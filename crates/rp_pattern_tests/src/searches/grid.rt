@@ -38,9 +38,30 @@ impl Grid {
         ensures none { result.entered.items ≡ [] }
         ensures unnamed { result.named ≡ None }
     {
+        Grid::of(alloc, reach, Vec::new(alloc), Vec::new(alloc))
+    }
+
+    /// What is answered for A and for B at the rows from 1 on: `+` true, `-` not true, `?` open. Behind that each row is admitted.
+    pub fn answering(
+        alloc: Global,
+        reach: u64,
+        first: &str,
+        second: &str,
+    ) -> Result<Grid, AllocError>
+        ensures none { IfOk result (λ grid. grid.entered.items ≡ []) }
+    {
+        let first = answers_of(alloc, first)?;
+        Ok(Grid::of(alloc, reach, first, answers_of(alloc, second)?))
+    }
+
+    /// What is answered for the rows from 0 on.
+    pub fn of(alloc: Global, reach: u64, first: Vec<Seen>, second: Vec<Seen>) -> Grid
+        ensures none { result.entered.items ≡ [] }
+        ensures unnamed { result.named ≡ None }
+    {
         Grid {
-            first: Vec::new(alloc),
-            second: Vec::new(alloc),
+            first,
+            second,
             reach,
             known: 0,
             end: End::Open,
@@ -51,21 +72,6 @@ impl Grid {
             remembers: false,
             named: None,
         }
-    }
-
-    /// What is answered for the rows from 0 on.
-    pub fn answering(
-        alloc: Global,
-        reach: u64,
-        first: &[Seen],
-        second: &[Seen],
-    ) -> Result<Grid, AllocError>
-        ensures none { IfOk result (λ grid. grid.entered.items ≡ []) }
-    {
-        let mut grid = Grid::new(alloc, reach);
-        grid.first.extend_from_slice(first)?;
-        grid.second.extend_from_slice(second)?;
-        Ok(grid)
     }
 
     /// How many rows are known.
@@ -198,6 +204,19 @@ impl Tests for Grid {
     ghost few = { λ t. t.few };
 
     ghost decided = { λ t start labels. grid_decides t.first.items t.second.items t.reach t.known t.end start labels };
+}
+
+/// The answers of a text, behind one for row 0, which is never asked.
+fn answers_of(alloc: Global, text: &str) -> Result<Vec<Seen>, AllocError> {
+    let mut answers = vec![in alloc; Seen::True]?;
+    for mark in text.bytes() {
+        answers.push(match mark {
+            b'+' => Seen::True,
+            b'-' => Seen::NotTrue,
+            _ => Seen::Open,
+        })?;
+    }
+    Ok(answers)
 }
 
 /// The answer that is written down for a row.

@@ -10,12 +10,14 @@ ghost use Rattle.rp_search.specs.Search.{start_of_search};
 ghost use Rattle.rp_pattern_tests.specs.Standing.{Stands};
 
 use super::grid::Grid;
-use super::script::{MANY, a, any, b, decide};
+use super::script::{MANY, decide};
 use super::table::is_found;
-use crate::support::some_form;
-use rp_pattern::{ListFault, Prepared, list_words};
+use crate::notation::form_of;
+use crate::support::{holds, same, some_form};
+use rp_pattern::Prepared;
 use rp_reference::Dice;
 use rp_search::{Outcome, Search, Steps, Tests, law_search};
+use rp_word_lists::{ListFault, list_words};
 use rp_words::{End, Form, Pattern, Seen};
 use std::alloc::{AllocError, Global};
 use std::marker::Brand;
@@ -45,7 +47,7 @@ fn some_answers(alloc: Global, dice: &mut Dice, rows: u64) -> Result<Vec<Seen>, 
 fn some_grid(alloc: Global, dice: &mut Dice, rows: u64) -> Result<Grid, AllocError> {
     let first = some_answers(alloc, dice, rows)?;
     let second = some_answers(alloc, dice, rows)?;
-    Grid::answering(alloc, dice.below(3) as u64, &first, &second)
+    Ok(Grid::of(alloc, dice.below(3) as u64, first, second))
 }
 
 /// Row by row, or two at once, and then the close.
@@ -113,10 +115,23 @@ fn play(
         Err(ListFault::OutOfMemory) => return Err(AllocError.into()),
     }
     told.played = told.played.saturating_add(1);
-    let program = Prepared::new(alloc, &pattern)?;
-    both_ways(alloc, &pattern, &program, grid, stages, told)?;
-    let parts = Prepared::linked(alloc, &pattern)?;
-    both_ways(alloc, &pattern, &parts, grid, stages, told)
+    over_both(alloc, &pattern, grid, stages, told)
+}
+
+/// Over the program of a pattern, and over its linked parts.
+fn over_both(
+    alloc: Global,
+    pattern: &Pattern,
+    grid: &mut Grid,
+    stages: &[(u64, End)],
+    told: &mut Told,
+) -> Result<(), Fail>
+    requires { are_below 2 (form_of pattern.now) ≡ true }
+{
+    let program = Prepared::new(alloc, pattern)?;
+    both_ways(alloc, pattern, &program, grid, stages, told)?;
+    let parts = Prepared::linked(alloc, pattern)?;
+    both_ways(alloc, pattern, &parts, grid, stages, told)
 }
 
 /// With a memory of where it failed, and without.
@@ -181,13 +196,29 @@ fn counted<L: Ledger>(
         return Ok(None);
     }
     let mut search = begun(alloc, pattern, prepared, grid)?;
-    warm_up(&mut search, grid, &mut steps)?;
+    through_stages(alloc, pattern, &mut search, grid, stages, &mut steps)
+}
+
+/// The same of a search that begins.
+fn through_stages<L: Ledger>(
+    alloc: Global,
+    pattern: &Pattern,
+    search: &mut Search,
+    grid: &mut Grid,
+    stages: &[(u64, End)],
+    steps: &mut Steps<L>,
+) -> Result<Option<u64>, Fail>
+    requires stands { Stands search.old (⟦<Grid as Tests>⟧.subject grid.old) grid.old.entered.items }
+    requires start { start_of_search search.old ≤ grid.old.known }
+    requires known { 1 ≤ grid.old.known }
+{
+    warm_up(search, grid, steps)?;
     let mut turns: u64 = 0;
     'stages: for (known, end) in stages {
-        if !advanced(&search, grid, *known, *end) {
+        if !advanced(search, grid, *known, *end) {
             return Ok(None);
         }
-        match from_each_row(alloc, pattern, &mut search, grid, &mut steps)? {
+        match from_each_row(alloc, pattern, search, grid, steps)? {
             None => return Ok(None),
             Some(taken) => turns = turns.saturating_add(taken),
         }
@@ -343,8 +374,8 @@ fn is_listed(
 
 fn random_cases(rt: &impl Abort, alloc: Global, seed: u64, cases: u64) -> Result<(), Fail> {
     let told = told_of(alloc, seed, cases)?;
-    assert_eq!(rt; (told.wrong, told.longer), (0, 0));
-    assert!(rt; told.played >= cases / 3 * 2);
+    same(rt, (told.wrong, told.longer), (0, 0));
+    holds(rt, told.played >= cases / 3 * 2);
     Ok(())
 }
 
@@ -360,9 +391,8 @@ fn loops(alloc: Global) -> Result<Told, Fail> {
         wrong: 0,
         longer: 0,
     };
-    let body = Form::concatenation(alloc, any(alloc, a())?, any(alloc, b())?)?;
-    let form = Form::concatenation(alloc, any(alloc, body)?, b())?;
-    let mut grid = Grid::answering(alloc, 0, &[], &[Seen::NotTrue; 3])?;
+    let form = form_of(alloc, "A * B * then * B then")?;
+    let mut grid = Grid::answering(alloc, 0, "", "--")?;
     let stages = [(1, End::Open), (2, End::Closed)];
     play(alloc, form, 2, &mut grid, &stages, &mut told)?;
     Ok(told)
@@ -372,6 +402,6 @@ fn loops(alloc: Global) -> Result<Told, Fail> {
 #[test]
 fn refused_loops(rt: HostRuntime) -> Result<(), Fail> {
     let told = loops(rt.alloc())?;
-    assert_eq!(rt; (told.played, told.wrong), (1, 0));
+    same(&rt, (told.played, told.wrong), (1, 0));
     Ok(())
 }

@@ -5,38 +5,59 @@ ghost use Rattle.rp_words.specs.Variables.{are_below};
 ghost use Rattle.rp_search.specs.Search.{CanRun, HasVariablesBelow, IsAtStart, IsSameSearch, IsSearchFor, RunAnswers, start_of_search};
 
 use super::grid::{Grid, write_letters};
+use crate::notation::form_of;
 use crate::support::refused_twice;
 use rp_search::{Outcome, Search, Steps, Tests, law_search};
 use rp_words::{End, Form, Label, Pattern};
 use std::alloc::{AllocError, Global};
 use std::marker::Brand;
+use std::process::Abort;
 use std::sync::ledger::{Blank, Ledger};
 use std::test::Fail;
 
 /// More runs than any test needs.
 pub const MANY: u64 = 100_000;
 
-pub fn a() -> Form {
-    Form::variable(0)
+/// A search from row 1, and what comes of it.
+#[derive(Clone, Copy)]
+pub struct Case<'a> {
+    /// The pattern, in postfix notation.
+    pub pattern: &'a str,
+    /// From how many rows before the last known one on A's test is open.
+    pub reach: u64,
+    /// What is answered for A.
+    pub first: &'a str,
+    /// What is answered for B.
+    pub second: &'a str,
+    /// The last known row of each stage; the close has a `$` behind it.
+    pub stages: &'a str,
+    /// Of each stage the letters of a match, or `none` or `waits`.
+    pub outcomes: &'a str,
+    /// The calls of `enter`, of which one text is right; none where they aren't looked at.
+    pub calls: &'a [&'a str],
 }
 
-pub fn b() -> Form {
-    Form::variable(1)
+/// Whether each search does so, by runs of one turn, of two, and of as many as are needed.
+pub fn all_come_to(rt: &impl Abort, alloc: Global, cases: &[Case]) -> Result<(), Fail> {
+    for case in cases {
+        for budget in &[1, 2, 1_000] {
+            comes_to(rt, alloc, case, *budget)?;
+        }
+    }
+    Ok(())
 }
 
-pub fn any(alloc: Global, body: Form) -> Result<Form, AllocError> {
-    Form::quantified(alloc, body, 0, None, false)
-}
-
-/// `A* B`
-pub fn any_before_b(alloc: Global) -> Result<Form, AllocError> {
-    Form::concatenation(alloc, any(alloc, a())?, b())
-}
-
-/// `(A | A)* B`
-pub fn two_ways_before_b(alloc: Global) -> Result<Form, AllocError> {
-    let repeated = any(alloc, Form::alternation(alloc, a(), a())?)?;
-    Form::concatenation(alloc, repeated, b())
+fn comes_to(rt: &impl Abort, alloc: Global, case: &Case, budget: u32) -> Result<(), Fail> {
+    let grid = Grid::answering(alloc, case.reach, case.first, case.second)?;
+    let played = play(alloc, case.pattern, grid, case.stages, budget, MANY)?;
+    let is_so = played.outcomes.as_str() == case.outcomes
+        && (case.calls.is_empty() || case.calls.contains(&played.calls.as_str()));
+    assert!(rt;
+        is_so,
+        "{} by {budget}: {}, {}",
+        case.pattern, played.outcomes, played.calls
+    );
+    Ok(())
 }
 
 /// What a search from row 1 did.
@@ -56,18 +77,32 @@ pub struct Played {
     pub taken: u32,
 }
 
-/// A search from row 1 over stages, each a known last row and an end, at most `most` runs a stage.
+/// A search from row 1 over stages, at most `most` runs a stage.
 pub fn play(
     alloc: Global,
-    form: Form,
+    pattern: &str,
     grid: Grid,
-    stages: &[(u64, End)],
+    stages: &str,
     budget: u32,
     most: u64,
 ) -> Result<Played, Fail>
     requires none { grid.entered.items ≡ [] }
 {
-    counted::<Brand>(Blank::new(1), alloc, form, grid, stages, budget, most)
+    let form = form_of(alloc, pattern)?;
+    let stages = stages_of(alloc, stages)?;
+    counted::<Brand>(Blank::new(1), alloc, form, grid, &stages, budget, most)
+}
+
+/// The stages of a text, each a last known row and an end.
+fn stages_of(alloc: Global, text: &str) -> Result<Vec<(u64, End)>, Fail> {
+    let mut stages = Vec::new(alloc);
+    for word in text.split_whitespace() {
+        stages.push(match word.strip_suffix('$') {
+            Some(known) => (known.parse()?, End::Closed),
+            None => (word.parse()?, End::Open),
+        })?;
+    }
+    Ok(stages)
 }
 
 fn counted<L: Ledger>(

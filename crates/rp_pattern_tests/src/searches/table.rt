@@ -4,120 +4,93 @@ ghost use Rattle.rp_words.specs.PatternForm.{form_of};
 ghost use Rattle.rp_words.specs.Variables.{are_below};
 
 use super::grid::Grid;
-use super::script::{MANY, a, any, b, created, decide};
-use rp_pattern::{ListFault, list_words};
+use super::script::{MANY, created, decide};
+use crate::notation::{form_of, pattern_of};
 use rp_search::{Outcome, Steps};
-use rp_words::Seen::{NotTrue, Open, True};
+use rp_word_lists::{ListFault, list_words};
 use rp_words::{End, Form, Label, Mark, Pattern, Seen, Word};
 use std::alloc::{AllocError, Global};
 use std::marker::Brand;
+use std::process::Abort;
 use std::sync::ledger::{Blank, Ledger};
 use std::test::Fail;
 
 /// More words than any pattern of the table has over four rows.
 const CAP: usize = 100_000;
 
-/// What is answered for A and for B at the rows from 0 on, of which row 0 is never asked.
-const WAYS: [[[Seen; 5]; 2]; 6] = [
-    [
-        [True, True, True, True, True],
-        [True, True, True, True, True],
+/// What is answered for A and for B at the rows from 1 on.
+const WAYS: [(&str, &str); 6] = [
+    ("++++", "++++"),
+    ("+-+-", "-+-+"),
+    ("-+++", "++-+"),
+    ("++++", "----"),
+    ("?++-", "+?++"),
+    ("++?+", "?-++"),
+];
+
+/// Patterns, and the first word of each over no row, while the partition is open and once it is closed: `.` where it is the empty word,
+/// `?` where it is open, `-` where there is none.
+const FORMS: [&[(&str, char, char)]; 4] = [
+    // One row after another, choices and the places that take no row.
+    &[
+        ("()", '.', '.'),
+        ("$", '?', '.'),
+        ("A B then A or", '?', '-'),
+        ("A $ then A or", '?', '-'),
+        ("^ A $ then then", '?', '-'),
+        ("A () or B then", '?', '-'),
     ],
-    [
-        [True, True, NotTrue, True, NotTrue],
-        [True, NotTrue, True, NotTrue, True],
+    // Quantifiers, greedy and reluctant, with bounds and without.
+    &[
+        ("A *", '?', '.'),
+        ("A *?", '.', '.'),
+        ("A {1,3}?", '?', '-'),
+        ("A *? B then", '?', '-'),
+        ("A () or {2,3}", '?', '.'),
     ],
-    [
-        [True, NotTrue, True, True, True],
-        [True, True, True, NotTrue, True],
+    // Quantifiers within quantifiers, and places that take no row within them.
+    &[
+        ("A {0,1}? *", '?', '.'),
+        ("A * * $ then", '?', '.'),
+        ("A B or *? *?", '.', '.'),
+        ("() {3,}", '.', '.'),
+        ("^ A or *", '?', '.'),
+        ("A $ or *", '?', '.'),
     ],
-    [
-        [True, True, True, True, True],
-        [True, NotTrue, NotTrue, NotTrue, NotTrue],
-    ],
-    [
-        [True, Open, True, True, NotTrue],
-        [True, True, Open, True, True],
-    ],
-    [
-        [True, True, True, Open, True],
-        [True, Open, NotTrue, True, True],
+    // PERMUTE and exclusion.
+    &[
+        ("A B A &3", '?', '-'),
+        ("A * B &2", '?', '-'),
+        ("B A B A &4 B or", '?', '-'),
+        ("A $ &2", '?', '-'),
+        ("A B &2 *", '?', '.'),
+        ("A * {-} B then", '?', '-'),
+        ("A B or {-} *", '?', '.'),
     ],
 ];
 
-fn few(alloc: Global, body: Form) -> Result<Form, AllocError> {
-    Form::quantified(alloc, body, 0, None, true)
+/// The patterns of this place in the table.
+fn forms(place: usize) -> &'static [(&'static str, char, char)] {
+    FORMS.get(place).copied().unwrap_or(&[])
 }
 
-/// One row after another, choices and the places that take no row.
-fn plain_forms(alloc: Global) -> Result<Vec<Form>, AllocError> {
-    let mut forms = vec![in alloc; Form::Empty, Form::PartitionEnd]?;
-    let pair = Form::concatenation(alloc, a(), b())?;
-    forms.push(Form::alternation(alloc, pair, a())?)?;
-    let last = Form::concatenation(alloc, a(), Form::PartitionEnd)?;
-    forms.push(Form::alternation(alloc, last, a())?)?;
-    let last = Form::concatenation(alloc, a(), Form::PartitionEnd)?;
-    forms.push(Form::concatenation(alloc, Form::PartitionStart, last)?)?;
-    let one_or_none = Form::alternation(alloc, a(), Form::Empty)?;
-    forms.push(Form::concatenation(alloc, one_or_none, b())?)?;
-    Ok(forms)
-}
-
-/// Quantifiers, greedy and reluctant, with bounds and without.
-fn quantified_forms(alloc: Global) -> Result<Vec<Form>, AllocError> {
-    let mut forms = vec![in alloc; any(alloc, a())?, few(alloc, a())?]?;
-    forms.push(Form::quantified(alloc, a(), 1, Some(3), true)?)?;
-    forms.push(Form::concatenation(alloc, few(alloc, a())?, b())?)?;
-    let one_or_none = Form::alternation(alloc, a(), Form::Empty)?;
-    forms.push(Form::quantified(alloc, one_or_none, 2, Some(3), false)?)?;
-    Ok(forms)
-}
-
-/// Quantifiers within quantifiers, and places that take no row within them.
-fn nested_forms(alloc: Global) -> Result<Vec<Form>, AllocError> {
-    let optional = Form::quantified(alloc, a(), 0, Some(1), true)?;
-    let mut forms = vec![in alloc; any(alloc, optional)?]?;
-    let whole = any(alloc, any(alloc, a())?)?;
-    forms.push(Form::concatenation(alloc, whole, Form::PartitionEnd)?)?;
-    let either = Form::alternation(alloc, a(), b())?;
-    forms.push(few(alloc, few(alloc, either)?)?)?;
-    forms.push(Form::quantified(alloc, Form::Empty, 3, None, false)?)?;
-    forms.push(any(alloc, Form::alternation(alloc, Form::PartitionStart, a())?)?)?;
-    forms.push(any(alloc, Form::alternation(alloc, a(), Form::PartitionEnd)?)?)?;
-    Ok(forms)
-}
-
-/// PERMUTE and exclusion.
-fn other_forms(alloc: Global) -> Result<Vec<Form>, AllocError> {
-    let mut forms = vec![in alloc; Form::permute(alloc, vec![in alloc; a(), b(), a()]?)?]?;
-    forms.push(Form::permute(alloc, vec![in alloc; any(alloc, a())?, b()]?)?)?;
-    let four = Form::permute(alloc, vec![in alloc; b(), a(), b(), a()]?)?;
-    forms.push(Form::alternation(alloc, four, b())?)?;
-    forms.push(Form::permute(alloc, vec![in alloc; a(), Form::PartitionEnd]?)?)?;
-    forms.push(any(alloc, Form::permute(alloc, vec![in alloc; a(), b()]?)?)?)?;
-    let hidden = Form::exclusion(alloc, any(alloc, a())?)?;
-    forms.push(Form::concatenation(alloc, hidden, b())?)?;
-    let hidden = Form::exclusion(alloc, Form::alternation(alloc, a(), b())?)?;
-    forms.push(any(alloc, hidden)?)?;
-    Ok(forms)
-}
-
-fn grids(alloc: Global) -> Result<Vec<Grid>, AllocError> {
+fn grids(alloc: Global, ways: &[(&str, &str)]) -> Result<Vec<Grid>, AllocError> {
     let mut grids = Vec::new(alloc);
-    for [first, second] in &WAYS {
+    for (first, second) in ways {
         grids.push(Grid::answering(alloc, 0, first, second)?)?;
     }
     Ok(grids)
 }
 
-/// In how many cases a search finds what the definition says: 8 lists of words for each pattern, and 6 ways to answer.
-fn agreeing(alloc: Global, forms: Vec<Form>) -> Result<u64, Fail> {
-    let mut grids = grids(alloc)?;
-    let mut count: u64 = 0;
-    for form in forms {
-        count = count.saturating_add(over_rows(alloc, form, &mut grids)?);
+/// Whether a search finds what the definition says of each pattern of this place in the table: over 8 lists of words, and by 6 ways to
+/// answer.
+fn all_agree(rt: &impl Abort, alloc: Global, place: usize) -> Result<(), Fail> {
+    let mut grids = grids(alloc, &WAYS)?;
+    for (text, _, _) in forms(place) {
+        let count = over_rows(alloc, form_of(alloc, text)?, &mut grids)?;
+        assert!(rt; count == 8 * 6, "{text}: {count}");
     }
-    Ok(count)
+    Ok(())
 }
 
 /// Over 1 to 4 rows, open and closed.
@@ -249,77 +222,54 @@ fn first_not_true(grid: &Grid, start: u64, labels: &[Label]) -> Seen {
 
 #[test]
 fn plain_forms_agree(rt: HostRuntime) -> Result<(), Fail> {
-    let alloc = rt.alloc();
-    assert_eq!(rt; agreeing(alloc, plain_forms(alloc)?)?, 6 * 48);
-    Ok(())
+    all_agree(&rt, rt.alloc(), 0)
 }
 
 #[test]
 fn quantified_forms_agree(rt: HostRuntime) -> Result<(), Fail> {
-    let alloc = rt.alloc();
-    assert_eq!(rt; agreeing(alloc, quantified_forms(alloc)?)?, 5 * 48);
-    Ok(())
+    all_agree(&rt, rt.alloc(), 1)
 }
 
 #[test]
 fn nested_forms_agree(rt: HostRuntime) -> Result<(), Fail> {
-    let alloc = rt.alloc();
-    assert_eq!(rt; agreeing(alloc, nested_forms(alloc)?)?, 6 * 48);
-    Ok(())
+    all_agree(&rt, rt.alloc(), 2)
 }
 
 #[test]
 fn other_forms_agree(rt: HostRuntime) -> Result<(), Fail> {
-    let alloc = rt.alloc();
-    assert_eq!(rt; agreeing(alloc, other_forms(alloc)?)?, 7 * 48);
-    Ok(())
-}
-
-/// The first word of each pattern over no row: `.` where it is the empty word, `?` where it is open, `-` where there is
-/// none.
-fn firsts(alloc: Global, forms: Vec<Form>, end: End) -> Result<String, ListFault> {
-    let mut text = String::new(alloc);
-    for form in forms {
-        if !form.is_allowed() {
-            return Ok(text);
-        }
-        let words = list_words(alloc, &Pattern::new(form), 1, 0, end, CAP)?;
-        text.push(match words.first() {
-            None => '-',
-            Some(word) => match (word.mark, word.labels.is_empty()) {
-                (Mark::Full, true) => '.',
-                (Mark::Open, true) => '?',
-                (_, false) => '!',
-            },
-        })?;
-    }
-    Ok(text)
+    all_agree(&rt, rt.alloc(), 3)
 }
 
 #[test]
 fn no_row_is_known(rt: HostRuntime) -> Result<(), Fail> {
-    let alloc = rt.alloc();
-    let first = firsts(alloc, plain_forms(alloc)?, End::Open)?;
-    assert_eq!(rt; first.as_str(), ".?????");
-    let first = firsts(alloc, plain_forms(alloc)?, End::Closed)?;
-    assert_eq!(rt; first.as_str(), "..----");
-    let first = firsts(alloc, quantified_forms(alloc)?, End::Open)?;
-    assert_eq!(rt; first.as_str(), "?.???");
-    let first = firsts(alloc, quantified_forms(alloc)?, End::Closed)?;
-    assert_eq!(rt; first.as_str(), "..--.");
+    for place in 0..4 {
+        all_begin(&rt, rt.alloc(), place)?;
+    }
     Ok(())
 }
 
-#[test]
-fn no_row_is_known_of_nested_parts(rt: HostRuntime) -> Result<(), Fail> {
-    let alloc = rt.alloc();
-    let first = firsts(alloc, nested_forms(alloc)?, End::Open)?;
-    assert_eq!(rt; first.as_str(), "??..??");
-    let first = firsts(alloc, nested_forms(alloc)?, End::Closed)?;
-    assert_eq!(rt; first.as_str(), "......");
-    let first = firsts(alloc, other_forms(alloc)?, End::Open)?;
-    assert_eq!(rt; first.as_str(), "???????");
-    let first = firsts(alloc, other_forms(alloc)?, End::Closed)?;
-    assert_eq!(rt; first.as_str(), "----.-.");
+/// Whether the first words of the patterns of this place in the table are these.
+fn all_begin(rt: &impl Abort, alloc: Global, place: usize) -> Result<(), Fail> {
+    for (text, open, closed) in forms(place) {
+        let pattern = pattern_of(rt, alloc, text)?;
+        let first = (
+            first_word(alloc, &pattern, End::Open)?,
+            first_word(alloc, &pattern, End::Closed)?,
+        );
+        assert!(rt; first == (*open, *closed), "{text}: {first:?}");
+    }
     Ok(())
+}
+
+/// The first word over no row, as the table has it.
+fn first_word(alloc: Global, pattern: &Pattern, end: End) -> Result<char, ListFault> {
+    let words = list_words(alloc, pattern, 1, 0, end, CAP)?;
+    Ok(match words.first() {
+        None => '-',
+        Some(word) => match (word.mark, word.labels.is_empty()) {
+            (Mark::Full, true) => '.',
+            (Mark::Open, true) => '?',
+            (_, false) => '!',
+        },
+    })
 }
