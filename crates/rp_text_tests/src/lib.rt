@@ -1,21 +1,23 @@
-//! The tests of texts and conversations: of feeds, of JSON, of rows of JSON lines, of the lines and checkpoints that are written
-//! with JSON, and of both sides of a conversation over lines. They stand in a crate of their own, so that those crates are proved
-//! once, and not again with their tests.
+//! The tests of texts and conversations: of feeds, of the lines and checkpoints that are written with JSON, and of both sides of a
+//! conversation over lines. They stand in a crate of their own, so that those crates are proved once, and not again with their
+//! tests. What a script can play is in cases/lines.script, cases/node.script and cases/refused.script.
 #![tactic(auto)]
 
 #[cfg(test)]
-mod checkpoint;
+mod chance;
 #[cfg(test)]
-mod codec;
+mod checkpoints;
 #[cfg(test)]
-mod feed;
+mod lines;
 #[cfg(test)]
-mod forms;
+mod orders;
 #[cfg(test)]
-mod objects;
+mod replies;
+#[cfg(test)]
+mod requests;
 #[cfg(test)]
 mod sessions;
 #[cfg(test)]
 mod support;
 #[cfg(test)]
-mod wire;
+mod texts;

@@ -120,18 +120,14 @@ impl Keeps for SmallNode {
 
     fn go_back(self, saved: &Option<Vec<u8>>) -> Result<Self, AllocError> {
         let mut node = SmallNode::new(self.alloc);
-        if let Some(bytes) = saved {
-            node.rows = byte_at(bytes.as_slice(), 0);
-            node.closed = byte_at(bytes.as_slice(), 1) == 1;
-            node.ended = byte_at(bytes.as_slice(), 2) == 1;
+        let Some(bytes) = saved else {
+            return Ok(node);
+        };
+        if let [rows, closed, ended] = bytes.as_slice() {
+            node.rows = *rows;
+            node.closed = *closed == 1;
+            node.ended = *ended == 1;
         }
         Ok(node)
-    }
-}
-
-fn byte_at(bytes: &[u8], place: usize) -> u8 {
-    match bytes.get(place) {
-        Some(byte) => *byte,
-        None => 0,
     }
 }

@@ -1,10 +1,9 @@
 //! Sessions over devices in memory.
 use super::node::SmallNode;
-use crate::support::{holds, same};
+use crate::support::{numbers_of, same};
 use rp_io::{MemoryInput, MemoryOutput};
-use rp_serve::{ServeFault, serve};
-use std::alloc::{AllocError, Global};
-use std::process::Abort;
+use rp_serve::{ServeFault, Served, serve};
+use std::alloc::Global;
 use std::test::Fail;
 
 /// A row, polls, and a close; then lines that are refused, and a last part without a line feed.
@@ -37,196 +36,118 @@ const REPLIES: &str = "\
 {\"refused\":\"NumberRange\"}
 ";
 
-/// What a session came to, and what it wrote.
-#[derive(Drop)]
-struct Session {
-    lines: u128,
-    fault: Option<ServeFault>,
-    rows: u8,
-    calls: u64,
-    writer: MemoryOutput,
-}
-
-/// How the bytes come and go, which calls fail, and how many reads are allowed.
-#[derive(Clone, Copy)]
-struct Limits {
-    read_piece: usize,
-    failing_read: u64,
-    write_piece: usize,
-    failing_write: u64,
-    turns: u64,
-}
-
-const WIDE: Limits = Limits {
-    read_piece: 1_000,
-    failing_read: 0,
-    write_piece: 1_000,
-    failing_write: 0,
-    turns: 1_000,
-};
-
-/// A new node's session. Out of memory ends the test.
-fn run_session(alloc: Global, lines: &[u8], limits: Limits) -> Result<Session, AllocError> {
-    let mut reader = MemoryInput::new(lines, limits.read_piece, limits.failing_read);
-    let mut writer = MemoryOutput::new(alloc, 4_096, limits.write_piece, limits.failing_write)?;
-    let mut node = SmallNode::new(alloc);
-    let served = serve(alloc, &mut reader, &mut writer, &mut node, limits.turns);
-    let (lines, fault) = match served {
-        Ok(served) => (served.lines, None),
-        Err(fault) => (0, Some(fault)),
-    };
-    if fault == Some(ServeFault::OutOfMemory) {
-        return Err(AllocError);
-    }
-    let rows = node.rows();
-    let calls = reader.calls();
-    Ok(Session {
-        lines,
-        fault,
-        rows,
-        calls,
-        writer,
-    })
-}
-
-fn served_in_pieces(rt: &impl Abort, alloc: Global, pieces: &[usize]) -> Result<(), Fail> {
-    for piece in pieces {
-        let limits = Limits {
-            read_piece: *piece,
-            ..WIDE
-        };
-        let ended = run_session(alloc, LINES.as_bytes(), limits)?;
-        holds(rt, ended.fault == None);
-        same(rt, ended.lines, 12);
-        same(rt, ended.rows, 1);
-        holds(rt, ended.writer.bytes() == REPLIES.as_bytes());
-    }
-    Ok(())
-}
-
-/// However the reader cuts the lines, the replies are the same, and the last part is a line.
-#[test]
-fn lines_in_pieces(rt: HostRuntime) -> Result<(), Fail> {
-    served_in_pieces(&rt, rt.alloc(), &[1, 7, 30, 1_000])
-}
+/// Sessions on these lines: how many bytes come at a call of the reader, and which call fails, how many a call of the writer takes,
+/// and which fails, where 0 is none, and how many reads are allowed; and what each comes to.
+const SESSIONS: &str =
+    r#"# However the reader cuts the lines, the replies are the same, and the last part is a line.
+1 0 999 0 999 -> 12 lines; rows 1, replies 12
+7 0 999 0 999 -> 12 lines; rows 1, replies 12
+30 0 999 0 999 -> 12 lines; rows 1, replies 12
+999 0 999 0 999 -> 12 lines; rows 1, replies 12
+# Each read fails once. The replies to all lines that were taken up are written: no line is cut, and the node has done them.
+24 1 999 0 999 -> device: read, reads 1; rows 0, replies 0
+24 2 999 0 999 -> device: read, reads 2; rows 0, replies 0
+24 3 999 0 999 -> device: read, reads 3; rows 1, replies 1
+24 4 999 0 999 -> device: read, reads 4; rows 1, replies 2
+24 5 999 0 999 -> device: read, reads 5; rows 1, replies 3
+24 6 999 0 999 -> device: read, reads 6; rows 1, replies 4
+24 7 999 0 999 -> device: read, reads 7; rows 1, replies 5
+24 8 999 0 999 -> device: read, reads 8; rows 1, replies 6
+24 9 999 0 999 -> device: read, reads 9; rows 1, replies 9
+24 10 999 0 999 -> device: read, reads 10; rows 1, replies 10
+24 11 999 0 999 -> device: read, reads 11; rows 1, replies 11
+24 12 999 0 999 -> device: read, reads 12; rows 1, replies 11
+# Each write fails once: a front of the replies was written. The fifth reply takes two writes.
+24 0 30 1 999 -> device: write, reads 2; rows 1, replies 0
+24 0 30 2 999 -> device: write, reads 3; rows 1, replies 1
+24 0 30 3 999 -> device: write, reads 4; rows 1, replies 2
+24 0 30 4 999 -> device: write, reads 5; rows 1, replies 3
+24 0 30 5 999 -> device: write, reads 6; rows 1, replies 4
+24 0 30 6 999 -> device: write, reads 6; rows 1, replies 4 and {"end":true,"key":["x"],"place
+24 0 30 7 999 -> device: write, reads 7; rows 1, replies 5
+24 0 30 8 999 -> device: write, reads 8; rows 1, replies 6
+# The replies to eleven lines that come together go in one write, and the last part's in another.
+999 0 999 2 999 -> device: write, reads 2; rows 1, replies 11
+999 0 999 3 999 -> 12 lines; rows 1, replies 12
+# After the last turn all replies to the lines that came are written.
+64 0 999 0 1 -> too many turns, reads 1; rows 1, replies 2
+999 0 999 0 0 -> too many turns, reads 0; rows 0, replies 0
+"#;
 
 #[test]
-fn no_lines(rt: HostRuntime) -> Result<(), Fail> {
-    let ended = run_session(rt.alloc(), b"", WIDE)?;
-    holds(&rt, ended.fault == None);
-    same(&rt, ended.lines, 0);
-    holds(&rt, ended.writer.bytes().is_empty());
-    Ok(())
-}
-
-/// How many of these bytes are line feeds.
-fn lines_in(bytes: &[u8]) -> usize {
-    bytes.iter().filter(|byte| **byte == b'\n').count()
-}
-
-/// Each read fails once. The replies to all lines that were taken up are written: no line is cut, and the node has done them.
-#[test]
-fn failed_reads(rt: HostRuntime) -> Result<(), Fail> {
-    for failing_read in 1..13 {
-        let limits = Limits {
-            read_piece: 24,
-            failing_read,
-            ..WIDE
-        };
-        let ended = run_session(rt.alloc(), LINES.as_bytes(), limits)?;
-        holds(&rt, ended.fault == Some(ServeFault::Read));
-        same(&rt, ended.calls, failing_read);
-        holds(&rt, REPLIES.as_bytes().starts_with(ended.writer.bytes()));
-        let came = LINES.as_bytes().len().min((failing_read as usize - 1) * 24);
-        same(
-            &rt,
-            lines_in(ended.writer.bytes()),
-            lines_in(&LINES.as_bytes()[..came]),
-        );
-    }
-    Ok(())
-}
-
-/// Each write fails once: a front of the replies was written.
-#[test]
-fn failed_writes(rt: HostRuntime) -> Result<(), Fail> {
-    for failing_write in 1..9 {
-        let limits = Limits {
-            read_piece: 24,
-            write_piece: 30,
-            failing_write,
-            ..WIDE
-        };
-        let ended = run_session(rt.alloc(), LINES.as_bytes(), limits)?;
-        holds(&rt, ended.fault == Some(ServeFault::Write));
-        holds(&rt, REPLIES.as_bytes().starts_with(ended.writer.bytes()));
-    }
-    Ok(())
-}
-
-/// The replies to eleven lines that come together go in one write, and the last part's in another.
-#[test]
-fn one_write(rt: HostRuntime) -> Result<(), Fail> {
-    let limits = Limits {
-        failing_write: 2,
-        ..WIDE
-    };
-    let ended = run_session(rt.alloc(), LINES.as_bytes(), limits)?;
-    holds(&rt, ended.fault == Some(ServeFault::Write));
-    same(&rt, lines_in(ended.writer.bytes()), 11);
-    let limits = Limits {
-        failing_write: 3,
-        ..WIDE
-    };
-    let ended = run_session(rt.alloc(), LINES.as_bytes(), limits)?;
-    holds(&rt, ended.fault == None);
-    Ok(())
-}
-
-#[test]
-fn no_turns(rt: HostRuntime) -> Result<(), Fail> {
-    let ended = run_session(rt.alloc(), LINES.as_bytes(), Limits { turns: 0, ..WIDE })?;
-    holds(&rt, ended.fault == Some(ServeFault::Turns));
-    same(&rt, ended.calls, 0);
-    holds(&rt, ended.writer.bytes().is_empty());
-    Ok(())
-}
-
-/// After the last turn all replies to the lines that came are written.
-#[test]
-fn one_turn(rt: HostRuntime) -> Result<(), Fail> {
-    let limits = Limits {
-        read_piece: 64,
-        turns: 1,
-        ..WIDE
-    };
-    let ended = run_session(rt.alloc(), LINES.as_bytes(), limits)?;
-    holds(&rt, ended.fault == Some(ServeFault::Turns));
-    holds(
-        &rt,
-        ended.writer.bytes() == "{\"taken\":\"new\"}\n{\"paused\":[\"x\"]}\n".as_bytes(),
-    );
-    Ok(())
-}
-
-/// A line of 65,537 bytes is refused for its length, also without a line feed; one of 65,536 is read.
-#[test]
-fn long_lines(rt: HostRuntime) -> Result<(), Fail> {
+fn sessions(rt: HostRuntime) -> Result<(), Fail> {
     let alloc = rt.alloc();
-    let mut lines = Vec::new(alloc);
-    lines.resize(65_537, b' ')?;
-    lines.push(b'\n')?;
-    lines.resize(131_074, b' ')?;
-    lines.push(b'\n')?;
-    lines.resize(196_612, b' ')?;
-    let wide = Limits {
-        read_piece: 100_000,
-        ..WIDE
-    };
-    let ended = run_session(alloc, lines.as_slice(), wide)?;
-    holds(&rt, ended.fault == None);
-    same(&rt, ended.lines, 3);
-    let want = "{\"refused\":\"TooLong\"}\n{\"refused\":\"NotJson\"}\n{\"refused\":\"TooLong\"}\n";
-    holds(&rt, ended.writer.bytes() == want.as_bytes());
+    for line in SESSIONS.lines() {
+        if line.starts_with('#') {
+            continue;
+        }
+        let (limits, wanted) = line.split_once(" -> ").ok_or("an arrow")?;
+        let told = told_of(alloc, LINES.as_bytes(), REPLIES, limits)?;
+        same(&rt, limits, told.as_str(), wanted);
+    }
     Ok(())
+}
+
+const LONG_REPLIES: &str = r#"{"refused":"TooLong"}
+{"refused":"NotJson"}
+{"refused":"TooLong"}
+"#;
+
+/// A line of 65,537 bytes is refused for its length, also without a line feed; one of 65,536 is read. Of nothing no line is.
+#[test]
+fn long_lines_and_none(rt: HostRuntime) -> Result<(), Fail> {
+    let alloc = rt.alloc();
+    let blanks = " ".repeat(alloc, 65_536)?;
+    let lines = format!(in alloc; " {blanks}\n{blanks}\n {blanks}")?;
+    let limits = "100000 0 999 0 999";
+    let told = told_of(alloc, lines.as_str().as_bytes(), LONG_REPLIES, limits)?;
+    same(&rt, "long", told.as_str(), "3 lines; rows 0, replies 3");
+    let told = told_of(alloc, b"", "", limits)?;
+    same(&rt, "none", told.as_str(), "0 lines; rows 0, replies 0");
+    Ok(())
+}
+
+/// What a new node's session on these lines comes to: how it ends, the rows that the node has then, and how many of the replies were
+/// written, and nothing else.
+fn told_of(alloc: Global, lines: &[u8], replies: &str, limits: &str) -> Result<String, Fail> {
+    let [read_piece, failing_read, write_piece, failing_write, reads] = numbers_of(limits)?;
+    let mut reader = MemoryInput::new(lines, read_piece as usize, failing_read);
+    let mut writer = MemoryOutput::new(alloc, 4_096, write_piece as usize, failing_write)?;
+    let mut node = SmallNode::new(alloc);
+    let ended = serve(alloc, &mut reader, &mut writer, &mut node, reads);
+    let written = front_of(alloc, replies, writer.bytes())?;
+    told_of_end(alloc, ended, reader.calls(), node.rows(), written.as_str())
+}
+
+fn told_of_end(
+    alloc: Global,
+    ended: Result<Served, ServeFault>,
+    reads: u64,
+    rows: u8,
+    written: &str,
+) -> Result<String, Fail> {
+    match ended {
+        Ok(served) => {
+            let lines = served.lines;
+            Ok(format!(in alloc; "{lines} lines; rows {rows}, replies {written}")?)
+        }
+        Err(ServeFault::OutOfMemory) => Err(Fail::from(ServeFault::OutOfMemory)),
+        Err(fault) => {
+            Ok(format!(in alloc; "{fault}, reads {reads}; rows {rows}, replies {written}")?)
+        }
+    }
+}
+
+/// How many lines of a text these bytes are, and what they have of the next one.
+fn front_of(alloc: Global, text: &str, bytes: &[u8]) -> Result<String, Fail> {
+    if !text.as_bytes().starts_with(bytes) {
+        return Err(Fail::from("other replies were written"));
+    }
+    let front = text.get(..bytes.len()).unwrap_or("");
+    let (lines, part) = front.rsplit_once("\n").unwrap_or(("", front));
+    let count = lines.lines().count();
+    if part.is_empty() {
+        return Ok(format!(in alloc; "{count}")?);
+    }
+    Ok(format!(in alloc; "{count} and {part}")?)
 }

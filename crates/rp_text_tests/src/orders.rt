@@ -1,12 +1,10 @@
-//! A thousand orders of arrival, with repeats, losses and forgetting, beside a plain map of what was taken.
+//! A thousand orders of arrival at a feed, with repeats, losses and forgetting, beside a plain list of what was taken.
 ghost use Rattle.std.specs.Prelude.{◌≤◌};
 
-use super::{price_table, row_of};
-use crate::support::{Chance, same};
+use crate::chance::Chance;
 use rp_feed::{Feed, FeedFault, Taken};
-use rp_value::Row;
-use std::alloc::{AllocFailed, Global};
-use std::collections::BTreeMap;
+use rp_value::{Row, Value};
+use std::alloc::{AllocError, AllocFailed, Global};
 use std::test::Fail;
 
 /// How many rows the partition has.
@@ -15,20 +13,39 @@ const ROWS: u64 = 30;
 /// The greatest number of a row, as the limit is documented.
 const GREATEST: u64 = 1_099_511_627_776;
 
-/// All rows that were ever taken, with their prices.
+/// The numbers of all rows that were ever taken, in order, with their prices. Those below `begin` count as taken.
 #[derive(Drop)]
 struct Plain {
-    taken: BTreeMap<u64, usize>,
+    taken: Vec<(u64, usize)>,
+    begin: u64,
     first: u64,
     closed: Option<u64>,
 }
 
 impl Plain {
-    fn new(alloc: Global) -> Plain {
+    fn new(alloc: Global, begin: u64) -> Plain {
         Plain {
-            taken: BTreeMap::new(alloc),
-            first: 1,
+            taken: Vec::new(alloc),
+            begin,
+            first: begin,
             closed: None,
+        }
+    }
+
+    /// How many rows of lower numbers were taken.
+    fn place(&self, number: u64) -> usize {
+        let mut place = 0usize;
+        for (taken, _) in &self.taken {
+            place = place.saturating_add(usize::from(*taken < number));
+        }
+        place
+    }
+
+    /// The price of a row that was taken.
+    fn price(&self, number: u64) -> Option<usize> {
+        match self.taken.get(self.place(number)) {
+            Some((taken, price)) if *taken == number => Some(*price),
+            _ => None,
         }
     }
 
@@ -36,12 +53,19 @@ impl Plain {
     fn front(&self) -> u64
         ensures { result ≤ ROWS }
     {
-        for number in 1..ROWS + 1 {
-            if !self.taken.contains_key(&number) {
-                return number - 1;
-            }
+        let mut next = self.begin;
+        for (number, _) in &self.taken {
+            next = next.saturating_add(u64::from(*number == next));
         }
-        ROWS
+        next.saturating_sub(1).min(ROWS)
+    }
+
+    /// The greatest number that was taken.
+    fn last(&self) -> u64 {
+        match self.taken.last() {
+            Some((number, _)) => *number,
+            None => self.begin.saturating_sub(1),
+        }
     }
 
     /// Takes a row, and says what it is.
@@ -53,21 +77,22 @@ impl Plain {
         if number == 0 || number > GREATEST {
             return Ok(Err(FeedFault::NumberRange));
         }
-        if self.closed.is_some_and(|count| number > count) {
+        if number > self.closed.unwrap_or(GREATEST) {
             return Ok(Err(FeedFault::PastClose));
         }
         if number < self.first {
             return Ok(Ok(Taken::Old));
         }
-        match self.taken.get(&number) {
-            Some(held) if *held == price => return Ok(Ok(Taken::Repeat)),
+        match self.price(number) {
+            Some(held) if held == price => return Ok(Ok(Taken::Repeat)),
             Some(_) => return Ok(Err(FeedFault::Conflict)),
             None => {}
         }
         if number.saturating_sub(4_096) > self.front() {
             return Ok(Err(FeedFault::TooFar));
         }
-        self.taken.insert(number, price)?;
+        let place = self.place(number).min(self.taken.len());
+        self.taken.insert(place, (number, price))?;
         Ok(Ok(Taken::New))
     }
 
@@ -81,7 +106,7 @@ impl Plain {
             Some(_) => return Err(FeedFault::CloseDiffers),
             None => {}
         }
-        if self.taken.keys().any(|number| *number > count) {
+        if self.last() > count {
             return Err(FeedFault::CloseBelow);
         }
         self.closed = Some(count);
@@ -118,15 +143,15 @@ fn next_arrival(chance: &mut Chance, order: u64, front: u64) -> Arrival
 
 /// A row for each price below so many, so that a thousand orders make no row of their own.
 fn rows_of_prices(alloc: Global, count: i64) -> Result<Vec<Row>, Fail> {
-    let table = price_table(alloc)?;
     let mut rows = Vec::new(alloc);
     for price in 0..count {
-        rows.push(row_of(alloc, &table, price)?)?;
+        let cells = vec![in alloc; Value::Int(price)]?;
+        rows.push(Row::new(alloc, cells)?)?;
     }
     Ok(rows)
 }
 
-/// Whether the feed's answer to what comes is that of the map. Out of memory is no answer.
+/// Whether the feed's answer to what comes is that of the list. Out of memory is no answer.
 fn agree(feed: &mut Feed, plain: &mut Plain, rows: &[Row], arrival: Arrival) -> Result<bool, Fail> {
     match arrival {
         Arrival::Row(number, price) => {
@@ -152,22 +177,49 @@ fn agree(feed: &mut Feed, plain: &mut Plain, rows: &[Row], arrival: Arrival) -> 
     }
 }
 
-/// Whether the feed holds the rows of the map that aren't dropped, and no other.
+/// Whether the feed holds the rows of the list that aren't dropped, and no other.
 fn hold_the_same(alloc: Global, feed: &Feed, plain: &Plain, rows: &[Row]) -> Result<bool, Fail> {
     let numbered = feed.rows(alloc)?;
     let mut held = numbered.iter();
-    for (number, price) in plain.taken.iter() {
+    for (number, price) in &plain.taken {
         if *number < plain.first {
             continue;
         }
         let (Some((other, row)), Some(expected)) = (held.next(), rows.get(*price)) else {
             return Ok(false);
         };
-        if other != number || !row.same(expected) {
+        if other != number || !row.same(expected) || !finds(feed, *number, expected) {
             return Ok(false);
         }
     }
     Ok(held.next().is_none())
+}
+
+/// Whether the feed gives this row by its number.
+fn finds(feed: &Feed, number: u64, expected: &Row) -> bool {
+    match feed.row(number) {
+        Some(row) => row.same(expected),
+        None => false,
+    }
+}
+
+/// Whether the feed answers an order of arrivals as the list does, and holds the same then.
+fn is_order_same(alloc: Global, order: u64, rows: &[Row]) -> Result<bool, Fail> {
+    let mut chance = Chance::new(order);
+    let begin = 1 + order % 3;
+    let mut feed = Feed::starting(alloc, begin);
+    let mut plain = Plain::new(alloc, begin);
+    for _ in 0..150 {
+        let next = next_arrival(&mut chance, order, plain.front());
+        if !agree(&mut feed, &mut plain, rows, next)? || !stand_alike(&feed, &plain) {
+            return Ok(false);
+        }
+    }
+    Ok(feed.row(0).is_none() && hold_the_same(alloc, &feed, &plain, rows)?)
+}
+
+fn stand_alike(feed: &Feed, plain: &Plain) -> bool {
+    feed.front() == plain.front() && feed.first() == plain.first && feed.closed() == plain.closed
 }
 
 #[test]
@@ -175,18 +227,8 @@ fn random_orders(rt: HostRuntime) -> Result<(), Fail> {
     let alloc = rt.alloc();
     let rows = rows_of_prices(alloc, 62)?;
     for order in 0..1_000 {
-        let mut chance = Chance { state: order };
-        let mut feed = Feed::new(alloc);
-        let mut plain = Plain::new(alloc);
-        for _ in 0..150 {
-            let next = next_arrival(&mut chance, order, plain.front());
-            assert!(rt; agree(&mut feed, &mut plain, &rows, next)?, "order {order}");
-            same(&rt, feed.front(), plain.front());
-            same(&rt, feed.first(), plain.first);
-            same(&rt, feed.closed(), plain.closed);
-        }
         assert!(rt;
-            hold_the_same(alloc, &feed, &plain, &rows)?,
+            is_order_same(alloc, order, rows.as_slice())?,
             "order {order}"
         );
     }
