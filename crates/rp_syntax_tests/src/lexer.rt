@@ -1,300 +1,105 @@
-//! Texts with their tokens, and what those mean.
-ghost use Rattle.std.specs.Prelude.{◌≡◌, ◌⊎◌};
-ghost use Rattle.rp_lexer.specs.Lexes.{IsToken};
-
-use crate::support::{holds, holds_of, lexed, refused_twice, same, tokens_of};
-use rp_lexer::{Keyword, LexFault, Mark, Token, TokenKind, name_of, number_of, text_of};
-use std::alloc::Global;
+//! Texts with their tokens.
+use crate::support::{same, unless_refused_twice};
+use rp_lexer::{LexFault, Token, lex};
+use std::alloc::{AllocError, Global};
 use std::process::Abort;
 use std::test::Fail;
 
-/// Asserts that the text has these tokens, each by its kind, start and end.
-fn check_tokens(rt: &impl Abort, alloc: Global, text: &str, want: &[(TokenKind, usize, usize)]) {
-    match lexed(alloc, text) {
-        Ok(tokens) => {
-            holds_of(rt, tokens.len() == want.len(), text);
-            for (token, (kind, start, end)) in tokens.iter().zip(want) {
-                holds_of(rt, token.kind == *kind, text);
-                same(rt, token.start, *start);
-                same(rt, token.end, *end);
-            }
-        }
-        Err(_) => holds_of(rt, false, text),
-    }
-}
-
-/// Asserts that the text has this first fault.
-fn check_fault(rt: &impl Abort, alloc: Global, text: &str, want: LexFault) {
-    match lexed(alloc, text) {
-        Ok(_) => holds_of(rt, false, text),
-        Err(fault) => holds_of(rt, fault == want, text),
-    }
-}
-
-/// Each mark, with blanks between.
-const SIGNS: &str = "( ) , . * + - ? { } {- -} | ^ $ = <> < <= > >=";
-
-const MARKS: [Mark; 21] = [
-    Mark::LeftParenthesis,
-    Mark::RightParenthesis,
-    Mark::Comma,
-    Mark::Period,
-    Mark::Asterisk,
-    Mark::Plus,
-    Mark::Minus,
-    Mark::QuestionMark,
-    Mark::LeftBrace,
-    Mark::RightBrace,
-    Mark::LeftBraceMinus,
-    Mark::RightBraceMinus,
-    Mark::VerticalBar,
-    Mark::Circumflex,
-    Mark::DollarSign,
-    Mark::Equals,
-    Mark::NotEquals,
-    Mark::LessThan,
-    Mark::LessThanOrEquals,
-    Mark::GreaterThan,
-    Mark::GreaterThanOrEquals,
-];
-
-/// Each reserved word in mixed case, with blanks between.
-const MIXED_CASE: &str =
-    "aFTER aLL aND aS aSC bY cLASSIFIER cOUNT dEFINE dESC eMPTY fINAL fIRST iS lAST mATCH mATCHES mATCH_nUMBER mATCH_rECOGNIZE mAX mEASURES mIN nEXT nOT nULL oMIT oNE oR oRDER pARTITION pAST pATTERN pER pERMUTE pREV rOW rOWS rUNNING sHOW sKIP sUBSET sUM tO uNMATCHED wITH";
-
-const WORDS: [Keyword; 45] = [
-    Keyword::After,
-    Keyword::All,
-    Keyword::And,
-    Keyword::As,
-    Keyword::Asc,
-    Keyword::By,
-    Keyword::Classifier,
-    Keyword::Count,
-    Keyword::Define,
-    Keyword::Desc,
-    Keyword::Empty,
-    Keyword::Final,
-    Keyword::First,
-    Keyword::Is,
-    Keyword::Last,
-    Keyword::Match,
-    Keyword::Matches,
-    Keyword::MatchNumber,
-    Keyword::MatchRecognize,
-    Keyword::Max,
-    Keyword::Measures,
-    Keyword::Min,
-    Keyword::Next,
-    Keyword::Not,
-    Keyword::Null,
-    Keyword::Omit,
-    Keyword::One,
-    Keyword::Or,
-    Keyword::Order,
-    Keyword::Partition,
-    Keyword::Past,
-    Keyword::Pattern,
-    Keyword::Per,
-    Keyword::Permute,
-    Keyword::Prev,
-    Keyword::Row,
-    Keyword::Rows,
-    Keyword::Running,
-    Keyword::Show,
-    Keyword::Skip,
-    Keyword::Subset,
-    Keyword::Sum,
-    Keyword::To,
-    Keyword::Unmatched,
-    Keyword::With,
-];
-
-/// Asserts that the text has these marks.
-fn check_marks(rt: &impl Abort, alloc: Global, text: &str, want: &[Mark]) {
-    match lexed(alloc, text) {
-        Ok(tokens) => {
-            same(rt, tokens.len(), want.len());
-            for (token, mark) in tokens.iter().zip(want) {
-                same(rt, token.kind, TokenKind::Mark(*mark));
-            }
-        }
-        Err(_) => holds_of(rt, false, text),
-    }
-}
-
-/// Asserts that the text has these reserved words.
-fn check_words(rt: &impl Abort, alloc: Global, text: &str, want: &[Keyword]) {
-    match lexed(alloc, text) {
-        Ok(tokens) => {
-            same(rt, tokens.len(), want.len());
-            for (token, word) in tokens.iter().zip(want) {
-                same(rt, token.kind, TokenKind::Keyword(*word));
-            }
-        }
-        Err(_) => holds_of(rt, false, text),
-    }
-}
-
-#[test]
-fn comments_and_separators(rt: HostRuntime) {
-    let alloc = rt.alloc();
-    let name = TokenKind::Name;
-    check_tokens(&rt, alloc, "", &[]);
-    check_tokens(&rt, alloc, " \t\r\n--", &[]);
-    check_tokens(
-        &rt,
-        alloc,
-        "a--b\n'it''s'",
-        &[(name, 0, 1), (TokenKind::Text, 5, 12)],
-    );
-    check_tokens(&rt, alloc, "a---}b\nc", &[(name, 0, 1), (name, 7, 8)]);
-    check_tokens(&rt, alloc, "a\rb--\r", &[(name, 0, 1), (name, 2, 3)]);
-}
-
-#[test]
-fn marks(rt: HostRuntime) {
-    let alloc = rt.alloc();
-    let number = TokenKind::Number;
-    let left = TokenKind::Mark(Mark::LeftBraceMinus);
-    let right = TokenKind::Mark(Mark::RightBraceMinus);
-    check_tokens(&rt, alloc, "{--}", &[(left, 0, 2), (right, 2, 4)]);
-    check_tokens(
-        &rt,
-        alloc,
-        "a<>1",
-        &[
-            (TokenKind::Name, 0, 1),
-            (TokenKind::Mark(Mark::NotEquals), 1, 3),
-            (number, 3, 4),
-        ],
-    );
-    check_marks(&rt, alloc, SIGNS, &MARKS);
-}
-
-#[test]
-fn numbers_and_names(rt: HostRuntime) {
-    let alloc = rt.alloc();
-    let number = TokenKind::Number;
-    check_tokens(&rt, alloc, "9223372036854775807", &[(number, 0, 19)]);
-    check_tokens(&rt, alloc, "00000000000000000000001", &[(number, 0, 23)]);
-    check_tokens(&rt, alloc, "1a", &[(number, 0, 1), (TokenKind::Name, 1, 2)]);
-    check_tokens(&rt, alloc, "_1", &[(TokenKind::Name, 0, 2)]);
-    check_tokens(&rt, alloc, "\"a\"\"b\"", &[(TokenKind::Quoted, 0, 6)]);
-    check_tokens(&rt, alloc, "\"and\"", &[(TokenKind::Quoted, 0, 5)]);
-    check_tokens(&rt, alloc, "\"\"\"\"", &[(TokenKind::Quoted, 0, 4)]);
-    check_tokens(&rt, alloc, "''", &[(TokenKind::Text, 0, 2)]);
-}
-
-#[test]
-fn reserved_words(rt: HostRuntime) {
-    let alloc = rt.alloc();
-    check_words(&rt, alloc, MIXED_CASE, &WORDS);
-    check_tokens(&rt, alloc, "ands", &[(TokenKind::Name, 0, 4)]);
-}
-
-#[test]
-fn beyond_ascii(rt: HostRuntime) {
-    let alloc = rt.alloc();
-    let name = TokenKind::Name;
-    check_tokens(
-        &rt,
-        alloc,
-        "'é'\"λ\"",
-        &[(TokenKind::Text, 0, 4), (TokenKind::Quoted, 4, 8)],
-    );
-    check_tokens(&rt, alloc, "a--é\nb", &[(name, 0, 1), (name, 6, 7)]);
-}
-
-// A call that is refused memory, made again, answers as with ample memory.
-
-#[test]
-fn refused_tokens(rt: HostRuntime) {
-    let alloc = rt.alloc();
-    let text = "pattern --'\n a \"b\"\"c\" 'it''s' 42 <= {- B";
-    check_tokens(
-        &rt,
-        alloc,
-        text,
-        &[
-            (TokenKind::Keyword(Keyword::Pattern), 0, 7),
-            (TokenKind::Name, 13, 14),
-            (TokenKind::Quoted, 15, 21),
-            (TokenKind::Text, 22, 29),
-            (TokenKind::Number, 30, 32),
-            (TokenKind::Mark(Mark::LessThanOrEquals), 33, 35),
-            (TokenKind::Mark(Mark::LeftBraceMinus), 36, 38),
-            (TokenKind::Name, 39, 40),
-        ],
-    );
-}
-
-#[test]
-fn refused_faults(rt: HostRuntime) {
-    let alloc = rt.alloc();
-    check_fault(
-        &rt,
-        alloc,
-        "a --\"\n \"b\"\"c\" 'd''e' 12 <> λ",
-        LexFault::BadChar(27),
-    );
-    check_fault(
-        &rt,
-        alloc,
+/// Texts, each with its tokens by their kinds, starts and ends; or with its first fault.
+const TEXTS: &[(&str, &str)] = &[
+    ("", ""),
+    (" \t\r\n--", ""),
+    ("a--b\n'it''s'", "Name 0 1, Text 5 12, "),
+    ("a---}b\nc", "Name 0 1, Name 7 8, "),
+    ("a\rb--\r", "Name 0 1, Name 2 3, "),
+    (
+        "{--}",
+        "Mark(LeftBraceMinus) 0 2, Mark(RightBraceMinus) 2 4, ",
+    ),
+    ("a<>1", "Name 0 1, Mark(NotEquals) 1 3, Number 3 4, "),
+    (MARKS, MARK_TOKENS),
+    (RESERVED_WORDS, RESERVED_WORD_TOKENS),
+    ("ands", "Name 0 4, "),
+    ("9223372036854775807", "Number 0 19, "),
+    ("00000000000000000000001", "Number 0 23, "),
+    ("1a", "Number 0 1, Name 1 2, "),
+    ("_1", "Name 0 2, "),
+    ("\"a\"\"b\"", "Quoted 0 6, "),
+    ("\"and\"", "Quoted 0 5, "),
+    ("\"\"\"\"", "Quoted 0 4, "),
+    ("''", "Text 0 2, "),
+    ("'é'\"λ\"", "Text 0 4, Quoted 4 8, "),
+    ("a--é\nb", "Name 0 1, Name 6 7, "),
+    (
+        "pattern --'\n a \"b\"\"c\" 'it''s' 42 <= {- B",
+        "Keyword(Pattern) 0 7, Name 13 14, Quoted 15 21, Text 22 29, Number 30 32, \
+         Mark(LessThanOrEquals) 33 35, Mark(LeftBraceMinus) 36 38, Name 39 40, ",
+    ),
+    ("a --\"\n \"b\"\"c\" 'd''e' 12 <> λ", "BadChar at byte 27"),
+    (
         "a --\"\n \"b\"\"c\" 'd''e' 12 <> 'f''",
-        LexFault::OpenText(27),
-    );
+        "OpenText at byte 27",
+    ),
+];
+
+const MARKS: &str = "( ) , . * + - ? { } {- -} | ^ $ = <> < <= > >=";
+
+const MARK_TOKENS: &str = "\
+Mark(LeftParenthesis) 0 1, Mark(RightParenthesis) 2 3, Mark(Comma) 4 5, Mark(Period) 6 7, Mark(Asterisk) 8 9, Mark(Plus) 10 11, \
+Mark(Minus) 12 13, Mark(QuestionMark) 14 15, Mark(LeftBrace) 16 17, Mark(RightBrace) 18 19, Mark(LeftBraceMinus) 20 22, \
+Mark(RightBraceMinus) 23 25, Mark(VerticalBar) 26 27, Mark(Circumflex) 28 29, Mark(DollarSign) 30 31, Mark(Equals) 32 33, \
+Mark(NotEquals) 34 36, Mark(LessThan) 37 38, Mark(LessThanOrEquals) 39 41, Mark(GreaterThan) 42 43, \
+Mark(GreaterThanOrEquals) 44 46, ";
+
+/// Each reserved word, in mixed case.
+const RESERVED_WORDS: &str = "\
+aFTER aLL aND aS aSC bY cLASSIFIER cOUNT dEFINE dESC eMPTY fINAL fIRST iS lAST mATCH mATCHES mATCH_nUMBER mATCH_rECOGNIZE mAX \
+mEASURES mIN nEXT nOT nULL oMIT oNE oR oRDER pARTITION pAST pATTERN pER pERMUTE pREV rOW rOWS rUNNING sHOW sKIP sUBSET sUM tO \
+uNMATCHED wITH";
+
+const RESERVED_WORD_TOKENS: &str = "\
+Keyword(After) 0 5, Keyword(All) 6 9, Keyword(And) 10 13, Keyword(As) 14 16, Keyword(Asc) 17 20, Keyword(By) 21 23, \
+Keyword(Classifier) 24 34, Keyword(Count) 35 40, Keyword(Define) 41 47, Keyword(Desc) 48 52, Keyword(Empty) 53 58, \
+Keyword(Final) 59 64, Keyword(First) 65 70, Keyword(Is) 71 73, Keyword(Last) 74 78, Keyword(Match) 79 84, Keyword(Matches) 85 92, \
+Keyword(MatchNumber) 93 105, Keyword(MatchRecognize) 106 121, Keyword(Max) 122 125, Keyword(Measures) 126 134, \
+Keyword(Min) 135 138, Keyword(Next) 139 143, Keyword(Not) 144 147, Keyword(Null) 148 152, Keyword(Omit) 153 157, \
+Keyword(One) 158 161, Keyword(Or) 162 164, Keyword(Order) 165 170, Keyword(Partition) 171 180, Keyword(Past) 181 185, \
+Keyword(Pattern) 186 193, Keyword(Per) 194 197, Keyword(Permute) 198 205, Keyword(Prev) 206 210, Keyword(Row) 211 214, \
+Keyword(Rows) 215 219, Keyword(Running) 220 227, Keyword(Show) 228 232, Keyword(Skip) 233 237, Keyword(Subset) 238 244, \
+Keyword(Sum) 245 248, Keyword(To) 249 251, Keyword(Unmatched) 252 261, Keyword(With) 262 266, ";
+
+/// What is told of tokens.
+fn told_of(alloc: Global, tokens: &[Token]) -> Result<String, AllocError> {
+    let mut told = String::new(alloc);
+    for token in tokens {
+        let Token { kind, start, end } = *token;
+        write!(told, "{kind:?} {start} {end}, ")?;
+    }
+    Ok(told)
 }
 
-/// What `name_of` answers. A call that is refused is made again.
-fn named(alloc: Global, text: &str, token: Token) -> Result<String, Fail>
-    requires stands { IsToken text.now token }
-    requires name { (token.kind ≡ TokenKind.Name) ⊎ (token.kind ≡ TokenKind.Quoted) }
-{
-    if let Ok(name) = name_of(alloc, text, token) {
-        return Ok(name);
-    }
-    match name_of(alloc, text, token) {
-        Ok(name) => Ok(name),
-        Err(_) => Err(refused_twice()),
+/// What is told of a text.
+fn told(alloc: Global, text: &str) -> Result<String, AllocError> {
+    match lex(alloc, text) {
+        Ok(tokens) => told_of(alloc, tokens.as_slice()),
+        Err(LexFault::OutOfMemory) => Err(AllocError),
+        Err(fault) => format!(in alloc; "{fault}"),
     }
 }
 
-/// What `text_of` answers. A call that is refused is made again.
-fn literal(alloc: Global, text: &str, token: Token) -> Result<String, Fail>
-    requires stands { IsToken text.now token }
-    requires literal { token.kind ≡ TokenKind.Text }
-{
-    if let Ok(value) = text_of(alloc, text, token) {
-        return Ok(value);
+/// Asserts that this is told of each text.
+fn check_texts(rt: &impl Abort, alloc: Global, texts: &[(&str, &str)]) -> Result<(), AllocError> {
+    for (text, wanted) in texts {
+        let came = told(alloc, text)?;
+        same(rt, came.as_str(), wanted);
     }
-    match text_of(alloc, text, token) {
-        Ok(value) => Ok(value),
-        Err(_) => Err(refused_twice()),
-    }
+    Ok(())
 }
 
 #[test]
-fn refused_meanings(rt: HostRuntime) -> Result<(), Fail> {
+fn refused_tokens(rt: HostRuntime) -> Result<(), Fail> {
     let alloc = rt.alloc();
-    let text = "aB_1 \"a\"\"é and far more\" 'it''s longer than that' 042";
-    let tokens = tokens_of(alloc, text)?;
-    holds(&rt, tokens.len() == 4);
-    holds(&rt, tokens[0].kind == TokenKind::Name);
-    same(&rt, named(alloc, text, tokens[0])?.as_str(), "AB_1");
-    holds(&rt, tokens[1].kind == TokenKind::Quoted);
-    same(
-        &rt,
-        named(alloc, text, tokens[1])?.as_str(),
-        "a\"é and far more",
-    );
-    holds(&rt, tokens[2].kind == TokenKind::Text);
-    same(
-        &rt,
-        literal(alloc, text, tokens[2])?.as_str(),
-        "it's longer than that",
-    );
-    holds(&rt, tokens[3].kind == TokenKind::Number);
-    same(&rt, number_of(text, tokens[3]), 42);
-    Ok(())
+    unless_refused_twice(
+        check_texts(&rt, alloc, TEXTS).is_ok() || check_texts(&rt, alloc, TEXTS).is_ok(),
+    )
 }

@@ -14,8 +14,6 @@ mod explain;
 #[cfg(test)]
 mod lexer;
 #[cfg(test)]
-mod place;
-#[cfg(test)]
 mod support;
 #[cfg(test)]
 mod syntax;
