@@ -1,300 +1,380 @@
-//! Connections of a node over devices in memory, and what is kept after them.
+//! Connections of a node over devices in memory, and what is kept after them. Further files from which a node begins are in
+//! cases/nodes.cases, and what it answers in cases/node.script and refused.script.
 ghost use Rattle.std.specs.Prelude.{IfOk};
 ghost use Rattle.std.specs.Option.{ForSome};
 ghost use Rattle.rp_node.specs.GoingBack.{CanRestart};
 
-use super::support::{V, fixed_hasher, holds, query_of, refused_twice, same};
+use crate::support::{V, fixed_hasher, holds, query_of, refused_twice, same};
 use rp_io::{MemoryInput, MemoryOutput};
-use rp_node::{Begun, Node, RestartFault, begin};
+use rp_node::{Node, begin};
 use rp_query::Query;
 use rp_serve::{RoundEnd, ServeFault, round};
 use std::alloc::{AllocError, Global};
-use std::process::Abort;
 use std::test::Fail;
+
+/// The lines of a connection, and the replies to all of them.
+#[derive(Clone, Copy)]
+struct Talk {
+    lines: &'static str,
+    replies: &'static str,
+}
+
+/// Of the 166 bytes each read of 29 ends one line more, up to the sixth.
+const ALL: Talk = Talk {
+    lines: r#"{"row":1,"cells":["x",1,10]}
+{"poll":["x"],"budget":0}
+{"poll":["x"],"budget":1000}
+{"close":1,"key":["x"]}
+{"poll":["x"],"budget":1000}
+{"poll":["x"],"budget":1000}
+"#,
+    replies: r#"{"taken":"new"}
+{"paused":["x"]}
+{"idle":["x"]}
+{"taken":"new"}
+{"end":true,"key":["x"],"place":"1"}
+{"idle":["x"]}
+"#,
+};
+
+const FAULTY: Talk = Talk {
+    lines: r#"nope
+{"row":1}
+{"row":1,"cells":["x",1]}
+{"row":1,"cells":["x","y",1]}
+{"row":0,"cells":["x",1,10]}
+{"poll":["x"],"budget":1}
+"#,
+    replies: r#"{"refused":"NotJson"}
+{"refused":"BadField cells"}
+{"refused":"BadRow width"}
+{"refused":"BadRow kind 2"}
+{"refused":"NumberRange"}
+{"refused":"UnknownPartition"}
+"#,
+};
 
 const ROW: &str = "{\"row\":1,\"cells\":[\"x\",1,10]}\n";
 
-const LINES: &str = "\
-{\"row\":1,\"cells\":[\"x\",1,10]}
-{\"poll\":[\"x\"],\"budget\":0}
-{\"poll\":[\"x\"],\"budget\":1000}
-{\"close\":1,\"key\":[\"x\"]}
-{\"poll\":[\"x\"],\"budget\":1000}
-{\"poll\":[\"x\"],\"budget\":1000}
-";
-
-const REPLIES: &str = "\
-{\"taken\":\"new\"}
-{\"paused\":[\"x\"]}
-{\"idle\":[\"x\"]}
-{\"taken\":\"new\"}
-{\"end\":true,\"key\":[\"x\"],\"place\":\"1\"}
-{\"idle\":[\"x\"]}
-";
-
-const REFUSED: &str = "\
-nope
-{\"row\":1}
-{\"row\":1,\"cells\":[\"x\",1]}
-{\"row\":1,\"cells\":[\"x\",\"y\",1]}
-{\"row\":0,\"cells\":[\"x\",1,10]}
-{\"poll\":[\"x\"],\"budget\":1}
-";
-
-const REFUSALS: &str = "\
-{\"refused\":\"NotJson\"}
-{\"refused\":\"BadField cells\"}
-{\"refused\":\"BadRow width\"}
-{\"refused\":\"BadRow kind 2\"}
-{\"refused\":\"NumberRange\"}
-{\"refused\":\"UnknownPartition\"}
-";
-
-/// Which calls of the devices fail, 0 for none, and how many reads are allowed.
-#[derive(Clone, Copy)]
-struct Failing {
-    read: u64,
-    write: u64,
-    turns: u64,
-}
-
-const NONE: Failing = Failing {
-    read: 0,
-    write: 0,
-    turns: 1_000,
+const NEW: Talk = Talk {
+    lines: ROW,
+    replies: "{\"taken\":\"new\"}\n",
 };
 
-/// A connection's end, and what was written.
-#[derive(Drop)]
-struct Ended {
-    end: RoundEnd<Node>,
-    writer: MemoryOutput,
+const REPEATED: Talk = Talk {
+    lines: ROW,
+    replies: "{\"taken\":\"repeat\"}\n",
+};
+
+const OLD: Talk = Talk {
+    lines: ROW,
+    replies: "{\"taken\":\"old\"}\n",
+};
+
+const ONE_MORE: Talk = Talk {
+    lines: "{\"row\":1,\"cells\":[\"x\",1,10]}\n{\"row\":2,\"cells\":[\"x\",2,8]}\n",
+    replies: "{\"taken\":\"repeat\"}\n{\"taken\":\"new\"}\n",
+};
+
+/// What comes to a node.
+#[derive(Clone, Copy)]
+enum Step {
+    /// A connection.
+    Talk(Talk),
+    /// One whose read of this number fails, from 1.
+    FailingRead(u64, Talk),
+    /// One whose write of this number fails.
+    FailingWrite(u64, Talk),
+    /// One without a read.
+    NoRead(Talk),
+    /// A node of this clause begins from what was saved, without so many of its last bytes.
+    Begin(&'static str, usize),
 }
 
-/// One connection. One that is out of memory ends the test.
-fn connection(
-    alloc: Global,
+/// Another clause than the usual one.
+const OTHER: &str = "PATTERN (A) DEFINE A AS p = 1";
+
+/// What comes to new nodes, and what is told of it: of a beginning why what was saved is refused, of a connection its fault and how many
+/// lines and bytes were answered; and whether a partition is saved after it, and held. After a fault of the writer a node goes back to
+/// what was saved before, and after any other it is saved with all that was answered.
+const RUNS: &[&[(Step, &str)]] = &[
+    &[(
+        Step::Talk(ALL),
+        "None after 6 lines, 116 bytes: a partition saved, a partition held",
+    )],
+    &[(
+        Step::Talk(FAULTY),
+        "None after 6 lines, 163 bytes: no partition saved, no partition held",
+    )],
+    &[(
+        Step::NoRead(ALL),
+        "Some(Turns) after 0 lines, 0 bytes: no partition saved, no partition held",
+    )],
+    &[
+        (
+            Step::FailingRead(1, ALL),
+            "Some(Read) after 0 lines, 0 bytes: no partition saved, no partition held",
+        ),
+        (
+            Step::Talk(NEW),
+            "None after 1 lines, 16 bytes: a partition saved, a partition held",
+        ),
+    ],
+    &[
+        (
+            Step::FailingRead(2, ALL),
+            "Some(Read) after 1 lines, 16 bytes: a partition saved, a partition held",
+        ),
+        (
+            Step::Talk(REPEATED),
+            "None after 1 lines, 19 bytes: a partition saved, a partition held",
+        ),
+    ],
+    &[
+        (
+            Step::FailingRead(3, ALL),
+            "Some(Read) after 2 lines, 33 bytes: a partition saved, a partition held",
+        ),
+        (
+            Step::Talk(REPEATED),
+            "None after 1 lines, 19 bytes: a partition saved, a partition held",
+        ),
+    ],
+    &[
+        (
+            Step::FailingRead(4, ALL),
+            "Some(Read) after 3 lines, 48 bytes: a partition saved, a partition held",
+        ),
+        (
+            Step::Talk(REPEATED),
+            "None after 1 lines, 19 bytes: a partition saved, a partition held",
+        ),
+    ],
+    &[
+        (
+            Step::FailingRead(5, ALL),
+            "Some(Read) after 4 lines, 64 bytes: a partition saved, a partition held",
+        ),
+        (
+            Step::Talk(REPEATED),
+            "None after 1 lines, 19 bytes: a partition saved, a partition held",
+        ),
+    ],
+    &[
+        (
+            Step::FailingRead(6, ALL),
+            "Some(Read) after 5 lines, 101 bytes: a partition saved, a partition held",
+        ),
+        (
+            Step::Talk(OLD),
+            "None after 1 lines, 16 bytes: a partition saved, a partition held",
+        ),
+    ],
+    &[
+        (
+            Step::FailingRead(7, ALL),
+            "Some(Read) after 6 lines, 116 bytes: a partition saved, a partition held",
+        ),
+        (
+            Step::Talk(OLD),
+            "None after 1 lines, 16 bytes: a partition saved, a partition held",
+        ),
+    ],
+    &[(
+        Step::FailingWrite(1, ALL),
+        "Some(Write) after 1 lines, 0 bytes: nothing saved, no partition held",
+    )],
+    &[(
+        Step::FailingWrite(2, ALL),
+        "Some(Write) after 2 lines, 16 bytes: nothing saved, no partition held",
+    )],
+    &[
+        (
+            Step::Talk(NEW),
+            "None after 1 lines, 16 bytes: a partition saved, a partition held",
+        ),
+        (
+            Step::FailingWrite(1, ONE_MORE),
+            "Some(Write) after 1 lines, 0 bytes: a partition saved, a partition held",
+        ),
+        (
+            Step::Talk(ONE_MORE),
+            "None after 2 lines, 35 bytes: a partition saved, a partition held",
+        ),
+    ],
+    &[
+        (
+            Step::Talk(NEW),
+            "None after 1 lines, 16 bytes: a partition saved, a partition held",
+        ),
+        (Step::Begin(V, 0), "begins, None: a partition saved"),
+        (
+            Step::Talk(REPEATED),
+            "None after 1 lines, 19 bytes: a partition saved, a partition held",
+        ),
+    ],
+    &[
+        (
+            Step::Talk(NEW),
+            "None after 1 lines, 16 bytes: a partition saved, a partition held",
+        ),
+        (Step::Begin(V, 1), "begins, Some(Digest): nothing saved"),
+        (
+            Step::Talk(NEW),
+            "None after 1 lines, 16 bytes: a partition saved, a partition held",
+        ),
+    ],
+    &[
+        (
+            Step::Talk(NEW),
+            "None after 1 lines, 16 bytes: a partition saved, a partition held",
+        ),
+        (
+            Step::Begin(OTHER, 0),
+            "begins, Some(ClauseDiffers): nothing saved",
+        ),
+    ],
+];
+
+#[test]
+fn connections(rt: HostRuntime) -> Result<(), Fail> {
+    each_run(rt.alloc(), RUNS)
+}
+
+fn each_run(alloc: Global, runs: &[&[(Step, &str)]]) -> Result<(), Fail> {
+    for steps in runs {
+        each_step(alloc, *steps)?;
+    }
+    Ok(())
+}
+
+fn each_step(alloc: Global, steps: &[(Step, &str)]) -> Result<(), Fail> {
+    let mut standing = begun(alloc, V, None, "begins, None: nothing saved")?;
+    for (step, wanted) in steps {
+        standing = taken(alloc, standing, *step, *wanted)?;
+    }
+    Ok(())
+}
+
+/// A node between two connections: it can go back to what was saved of it.
+#[derive(Drop)]
+struct Standing {
     node: Node,
     saved: Option<Vec<u8>>,
-    lines: &str,
-    failing: Failing,
-) -> Result<Ended, Fail>
-    requires { ForSome saved (λ bytes. CanRestart node.query bytes.items) }
-    ensures again { IfOk result (λ ended. ForSome ended.end.saved (λ bytes. CanRestart ended.end.node.query bytes.items)) }
+}
+
+fn taken(alloc: Global, standing: Standing, step: Step, wanted: &str) -> Result<Standing, Fail>
+    requires { ForSome standing.saved (λ bytes. CanRestart standing.node.query bytes.items) }
+    ensures again { IfOk result (λ s. ForSome s.saved (λ bytes. CanRestart s.node.query bytes.items)) }
 {
-    let mut reader = MemoryInput::new(lines.as_bytes(), 29, failing.read);
-    let mut writer = MemoryOutput::new(alloc, 4_096, 100, failing.write)?;
-    let end = round(alloc, node, saved, &mut reader, &mut writer, failing.turns)?;
+    match step {
+        Step::Talk(talk) => connected(alloc, standing, talk, (0, 0), 1_000, wanted),
+        Step::FailingRead(call, talk) => connected(alloc, standing, talk, (call, 0), 1_000, wanted),
+        Step::FailingWrite(call, talk) => connected(
+            alloc,
+            standing,
+            talk,
+            (0, call),
+            1_000,
+            wanted,
+        ),
+        Step::NoRead(talk) => connected(alloc, standing, talk, (0, 0), 0, wanted),
+        Step::Begin(clause, without) => begun(alloc, clause, cut(standing.saved, without), wanted),
+    }
+}
+
+/// What was saved, without its last bytes.
+fn cut(saved: Option<Vec<u8>>, without: usize) -> Option<Vec<u8>> {
+    let mut saved = saved;
+    if let Some(bytes) = &mut saved {
+        bytes.truncate(bytes.len().saturating_sub(without));
+    }
+    saved
+}
+
+/// A node as it begins.
+fn begun(
+    alloc: Global,
+    clause: &str,
+    saved: Option<Vec<u8>>,
+    wanted: &str,
+) -> Result<Standing, Fail>
+    ensures again { IfOk result (λ s. ForSome s.saved (λ bytes. CanRestart s.node.query bytes.items)) }
+{
+    let query = query_of(alloc, clause)?;
+    let begun = begin(alloc, query, fixed_hasher()?, saved)?;
+    let (refused, saved) = (begun.refused, saved_text(&begun.saved));
+    let told = format!(in alloc; "begins, {refused:?}: {saved} saved")?;
+    same(alloc, told.as_str(), wanted)?;
+    Ok(Standing {
+        node: begun.node,
+        saved: begun.saved,
+    })
+}
+
+/// A node after a connection, of whose devices these calls fail, the read's and the write's, from 1, and none where that is 0. One that is
+/// out of memory ends the test.
+fn connected(
+    alloc: Global,
+    standing: Standing,
+    talk: Talk,
+    failing: (u64, u64),
+    reads: u64,
+    wanted: &str,
+) -> Result<Standing, Fail>
+    requires { ForSome standing.saved (λ bytes. CanRestart standing.node.query bytes.items) }
+    ensures again { IfOk result (λ s. ForSome s.saved (λ bytes. CanRestart s.node.query bytes.items)) }
+{
+    let Standing { node, saved } = standing;
+    let mut reader = MemoryInput::new(talk.lines.as_bytes(), 29, failing.0);
+    let mut writer = MemoryOutput::new(alloc, 4_096, 100, failing.1)?;
+    let end = round(alloc, node, saved, &mut reader, &mut writer, reads)?;
+    look_at_end(alloc, &end, talk.replies, writer.bytes(), wanted)?;
+    Ok(Standing {
+        node: end.node,
+        saved: end.saved,
+    })
+}
+
+fn look_at_end(
+    alloc: Global,
+    end: &RoundEnd<Node>,
+    replies: &str,
+    written: &[u8],
+    wanted: &str,
+) -> Result<(), Fail> {
     if end.fault == Some(ServeFault::OutOfMemory) {
         return Err(Fail::from(AllocError));
     }
-    Ok(Ended { end, writer })
-}
-
-/// The first connection of a new node.
-fn first(alloc: Global, lines: &str, failing: Failing) -> Result<Ended, Fail>
-    ensures again { IfOk result (λ ended. ForSome ended.end.saved (λ bytes. CanRestart ended.end.node.query bytes.items)) }
-{
-    let node = Node::new(alloc, query_of(alloc, V)?, fixed_hasher()?);
-    connection(alloc, node, None, lines, failing)
-}
-
-#[test]
-fn worked_lines(rt: HostRuntime) -> Result<(), Fail> {
-    let ended = first(rt.alloc(), LINES, NONE)?;
-    holds(&rt, ended.end.fault == None);
-    same(&rt, ended.end.lines, 6);
-    holds(&rt, ended.writer.bytes() == REPLIES.as_bytes());
-    Ok(())
-}
-
-#[test]
-fn faulty_lines(rt: HostRuntime) -> Result<(), Fail> {
-    let ended = first(rt.alloc(), REFUSED, NONE)?;
-    holds(&rt, ended.writer.bytes() == REFUSALS.as_bytes());
-    Ok(())
-}
-
-fn has_text(saved: &Option<Vec<u8>>, text: &str) -> bool {
-    let size = text.len();
-    if size == 0 {
-        return true;
-    }
-    match saved {
-        Some(bytes) => bytes
-            .as_slice()
-            .windows(size)
-            .any(|part| part == text.as_bytes()),
-        None => false,
-    }
-}
-
-/// The key of a partition that was saved.
-const KEY: &str = "\"key\":[\"x\"]";
-
-/// A writer that fails at once: the node has no partition, and nothing is saved where nothing was.
-#[test]
-fn nothing_saved(rt: HostRuntime) -> Result<(), Fail> {
-    let ended = first(rt.alloc(), ROW, Failing { write: 1, ..NONE })?;
-    holds(&rt, ended.end.fault == Some(ServeFault::Write));
-    holds(&rt, ended.end.saved.is_none());
-    let bytes = ended.end.node.save()?;
-    holds(&rt, !has_text(&Some(bytes), KEY));
-    Ok(())
-}
-
-/// With a good writer the node is saved, with its one partition.
-#[test]
-fn saved_at_the_end(rt: HostRuntime) -> Result<(), Fail> {
-    let ended = first(rt.alloc(), ROW, NONE)?;
-    holds(&rt, ended.end.fault == None);
-    holds(&rt, has_text(&ended.end.saved, KEY));
-    Ok(())
-}
-
-const TWO_ROWS: &str = "{\"row\":1,\"cells\":[\"x\",1,10]}\n{\"row\":2,\"cells\":[\"x\",2,8]}\n";
-
-/// The end of a second connection to a node that took the row, whose first reply isn't written.
-fn after_a_failed_write(alloc: Global) -> Result<RoundEnd<Node>, Fail>
-    ensures again { IfOk result (λ end. ForSome end.saved (λ bytes. CanRestart end.node.query bytes.items)) }
-{
-    let failing = Failing { write: 1, ..NONE };
-    let one = first(alloc, ROW, NONE)?.end;
-    Ok(connection(alloc, one.node, one.saved, TWO_ROWS, failing)?.end)
-}
-
-/// Where a reply isn't written the node goes back to what was saved before, and the next connection finds it so.
-#[test]
-fn goes_back(rt: HostRuntime) -> Result<(), Fail> {
-    let end = after_a_failed_write(rt.alloc())?;
-    holds(&rt, end.fault == Some(ServeFault::Write));
-    holds(&rt, has_text(&end.saved, KEY));
-    let next = connection(rt.alloc(), end.node, end.saved, TWO_ROWS, NONE)?;
-    holds(
-        &rt,
-        next.writer.bytes() == "{\"taken\":\"repeat\"}\n{\"taken\":\"new\"}\n".as_bytes(),
-    );
-    Ok(())
-}
-
-/// The first connection after a read that failed: the node was saved with all that was answered.
-fn after_a_read(rt: &impl Abort, alloc: Global, number: u64) -> Result<(), Fail> {
-    let ended = first(
-        alloc,
-        LINES,
-        Failing {
-            read: number,
-            ..NONE
-        },
+    holds(replies.as_bytes().starts_with(written), "other replies")?;
+    let bytes = end.node.save()?;
+    let (fault, lines, written) = (end.fault, end.lines, written.len());
+    let (saved, held) = (saved_text(&end.saved), partition_text(bytes.as_slice()));
+    let told = format!(in alloc;
+        "{fault:?} after {lines} lines, {written} bytes: {saved} saved, {held} held"
     )?;
-    holds(rt, ended.end.fault == Some(ServeFault::Read));
-    holds(rt, ended.end.saved.is_some());
-    holds(rt, REPLIES.as_bytes().starts_with(ended.writer.bytes()));
-    let again = connection(alloc, ended.end.node, ended.end.saved, ROW, NONE)?;
-    let is_new = again.writer.bytes() == "{\"taken\":\"new\"}\n".as_bytes();
-    same(rt, is_new, ended.writer.bytes().is_empty());
-    Ok(())
+    same(alloc, told.as_str(), wanted)
 }
 
-/// Each read fails once in turn.
-#[test]
-fn each_read(rt: HostRuntime) -> Result<(), Fail> {
-    for number in 1..=7 {
-        after_a_read(&rt, rt.alloc(), number)?;
+fn saved_text(saved: &Option<Vec<u8>>) -> &'static str {
+    match saved {
+        Some(bytes) => partition_text(bytes.as_slice()),
+        None => "nothing",
     }
-    Ok(())
 }
 
-/// Each write fails once in turn: the node goes back to its beginning.
-#[test]
-fn each_write(rt: HostRuntime) -> Result<(), Fail> {
-    for number in 1..=2 {
-        let failing = Failing {
-            write: number,
-            ..NONE
-        };
-        let ended = first(rt.alloc(), LINES, failing)?;
-        holds(&rt, ended.end.fault == Some(ServeFault::Write));
-        holds(&rt, ended.end.saved.is_none());
-        holds(&rt, REPLIES.as_bytes().starts_with(ended.writer.bytes()));
+/// Whether what is saved of a node has the partition.
+fn partition_text(bytes: &[u8]) -> &'static str {
+    match str::from_utf8(bytes) {
+        Ok(text) if text.contains("\"key\":[\"x\"]") => "a partition",
+        _ => "no partition",
     }
-    Ok(())
-}
-
-#[test]
-fn no_turns(rt: HostRuntime) -> Result<(), Fail> {
-    let ended = first(rt.alloc(), LINES, Failing { turns: 0, ..NONE })?;
-    holds(&rt, ended.end.fault == Some(ServeFault::Turns));
-    same(&rt, ended.end.lines, 0);
-    holds(&rt, ended.end.saved.is_some());
-    Ok(())
-}
-
-/// What a node that took the row has saved.
-fn saved_row(alloc: Global) -> Result<Option<Vec<u8>>, Fail> {
-    Ok(first(alloc, ROW, NONE)?.end.saved)
-}
-
-/// A node goes on from what was saved: the row is known.
-#[test]
-fn begins_at_what_was_saved(rt: HostRuntime) -> Result<(), Fail> {
-    let alloc = rt.alloc();
-    let begun = begun(alloc, V, saved_row(alloc)?)?;
-    holds(&rt, begun.refused.is_none());
-    let ended = connection(alloc, begun.node, begun.saved, ROW, NONE)?;
-    holds(
-        &rt,
-        ended.writer.bytes() == "{\"taken\":\"repeat\"}\n".as_bytes(),
-    );
-    Ok(())
-}
-
-/// How a node of a clause begins from these bytes.
-fn begun(alloc: Global, clause: &str, saved: Option<Vec<u8>>) -> Result<Begun, Fail>
-    ensures again { IfOk result (λ begun. ForSome begun.saved (λ bytes. CanRestart begun.node.query bytes.items)) }
-{
-    Ok(begin(alloc, query_of(alloc, clause)?, fixed_hasher()?, saved)?)
-}
-
-/// A node begins with nothing where nothing was saved.
-#[test]
-fn begins_with_nothing(rt: HostRuntime) -> Result<(), Fail> {
-    let begun = begun(rt.alloc(), V, None)?;
-    holds(&rt, begun.refused.is_none() && begun.saved.is_none());
-    Ok(())
-}
-
-/// Bytes that were cut are refused, and the node begins with nothing.
-#[test]
-fn begins_without_cut_bytes(rt: HostRuntime) -> Result<(), Fail> {
-    let mut cut = saved_row(rt.alloc())?;
-    if let Some(bytes) = &mut cut {
-        let _last = bytes.pop();
-    }
-    let begun = begun(rt.alloc(), V, cut)?;
-    holds(
-        &rt,
-        begun.refused == Some(RestartFault::Digest) && begun.saved.is_none(),
-    );
-    Ok(())
-}
-
-/// So are those of another clause.
-#[test]
-fn begins_without_those_of_another_clause(rt: HostRuntime) -> Result<(), Fail> {
-    let saved = saved_row(rt.alloc())?;
-    let begun = begun(rt.alloc(), "PATTERN (A) DEFINE A AS p = 1", saved)?;
-    holds(
-        &rt,
-        begun.refused == Some(RestartFault::ClauseDiffers) && begun.saved.is_none(),
-    );
-    Ok(())
 }
 
 /// The replies of a new node, or None where memory was refused and the node went back to its beginning.
-fn replied(alloc: Global, query: Query) -> Result<Option<MemoryOutput>, AllocError> {
-    let node = Node::new(alloc, query, fixed_hasher()?);
-    let mut reader = MemoryInput::new(LINES.as_bytes(), 29, 0);
+fn replied(alloc: Global, query: &Query) -> Result<Option<MemoryOutput>, AllocError> {
+    let node = Node::new(alloc, query.share()?, fixed_hasher()?);
+    let mut reader = MemoryInput::new(ALL.lines.as_bytes(), 29, 0);
     let mut writer = MemoryOutput::new(alloc, 4_096, 100, 0)?;
     let end = round(alloc, node, None, &mut reader, &mut writer, 1_000)?;
     if end.fault == Some(ServeFault::OutOfMemory) && end.saved.is_none() {
@@ -307,14 +387,11 @@ fn replied(alloc: Global, query: Query) -> Result<Option<MemoryOutput>, AllocErr
 #[test]
 fn refused_rounds(rt: HostRuntime) -> Result<(), Fail> {
     let query = query_of(rt.alloc(), V)?;
-    let again = query.share()?;
-    let writer = match replied(rt.alloc(), query) {
-        Ok(Some(writer)) => writer,
-        Ok(None) | Err(AllocError) => match replied(rt.alloc(), again) {
-            Ok(Some(writer)) => writer,
-            Ok(None) | Err(AllocError) => return Err(refused_twice()),
-        },
-    };
-    holds(&rt, writer.bytes() == REPLIES.as_bytes());
-    Ok(())
+    for _attempt in 0..2 {
+        if let Ok(Some(writer)) = replied(rt.alloc(), &query) {
+            let is_all = writer.bytes() == ALL.replies.as_bytes();
+            return holds(is_all, "other replies");
+        }
+    }
+    Err(refused_twice())
 }

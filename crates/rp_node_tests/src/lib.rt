@@ -3,8 +3,6 @@
 #![tactic(auto)]
 
 #[cfg(test)]
-mod columns;
-#[cfg(test)]
 mod connections;
 #[cfg(test)]
 mod input;
@@ -14,5 +12,3 @@ mod schedules;
 mod support;
 #[cfg(test)]
 mod whole;
-#[cfg(test)]
-mod worked;

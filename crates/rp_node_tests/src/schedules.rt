@@ -2,8 +2,6 @@
 //! few turns and of many, saves, and restarts from any earlier save of the node or from nothing. Each item that a node gives,
 //! in any of its lives, is the plain program's for the whole partition at that place. A node that is idle has given all that
 //! the plain program knows of the rows up to its front; and one that took all rows and the close, the whole answer.
-ghost use Rattle.std.specs.Prelude.{◌≡◌, ◌<◌};
-
 mod clauses;
 mod partition;
 mod simulated;
@@ -13,13 +11,10 @@ use clauses::CLAUSES;
 use partition::Partition;
 use rp_query::Query;
 use rp_reference::Dice;
-use rp_search::Steps;
 use simulated::{Simulated, Whole};
-use std::alloc::{AllocError, Global};
+use std::alloc::Global;
 use std::env;
 use std::env::VarError;
-use std::marker::Brand;
-use std::sync::ledger::{Blank, Ledger};
 use std::test::Fail;
 
 /// How often each clause has another partition. `SCHEDULE_ROUNDS` and `SCHEDULE_SEED` are read in place of these.
@@ -28,15 +23,15 @@ const ROUNDS: u64 = 8;
 const SEED: u64 = 1;
 
 /// Schedules over one partition, and the events of one.
-const SCHEDULES: usize = 10;
+const SCHEDULES: u64 = 10;
 
-const EVENTS: usize = 40;
+const EVENTS: u64 = 40;
 
 #[test]
 fn random_schedules(rt: HostRuntime) -> Result<(), Fail> {
     let rounds = number_of(&rt, "SCHEDULE_ROUNDS", ROUNDS)?;
     let seed = number_of(&rt, "SCHEDULE_SEED", SEED)?;
-    each_clause(rt.alloc(), rounds, seed, &CLAUSES)
+    each_clause(rt.alloc(), rounds, seed, CLAUSES)
 }
 
 /// A number of the environment, or the usual one.
@@ -58,75 +53,52 @@ fn each_clause(alloc: Global, rounds: u64, seed: u64, clauses: &[&str]) -> Resul
 
 fn each_round(alloc: Global, rounds: u64, seed: u64, query: &Query) -> Result<(), Fail> {
     for round in 0..rounds {
-        one_round(alloc, seed.wrapping_add(round), query)?;
+        each_schedule(alloc, seed.wrapping_add(round), query)?;
     }
     Ok(())
-}
-
-fn one_round(alloc: Global, seed: u64, query: &Query) -> Result<(), Fail> {
-    schedules::<Brand>(Blank::new(1), alloc, query, seed)
 }
 
 /// Schedules over one partition.
-fn schedules<L: Ledger>(blank: Blank, alloc: Global, query: &Query, seed: u64) -> Result<(), Fail>
-    requires name { blank.name ≡ L.name }
-    requires parts { blank.parts ≡ L.parts }
-    requires shared { 0 < blank.parts }
-{
-    let mut steps = Steps::<L>::new(blank);
+fn each_schedule(alloc: Global, seed: u64, query: &Query) -> Result<(), Fail> {
     let mut dice = Dice::new(seed);
     let partition = Partition::new(alloc, query, &mut dice)?;
     for schedule in 0..SCHEDULES {
-        let name = name_of(alloc, query, seed, schedule)?;
         let whole = Whole {
-            name: name.as_str(),
+            alloc,
             query,
             partition: &partition,
+            seed,
+            schedule,
         };
-        run(alloc, &whole, &mut dice, &mut steps)?;
+        run(whole, &mut dice)?;
     }
     Ok(())
 }
 
-/// What a schedule is called where it fails.
-fn name_of(alloc: Global, query: &Query, seed: u64, schedule: usize) -> Result<String, AllocError> {
-    let text = query.text().as_str();
-    format!(in alloc; "{text}, seed {seed}, schedule {schedule}")
-}
-
-/// One schedule of three nodes.
-fn run<L: Ledger>(
-    alloc: Global,
-    whole: &Whole,
-    dice: &mut Dice,
-    steps: &mut Steps<L>,
-) -> Result<(), Fail> {
-    let mut nodes = Vec::new(alloc);
-    for _ in 0..3 {
-        nodes.push(Simulated::new(alloc, whole)?)?;
+/// One schedule of three nodes, which are polled by other budgets at its end.
+fn run(whole: Whole<'_>, dice: &mut Dice) -> Result<(), Fail> {
+    let mut nodes = Vec::new(whole.alloc);
+    for budget in &[1, 100_000, 7] {
+        nodes.push(Simulated::new(whole, *budget)?)?;
     }
-    act(nodes.as_mut_slice(), dice, steps)?;
-    finish(nodes.as_mut_slice(), steps)
+    act(nodes.as_mut_slice(), dice)?;
+    finish(nodes.as_mut_slice())
 }
 
 /// Events, each of any of the nodes.
-fn act<L: Ledger>(
-    nodes: &mut [Simulated<'_>],
-    dice: &mut Dice,
-    steps: &mut Steps<L>,
-) -> Result<(), Fail> {
+fn act(nodes: &mut [Simulated<'_>], dice: &mut Dice) -> Result<(), Fail> {
     for _event in 0..EVENTS {
         if let Some(node) = nodes.get_mut(dice.below(3)) {
-            node.act(dice, steps)?;
+            node.act(dice)?;
         }
     }
     Ok(())
 }
 
-/// All nodes take all that is left, and are polled by other budgets.
-fn finish<L: Ledger>(nodes: &mut [Simulated<'_>], steps: &mut Steps<L>) -> Result<(), Fail> {
-    for (node, budget) in nodes.iter_mut().zip([1, 100_000, 7]) {
-        node.finish(budget, steps)?;
+/// All nodes take all that is left.
+fn finish(nodes: &mut [Simulated<'_>]) -> Result<(), Fail> {
+    for node in nodes {
+        node.finish()?;
     }
     Ok(())
 }

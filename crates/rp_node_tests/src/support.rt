@@ -1,16 +1,13 @@
-//! Tables, queries and rows for the tests, and how a test ends that is refused memory twice.
-ghost use Rattle.std.specs.Prelude.{◌≡◌, true};
-
+//! Tables and queries for the tests, and how a test ends.
 use rp_compile::compile;
 use rp_query::Query;
 use rp_syntax::read_table;
-use rp_value::{Row, Table, Text, Value};
+use rp_value::Table;
 use std::alloc::{AllocError, Global};
 use std::collections::hash_map::RandomState;
-use std::process::Abort;
+use std::io;
 use std::random::RandomSource;
 use std::test::Fail;
-use std::{fmt, io};
 
 /// A fall and then a rise.
 pub const V: &str =
@@ -31,29 +28,6 @@ pub fn query_of(alloc: Global, clause: &str) -> Result<Query, Fail> {
     Ok(compile(alloc, clause, &prices(alloc)?)?)
 }
 
-fn symbol(alloc: Global) -> Result<Value, AllocError> {
-    let text = Text::new(alloc, String::from_str(alloc, "x")?)?;
-    Ok(Value::Text(text))
-}
-
-/// The key of the only partition.
-pub fn key_of(alloc: Global, query: &Query) -> Result<Vec<Value>, AllocError> {
-    let mut key = Vec::new(alloc);
-    if !query.partition().is_empty() {
-        key.push(symbol(alloc)?)?;
-    }
-    Ok(key)
-}
-
-/// The row of a number, at this price.
-pub fn row_of(alloc: Global, number: u64, price: Value) -> Result<Row, Fail> {
-    let mut cells = Vec::new(alloc);
-    cells.push(symbol(alloc)?)?;
-    cells.push(Value::Int(i64::try_from(number)?))?;
-    cells.push(price)?;
-    Ok(Row::new(alloc, cells)?)
-}
-
 /// A seed that is the same in each run: all zeros.
 struct FixedSeed;
 
@@ -71,15 +45,18 @@ pub fn fixed_hasher() -> Result<RandomState, AllocError> {
     }
 }
 
-/// Ends a test in which a value isn't the one that is wanted. (In an `assert_eq!` of its own a test would have the text of its failure
-/// to prove as well.)
-pub fn same<T: PartialEq + fmt::Debug + Drop>(rt: &impl Abort, came: T, wanted: T) {
-    assert_eq!(rt; came, wanted);
+/// The fault of a test in which a text isn't the one that is wanted.
+pub fn same(alloc: Global, came: &str, wanted: &str) -> Result<(), Fail> {
+    if came == wanted {
+        return Ok(());
+    }
+    Err(Fail::from(format!(in alloc; "{came:?} came, and not {wanted:?}")?))
 }
 
-/// Ends a test in which something doesn't hold. Where it goes on, that is known to hold.
-pub fn holds(rt: &impl Abort, is_so: bool)
-    ensures { is_so ≡ true }
-{
-    assert!(rt; is_so);
+/// The fault of a test in which something isn't so.
+pub fn holds(is_so: bool, what: &'static str) -> Result<(), Fail> {
+    if is_so {
+        return Ok(());
+    }
+    Err(Fail::from(what))
 }

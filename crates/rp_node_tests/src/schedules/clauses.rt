@@ -2,7 +2,7 @@
 
 /// All skip rules and both skip faults, all forms of ALL ROWS PER MATCH, excluded rows, measures and conditions that wait,
 /// totals, rows read behind the start, alternatives, reluctant quantifiers, anchors and permutations.
-pub const CLAUSES: [&str; 26] = [
+pub const CLAUSES: &[&str] = &[
     super::V,
     "MEASURES COUNT(*) AS c AFTER MATCH SKIP TO NEXT ROW PATTERN (A+ B?) DEFINE A AS p > 1",
     "MEASURES MATCH_NUMBER() AS n, SUM(p) AS s AFTER MATCH SKIP PAST LAST ROW PATTERN (A+) DEFINE A AS SUM(p) <= 4",

@@ -1,11 +1,10 @@
 //! A whole partition, and what the plain program knows of it.
-use crate::support::row_of;
 use rp_eval::AllRows;
 use rp_query::Query;
 use rp_reference::{Dice, known_items};
-use rp_value::{Row, Value};
+use rp_value::{Row, Text, Value};
 use rp_words::End;
-use std::alloc::Global;
+use std::alloc::{AllocError, Global};
 use std::test::Fail;
 
 /// A partition has fewer rows than this.
@@ -13,6 +12,7 @@ pub const MANY_ROWS: usize = 8;
 
 #[derive(Drop)]
 pub struct Partition {
+    pub key: Vec<Value>,
     pub rows: AllRows,
     /// All items.
     pub answer: Vec<String>,
@@ -23,6 +23,7 @@ pub struct Partition {
 impl Partition {
     pub fn new(alloc: Global, query: &Query, dice: &mut Dice) -> Result<Partition, Fail> {
         let mut partition = Partition {
+            key: key_of(alloc, query)?,
             rows: AllRows {
                 rows: Vec::new(alloc),
                 end: End::Open,
@@ -38,8 +39,7 @@ impl Partition {
     fn fill(&mut self, alloc: Global, query: &Query, dice: &mut Dice) -> Result<(), Fail> {
         self.count_known(alloc, query)?;
         for place in 0..dice.below(MANY_ROWS as u64) {
-            let number = (place as u64).saturating_add(1);
-            let row = row_of(alloc, number, cell(dice))?;
+            let row = row_of(alloc, place.saturating_add(1), cell(dice))?;
             self.rows.rows.push(row)?;
             self.count_known(alloc, query)?;
         }
@@ -59,12 +59,9 @@ impl Partition {
         self.rows.rows.len()
     }
 
-    /// The row of a number from 1.
-    pub fn row(&self, number: usize) -> Result<Row, Fail> {
-        match self.rows.rows.get(number.saturating_sub(1)) {
-            None => Err(Fail::from("a row of the partition")),
-            Some(row) => Ok(row.share()?),
-        }
+    /// The row of a number from 1, if there is one.
+    pub fn row(&self, number: usize) -> Option<&Row> {
+        self.rows.rows.get(number.saturating_sub(1))
     }
 
     /// How many items are known of the rows up to the front.
@@ -74,6 +71,29 @@ impl Partition {
         }
         self.known.get(front).copied().unwrap_or(0)
     }
+}
+
+fn symbol(alloc: Global) -> Result<Value, AllocError> {
+    let text = Text::new(alloc, String::from_str(alloc, "x")?)?;
+    Ok(Value::Text(text))
+}
+
+/// The key of the only partition.
+fn key_of(alloc: Global, query: &Query) -> Result<Vec<Value>, AllocError> {
+    let mut key = Vec::new(alloc);
+    if !query.partition().is_empty() {
+        key.push(symbol(alloc)?)?;
+    }
+    Ok(key)
+}
+
+/// The row of a number, at this price.
+pub fn row_of(alloc: Global, number: usize, price: Value) -> Result<Row, Fail> {
+    let mut cells = Vec::new(alloc);
+    cells.push(symbol(alloc)?)?;
+    cells.push(Value::Int(i64::try_from(number)?))?;
+    cells.push(price)?;
+    Ok(Row::new(alloc, cells)?)
 }
 
 fn cell(dice: &mut Dice) -> Value {
