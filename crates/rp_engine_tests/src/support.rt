@@ -1,10 +1,12 @@
 //! What the tests of several modules use.
+ghost use Rattle.std.specs.Prelude.{◌≡◌, true};
+
 use rp_compile::compile;
 use rp_query::Query;
 use rp_syntax::read_table;
 use rp_value::{Row, Table, Value};
-use rp_words::Label;
 use std::alloc::Global;
+use std::process::Abort;
 use std::test::Fail;
 
 /// The query of a clause over rows with these columns.
@@ -18,15 +20,10 @@ pub fn row_of(alloc: Global, table: &Table, number: i64) -> Result<Row, Fail> {
     Ok(table.row(alloc, vec![in alloc; Value::Int(number)]?)?)
 }
 
-/// A row that is mapped to this pattern variable, and shown.
-pub fn label(var: usize) -> Label {
-    Label {
-        var,
-        excluded: false,
-    }
-}
-
-/// A call was refused memory, was made again while memory was ample, and was refused once more.
-pub fn refused_twice() -> Fail {
-    Fail::from("memory was refused twice")
+/// Ends a test in which something doesn't hold. Where it goes on, that is known to hold. (In an `assert!` of its own a test would have the
+/// text of its failure to prove as well.)
+pub fn holds(rt: &impl Abort, is_so: bool)
+    ensures { is_so ≡ true }
+{
+    assert!(rt; is_so);
 }

@@ -1,10 +1,14 @@
 //! Clauses and rows that are put together by a fixed seed. What is known after each row and after the close is compared
 //! with the plain program.
-ghost use Rattle.std.specs.Prelude.{◌<◌, length};
+ghost use Rattle.std.specs.Prelude.{◌≡◌, ◌<◌, length};
 
-use super::player::{Event, NULL, play};
+use super::player::{NULL, Player};
+use crate::support::query_of;
 use rp_reference::Dice;
-use std::alloc::{AllocFailed, Global};
+use rp_search::Steps;
+use std::alloc::Global;
+use std::marker::Brand;
+use std::sync::ledger::{Blank, Ledger};
 use std::test::Fail;
 
 /// Each has a row of A and one of B in some word.
@@ -110,39 +114,54 @@ fn clause(alloc: Global, dice: &mut Dice, pattern: usize) -> Result<String, Fail
     )?)
 }
 
-/// An event, behind which what is known is compared.
-fn push_compared(
-    events: &mut Vec<Event>,
-    event: Event,
+/// One to six rows, and then the close. What is known is compared behind each, by polls of this budget.
+fn play<L: Ledger>(
+    player: &mut Player,
+    dice: &mut Dice,
     budget: u32,
-) -> Result<(), AllocFailed<Event>> {
-    events.push(event)?;
-    events.push(Event::Drain(budget))?;
-    events.push(Event::Compare)
+    steps: &mut Steps<L>,
+) -> Result<(), Fail> {
+    for _row in 0..dice.below(6) + 1 {
+        player.push(NUMBERS[dice.below(6)])?;
+        player.compare(budget, steps)?;
+    }
+    player.close()?;
+    player.compare(budget, steps)
 }
 
-/// One to six rows, and then the close.
-fn events(alloc: Global, dice: &mut Dice, budget: u32) -> Result<Vec<Event>, Fail> {
-    let mut events = Vec::new(alloc);
-    for _row in 0..dice.below(6) + 1 {
-        push_compared(&mut events, Event::Row(NUMBERS[dice.below(6)]), budget)?;
+/// A clause with this pattern, over some rows by polls of one turn, and over others by polls of many.
+fn play_pattern<L: Ledger>(
+    alloc: Global,
+    pattern: usize,
+    dice: &mut Dice,
+    steps: &mut Steps<L>,
+) -> Result<(), Fail>
+    requires { pattern < 24 }
+{
+    let text = clause(alloc, dice, pattern)?;
+    let query = query_of(alloc, "sym text, t int, p int", text.as_str())?;
+    for budget in &[1, 100_000] {
+        let mut player = Player::new(alloc, &query)?;
+        play(&mut player, dice, *budget, steps)?;
     }
-    push_compared(&mut events, Event::Close, budget)?;
-    Ok(events)
+    Ok(())
+}
+
+/// Each pattern five times.
+fn play_patterns<L: Ledger>(blank: Blank, alloc: Global) -> Result<(), Fail>
+    requires name { blank.name ≡ L.name }
+    requires parts { blank.parts ≡ L.parts }
+    requires shared { 0 < blank.parts }
+{
+    let mut steps = Steps::<L>::new(blank);
+    let mut dice = Dice::new(1);
+    for turn in 0..120 {
+        play_pattern(alloc, turn % 24, &mut dice, &mut steps)?;
+    }
+    Ok(())
 }
 
 #[test]
 fn cases_by_a_plain_program(rt: HostRuntime) -> Result<(), Fail> {
-    let alloc = rt.alloc();
-    let mut dice = Dice::new(1);
-    for _round in 0..5 {
-        for pattern in 0..24 {
-            let text = clause(alloc, &mut dice, pattern)?;
-            for budget in &[1, 100_000] {
-                let events = events(alloc, &mut dice, *budget)?;
-                play(alloc, text.as_str(), &events)?;
-            }
-        }
-    }
-    Ok(())
+    play_patterns::<Brand>(Blank::new(1), rt.alloc())
 }

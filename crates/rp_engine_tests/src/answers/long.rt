@@ -3,7 +3,7 @@
 ghost use Rattle.std.specs.Prelude.{◌≡◌, ◌<◌};
 
 use super::driven::Driven;
-use crate::support::{query_of, row_of};
+use crate::support::{holds, query_of, row_of};
 use rp_query::Query;
 use rp_search::Steps;
 use rp_value::{Row, Table};
@@ -41,7 +41,7 @@ fn run<L: Ledger>(
     requires parts { blank.parts ≡ L.parts }
     requires shared { 0 < blank.parts }
 {
-    let mut driven = Driven::new(alloc, query, false);
+    let mut driven = Driven::new(alloc, query);
     let mut steps = Steps::<L>::new(blank);
     feed(&mut driven, in_turn, rows, each, &mut steps)
 }
@@ -106,7 +106,7 @@ fn long_match(rt: &impl Abort, alloc: Global, rows: u64) -> Result<(), Fail> {
     let text =
         "MEASURES COUNT(*) AS c, SUM(p) AS s ALL ROWS PER MATCH PATTERN (A+) DEFINE A AS p > 0";
     let ran = run_clause(alloc, text, rows, false)?;
-    assert_eq!(rt; ran.items, rows.saturating_add(1));
+    holds(rt, ran.items == rows.saturating_add(1));
     Ok(())
 }
 
@@ -114,8 +114,8 @@ fn long_match(rt: &impl Abort, alloc: Global, rows: u64) -> Result<(), Fail> {
 fn stream(rt: &impl Abort, alloc: Global, rows: u64) -> Result<(), Fail> {
     let text = "MEASURES B.p AS b PATTERN (A B) DEFINE A AS p = 1, B AS PREV(p) = 1";
     let ran = run_clause(alloc, text, rows, true)?;
-    assert_eq!(rt; ran.items, (rows / 2).saturating_add(1));
-    assert!(rt; ran.kept <= 2, "{} rows kept", ran.kept);
+    holds(rt, ran.items == (rows / 2).saturating_add(1));
+    holds(rt, ran.kept <= 2);
     Ok(())
 }
 

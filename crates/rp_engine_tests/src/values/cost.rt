@@ -2,13 +2,13 @@
 ghost use Rattle.std.specs.Prelude.{◌≡◌, ◌≤◌, length};
 ghost use Rattle.rp_eval.specs.Entered.{AreTotals};
 
-use super::plans::{Of, is_number, numbered, placed, total, totals_of};
-use crate::support::label;
+use super::plans::{is_number, push_labels, rows_of, totals_of};
+use crate::support::{holds, query_of};
 use rp_eval::{AllRows, Rows, Totals, View, condition};
-use rp_query::{Condition, Edge, Expr, Function};
-use rp_value::{Comparison, Row, Value};
+use rp_query::Query;
+use rp_value::Row;
 use rp_words::{End, Label, Seen};
-use std::alloc::{AllocError, Global};
+use std::alloc::Global;
 use std::process::Abort;
 use std::test::Fail;
 
@@ -61,45 +61,20 @@ impl Rows for Counted {
     ghost dropped = { λ c row column low. none_below_one c.rows.rows.items row column low };
 }
 
-fn at_most(value: Expr, number: i64) -> Condition {
-    Condition::Compare(
-        Comparison::LessOrEqual,
-        value,
-        Expr::Literal(Value::Int(number)),
-    )
-}
-
-/// So many labels of one variable, and then so many of another.
-fn two_runs(
-    alloc: Global,
-    first: usize,
-    second: usize,
-    then: usize,
-    more: usize,
-) -> Result<Vec<Label>, Fail> {
-    let mut labels = Vec::new(alloc);
-    for _ in 0..second {
-        labels.push(label(first))?;
-    }
-    for _ in 0..more {
-        labels.push(label(then))?;
-    }
-    Ok(labels)
-}
-
 /// At each row of a match of ones, a sum of them is at hand.
 fn ones_are_summed(
     rt: &impl Abort,
+    query: &Query,
     rows: &Counted,
     labels: &[Label],
     totals: &Totals,
-) -> Result<(), AllocError>
+) -> Result<(), Fail>
     requires on_rows { length labels.now ≤ length rows.now.rows.rows.items }
     requires totals { AreTotals totals.now rows.now.rows.rows.items 1 labels.now }
 {
-    let few = at_most(total(0, false), 10);
-    let all = total(1, false);
-    let mut want = 0_i64;
+    let at_most_10 = query.plan().conditions.first().ok_or("a condition")?;
+    let sum = query.plan().measures.first().ok_or("a measure")?;
+    let mut wanted = 0_i64;
     for current in 1..1001 {
         let view = View {
             rows,
@@ -109,26 +84,28 @@ fn ones_are_summed(
             number: 1,
             totals,
         };
-        assert_eq!(rt; condition(&few, &view) == Seen::True, current <= 10);
-        want = want.saturating_add(1);
-        is_number(rt, &all, &view, want)?;
+        let is_few = condition(at_most_10, &view) == Seen::True;
+        holds(rt, is_few == (current <= 10));
+        wanted = wanted.saturating_add(1);
+        is_number(rt, sum, &view, wanted)?;
     }
     Ok(())
 }
 
-/// Whether sums over these rows of ones read no row.
+/// Asserts that sums over these rows of ones read no row.
 fn no_row_is_read(
     rt: &impl Abort,
     alloc: Global,
+    query: &Query,
     rows: &Counted,
     labels: &[Label],
 ) -> Result<(), Fail> {
-    let planned = [(Of::A, Function::Sum(1)), (Of::Every, Function::Sum(1))];
-    assert!(rt; labels.len() == 1000 && rows.last() == 1000);
-    let totals = totals_of(alloc, &planned, rows, labels)?;
+    holds(rt, labels.len() == 1000);
+    holds(rt, rows.last() == 1000);
+    let totals = totals_of(alloc, query, rows, labels)?;
     rows.asked.set(0);
-    ones_are_summed(rt, rows, labels, &totals)?;
-    assert_eq!(rt; rows.asked.get(), 0);
+    ones_are_summed(rt, query, rows, labels, &totals)?;
+    holds(rt, rows.asked.get() == 0);
     Ok(())
 }
 
@@ -136,20 +113,26 @@ fn no_row_is_read(
 #[test]
 fn sum_reads_no_row(rt: HostRuntime) -> Result<(), Fail> {
     let alloc = rt.alloc();
-    let rows = Counted::new(numbered(alloc, &[1; 1000], End::Open)?);
-    let labels = two_runs(alloc, 0, 1000, 0, 0)?;
-    no_row_is_read(&rt, alloc, &rows, &labels)
+    let text = "MEASURES SUM(p) AS s PATTERN (A+) DEFINE A AS SUM(A.p) <= 10";
+    let query = query_of(alloc, "p int", text)?;
+    let rows = Counted::new(rows_of(alloc, &query, 1, 1000)?);
+    let mut labels = Vec::new(alloc);
+    push_labels(&mut labels, 0, 1000)?;
+    no_row_is_read(&rt, alloc, &query, &rows, &labels)
 }
 
-/// Whether `LAST(A.p, 3)` over these rows of fives is one look.
+/// Asserts that the condition of the query, over these rows of fives, is one look.
 fn one_row_is_read(
     rt: &impl Abort,
     alloc: Global,
+    query: &Query,
     rows: &Counted,
     labels: &[Label],
 ) -> Result<(), Fail> {
-    assert!(rt; labels.len() == 1004 && rows.last() == 1004);
-    let totals = totals_of(alloc, &[(Of::A, Function::Listed)], rows, labels)?;
+    holds(rt, labels.len() == 1004);
+    holds(rt, rows.last() == 1004);
+    let totals = totals_of(alloc, query, rows, labels)?;
+    let at_most_5 = query.plan().conditions.first().ok_or("a condition")?;
     let view = View {
         rows,
         start: 1,
@@ -158,10 +141,9 @@ fn one_row_is_read(
         number: 1,
         totals: &totals,
     };
-    let at_most_5 = at_most(placed(0, Edge::Last, 3), 5);
     rows.asked.set(0);
-    assert_eq!(rt; condition(&at_most_5, &view), Seen::True);
-    assert_eq!(rt; rows.asked.get(), 1);
+    holds(rt, condition(at_most_5, &view) == Seen::True);
+    holds(rt, rows.asked.get() == 1);
     Ok(())
 }
 
@@ -169,7 +151,14 @@ fn one_row_is_read(
 #[test]
 fn last_reads_one_row(rt: HostRuntime) -> Result<(), Fail> {
     let alloc = rt.alloc();
-    let rows = Counted::new(numbered(alloc, &[5; 1004], End::Open)?);
-    let labels = two_runs(alloc, 0, 4, 1, 1000)?;
-    one_row_is_read(&rt, alloc, &rows, &labels)
+    let query = query_of(
+        alloc,
+        "p int",
+        "PATTERN (A+ B+) DEFINE B AS LAST(A.p, 3) <= 5",
+    )?;
+    let rows = Counted::new(rows_of(alloc, &query, 5, 1004)?);
+    let mut labels = Vec::new(alloc);
+    push_labels(&mut labels, 0, 4)?;
+    push_labels(&mut labels, 1, 1000)?;
+    one_row_is_read(&rt, alloc, &query, &rows, &labels)
 }

@@ -2,55 +2,29 @@
 ghost use Rattle.std.specs.Prelude.{◌≡◌, ◌≤◌, length};
 ghost use Rattle.rp_eval.specs.Entered.{AreTotals};
 
-use super::plans::{Of, is_number, numbered, placed, total, totals_of};
-use crate::support::label;
+use super::plans::{is_number, push_labels, rows_of, totals_of};
+use crate::support::{holds, query_of};
 use rp_eval::{AllRows, Rows, Totals, View, condition};
-use rp_query::{Condition, Edge, Function};
-use rp_value::Comparison;
-use rp_words::{End, Label, Seen};
-use std::alloc::{AllocError, Global};
+use rp_query::Query;
+use rp_words::{Label, Seen};
+use std::alloc::Global;
 use std::process::Abort;
 use std::test::Fail;
-
-/// So many rows of p 7. They share their cells.
-fn sevens(alloc: Global, count: usize) -> Result<AllRows, Fail> {
-    let one = numbered(alloc, &[7], End::Open)?;
-    let mut rows = Vec::new(alloc);
-    for row in &one.rows {
-        for _row in 0..count {
-            rows.push(row.share()?)?;
-        }
-    }
-    let end = End::Open;
-    Ok(AllRows { rows, end })
-}
-
-/// So many labels of A.
-fn labels_of_a(alloc: Global, count: usize) -> Result<Vec<Label>, Fail> {
-    let mut labels = Vec::new(alloc);
-    for _label in 0..count {
-        labels.push(label(0))?;
-    }
-    Ok(labels)
-}
 
 /// At each row `FIRST(A.p, 2) = LAST(A.p, 3)` is true from the fourth row on, and `SUM(p)` is 7 more than before.
 fn sevens_are_summed(
     rt: &impl Abort,
+    query: &Query,
     rows: &AllRows,
     labels: &[Label],
     totals: &Totals,
-) -> Result<(), AllocError>
+) -> Result<(), Fail>
     requires on_rows { length labels.now ≤ length rows.now.rows.items }
     requires totals { AreTotals totals.now rows.now.rows.items 1 labels.now }
 {
-    let is_same = Condition::Compare(
-        Comparison::Equal,
-        placed(0, Edge::First, 2),
-        placed(0, Edge::Last, 3),
-    );
-    let sum = total(1, false);
-    let mut want = 0_i64;
+    let is_same = query.plan().conditions.first().ok_or("a condition")?;
+    let sum = query.plan().measures.first().ok_or("a measure")?;
+    let mut wanted = 0_i64;
     for current in 1..rows.last() + 1 {
         let view = View {
             rows,
@@ -60,21 +34,24 @@ fn sevens_are_summed(
             number: 1,
             totals,
         };
-        assert_eq!(rt; condition(&is_same, &view) == Seen::True, current >= 4);
-        want = want.saturating_add(7);
-        is_number(rt, &sum, &view, want)?;
+        let is_true = condition(is_same, &view) == Seen::True;
+        holds(rt, is_true == (current >= 4));
+        wanted = wanted.saturating_add(7);
+        is_number(rt, sum, &view, wanted)?;
     }
     Ok(())
 }
 
 /// Each label of a match of sevens is entered.
 fn match_of(rt: &impl Abort, alloc: Global, count: usize) -> Result<(), Fail> {
-    let planned = [(Of::A, Function::Listed), (Of::Every, Function::Sum(1))];
-    let rows = sevens(alloc, count)?;
-    let labels = labels_of_a(alloc, count)?;
-    assert_eq!(rt; labels.len(), rows.rows.len());
-    let totals = totals_of(alloc, &planned, &rows, &labels)?;
-    Ok(sevens_are_summed(rt, &rows, &labels, &totals)?)
+    let text = "MEASURES SUM(p) AS s PATTERN (A+) DEFINE A AS FIRST(A.p, 2) = LAST(A.p, 3)";
+    let query = query_of(alloc, "p int", text)?;
+    let rows = rows_of(alloc, &query, 7, count)?;
+    let mut labels = Vec::new(alloc);
+    push_labels(&mut labels, 0, count)?;
+    holds(rt, labels.len() == rows.rows.len());
+    let totals = totals_of(alloc, &query, &rows, &labels)?;
+    sevens_are_summed(rt, &query, &rows, &labels, &totals)
 }
 
 #[test]

@@ -1,10 +1,10 @@
 use Rattle.std.proofs.Common.{take, get_or, false}
 use Rattle.std.proofs.lemmas.List.{take_more}
 use Rattle.rp_words.specs.declared.word.Label.{Label}
-use Rattle.rp_engine_tests.proofs.values.plans.entered.Goals as goal
+use Rattle.rp_engine_tests.proofs.values.plans.totals_of.Goals as goal
 
 pub loop-depth-init : goal.loop-depth-init
-loop-depth-init g c = c.in_ok-totals.ensures.none (g.R.Rows.known c.args.rows.now) c.args.start
+loop-depth-init g c = c.in_ok-totals.ensures.none (g.R.Rows.known c.args.rows.now) 1
 
 pub enter-requires-clause-new : goal.enter-requires-clause-new
 enter-requires-clause-new g c =
