@@ -1,0 +1,20 @@
+//! Columns that are proposed for an input by what is seen in it, and what an input is that is no CSV; and the lines of an input's
+//! faults, as far as they name a column.
+//!
+//! Nothing here decides: hints are guesses. The only error is being out of memory.
+#![tactic(auto)]
+
+mod fault_lines;
+mod fronts;
+mod heading;
+mod null_words;
+mod proposed;
+mod records;
+mod seen;
+
+pub use fault_lines::{csv_fault_line, name_of, objects_fault_line, source_of};
+pub use heading::of_above;
+pub use null_words::is_null_word;
+pub use proposed::{Proposal, is_named, meaning, meanings, propose_columns, push_table};
+pub use records::{Records, record_start, start_of, without_mark};
+pub use seen::{Seen, is_plain_number, is_whole, seen_in};

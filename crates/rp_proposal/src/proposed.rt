@@ -1,0 +1,198 @@
+//! The columns of an input, proposed from what it holds.
+
+use crate::fronts::is_foreign;
+use crate::heading::of_heading;
+use crate::records::Records;
+use crate::seen::{Seen, seen_in};
+use csv::ByteRecord;
+use rp_value::{Column, Kind, Text, upper_case_name};
+use rp_wording::{Pieces, column_names, index_of, is_plain, quoted, shown, upper_case};
+use std::alloc::{AllocError, Global};
+
+/// Columns that are proposed for an input.
+#[derive(Drop)]
+pub struct Proposal {
+    /// Their text, as `sym text, t int`. It is empty where there is no header, there is something above it, or no field of it has a name
+    /// of its own.
+    pub columns: String,
+    /// Whether each field of the header has a column, so that the text is that of a table too.
+    pub is_table: bool,
+}
+
+/// Columns that fit the header and all records of a CSV text, in which this byte is between fields. A column is `int` where it has a
+/// value and every one is a whole number of 64 bits, else `text`. A number with a zero in front is a text, since that zero would be
+/// lost: a card number or a postal code. So of `sym,t` and `x,1` it is `sym text, t int`.
+///
+/// A field of the header that is empty, or has the name of another one, has no column.
+pub fn propose_columns(
+    alloc: Global,
+    bytes: &[u8],
+    delimiter: u8,
+    nulls: &[Text],
+) -> Result<Proposal, AllocError> {
+    if is_foreign(bytes) || of_heading(alloc, bytes, delimiter)?.is_some() {
+        return Ok(no_columns(alloc));
+    }
+    propose_below(alloc, bytes, delimiter, nulls)
+}
+
+/// No columns.
+fn no_columns(alloc: Global) -> Proposal {
+    Proposal {
+        columns: String::new(alloc),
+        is_table: true,
+    }
+}
+
+/// Columns that fit the first record as a header, and all others.
+fn propose_below(
+    alloc: Global,
+    bytes: &[u8],
+    delimiter: u8,
+    nulls: &[Text],
+) -> Result<Proposal, AllocError> {
+    let mut records = Records::of(alloc, bytes, delimiter);
+    let header = records.take();
+    let seen = seen_in(alloc, &mut records, header.len(), nulls)?;
+    propose_kinds(alloc, &header, seen.as_slice())
+}
+
+/// Columns for the fields of a header, of the kinds that fit what was seen of each.
+fn propose_kinds(
+    alloc: Global,
+    header: &ByteRecord,
+    seen: &[Seen],
+) -> Result<Proposal, AllocError> {
+    let names = meanings(alloc, header)?;
+    let mut columns = Pieces::new(alloc);
+    let mut is_table = true;
+    for (index, one) in seen.iter().enumerate() {
+        if is_named(names.as_slice(), index) {
+            if !columns.is_empty() {
+                columns.push(", ");
+            }
+            push_column(
+                alloc,
+                &mut columns,
+                header.get(index).unwrap_or(b""),
+                kind_seen(*one),
+            );
+        } else {
+            is_table = false;
+        }
+    }
+    Ok(Proposal {
+        columns: columns.finish()?,
+        is_table,
+    })
+}
+
+/// The names that the fields of a header mean.
+pub fn meanings(alloc: Global, header: &ByteRecord) -> Result<Vec<String>, AllocError> {
+    let mut names = Vec::new(alloc);
+    for index in 0..header.len() {
+        names.push(meaning(alloc, header.get(index).unwrap_or(b""))?)?;
+    }
+    Ok(names)
+}
+
+/// The name that a field of a header means.
+pub fn meaning(alloc: Global, field: &[u8]) -> Result<String, AllocError> {
+    let text = String::from_utf8_lossy(alloc, field)?;
+    match upper_case_name(alloc, text.as_str())? {
+        Some(name) => String::from_str(alloc, name.as_str()),
+        None => String::from_str(alloc, text.as_str()),
+    }
+}
+
+/// Whether a field of a header has a name, and no other one has it.
+pub fn is_named(names: &[String], index: usize) -> bool {
+    let name = match names.get(index) {
+        Some(name) => name.as_str(),
+        None => "",
+    };
+    let count = names.iter().filter(|other| other.as_str() == name).count();
+    !name.is_empty() && count == 1
+}
+
+/// The kind of a column by what was seen of it.
+fn kind_seen(seen: Seen) -> &'static str {
+    if seen.number && !seen.text {
+        "int"
+    } else {
+        "text"
+    }
+}
+
+/// Adds the name of a header's field as it may be typed, and a kind.
+fn push_column(alloc: Global, text: &mut Pieces, field: &[u8], kind: &str) {
+    text.push_made(typed_name(alloc, field));
+    text.push(" ");
+    text.push(kind);
+}
+
+/// The name of a header as it may be typed in a table.
+fn typed_name(alloc: Global, field: &[u8]) -> Result<String, AllocError> {
+    let name = String::from_utf8_lossy(alloc, field)?;
+    let text = name.as_str();
+    if is_plain(alloc, text)? {
+        return Ok(name);
+    }
+    if is_word(text) {
+        let upper = upper_case(alloc, text)?;
+        return shown(alloc, upper.as_str());
+    }
+    quoted(alloc, text)
+}
+
+/// Whether a name has the form of one without quotes, as a reserved word has.
+fn is_word(name: &str) -> bool {
+    !name.is_empty()
+        && name
+            .bytes()
+            .all(|byte| byte.is_ascii_alphabetic() || byte == b'_')
+}
+
+/// Adds the text of a table with the columns of a header, and the kinds that those have in another table: text where they aren't in
+/// it.
+pub fn push_table(
+    alloc: Global,
+    text: &mut Pieces,
+    header: &ByteRecord,
+    columns: &[Column],
+) -> Result<(), AllocError> {
+    for index in 0..header.len() {
+        if index > 0 {
+            text.push(", ");
+        }
+        let field = header.get(index).unwrap_or(b"");
+        push_column(alloc, text, field, kind_in(alloc, columns, field)?);
+    }
+    Ok(())
+}
+
+/// The kind that a field of a header has in a table: text where it isn't in it.
+fn kind_in(alloc: Global, columns: &[Column], field: &[u8]) -> Result<&'static str, AllocError> {
+    let name = String::from_utf8_lossy(alloc, field)?;
+    match kind_of(alloc, columns, name.as_str())? {
+        Some(Kind::Int) => Ok("int"),
+        _ => Ok("text"),
+    }
+}
+
+/// The kind of the column that a name of a header has in a table, if one has it.
+fn kind_of(alloc: Global, columns: &[Column], name: &str) -> Result<Option<Kind>, AllocError> {
+    let upper = upper_case(alloc, name)?;
+    let names = column_names(alloc, columns)?;
+    let place = match index_of(names.as_slice(), name) {
+        Some(place) => Some(place),
+        None => index_of(names.as_slice(), upper.as_str()),
+    };
+    let Some(place) = place else {
+        return Ok(None);
+    };
+    match columns.get(place) {
+        Some(column) => Ok(Some(column.kind)),
+        None => Ok(None),
+    }
+}

@@ -1,0 +1,93 @@
+//! What is seen in the fields of each column of a CSV text.
+
+use crate::null_words::is_null_word;
+use crate::records::Records;
+use csv::ByteRecord;
+use rp_input::{MAX_RECORDS, is_value};
+use rp_value::{Kind, Text};
+use std::alloc::{AllocError, Global};
+
+/// What was seen in a column's fields that aren't null.
+#[derive(Clone, Copy)]
+pub struct Seen {
+    /// Whether one was a whole number.
+    pub number: bool,
+    /// Whether one was none.
+    pub text: bool,
+    /// Whether one was a word that other programs write for a null.
+    pub word: bool,
+    /// Whether one was neither a number nor such a word.
+    pub other: bool,
+}
+
+/// What all records that are left have in each of so many columns.
+pub fn seen_in(
+    alloc: Global,
+    records: &mut Records<'_>,
+    count: usize,
+    nulls: &[Text],
+) -> Result<Vec<Seen>, AllocError> {
+    let mut seen = nothing_seen(alloc, count)?;
+    for _record in 0..MAX_RECORDS {
+        if !records.next() {
+            break;
+        }
+        look_at(&mut seen, records.fields(), nulls);
+    }
+    records.finish(seen)
+}
+
+/// Nothing was seen of any column.
+fn nothing_seen(alloc: Global, count: usize) -> Result<Vec<Seen>, AllocError> {
+    let mut seen = Vec::new(alloc);
+    for _column in 0..count {
+        seen.push(Seen {
+            number: false,
+            text: false,
+            word: false,
+            other: false,
+        })?;
+    }
+    Ok(seen)
+}
+
+/// Looks at the fields of a record.
+fn look_at(seen: &mut Vec<Seen>, fields: &ByteRecord, nulls: &[Text]) {
+    for (index, one) in seen.iter_mut().enumerate() {
+        let field = fields.get(index).unwrap_or(b"");
+        if !is_null(field, nulls) {
+            *one = with_field(*one, field);
+        }
+    }
+}
+
+/// What was seen of a column with a further field, which isn't null.
+fn with_field(seen: Seen, field: &[u8]) -> Seen {
+    let number = is_plain_number(field);
+    let word = is_null_word(field);
+    Seen {
+        number: seen.number || number,
+        text: seen.text || !number,
+        word: seen.word || word,
+        other: seen.other || !number && !word,
+    }
+}
+
+/// Whether a field tells nothing of its column: it is empty or a word for null.
+fn is_null(field: &[u8], nulls: &[Text]) -> bool {
+    field.is_empty() || nulls.iter().any(|word| word.as_str().as_bytes() == field)
+}
+
+/// Whether a field is a whole number of 64 bits without a zero in front.
+pub fn is_plain_number(field: &[u8]) -> bool {
+    let digits = match field {
+        [b'-' | b'+', rest @ ..] => rest,
+        _ => field,
+    };
+    is_whole(field) && (digits.len() == 1 || digits.first() != Some(&b'0'))
+}
+
+/// Whether it is a whole number of 64 bits.
+pub fn is_whole(field: &[u8]) -> bool {
+    !field.is_empty() && is_value(Kind::Int, field)
+}
