@@ -1,19 +1,16 @@
 //! Why a CSV input is no rows of columns that are computed.
 
 use crate::csv_text::write_at;
-use crate::fault_lines::{csv_fault_line, name_of, source_of};
 use crate::field::{Wanted, at_record, place_told, record_at};
-use crate::first_line::{BLANKS, empty_input, push_fields};
-use crate::heading::of_above;
+use crate::first_line::{BLANKS, empty_input, header_of, push_fields};
 use crate::null_words::of_null_word;
 use crate::number_cells::{of_known_fraction, of_number, of_sign};
 use crate::proposal_notes::words_in;
-use crate::proposed::meanings;
-use crate::records::records_of;
 use crate::scan::field_span;
 use csv::ByteRecord;
 use rp_columns::{Columns, InputColumn, Reading, ReadingFault};
-use rp_input::{ColumnsCsvFault, CsvLayout, take_record};
+use rp_input::{ColumnsCsvFault, CsvLayout};
+use rp_proposal::{csv_fault_line, meanings, name_of, of_above, source_of};
 use rp_value::upper_case_name;
 use rp_wording::{Advice, Pieces, Report, nearest, noun};
 use std::alloc::{AllocError, Global};
@@ -98,14 +95,6 @@ fn of_no_header(
     report.advise("csv", &advice)
 }
 
-/// The header of an input; it has no field where there is none.
-fn header_of(alloc: Global, input: &Input<'_>) -> Result<ByteRecord, AllocError> {
-    let mut reader = records_of(alloc, input.bytes, input.layout.delimiter)?;
-    let mut fields = ByteRecord::new(alloc);
-    take_record(&mut reader, &mut fields)?;
-    Ok(fields)
-}
-
 /// Explains a column that no field of the header names.
 fn of_missing(
     alloc: Global,
@@ -116,7 +105,7 @@ fn of_missing(
     if let Some(found) = of_above(alloc, input.bytes, input.layout.delimiter)? {
         return report.advise("csv", &found);
     }
-    let header = header_of(alloc, input)?;
+    let header = header_of(alloc, input.bytes, input.layout.delimiter)?;
     let source = source_of(input.columns, index);
     let what = Pieces::filled(
         alloc,
@@ -215,7 +204,7 @@ fn of_double(
     input: &Input<'_>,
     index: usize,
 ) -> Result<(), AllocError> {
-    let header = header_of(alloc, input)?;
+    let header = header_of(alloc, input.bytes, input.layout.delimiter)?;
     let source = source_of(input.columns, index);
     let advice = Advice::with_what(
         alloc,
@@ -236,7 +225,7 @@ fn of_record(
         return Ok(());
     };
     let wanted = if input.layout.has_header {
-        let count = header_of(alloc, input)?.len();
+        let count = header_of(alloc, input.bytes, input.layout.delimiter)?.len();
         Wanted {
             count,
             whose: "header",
@@ -321,7 +310,7 @@ fn place_of(alloc: Global, input: &Input<'_>, index: usize) -> Result<usize, All
     if !input.layout.has_header {
         return Ok(fields_read(input.columns.get(..index).unwrap_or(&[])));
     }
-    let header = header_of(alloc, input)?;
+    let header = header_of(alloc, input.bytes, input.layout.delimiter)?;
     place_in(alloc, &header, source_of(input.columns, index))
 }
 

@@ -4,6 +4,7 @@ use crate::field::{of_field, of_record};
 use crate::first_line::of_header;
 use rp_input::CsvFault;
 use rp_place::{Place, Span, line_number};
+use rp_proposal::without_mark;
 use rp_value::Table;
 use rp_wording::{Advice, Report};
 use std::alloc::{AllocError, Global};
@@ -75,14 +76,6 @@ fn last_line(bytes: &[u8]) -> &[u8] {
 fn first_line(bytes: &[u8]) -> &[u8] {
     match bytes.split(|byte| *byte == b'\n' || *byte == b'\r').next() {
         Some(line) => line,
-        None => bytes,
-    }
-}
-
-/// The bytes without a byte order mark in front.
-pub(crate) fn without_mark(bytes: &[u8]) -> &[u8] {
-    match bytes.strip_prefix(b"\xef\xbb\xbf".as_slice()) {
-        Some(behind) => behind,
         None => bytes,
     }
 }

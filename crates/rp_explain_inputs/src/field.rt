@@ -3,12 +3,12 @@
 use crate::csv_text::write_at;
 use crate::null_words::of_null_word;
 use crate::number_cells::of_number;
-use crate::records::records_of;
-use crate::scan::{field_span, long_quote, open_quote, record_start};
+use crate::scan::{field_span, long_quote, open_quote};
 use crate::stray_lines::of_stray_line;
 use csv::ByteRecord;
-use rp_input::{CsvLayout, first_misfit, take_record};
+use rp_input::{CsvLayout, first_misfit};
 use rp_place::Span;
+use rp_proposal::{Records, start_of};
 use rp_value::{Column, Table};
 use rp_wording::{Advice, Pieces, Report, noun};
 use std::alloc::{AllocError, Global};
@@ -29,27 +29,24 @@ pub(crate) fn record_at(
     layout: CsvLayout,
     number: u64,
 ) -> Result<Option<Found>, AllocError> {
-    let mut reader = records_of(alloc, bytes, layout.delimiter)?;
-    let mut fields = ByteRecord::new(alloc);
+    let mut records = Records::of(alloc, bytes, layout.delimiter);
     let before = if layout.has_header {
         number
     } else {
         number.saturating_sub(1)
     };
-    for _record in 0..before {
-        if !take_record(&mut reader, &mut fields)? {
-            return Ok(None);
-        }
-    }
-    if !take_record(&mut reader, &mut fields)? {
-        return Ok(None);
-    }
-    let from = match fields.position() {
-        Some(position) => usize::try_from(position.byte()).unwrap_or(0),
-        None => 0,
+    let fields = if records.pass(before) {
+        records.take()
+    } else {
+        ByteRecord::new(alloc)
     };
-    let start = record_start(bytes, from);
-    Ok(Some(Found { fields, start }))
+    let start = start_of(&fields, bytes);
+    let found = if fields.is_empty() {
+        None
+    } else {
+        Some(Found { fields, start })
+    };
+    records.finish(found)
 }
 
 /// Explains a record with another number of fields than the table has columns.

@@ -1,15 +1,13 @@
 //! A header that isn't the table's.
 
 use crate::csv_text::write_at;
-use crate::heading::of_above;
 use crate::proposal_notes::words_in;
-use crate::proposed::{is_named, meanings, push_table};
-use crate::records::records_of;
-use crate::scan::{field_span, record_start};
+use crate::scan::field_span;
 use csv::ByteRecord;
-use rp_input::{is_value, names_column, take_record};
+use rp_input::names_column;
+use rp_proposal::{Records, is_named, is_whole, meanings, of_above, push_table, record_start};
 use rp_value::{Column, Kind, Table};
-use rp_wording::{Advice, Pieces, Report, column_names, index_of, kind_word, upper_case};
+use rp_wording::{Advice, Pieces, Report, column_names, kind_word};
 use std::alloc::{AllocError, Global};
 
 /// What to do where blanks seem to be between fields.
@@ -26,12 +24,22 @@ pub(crate) fn of_header(
     if let Some(found) = of_above(alloc, bytes, b',')? {
         return report.advise("csv", &found);
     }
-    let mut reader = records_of(alloc, bytes, b',')?;
-    let mut fields = ByteRecord::new(alloc);
-    if !take_record(&mut reader, &mut fields)? {
+    let fields = header_of(alloc, bytes, b',')?;
+    if fields.is_empty() {
         return report.advise("csv", &empty_input(alloc));
     }
     of_names(alloc, report, table, bytes, &fields)
+}
+
+/// The header of an input, in which this byte is between fields; it has no field where there is none.
+pub(crate) fn header_of(
+    alloc: Global,
+    bytes: &[u8],
+    delimiter: u8,
+) -> Result<ByteRecord, AllocError> {
+    let mut records = Records::of(alloc, bytes, delimiter);
+    let header = records.take();
+    records.finish(header)
 }
 
 /// What is said of an input without a byte.
@@ -250,11 +258,6 @@ fn looks_like_values(columns: &[Column], fields: &ByteRecord) -> bool {
     numbers > 0 && fields.len() == columns.len()
 }
 
-/// Whether it is a whole number of 64 bits.
-pub(crate) fn is_whole(field: &[u8]) -> bool {
-    !field.is_empty() && is_value(Kind::Int, field)
-}
-
 /// A header that names the columns.
 fn plain_header(alloc: Global, columns: &[Column]) -> Result<String, AllocError> {
     let mut names = Pieces::new(alloc);
@@ -267,25 +270,4 @@ fn plain_header(alloc: Global, columns: &[Column]) -> Result<String, AllocError>
     let mut header = names.finish()?;
     header.make_ascii_lowercase();
     Ok(header)
-}
-
-/// The kind of the column that a name of a header has in a table, if one has it.
-pub(crate) fn kind_of(
-    alloc: Global,
-    columns: &[Column],
-    name: &str,
-) -> Result<Option<Kind>, AllocError> {
-    let upper = upper_case(alloc, name)?;
-    let names = column_names(alloc, columns)?;
-    let place = match index_of(names.as_slice(), name) {
-        Some(place) => Some(place),
-        None => index_of(names.as_slice(), upper.as_str()),
-    };
-    let Some(place) = place else {
-        return Ok(None);
-    };
-    match columns.get(place) {
-        Some(column) => Ok(Some(column.kind)),
-        None => Ok(None),
-    }
 }

@@ -1,5 +1,5 @@
-//! What is wrong with columns, a CSV input or an input of objects, where it stands, and what to write in its place; and columns that are
-//! proposed for an input.
+//! What is wrong with columns, a CSV input or an input of objects, where it stands, and what to write in its place; and what is said of
+//! columns that are proposed for an input.
 //!
 //! Nothing here decides: the fault is that of `read_columns`, `rows_of`, `rows_by` or `rows_by_objects`, and hints are guesses from the
 //! bytes round its place. Each line ends in LF. The only error is being out of memory.
@@ -8,28 +8,20 @@
 mod by_columns;
 mod columns_text;
 mod csv_text;
-mod fault_lines;
 mod field;
 mod first_line;
-mod fronts;
-mod heading;
 mod lost_zeros;
 mod mixed;
 mod null_words;
 mod number_cells;
 mod objects;
 mod proposal_notes;
-mod proposed;
-mod records;
 mod scan;
-mod seen;
 mod stray_lines;
 
 pub use by_columns::{explain_csv_by, explain_no_header};
 pub use columns_text::{explain_columns, explain_zone};
 pub use csv_text::explain_csv;
-pub use fault_lines::{csv_fault_line, objects_fault_line};
 pub use lost_zeros::describe_zeros;
 pub use objects::explain_objects;
 pub use proposal_notes::explain_proposal;
-pub use proposed::{Proposal, propose_columns};

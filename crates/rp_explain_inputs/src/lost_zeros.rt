@@ -1,10 +1,7 @@
 //! Zeros before a number, which are lost.
 
-use crate::first_line::is_whole;
-use crate::records::records_of;
-use crate::seen::is_plain_number;
 use csv::ByteRecord;
-use rp_input::{MAX_RECORDS, take_record};
+use rp_proposal::{Records, is_plain_number, is_whole};
 use rp_value::{Column, Kind, Table};
 use rp_wording::{Pieces, shown_text};
 use std::alloc::{AllocError, Global};
@@ -12,20 +9,14 @@ use std::alloc::{AllocError, Global};
 /// Says of the bytes of a CSV text, which are rows of a table, where zeros before a number are lost. The line ends in LF; there may be
 /// none.
 pub fn describe_zeros(alloc: Global, table: &Table, bytes: &[u8]) -> Result<String, AllocError> {
-    let mut reader = records_of(alloc, bytes, b',')?;
-    let mut fields = ByteRecord::new(alloc);
-    if !take_record(&mut reader, &mut fields)? {
-        return Ok(String::new(alloc));
+    let columns = table.columns();
+    let mut records = Records::of(alloc, bytes, b',');
+    let is_found = records.next() && records.find(|fields| zeros_at(columns, fields).is_some());
+    if !is_found {
+        return records.finish(String::new(alloc));
     }
-    for _record in 0..MAX_RECORDS {
-        if !take_record(&mut reader, &mut fields)? {
-            break;
-        }
-        if let Some(index) = zeros_at(table.columns(), &fields) {
-            return of_zeros(alloc, table.columns(), &fields, index);
-        }
-    }
-    Ok(String::new(alloc))
+    let index = zeros_at(columns, records.fields()).unwrap_or(0);
+    of_zeros(alloc, columns, records.fields(), index)
 }
 
 /// The first column of whole numbers in which a record has zeros before a number.

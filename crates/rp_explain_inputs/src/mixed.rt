@@ -1,12 +1,9 @@
 //! Columns that are proposed as text, since words for null are among their numbers.
 
-use crate::null_words::{is_null_word, of_null_word};
-use crate::proposed::meaning;
-use crate::records::records_of;
-use crate::seen::seen_in;
-use csv::ByteRecord;
-use rp_input::{CsvLayout, MAX_RECORDS, take_record};
+use crate::null_words::of_null_word;
+use rp_input::CsvLayout;
 use rp_place::push_help;
+use rp_proposal::{Records, is_null_word, meaning, seen_in};
 use rp_value::Text;
 use rp_wording::Pieces;
 use std::alloc::{AllocError, Global};
@@ -19,12 +16,9 @@ pub(crate) fn push_mixed(
     layout: CsvLayout,
     nulls: &[Text],
 ) -> Result<(), AllocError> {
-    let mut reader = records_of(alloc, bytes, layout.delimiter)?;
-    let mut header = ByteRecord::new(alloc);
-    if !take_record(&mut reader, &mut header)? {
-        return Ok(());
-    }
-    let seen = seen_in(alloc, &mut reader, header.len(), nulls)?;
+    let mut records = Records::of(alloc, bytes, layout.delimiter);
+    let header = records.take();
+    let seen = seen_in(alloc, &mut records, header.len(), nulls)?;
     for (index, one) in seen.iter().enumerate() {
         if one.number && one.word && !one.other {
             let name = meaning(alloc, header.get(index).unwrap_or(b""))?;
@@ -61,16 +55,10 @@ fn first_word(
     layout: CsvLayout,
     index: usize,
 ) -> Result<String, AllocError> {
-    let mut reader = records_of(alloc, bytes, layout.delimiter)?;
-    let mut fields = ByteRecord::new(alloc);
-    for _record in 0..MAX_RECORDS {
-        if !take_record(&mut reader, &mut fields)? {
-            break;
-        }
-        let field = fields.get(index).unwrap_or(b"");
-        if is_null_word(field) {
-            return String::from_utf8_lossy(alloc, field);
-        }
+    let mut records = Records::of(alloc, bytes, layout.delimiter);
+    let is_found = records.find(|fields| is_null_word(fields.get(index).unwrap_or(b"")));
+    if !is_found {
+        return records.finish(String::new(alloc));
     }
-    Ok(String::new(alloc))
+    records.finish(String::from_utf8_lossy(alloc, records.fields().get(index).unwrap_or(b""))?)
 }

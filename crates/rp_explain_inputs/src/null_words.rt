@@ -1,21 +1,9 @@
-//! Words that other programs write for a null.
+//! What to do about a word that another program wrote for a null.
 
-use crate::records::records_of;
-use csv::ByteRecord;
-use rp_input::{CsvLayout, MAX_RECORDS, take_record};
-use rp_wording::{Pieces, is_one_of, noun};
+use rp_input::{CsvLayout, MAX_RECORDS};
+use rp_proposal::{Records, is_null_word};
+use rp_wording::{Pieces, noun};
 use std::alloc::{AllocError, Global};
-
-/// The words.
-const WORDS: &str = "NULL NIL NONE NA N/A NAN NAT \\N - ? #N/A <NA>";
-
-/// Whether a field is such a word.
-pub(crate) fn is_null_word(field: &[u8]) -> bool {
-    match std::str::from_utf8(field) {
-        Ok(text) => is_one_of(text.trim(), WORDS),
-        Err(_) => false,
-    }
-}
 
 /// What to do about a field that holds such a word, at this place of the records; None where it holds none.
 pub(crate) fn of_null_word(
@@ -25,7 +13,7 @@ pub(crate) fn of_null_word(
     place: usize,
     field: &str,
 ) -> Result<Option<Pieces>, AllocError> {
-    if !is_one_of(field.trim(), WORDS) {
+    if !is_null_word(field.as_bytes()) {
         return Ok(None);
     }
     let count = count_of(alloc, bytes, layout, place, field.as_bytes())?;
@@ -48,16 +36,15 @@ fn count_of(
     place: usize,
     word: &[u8],
 ) -> Result<usize, AllocError> {
-    let mut reader = records_of(alloc, bytes, layout.delimiter)?;
-    let mut fields = ByteRecord::new(alloc);
+    let mut records = Records::of(alloc, bytes, layout.delimiter);
     let mut count = 0usize;
     for _record in 0..MAX_RECORDS {
-        if !take_record(&mut reader, &mut fields)? {
+        if !records.next() {
             break;
         }
-        if fields.get(place) == Some(word) {
+        if records.fields().get(place) == Some(word) {
             count = count.saturating_add(1);
         }
     }
-    Ok(count)
+    records.finish(count)
 }

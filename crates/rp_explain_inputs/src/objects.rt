@@ -1,9 +1,9 @@
 //! Why lines of JSON are no rows of columns.
 
-use crate::fault_lines::objects_fault_line;
 use rp_columns::{Columns, InputColumn};
 use rp_objects::{FieldFault, ObjectsFault};
 use rp_place::Place;
+use rp_proposal::objects_fault_line;
 use rp_wording::{Advice, Pieces, Report, shown};
 use std::alloc::{AllocError, Global};
 

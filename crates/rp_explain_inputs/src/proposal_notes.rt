@@ -2,11 +2,10 @@
 
 use crate::by_columns::of_delimiter;
 use crate::mixed::push_mixed;
-use crate::proposed::meanings;
-use crate::records::records_of;
-use csv::{ByteRecord, Reader};
-use rp_input::{CsvLayout, MAX_RECORDS, take_record};
+use csv::ByteRecord;
+use rp_input::CsvLayout;
 use rp_place::push_help;
+use rp_proposal::{Records, meanings};
 use rp_value::Text;
 use rp_wording::{Pieces, shown_text};
 use std::alloc::{AllocError, Global};
@@ -39,39 +38,30 @@ fn push_header(
     bytes: &[u8],
     delimiter: u8,
 ) -> Result<(), AllocError> {
-    let mut reader = records_of(alloc, bytes, delimiter)?;
-    let mut header = ByteRecord::new(alloc);
-    if !take_record(&mut reader, &mut header)? {
-        return Ok(());
-    }
+    let mut records = Records::of(alloc, bytes, delimiter);
+    let header = records.take();
     if header.len() == 1 {
-        return push_between(alloc, out, &header, &mut reader);
+        push_between(out, &header, &mut records);
+    } else {
+        push_left_out(out, meanings(alloc, &header)?.as_slice(), delimiter);
     }
-    push_left_out(out, meanings(alloc, &header)?.as_slice(), delimiter);
-    Ok(())
+    records.finish(())
 }
 
 /// Writes what to do where a header is one field, and something else seems to be between fields.
-fn push_between(
-    alloc: Global,
-    out: &mut Pieces,
-    header: &ByteRecord,
-    reader: &mut Reader<&[u8]>,
-) -> Result<(), AllocError> {
+fn push_between(out: &mut Pieces, header: &ByteRecord, records: &mut Records<'_>) {
     if let Some(help) = of_delimiter(header) {
-        out.push_help(help);
-        return Ok(());
+        return out.push_help(help);
     }
     let words = words_in(header);
-    if words < 2 || !have_words(alloc, reader, words)? {
-        return Ok(());
+    if words < 2 || !have_words(records, words) {
+        return;
     }
     out.push_help(if has_runs(header.get(0).unwrap_or(b"")) {
         "if the blanks are between fields: tr -s ' ' ',' < FILE | rowmatch .."
     } else {
         "if the blanks are between fields, give --delimiter ' '"
     });
-    Ok(())
 }
 
 /// How many words with blanks between the one field of a record has; 0 where it has more fields.
@@ -86,19 +76,9 @@ pub(crate) fn words_in(fields: &ByteRecord) -> usize {
 }
 
 /// Whether all records that are left have so many words, and there is one.
-fn have_words(alloc: Global, reader: &mut Reader<&[u8]>, words: usize) -> Result<bool, AllocError> {
-    let mut fields = ByteRecord::new(alloc);
-    let mut any = false;
-    for _record in 0..MAX_RECORDS {
-        if !take_record(reader, &mut fields)? {
-            break;
-        }
-        if words_in(&fields) != words {
-            return Ok(false);
-        }
-        any = true;
-    }
-    Ok(any)
+fn have_words(records: &mut Records<'_>, words: usize) -> bool {
+    let is_any = records.next() && words_in(records.fields()) == words;
+    is_any && !records.find(|fields| words_in(fields) != words)
 }
 
 /// Whether there are two blanks in a row, or one at an end.
