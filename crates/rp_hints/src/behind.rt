@@ -1,14 +1,13 @@
 //! What can't stand in an expression: signs, numbers and arguments.
 
+use crate::pairs::{Pair, look_up_pair};
 use rp_lexer::TokenKind;
 use rp_wording::{Hint, Part, Reading, is_one_of, said};
 
 /// Signs that were doubled or put together as in other languages: the one before, the one here, what is wrong and what to write.
-const SIGNS: [(&str, &str, &str, &str); 14] = [
-    ("=", ">", "there is no =>", "write >= for 'at least'"),
-    ("=", "<", "there is no =<", "write <= for 'at most'"),
-    ("=", "<=", "there is no =<", "write <= for 'at most'"),
-    ("=", ">=", "there is no =>", "write >= for 'at least'"),
+const SIGNS: [Pair; 12] = [
+    ("=", "> >=", "there is no =>", "write >= for 'at least'"),
+    ("=", "< <=", "there is no =<", "write <= for 'at most'"),
     ("=", "=", "there is no ==", "write = for 'equal'"),
     (
         "<",
@@ -46,37 +45,112 @@ const SIGNS: [(&str, &str, &str, &str); 14] = [
     ),
 ];
 
+/// What can't stand in the brackets of a function: its name, the word or sign before the place, what is wrong and what to write.
+const ARGUMENTS: [Pair; 6] = [
+    (
+        "CLASSIFIER",
+        "",
+        "CLASSIFIER() has nothing in its brackets",
+        "for a union of UP and DOWN compare LAST(UP.t) with LAST(DOWN.t)",
+    ),
+    (
+        "MATCH_NUMBER",
+        "",
+        "MATCH_NUMBER() has nothing in its brackets",
+        "leave it out",
+    ),
+    (
+        "COUNT",
+        "",
+        "COUNT counts rows or the values of one column",
+        "write COUNT(*), COUNT(A.*), COUNT(p) or COUNT(A.p)",
+    ),
+    (
+        "SUM MIN MAX",
+        "",
+        "an aggregate goes over one column",
+        "write SUM(p) or SUM(A.p); for the sum of an expression let one more column of the file have it",
+    ),
+    (
+        "PREV NEXT FIRST LAST",
+        ",",
+        "an offset is a number that is written out",
+        "write PREV(p, 2); for PREV(p, -2) write NEXT(p, 2)",
+    ),
+    (
+        "PREV NEXT FIRST LAST",
+        "",
+        "a navigation is of one column, and perhaps a number",
+        "write PREV(p), PREV(A.p, 2), or PREV(p) + PREV(q) in place of PREV(p + q)",
+    ),
+];
+
+/// Functions without their brackets, a point behind a bracket, and marks that mean nothing in an expression, or mean something in
+/// PATTERN alone.
+const MARKS: [Pair; 12] = [
+    (
+        "CLASSIFIER MATCH_NUMBER",
+        "",
+        "the brackets are missing",
+        "write CLASSIFIER() and MATCH_NUMBER(); as a name in quotes, \"CLASSIFIER\"",
+    ),
+    (
+        "FIRST LAST PREV NEXT COUNT SUM MIN MAX",
+        "",
+        "a reserved word is before this, without its brackets",
+        "as a function write FIRST(p); as a name in quotes and in upper case, \"FIRST\"",
+    ),
+    (
+        "RUNNING FINAL",
+        "",
+        "RUNNING and FINAL come before FIRST, LAST, COUNT, SUM, MIN and MAX alone",
+        "write FINAL LAST(p) in place of FINAL p",
+    ),
+    (
+        ")",
+        ".",
+        "a point can't follow a bracket",
+        "write LAST(A.p) in place of LAST(A).p",
+    ),
+    (
+        ".",
+        "*",
+        "A.* is for COUNT alone",
+        "write COUNT(A.*), or a column, A.p",
+    ),
+    (
+        "",
+        "|",
+        "| is for PATTERN alone",
+        "in a condition write OR; texts can't be joined",
+    ),
+    ("", "^", "there are no powers", "write p * p"),
+    ("*", "*", "there are no powers", "write p * p"),
+    ("", "?", "there are no parameters", "write the value itself"),
+    ("", "{ {-", "this bracket is for PATTERN alone", "write ( )"),
+    ("", "$", "$ is for PATTERN alone", "write the value itself"),
+    ("", "+", "a + before a value means nothing", "leave it out"),
+];
+
 /// What is wrong behind a value or in the place of one, in MEASURES and DEFINE.
 pub(crate) fn behind_values(reading: &Reading<'_>) -> Option<Hint> {
-    if let Some(found) = of_signs(reading) {
-        return Some(found);
+    let found = of_signs(reading).or(of_numbers(reading));
+    match reading.part() {
+        Part::Measures | Part::Define => found.or(in_values(reading)),
+        _ => found,
     }
-    if let Some(found) = of_numbers(reading) {
-        return Some(found);
-    }
-    if reading.part() != Part::Measures && reading.part() != Part::Define {
-        return None;
-    }
-    if let Some(found) = of_null(reading) {
-        return Some(found);
-    }
-    if let Some(found) = of_arguments(reading) {
-        return Some(found);
-    }
-    if let Some(found) = of_calls(reading) {
-        return Some(found);
-    }
-    of_marks(reading)
+}
+
+/// The same of words, and of signs that are fine elsewhere.
+fn in_values(reading: &Reading<'_>) -> Option<Hint> {
+    of_null(reading)
+        .or(of_arguments(reading))
+        .or(of_marks(reading))
 }
 
 /// Signs that make none together.
 fn of_signs(reading: &Reading<'_>) -> Option<Hint> {
-    for (before, here, what, help) in &SIGNS {
-        if reading.back(1) == *before && reading.here() == *here {
-            return said(what, help);
-        }
-    }
-    None
+    look_up_pair(&SIGNS, reading.back(1), reading.here())
 }
 
 /// Fractions, exponents and digits with signs between.
@@ -125,98 +199,14 @@ fn of_null(reading: &Reading<'_>) -> Option<Hint> {
 
 /// What stands in the brackets of a function.
 fn of_arguments(reading: &Reading<'_>) -> Option<Hint> {
-    let function = reading.function();
-    if is_one_of(function, "CLASSIFIER") {
-        return said(
-            "CLASSIFIER() has nothing in its brackets",
-            "for a union of UP and DOWN compare LAST(UP.t) with LAST(DOWN.t)",
-        );
-    }
-    if is_one_of(function, "MATCH_NUMBER") {
-        return said("MATCH_NUMBER() has nothing in its brackets", "leave it out");
-    }
-    if is_one_of(function, "COUNT") {
-        return said(
-            "COUNT counts rows or the values of one column",
-            "write COUNT(*), COUNT(A.*), COUNT(p) or COUNT(A.p)",
-        );
-    }
-    if is_one_of(function, "SUM MIN MAX") {
-        return said(
-            "an aggregate goes over one column",
-            "write SUM(p) or SUM(A.p); for the sum of an expression let one more column of the file have it",
-        );
-    }
-    if is_one_of(function, "PREV NEXT FIRST LAST") {
-        return of_navigation(reading);
-    }
-    None
+    look_up_pair(&ARGUMENTS, reading.function(), reading.back(1))
 }
 
-/// What stands in the brackets of PREV, NEXT, FIRST or LAST.
-fn of_navigation(reading: &Reading<'_>) -> Option<Hint> {
-    if reading.back(1) == "," {
-        return said(
-            "an offset is a number that is written out",
-            "write PREV(p, 2); for PREV(p, -2) write NEXT(p, 2)",
-        );
-    }
-    said(
-        "a navigation is of one column, and perhaps a number",
-        "write PREV(p), PREV(A.p, 2), or PREV(p) + PREV(q) in place of PREV(p + q)",
-    )
-}
-
-/// Functions without their brackets, and a point behind a bracket.
-fn of_calls(reading: &Reading<'_>) -> Option<Hint> {
-    if reading.here() != "(" && is_one_of(reading.back(1), "CLASSIFIER MATCH_NUMBER") {
-        return said(
-            "the brackets are missing",
-            "write CLASSIFIER() and MATCH_NUMBER(); as a name in quotes, \"CLASSIFIER\"",
-        );
-    }
-    if reading.here() != "("
-        && is_one_of(reading.back(1), "FIRST LAST PREV NEXT COUNT SUM MIN MAX")
-    {
-        return said(
-            "a reserved word is before this, without its brackets",
-            "as a function write FIRST(p); as a name in quotes and in upper case, \"FIRST\"",
-        );
-    }
-    if is_one_of(reading.back(1), "RUNNING FINAL") {
-        return said(
-            "RUNNING and FINAL come before FIRST, LAST, COUNT, SUM, MIN and MAX alone",
-            "write FINAL LAST(p) in place of FINAL p",
-        );
-    }
-    if reading.here() == "." && reading.back(1) == ")" {
-        return said(
-            "a point can't follow a bracket",
-            "write LAST(A.p) in place of LAST(A).p",
-        );
-    }
-    if reading.here() == "*" && reading.back(1) == "." {
-        return said(
-            "A.* is for COUNT alone",
-            "write COUNT(A.*), or a column, A.p",
-        );
-    }
-    None
-}
-
-/// Marks that mean nothing in an expression, or mean something in PATTERN alone.
+/// Words and marks by the one before. A bracket behind the name of a function is where it has to be.
 fn of_marks(reading: &Reading<'_>) -> Option<Hint> {
-    match reading.here() {
-        "|" => said(
-            "| is for PATTERN alone",
-            "in a condition write OR; texts can't be joined",
-        ),
-        "^" => said("there are no powers", "write p * p"),
-        "*" if reading.back(1) == "*" => said("there are no powers", "write p * p"),
-        "?" => said("there are no parameters", "write the value itself"),
-        "{" | "{-" => said("this bracket is for PATTERN alone", "write ( )"),
-        "$" => said("$ is for PATTERN alone", "write the value itself"),
-        "+" => said("a + before a value means nothing", "leave it out"),
-        _ => None,
+    let here = reading.here();
+    if here == "(" && !is_one_of(reading.back(1), "RUNNING FINAL") {
+        return None;
     }
+    look_up_pair(&MARKS, reading.back(1), here)
 }

@@ -1,7 +1,6 @@
 //! Brackets that are never closed.
 
 use crate::parts::begins_part;
-use rp_lexer::{Mark, TokenKind};
 use rp_place::{Place, Span};
 use rp_wording::{Advice, Part, Pieces, Reading, is_one_of};
 use std::alloc::Global;
@@ -51,34 +50,29 @@ fn open_exclusion(reading: &Reading<'_>) -> Option<usize> {
 /// The index of the `{-` before the place that isn't closed there, and in which no other bracket is open.
 fn innermost_exclusion(reading: &Reading<'_>) -> Option<usize> {
     let mut closed = 0usize;
-    for (index, token) in reading.tokens.iter().enumerate().take(reading.at).rev() {
-        if closed == 0 && opens(token.kind) {
-            return exclusion_at(token.kind, index);
+    for back in 1..reading.at.saturating_add(1) {
+        let sign = reading.back(back);
+        if closed == 0 && is_one_of(sign, "{- (") {
+            return exclusion_at(reading, reading.at.saturating_sub(back));
         }
-        closed = closed_before(token.kind, closed);
+        closed = closed_before(sign, closed);
     }
     None
 }
 
 /// The index of a token, where that is a `{-`.
-fn exclusion_at(kind: TokenKind, index: usize) -> Option<usize> {
-    if kind == TokenKind::Mark(Mark::LeftBraceMinus) {
+fn exclusion_at(reading: &Reading<'_>, index: usize) -> Option<usize> {
+    if reading.written(index) == "{-" {
         return Some(index);
     }
     None
 }
 
-/// Whether a token opens a bracket.
-fn opens(kind: TokenKind) -> bool {
-    kind == TokenKind::Mark(Mark::LeftBraceMinus) || kind == TokenKind::Mark(Mark::LeftParenthesis)
-}
-
-/// How many brackets are closed behind a token, by how many are behind the next one.
-fn closed_before(kind: TokenKind, closed: usize) -> usize {
-    match kind {
-        TokenKind::Mark(Mark::RightBraceMinus) => closed.saturating_add(1),
-        TokenKind::Mark(Mark::RightParenthesis) => closed.saturating_add(1),
-        _ if opens(kind) => closed.saturating_sub(1),
+/// How many brackets are closed behind a sign, by how many are behind the next one.
+fn closed_before(sign: &str, closed: usize) -> usize {
+    match sign {
+        "-}" | ")" => closed.saturating_add(1),
+        "{-" | "(" => closed.saturating_sub(1),
         _ => closed,
     }
 }

@@ -4,7 +4,8 @@ use crate::words::{is_missing_function, misplaced_behind};
 use rp_lexer::{Keyword, TokenKind};
 use rp_value::Table;
 use rp_wording::{
-    Advice, Pieces, Reading, column_names, index_of, inside_quotes, meant, nearest, upper_case,
+    Advice, Pieces, Reading, column_names, index_of, inside_quotes, is_name, is_one_of, meant,
+    nearest, upper_case,
 };
 use std::alloc::{AllocError, Global};
 
@@ -32,15 +33,15 @@ fn column_guess(
     if let Some(inside) = inside_quotes(written) {
         return quoted_guess(alloc, inside, names);
     }
-    if written.eq_ignore_ascii_case("TRUE") || written.eq_ignore_ascii_case("FALSE") {
+    if is_one_of(written, "TRUE FALSE") {
         let line = "there are no TRUE and FALSE: write 1 = 1, or 1 = 0\n";
         return Ok(Pieces::of(alloc, line));
     }
     if is_variable(alloc, reading, written)? {
         return Ok(variable_help(alloc, written));
     }
-    if let Some(index) = nearest(alloc, written, names)? {
-        return Ok(name_line(alloc, names, index));
+    if let Some(name) = nearest_name(alloc, written, names)? {
+        return Ok(name_line(alloc, name));
     }
     match misplaced_behind(written) {
         Some(found) => Ok(Pieces::filled(alloc, "{}\n", &[found.help])),
@@ -60,15 +61,20 @@ fn variable_help(alloc: Global, written: &str) -> Pieces {
 /// Lines that guess what a name in quotes means.
 fn quoted_guess(alloc: Global, inside: &str, names: &[String]) -> Result<Pieces, AllocError> {
     let upper = upper_case(alloc, inside)?;
-    if index_of(names, upper.as_str()).is_some() {
-        return Ok(Pieces::filled(
-            alloc,
-            "a name in quotes is taken letter for letter: write {}, or \"{}\"\n",
-            &[inside, upper.as_str()],
-        ));
+    if index_of(names, upper.as_str()).is_none() {
+        return text_guess(alloc, inside, names);
     }
-    let mut help = match nearest(alloc, inside, names)? {
-        Some(index) => name_line(alloc, names, index),
+    Ok(Pieces::filled(
+        alloc,
+        "a name in quotes is taken letter for letter: write {}, or \"{}\"\n",
+        &[inside, upper.as_str()],
+    ))
+}
+
+/// The same of what may be meant as a text.
+fn text_guess(alloc: Global, inside: &str, names: &[String]) -> Result<Pieces, AllocError> {
+    let mut help = match nearest_name(alloc, inside, names)? {
+        Some(name) => name_line(alloc, name),
         None => Pieces::new(alloc),
     };
     help.push_filled(
@@ -78,15 +84,39 @@ fn quoted_guess(alloc: Global, inside: &str, names: &[String]) -> Result<Pieces,
     Ok(help)
 }
 
-/// A line with one of the names.
-fn name_line(alloc: Global, names: &[String], index: usize) -> Pieces {
-    let mut line = Pieces::new(alloc);
-    if let Some(name) = names.get(index) {
-        line.push("write ");
-        line.push_name(name.as_str());
-        line.push("\n");
+/// The name that differs least from what is written, where it differs little.
+fn nearest_name<'a>(
+    alloc: Global,
+    written: &str,
+    names: &'a [String],
+) -> Result<Option<&'a str>, AllocError> {
+    let Some(index) = nearest(alloc, written, names)? else {
+        return Ok(None);
+    };
+    match names.get(index) {
+        Some(name) => Ok(Some(name.as_str())),
+        None => Ok(None),
     }
+}
+
+/// A line with the name of a column.
+fn name_line(alloc: Global, name: &str) -> Pieces {
+    let mut line = Pieces::of(alloc, "write ");
+    line.push_name(name);
+    line.push("\n");
     line
+}
+
+/// A line with the name that is nearly what is written; nothing where none is.
+pub(crate) fn near_line(
+    alloc: Global,
+    written: &str,
+    names: &[String],
+) -> Result<Pieces, AllocError> {
+    match nearest_name(alloc, written, names)? {
+        Some(name) => Ok(Pieces::filled(alloc, "write {}\n", &[name])),
+        None => Ok(Pieces::new(alloc)),
+    }
 }
 
 /// Whether the pattern has a variable of this name.
@@ -102,9 +132,9 @@ pub(crate) fn variables(alloc: Global, reading: &Reading<'_>) -> Result<Vec<Stri
     let mut inside = false;
     for token in reading.tokens {
         inside = is_in_pattern(inside, token.kind);
-        if inside && (token.kind == TokenKind::Name || token.kind == TokenKind::Quoted) {
+        if inside && is_name(Some(token.kind)) {
             let written = reading.text.get(token.start..token.end).unwrap_or("");
-            push_new(&mut names, meant(alloc, written)?)?;
+            push_new(&mut names, written)?;
         }
     }
     Ok(names)
@@ -114,19 +144,19 @@ pub(crate) fn variables(alloc: Global, reading: &Reading<'_>) -> Result<Vec<Stri
 fn is_in_pattern(inside: bool, kind: TokenKind) -> bool {
     match kind {
         TokenKind::Keyword(Keyword::Pattern) => true,
-        TokenKind::Keyword(Keyword::Subset) => false,
-        TokenKind::Keyword(Keyword::Define) => false,
+        TokenKind::Keyword(Keyword::Subset | Keyword::Define) => false,
         _ => inside,
     }
 }
 
-/// Adds a name that isn't there.
-fn push_new(names: &mut Vec<String>, name: String) -> Result<(), AllocError> {
+/// Adds a name that is written so, if it isn't there; whether it wasn't.
+pub fn push_new(names: &mut Vec<String>, written: &str) -> Result<bool, AllocError> {
+    let name = meant(*names.allocator(), written)?;
     if index_of(names.as_slice(), name.as_str()).is_some() {
-        return Ok(());
+        return Ok(false);
     }
     names.push(name)?;
-    Ok(())
+    Ok(true)
 }
 
 /// The pattern has no variable of the name at the place.
@@ -150,19 +180,24 @@ fn variable_guess(
     reading: &Reading<'_>,
     variables: &[String],
 ) -> Result<Pieces, AllocError> {
-    let written = reading.here();
-    if let Some(index) = nearest(alloc, written, variables)? {
-        return Ok(variable_line(alloc, variables, index));
+    let line = near_line(alloc, reading.here(), variables)?;
+    if line.is_empty() {
+        return table_guess(alloc, table, reading);
     }
-    let name = meant(alloc, written)?;
-    if is_column(table, name.as_str()) {
+    Ok(line)
+}
+
+/// The same by the columns of the table, and by the words that people know from elsewhere.
+fn table_guess(alloc: Global, table: &Table, reading: &Reading<'_>) -> Result<Pieces, AllocError> {
+    let written = reading.here();
+    if is_column(alloc, table, written)? {
         return Ok(Pieces::filled(
             alloc,
             "{} is a column: a variable comes before the point, A.{}\n",
             &[written, written],
         ));
     }
-    if is_column_of_table(alloc, table, reading)? {
+    if reading.next(1) == "." && is_column(alloc, table, reading.next(2))? {
         return Ok(Pieces::filled(
             alloc,
             "is {} a table? a column is written without its table: {}\n",
@@ -176,30 +211,20 @@ fn variable_guess(
     Ok(Pieces::new(alloc))
 }
 
-/// Whether a point and a column of the table stand behind the place.
-fn is_column_of_table(
-    alloc: Global,
-    table: &Table,
-    reading: &Reading<'_>,
-) -> Result<bool, AllocError> {
-    let column = meant(alloc, reading.next(2))?;
-    Ok(reading.next(1) == "." && is_column(table, column.as_str()))
-}
-
-/// A line with one of the variables.
-fn variable_line(alloc: Global, names: &[String], index: usize) -> Pieces {
-    match names.get(index) {
-        Some(name) => Pieces::filled(alloc, "write {}\n", &[name.as_str()]),
-        None => Pieces::new(alloc),
-    }
+/// Whether the table has a column whose name is written so.
+fn is_column(alloc: Global, table: &Table, written: &str) -> Result<bool, AllocError> {
+    let name = meant(alloc, written)?;
+    Ok(has_column(table, name.as_str()))
 }
 
 /// Whether the table has a column of this name.
-fn is_column(table: &Table, name: &str) -> bool {
-    table
-        .columns()
-        .iter()
-        .any(|column| column.name.as_str() == name)
+fn has_column(table: &Table, name: &str) -> bool {
+    for column in table.columns() {
+        if column.name.as_str() == name {
+            return true;
+        }
+    }
+    false
 }
 
 /// Adds variables with commas between.

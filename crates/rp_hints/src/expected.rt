@@ -2,13 +2,14 @@
 
 use crate::behind::behind_values;
 use crate::brackets::{never_closed, unclosed};
+use crate::columns::near_line;
 use crate::instead::instead;
 use crate::parts::{of_parts, of_structure};
 use crate::pattern_hints::of_pattern;
 use crate::rewriting::rewritten;
 use crate::words::{KNOWN, misplaced_behind, misplaced_word, missing_function};
 use rp_lexer::{Keyword, TokenKind};
-use rp_wording::{Advice, Hint, Part, Pieces, Reading, is_one_of, nearest, said};
+use rp_wording::{Advice, Hint, Part, Pieces, Reading, is_one_of, said};
 use std::alloc::{AllocError, Global};
 
 /// The words with which the parts of a clause begin.
@@ -57,22 +58,15 @@ fn otherwise(alloc: Global, reading: &Reading<'_>) -> Result<Advice, AllocError>
     if let Some(advice) = misspelled(alloc, reading)? {
         return Ok(advice);
     }
-    let found = of_structure(reading).unwrap_or(generally(reading));
-    Ok(Advice::of(alloc, found))
+    Ok(by_structure(alloc, reading))
 }
 
 /// What the words and signs tell by themselves.
 fn plainly(reading: &Reading<'_>) -> Option<Hint> {
-    if let Some(found) = of_words(reading) {
-        return Some(found);
-    }
-    if let Some(found) = of_pattern(reading) {
-        return Some(found);
-    }
-    if let Some(found) = behind_values(reading) {
-        return Some(found);
-    }
-    of_parts(reading)
+    of_words(reading)
+        .or(of_pattern(reading))
+        .or(behind_values(reading))
+        .or(of_parts(reading))
 }
 
 /// An empty clause, and what stands before and behind MATCH_RECOGNIZE ( .. ).
@@ -106,26 +100,25 @@ fn outside(reading: &Reading<'_>) -> Option<Hint> {
 
 /// What the tables say of the word here and of the word before it.
 fn of_words(reading: &Reading<'_>) -> Option<Hint> {
-    if reading.is_name() {
-        if let Some(found) = misplaced_word(reading.here()) {
-            return Some(found);
-        }
+    let found = misplaced_word(word_here(reading));
+    match reading.kind_back(1) {
+        Some(TokenKind::Name) => found.or(misplaced_behind(reading.back(1))),
+        _ => found,
     }
-    if reading.here().eq_ignore_ascii_case("NOT") {
-        if let Some(found) = misplaced_word(reading.next(1)) {
-            return Some(found);
-        }
+}
+
+/// The name at the place, or the word behind a NOT there; nothing where neither stands there.
+fn word_here<'a>(reading: &Reading<'a>) -> &'a str {
+    match reading.kind_here() {
+        Some(TokenKind::Name) => reading.here(),
+        Some(TokenKind::Keyword(Keyword::Not)) => reading.next(1),
+        _ => "",
     }
-    if reading.kind_back(1) == Some(TokenKind::Name) {
-        return misplaced_behind(reading.back(1));
-    }
-    None
 }
 
 /// Whether a function is called that isn't one.
 fn is_call(reading: &Reading<'_>) -> bool {
-    let part = reading.part();
-    (part == Part::Measures || part == Part::Define)
+    matches!(reading.part(), Part::Measures | Part::Define)
         && reading.here() == "("
         && reading.kind_back(1) == Some(TokenKind::Name)
 }
@@ -145,17 +138,17 @@ fn no_function(alloc: Global, name: &str) -> Result<Advice, AllocError> {
 
 /// A line with the word that is nearly this one, if one is.
 fn guess(alloc: Global, written: &str, words: &str) -> Result<Pieces, AllocError> {
+    let names = listed(alloc, words)?;
+    near_line(alloc, written, names.as_slice())
+}
+
+/// Words with blanks between, one by one.
+fn listed(alloc: Global, words: &str) -> Result<Vec<String>, AllocError> {
     let mut names = Vec::new(alloc);
     for word in words.split(' ') {
         names.push(String::from_str(alloc, word)?)?;
     }
-    let Some(index) = nearest(alloc, written, names.as_slice())? else {
-        return Ok(Pieces::new(alloc));
-    };
-    match names.as_slice().get(index) {
-        Some(word) => Ok(Pieces::filled(alloc, "write {}\n", &[word.as_str()])),
-        None => Ok(Pieces::new(alloc)),
-    }
+    Ok(names)
 }
 
 /// A reserved word in the place of a name.
@@ -189,11 +182,9 @@ fn misspelled(alloc: Global, reading: &Reading<'_>) -> Result<Option<Advice>, Al
     }
     let words = match reading.part() {
         Part::Measures | Part::Define => WORDS_BEHIND,
+        _ if reading.is_in_brackets() => return Ok(None),
         _ => PART_WORDS,
     };
-    if words == PART_WORDS && reading.is_in_brackets() {
-        return Ok(None);
-    }
     let help = guess(alloc, reading.here(), words)?;
     if help.is_empty() {
         return Ok(None);
@@ -209,8 +200,12 @@ fn ends_early(alloc: Global, reading: &Reading<'_>) -> Advice {
     if let Some(index) = reading.open_bracket() {
         return never_closed(alloc, reading, index, ")");
     }
-    let found = of_structure(reading).unwrap_or(generally(reading));
-    Advice::of(alloc, found)
+    by_structure(alloc, reading)
+}
+
+/// What is told by the part alone.
+fn by_structure(alloc: Global, reading: &Reading<'_>) -> Advice {
+    Advice::of(alloc, of_structure(reading).unwrap_or(generally(reading)))
 }
 
 /// What is said where nothing better is known.

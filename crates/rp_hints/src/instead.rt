@@ -33,9 +33,22 @@ fn in_values(alloc: Global, reading: &Reading<'_>) -> Option<Advice> {
 }
 
 /// Advice with a form in which words of the clause stand.
-fn told(alloc: Global, what: &str, form: &str, values: &[&str]) -> Option<Advice> {
+pub(crate) fn told(alloc: Global, what: &str, form: &str, values: &[&str]) -> Option<Advice> {
     let help = Pieces::filled(alloc, form, values);
     Some(Advice::with_help(alloc, what, help))
+}
+
+/// The same in place of the function whose name stands before the place.
+fn told_of_function(
+    alloc: Global,
+    reading: &Reading<'_>,
+    form: &str,
+    values: &[&str],
+) -> Option<Advice> {
+    Some(Advice::of_pieces(
+        Pieces::filled(alloc, "there is no function {}", &[reading.back(1)]),
+        Pieces::filled(alloc, form, values),
+    ))
 }
 
 /// A function that there isn't, at its bracket.
@@ -59,25 +72,18 @@ fn null_test(alloc: Global, reading: &Reading<'_>, test: &str) -> Option<Advice>
     if reading.written(end) != ")" || !is_short(value) {
         return None;
     }
-    Some(Advice::of_pieces(
-        Pieces::filled(alloc, "there is no function {}", &[reading.back(1)]),
-        Pieces::filled(alloc, "write {} {}", &[value, test]),
-    ))
+    told_of_function(alloc, reading, "write {} {}", &[value, test])
 }
 
 /// The time of a match, which is that of its last row.
 fn row_time(alloc: Global, reading: &Reading<'_>) -> Option<Advice> {
-    let name = reading.back(1);
-    let function = if is_one_of(name, "MATCH_ROWTIME") {
+    let function = if is_one_of(reading.back(1), "MATCH_ROWTIME") {
         "LAST"
     } else {
         "FIRST"
     };
     let column = first_order_column(reading);
-    Some(Advice::of_pieces(
-        Pieces::filled(alloc, "there is no function {}", &[name]),
-        Pieces::filled(alloc, "write {}({})", &[function, column]),
-    ))
+    told_of_function(alloc, reading, "write {}({})", &[function, column])
 }
 
 /// The first column of ORDER BY; `t` where there is none.
@@ -123,7 +129,8 @@ fn absolute(alloc: Global, reading: &Reading<'_>) -> Option<Advice> {
 /// A point behind the call of a navigation: PREV(B).p.
 fn point(alloc: Global, reading: &Reading<'_>) -> Option<Advice> {
     let function = reading.back(4);
-    if reading.back(3) != "(" || !is_one_of(function, "PREV NEXT FIRST LAST COUNT SUM MIN MAX") {
+    let functions = "PREV NEXT FIRST LAST COUNT SUM MIN MAX";
+    if reading.back(3) != "(" || !is_one_of(function, functions) {
         return None;
     }
     let variable = reading.back(2);
@@ -142,7 +149,6 @@ fn point(alloc: Global, reading: &Reading<'_>) -> Option<Advice> {
 /// More than one column in the brackets of MIN, MAX, FIRST, LAST, PREV or NEXT.
 fn in_arguments(alloc: Global, reading: &Reading<'_>) -> Option<Advice> {
     let function = reading.function();
-    let column = argument(reading);
     if is_one_of(function, "MIN MAX") {
         let column = whole_argument(reading);
         return told(
@@ -153,6 +159,7 @@ fn in_arguments(alloc: Global, reading: &Reading<'_>) -> Option<Advice> {
         );
     }
     if is_one_of(function, "PREV NEXT FIRST LAST") && reading.back(1) != "," {
+        let column = name_before(reading, "p");
         let what = "a navigation is of one column, and perhaps a number";
         return told(
             alloc,
@@ -166,15 +173,15 @@ fn in_arguments(alloc: Global, reading: &Reading<'_>) -> Option<Advice> {
     None
 }
 
-/// The column in the brackets of a function before the place; `p` where there is none.
-fn argument<'a>(reading: &Reading<'a>) -> &'a str {
+/// The name before the place, or another where there is none.
+fn name_before<'a>(reading: &Reading<'a>, other: &'a str) -> &'a str {
     if is_name(reading.kind_back(1)) {
         return reading.back(1);
     }
-    "p"
+    other
 }
 
-/// The same with the variable before it, if there is one.
+/// The column before the place, with its variable, if there is one; `p` where there is none.
 fn whole_argument<'a>(reading: &Reading<'a>) -> &'a str {
     if is_name(reading.kind_back(1)) {
         return text_of(reading, operand_start(reading, reading.at), reading.at);
@@ -212,27 +219,24 @@ fn distinct(alloc: Global, reading: &Reading<'_>) -> Option<Advice> {
     if !is_one_of(reading.next(1), "FROM") {
         return None;
     }
-    let negated = is_one_of(reading.back(1), "NOT");
-    let is = reading.at.saturating_sub(if negated { 2 } else { 1 });
+    let (count, form) = if is_one_of(reading.back(1), "NOT") {
+        (2, "write ({} = {} OR {} IS NULL AND {} IS NULL)")
+    } else {
+        let form =
+            "write ({} <> {} OR {} IS NULL AND {} IS NOT NULL OR {} IS NOT NULL AND {} IS NULL)";
+        (1, form)
+    };
+    let is = reading.at.saturating_sub(count);
     let start = reading.at.saturating_add(2);
     let one = text_of(reading, operand_start(reading, is), is);
     let other = text_of(reading, start, operand_end(reading, start));
     if !is_short(one) || !is_short(other) {
         return None;
     }
-    let what = "there is no DISTINCT";
-    if negated {
-        return told(
-            alloc,
-            what,
-            "write ({} = {} OR {} IS NULL AND {} IS NULL)",
-            &[one, other, one, other],
-        );
-    }
     told(
         alloc,
-        what,
-        "write ({} <> {} OR {} IS NULL AND {} IS NOT NULL OR {} IS NOT NULL AND {} IS NULL)",
+        "there is no DISTINCT",
+        form,
         &[one, other, one, other, one, other],
     )
 }
@@ -251,11 +255,7 @@ fn in_pattern(alloc: Global, reading: &Reading<'_>) -> Option<Advice> {
     if reading.here() != "." || is_name(reading.kind(reading.at.saturating_add(1))) {
         return None;
     }
-    let before = if is_name(reading.kind_back(1)) {
-        reading.back(1)
-    } else {
-        "A"
-    };
+    let before = name_before(reading, "A");
     let after = name_behind(reading);
     told(
         alloc,
@@ -288,26 +288,23 @@ fn name_behind<'a>(reading: &Reading<'a>) -> &'a str {
 /// SKIP TO without a variable.
 fn in_skip(alloc: Global, reading: &Reading<'_>) -> Result<Option<Advice>, AllocError> {
     let names = variables(alloc, reading)?;
-    let name = match names.last() {
-        Some(name) => name.as_str(),
-        None => "B",
-    };
+    Ok(match names.last() {
+        Some(name) => skip_to(alloc, reading, name.as_str()),
+        None => skip_to(alloc, reading, "B"),
+    })
+}
+
+/// The same with one of the variables.
+fn skip_to(alloc: Global, reading: &Reading<'_>, name: &str) -> Option<Advice> {
     let back = reading.back(1);
+    let what = "a variable is missing here";
     if is_one_of(back, "FIRST LAST") && is_one_of(reading.back(2), "TO") {
-        return Ok(told(
-            alloc,
-            "a variable is missing here",
-            "write AFTER MATCH SKIP TO {} {}",
-            &[back, name],
-        ));
+        let form = "write AFTER MATCH SKIP TO {} {}";
+        return told(alloc, what, form, &[back, name]);
     }
     if is_one_of(back, "TO") {
-        return Ok(told(
-            alloc,
-            "a variable is missing here",
-            "write AFTER MATCH SKIP TO {}, or SKIP TO NEXT ROW",
-            &[name],
-        ));
+        let form = "write AFTER MATCH SKIP TO {}, or SKIP TO NEXT ROW";
+        return told(alloc, what, form, &[name]);
     }
-    Ok(None)
+    None
 }

@@ -10,12 +10,13 @@ mod columns;
 mod expected;
 mod fractions;
 mod instead;
+mod pairs;
 mod parts;
 mod pattern_hints;
 mod rewriting;
 mod words;
 
-pub use columns::{unknown_column, unknown_variable};
+pub use columns::{push_new, unknown_column, unknown_variable};
 pub use expected::unexpected;
 pub use parts::ends_value;
 pub use words::{is_missing_function, sql_around};

@@ -1,24 +1,74 @@
 //! The parts of a clause in another order, and what is missing inside of them.
 
-use rp_lexer::{Keyword, TokenKind};
-use rp_wording::{Hint, Part, Reading, is_one_of, part_of, said};
+use crate::pairs::{Pair, look_up_pair};
+use rp_lexer::{Keyword, Mark, TokenKind};
+use rp_wording::{Hint, Part, Reading, is_name, is_one_of, part_of, said};
 
 /// The order of the parts.
 const ORDER: &str =
     "the parts come in this order: PARTITION BY, ORDER BY, MEASURES, ONE ROW or ALL ROWS PER MATCH, AFTER MATCH SKIP, PATTERN, SUBSET, DEFINE";
+
+/// What is missing behind two words of ONE ROW and ALL ROWS PER MATCH.
+const ROWS: [Pair; 3] = [
+    (
+        "ONE",
+        "ROW",
+        "PER MATCH is missing",
+        "write ONE ROW PER MATCH",
+    ),
+    (
+        "ALL",
+        "ROWS",
+        "PER MATCH is missing",
+        "write ALL ROWS PER MATCH",
+    ),
+    (
+        "",
+        "ONE ALL ROW PER",
+        "the words are ONE ROW PER MATCH and ALL ROWS PER MATCH",
+        "write one of the two",
+    ),
+];
+
+/// What is missing behind two words of AFTER MATCH SKIP.
+const SKIP: [Pair; 3] = [
+    (
+        "PAST",
+        "LAST",
+        "ROW is missing",
+        "write AFTER MATCH SKIP PAST LAST ROW",
+    ),
+    (
+        "",
+        "NEXT",
+        "ROW is missing",
+        "write AFTER MATCH SKIP TO NEXT ROW",
+    ),
+    (
+        "",
+        "SKIP",
+        "PAST or TO comes behind SKIP",
+        "write AFTER MATCH SKIP PAST LAST ROW, SKIP TO NEXT ROW, SKIP TO FIRST A or SKIP TO LAST A",
+    ),
+];
 
 /// What is missing where a part begins, and parts in another order.
 pub(crate) fn of_parts(reading: &Reading<'_>) -> Option<Hint> {
     if reading.is_in_brackets() || !begins_part(reading) {
         return None;
     }
-    match reading.part() {
-        Part::Measures if is_one_of(reading.back(1), ", MEASURES") => return no_measure(),
-        Part::Measures if !has_as(reading) => return nameless(),
-        Part::Skip if of_skip(reading).is_some() => return of_skip(reading),
-        Part::Rows if of_rows(reading).is_some() => return of_rows(reading),
-        _ => {}
-    }
+    let found = match reading.part() {
+        Part::Measures if is_one_of(reading.back(1), ", MEASURES") => no_measure(),
+        Part::Measures if !has_as(reading) => nameless(),
+        Part::Skip => of_skip(reading),
+        Part::Rows => of_rows(reading),
+        _ => None,
+    };
+    found.or(of_order(reading))
+}
+
+/// Parts in another order.
+fn of_order(reading: &Reading<'_>) -> Option<Hint> {
     if is_one_of(reading.here(), "DEFINE") && is_later_definition(reading) {
         return said(
             "DEFINE comes once",
@@ -67,6 +117,14 @@ fn has_pattern(reading: &Reading<'_>) -> bool {
     reading.has_before(TokenKind::Keyword(Keyword::Pattern))
 }
 
+/// A clause that ends without the parts that it has to have.
+fn no_pattern() -> Option<Hint> {
+    said(
+        "PATTERN and DEFINE are missing",
+        "write PATTERN (A B+) DEFINE B AS p > PREV(p)",
+    )
+}
+
 /// No measure where one has to come.
 fn no_measure() -> Option<Hint> {
     said(
@@ -85,17 +143,21 @@ fn nameless() -> Option<Hint> {
 
 /// Whether AS stands in the item before the place: behind the last comma outside of brackets.
 fn has_as(reading: &Reading<'_>) -> bool {
-    let before = reading.tokens.iter().take(reading.at);
-    for token in before.rev() {
-        match token.kind {
-            TokenKind::Keyword(Keyword::As) => return true,
-            TokenKind::Keyword(Keyword::Measures) => return false,
-            TokenKind::Keyword(Keyword::Define) => return false,
-            TokenKind::Mark(rp_lexer::Mark::Comma) => return false,
-            _ => {}
-        }
+    let mut has = false;
+    for token in reading.tokens.iter().take(reading.at) {
+        has = has_as_behind(token.kind, has);
     }
-    false
+    has
+}
+
+/// The same behind a token, by whether it stands before.
+fn has_as_behind(kind: TokenKind, has: bool) -> bool {
+    match kind {
+        TokenKind::Keyword(Keyword::As) => true,
+        TokenKind::Keyword(Keyword::Measures | Keyword::Define) => false,
+        TokenKind::Mark(Mark::Comma) => false,
+        _ => has,
+    }
 }
 
 /// What is missing inside of a part.
@@ -115,10 +177,7 @@ pub(crate) fn of_structure(reading: &Reading<'_>) -> Option<Hint> {
 /// A clause without any part.
 fn of_front(reading: &Reading<'_>) -> Option<Hint> {
     if reading.is_end() {
-        return said(
-            "PATTERN and DEFINE are missing",
-            "write PATTERN (A B+) DEFINE B AS p > PREV(p)",
-        );
+        return no_pattern();
     }
     None
 }
@@ -129,12 +188,9 @@ fn of_lists(reading: &Reading<'_>) -> Option<Hint> {
         return said("BY is missing", "write PARTITION BY sym, ORDER BY t");
     }
     if reading.is_end() && !is_one_of(reading.back(1), "BY ,") {
-        return said(
-            "PATTERN and DEFINE are missing",
-            "write PATTERN (A B+) DEFINE B AS p > PREV(p)",
-        );
+        return no_pattern();
     }
-    if is_name_kind(reading.kind_here()) && is_name_kind(reading.kind_back(1)) {
+    if is_name(reading.kind_here()) && is_name(reading.kind_back(1)) {
         return said(
             "a comma comes between columns",
             "write PARTITION BY sym, day",
@@ -155,18 +211,15 @@ fn of_measures(reading: &Reading<'_>) -> Option<Hint> {
         );
     }
     if reading.is_end() && has_as(reading) {
-        return said(
-            "PATTERN and DEFINE are missing",
-            "write PATTERN (A B+) DEFINE B AS p > PREV(p)",
-        );
+        return no_pattern();
     }
     if !has_as(reading) && (reading.here() == "," || reading.is_end()) {
         return nameless();
     }
-    if !has_as(reading) && is_name_kind(reading.kind_here()) && ends_value(reading) {
+    if !has_as(reading) && is_name(reading.kind_here()) && ends_value(reading) {
         return said("AS is missing before the name", "write LAST(p) AS ended");
     }
-    if has_as(reading) && is_name_kind(reading.kind_back(1)) {
+    if has_as(reading) && is_name(reading.kind_back(1)) {
         return said(
             "a comma comes between measures",
             "write A.p AS began, LAST(p) AS ended",
@@ -177,50 +230,25 @@ fn of_measures(reading: &Reading<'_>) -> Option<Hint> {
 
 /// Whether a value may end before the place.
 pub fn ends_value(reading: &Reading<'_>) -> bool {
-    match reading.kind_back(1) {
-        Some(TokenKind::Name) | Some(TokenKind::Quoted) => true,
-        Some(TokenKind::Number) | Some(TokenKind::Text) => true,
-        _ => reading.back(1) == ")" || is_one_of(reading.back(1), "NULL"),
-    }
+    is_simple(reading.kind_back(1)) || is_one_of(reading.back(1), ") NULL")
 }
 
-/// Whether it is a name, in quotes or not.
-fn is_name_kind(kind: Option<TokenKind>) -> bool {
-    matches!(kind, Some(TokenKind::Name) | Some(TokenKind::Quoted))
+/// Whether it is a name or a literal.
+pub(crate) fn is_simple(kind: Option<TokenKind>) -> bool {
+    matches!(
+        kind,
+        Some(TokenKind::Name | TokenKind::Quoted | TokenKind::Number | TokenKind::Text)
+    )
 }
 
 /// ONE ROW and ALL ROWS PER MATCH.
 fn of_rows(reading: &Reading<'_>) -> Option<Hint> {
-    if is_one_of(reading.back(1), "ROW") && is_one_of(reading.back(2), "ONE") {
-        return said("PER MATCH is missing", "write ONE ROW PER MATCH");
-    }
-    if is_one_of(reading.back(1), "ROWS") && is_one_of(reading.back(2), "ALL") {
-        return said("PER MATCH is missing", "write ALL ROWS PER MATCH");
-    }
-    if is_one_of(reading.back(1), "ONE ALL ROW PER") {
-        return said(
-            "the words are ONE ROW PER MATCH and ALL ROWS PER MATCH",
-            "write one of the two",
-        );
-    }
-    None
+    look_up_pair(&ROWS, reading.back(2), reading.back(1))
 }
 
 /// AFTER MATCH SKIP.
 fn of_skip(reading: &Reading<'_>) -> Option<Hint> {
-    if is_one_of(reading.back(1), "LAST") && is_one_of(reading.back(2), "PAST") {
-        return said("ROW is missing", "write AFTER MATCH SKIP PAST LAST ROW");
-    }
-    if is_one_of(reading.back(1), "NEXT") {
-        return said("ROW is missing", "write AFTER MATCH SKIP TO NEXT ROW");
-    }
-    if is_one_of(reading.back(1), "SKIP") {
-        return said(
-            "PAST or TO comes behind SKIP",
-            "write AFTER MATCH SKIP PAST LAST ROW, SKIP TO NEXT ROW, SKIP TO FIRST A or SKIP TO LAST A",
-        );
-    }
-    None
+    look_up_pair(&SKIP, reading.back(2), reading.back(1))
 }
 
 /// What follows a pattern.
@@ -271,7 +299,7 @@ fn of_define(reading: &Reading<'_>) -> Option<Hint> {
             "write DEFINE A AS p > 5; for any row, A AS 1 = 1",
         );
     }
-    if is_name_kind(reading.kind_here()) && is_one_of(reading.next(1), "AS") {
+    if is_name(reading.kind_here()) && is_one_of(reading.next(1), "AS") {
         return said(
             "a comma comes between definitions",
             "write DEFINE A AS p > 5, B AS p < 3",

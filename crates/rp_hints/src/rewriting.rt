@@ -1,6 +1,7 @@
 //! What is written in a clause in place of BETWEEN and IN.
 
-use rp_lexer::TokenKind;
+use crate::instead::told;
+use crate::parts::is_simple;
 use rp_wording::{Advice, Pieces, Reading, is_one_of};
 use std::alloc::Global;
 
@@ -21,15 +22,6 @@ pub(crate) fn rewritten(alloc: Global, reading: &Reading<'_>) -> Option<Advice> 
     None
 }
 
-/// Whether it is a name or a literal.
-fn is_simple(kind: Option<TokenKind>) -> bool {
-    match kind {
-        Some(TokenKind::Name) | Some(TokenKind::Quoted) => true,
-        Some(TokenKind::Number) | Some(TokenKind::Text) => true,
-        _ => false,
-    }
-}
-
 /// The value before the place: a column, perhaps with a variable and a point before it, or a literal.
 fn operand<'a>(reading: &Reading<'a>) -> (&'a str, &'a str, &'a str) {
     if reading.back(2) == "." {
@@ -48,15 +40,12 @@ fn between(alloc: Global, reading: &Reading<'_>) -> Option<Advice> {
     let (variable, point, value) = operand(reading);
     let least = reading.written(lower);
     let most = reading.written(upper);
-    Some(Advice::with_help(
+    told(
         alloc,
         "there is no BETWEEN",
-        Pieces::filled(
-            alloc,
-            "write {}{}{} >= {} AND {}{}{} <= {}",
-            &[variable, point, value, least, variable, point, value, most],
-        ),
-    ))
+        "write {}{}{} >= {} AND {}{}{} <= {}",
+        &[variable, point, value, least, variable, point, value, most],
+    )
 }
 
 /// What an IN stands for.
