@@ -4,7 +4,6 @@ use crate::meaning::meaning;
 use rp_compile::CompileFault;
 use rp_grammar::ParseFault;
 use rp_hints::unexpected;
-use rp_resolution::Fault;
 use rp_value::Table;
 use rp_wording::{Advice, Reading, Report, Source, TextReport, explain_lex};
 use std::alloc::{AllocError, Global};
@@ -42,39 +41,41 @@ fn explain_in(
 ) -> Result<(), AllocError> {
     match fault {
         CompileFault::Lex(why) => explain_lex(report, *why),
-        CompileFault::Parse(why) => explain_parse(report, *why),
-        CompileFault::Check(why) => explain_check(report, table, *why),
+        CompileFault::Parse(ParseFault::Expected(at)) => explain_at(report, table, fault, *at),
+        CompileFault::Parse(ParseFault::Deep(at)) => explain_at(report, table, fault, *at),
+        CompileFault::Check(why) => explain_at(report, table, fault, why.offset),
+        CompileFault::Parse(ParseFault::OutOfMemory) => Ok(()),
         CompileFault::OutOfMemory => Ok(()),
     }
 }
 
-/// Explains a clause whose tokens derive none.
-fn explain_parse(report: &mut TextReport<'_>, fault: ParseFault) -> Result<(), AllocError> {
-    let tokens = report.tokens()?;
-    match fault {
-        ParseFault::Expected(at) => {
-            let reading = Reading::new(report.source.shown, tokens.as_slice(), at);
-            let advice = unexpected(report.alloc(), &reading)?;
-            report.point(reading.span(), &advice)
-        }
-        ParseFault::Deep(at) => {
-            let reading = Reading::new(report.source.shown, tokens.as_slice(), at);
-            let what = "a hundred brackets are open before this one";
-            let help = "leave out brackets that group nothing";
-            report.point(reading.span(), &Advice::new(report.alloc(), what, help))
-        }
-        ParseFault::OutOfMemory => Ok(()),
-    }
-}
-
-/// Explains what is wrong in the meaning of a clause.
-fn explain_check(
+/// Adds that a fault is at a token, and what to write there.
+fn explain_at(
     report: &mut TextReport<'_>,
     table: &Table,
-    fault: Fault,
+    fault: &CompileFault,
+    offset: usize,
 ) -> Result<(), AllocError> {
     let tokens = report.tokens()?;
-    let reading = Reading::new(report.source.shown, tokens.as_slice(), fault.offset);
-    let advice = meaning(report.alloc(), table, &reading, fault.kind)?;
+    let reading = Reading::new(report.source.shown, tokens.as_slice(), offset);
+    let advice = advice_of(report.alloc(), table, &reading, fault)?;
     report.point(reading.span(), &advice)
+}
+
+/// What is wrong at the token of the reading, and what to write.
+fn advice_of(
+    alloc: Global,
+    table: &Table,
+    reading: &Reading<'_>,
+    fault: &CompileFault,
+) -> Result<Advice, AllocError> {
+    match fault {
+        CompileFault::Check(why) => meaning(alloc, table, reading, why.kind),
+        CompileFault::Parse(ParseFault::Deep(_)) => {
+            let what = "a hundred brackets are open before this one";
+            let help = "leave out brackets that group nothing";
+            Ok(Advice::new(alloc, what, help))
+        }
+        _ => unexpected(alloc, reading),
+    }
 }

@@ -55,55 +55,56 @@ fn of_statement(
     statement: &Statement,
     fault: &CompileFault,
 ) -> Result<Explained, AllocError> {
-    let mut reports = Vec::new(alloc);
     match compile(alloc, statement.inside.as_str(), table) {
         Ok(query) => {
-            push_outer(alloc, &mut reports, table, text, statement)?;
-            Ok(Explained {
-                reports,
-                query: Some(query),
-            })
+            let reports = outer_alone(alloc, table, text, statement)?;
+            let query = Some(query);
+            Ok(Explained { reports, query })
         }
         Err(CompileFault::OutOfMemory) => Err(AllocError),
         Err(inner) => {
             let outer_first = statement.front.is_some() || statement.is_outside(fault);
-            push_both(
-                alloc,
-                &mut reports,
-                table,
-                text,
-                statement,
-                &inner,
-                outer_first,
-            )?;
-            Ok(Explained {
-                reports,
-                query: None,
-            })
+            let reports = both(alloc, table, text, statement, &inner, outer_first)?;
+            let query = None;
+            Ok(Explained { reports, query })
         }
     }
 }
 
-/// Explains both what stands outside and the faults inside.
-fn push_both(
+/// Explains what stands outside alone.
+fn outer_alone(
     alloc: Global,
-    reports: &mut Vec<Report>,
+    table: &Table,
+    text: &str,
+    statement: &Statement,
+) -> Result<Vec<Report>, AllocError> {
+    let mut reports = Vec::new(alloc);
+    push_outer(alloc, &mut reports, table, text, statement)?;
+    Ok(reports)
+}
+
+/// Explains both what stands outside and the faults inside.
+fn both(
+    alloc: Global,
     table: &Table,
     text: &str,
     statement: &Statement,
     inner: &CompileFault,
     outer_first: bool,
-) -> Result<(), AllocError> {
+) -> Result<Vec<Report>, AllocError> {
+    let mut reports = Vec::new(alloc);
     let source = Source {
         shown: text,
         read: statement.inside.as_str(),
     };
     if outer_first {
-        push_outer(alloc, reports, table, text, statement)?;
-        return push_faults(alloc, reports, table, source, inner, MOST - 1);
+        push_outer(alloc, &mut reports, table, text, statement)?;
     }
-    push_faults(alloc, reports, table, source, inner, MOST - 1)?;
-    push_outer(alloc, reports, table, text, statement)
+    push_faults(alloc, &mut reports, table, source, inner, MOST - 1)?;
+    if !outer_first {
+        push_outer(alloc, &mut reports, table, text, statement)?;
+    }
+    Ok(reports)
 }
 
 /// Explains what stands outside.
@@ -152,15 +153,23 @@ fn front_report(
 
 /// The letters, digits and `_` from an offset on, or the character there.
 fn word_at(text: &str, start: usize) -> Span {
-    let rest = text.get(start..).unwrap_or("");
-    let letters = rest
-        .bytes()
-        .take_while(|byte| byte.is_ascii_alphanumeric() || *byte == b'_');
-    let length = letters.count().max(1);
+    let length = word_length(text.get(start..).unwrap_or("")).max(1);
     Span {
         start,
         end: start.saturating_add(length),
     }
+}
+
+/// How many letters, digits and `_` stand in front.
+fn word_length(rest: &str) -> usize {
+    let mut count = 0usize;
+    for byte in rest.bytes() {
+        if !byte.is_ascii_alphanumeric() && byte != b'_' {
+            return count;
+        }
+        count = count.saturating_add(1);
+    }
+    count
 }
 
 /// Explains a fault, and further ones behind it: so many at most.
@@ -179,8 +188,19 @@ fn push_faults(
         read: passed.read.as_str(),
         ..source
     };
-    for other in others.as_slice() {
-        push_fault(alloc, reports, table, source, other)?;
+    push_each(alloc, reports, table, source, others.as_slice())
+}
+
+/// Explains each of the faults.
+fn push_each(
+    alloc: Global,
+    reports: &mut Vec<Report>,
+    table: &Table,
+    source: Source<'_>,
+    faults: &[CompileFault],
+) -> Result<(), AllocError> {
+    for fault in faults {
+        push_fault(alloc, reports, table, source, fault)?;
     }
     Ok(())
 }

@@ -4,7 +4,7 @@ use crate::passed::{Passed, place_of};
 use rp_compile::CompileFault;
 use rp_grammar::ParseFault;
 use rp_hints::{ends_value, is_missing_function};
-use rp_lexer::{Keyword, LexFault, TokenKind};
+use rp_lexer::{Keyword, LexFault, Token, TokenKind};
 use rp_wording::{Part, Reading, depth_behind, is_one_of, part_of, tokens_of};
 use std::alloc::{AllocError, Global};
 
@@ -39,21 +39,14 @@ pub(crate) fn further(
     most: u32,
 ) -> Result<Vec<CompileFault>, AllocError> {
     let bad = clause.faults.as_slice();
-    match first {
-        CompileFault::Lex(_) => {
-            let tokens = certain_places(alloc, clause.read.as_str(), 0, most)?;
-            let bad = bad.get(1..).unwrap_or(&[]);
-            let tokens = tokens.as_slice();
-            in_order(alloc, Ahead { bad, tokens }, most)
-        }
-        CompileFault::Parse(ParseFault::Expected(at)) => {
-            let from = at.saturating_add(1);
-            let tokens = certain_places(alloc, clause.read.as_str(), from, most)?;
-            let tokens = tokens.as_slice();
-            in_order(alloc, Ahead { bad, tokens }, most)
-        }
-        _ => Ok(Vec::new(alloc)),
-    }
+    let (bad, from) = match first {
+        CompileFault::Lex(_) => (bad.get(1..).unwrap_or(&[]), 0),
+        CompileFault::Parse(ParseFault::Expected(at)) => (bad, at.saturating_add(1)),
+        _ => return Ok(Vec::new(alloc)),
+    };
+    let places = certain_places(alloc, clause.read.as_str(), from, most)?;
+    let tokens = places.as_slice();
+    in_order(alloc, Ahead { bad, tokens }, most)
 }
 
 /// So many of the faults, at most, by place.
@@ -108,18 +101,25 @@ fn certain_places(
     most: u32,
 ) -> Result<Vec<usize>, AllocError> {
     let tokens = tokens_of(alloc, text)?;
+    certain_among(alloc, text, tokens.as_slice(), from, most)
+}
+
+/// The same of the text's tokens.
+fn certain_among(
+    alloc: Global,
+    text: &str,
+    tokens: &[Token],
+    from: usize,
+    most: u32,
+) -> Result<Vec<usize>, AllocError> {
     let mut places = Vec::new(alloc);
     let mut walk = Walk {
         part: Part::Front,
         depth: 0,
         outside: 0,
     };
-    for (at, token) in tokens.as_slice().iter().enumerate() {
-        let reading = Reading {
-            text,
-            tokens: tokens.as_slice(),
-            at,
-        };
+    for (at, token) in tokens.iter().enumerate() {
+        let reading = Reading { text, tokens, at };
         let meant = token.start >= from && places.len() < most as usize;
         push_if(
             &mut places,

@@ -5,10 +5,38 @@ use rp_lexer::TokenKind;
 use rp_resolution::CheckKind;
 use rp_value::Table;
 use rp_wording::{
-    Advice, Part, Pieces, Reading, is_date, is_name, is_one_of, kind_word, meant, operand_end,
-    operand_start,
+    Advice, Entry, Hint, Part, Pieces, Reading, is_comparison, is_date, is_name, kind_word,
+    look_up, meant, operand_end, operand_start,
 };
 use std::alloc::{AllocError, Global};
+
+/// What is wrong with signs and words over values of another kind.
+const KINDS: [Entry; 4] = [
+    (
+        "+ - *",
+        "only whole numbers are added, subtracted and multiplied",
+        "both sides are columns of kind int, numbers or sums of them; texts can't be joined",
+    ),
+    (
+        "AND OR NOT",
+        "AND, OR and NOT come between conditions",
+        "write a comparison on each side: p > 5 AND q = 'a'; NOT binds closer than =",
+    ),
+    (
+        "SUM",
+        "SUM goes over a column of whole numbers",
+        "this one is text: COUNT, MIN and MAX take it, or its kind in the table is int",
+    ),
+    (
+        "IS",
+        "IS NULL asks of a value",
+        "a condition is before it: leave IS NULL out, or ask a column",
+    ),
+];
+
+/// How texts and numbers are told apart.
+const QUOTES: &str =
+    "a text is written in single quotes, a number in none; the kinds of columns are in the table";
 
 /// What is wrong at the token of the reading, by the kind of the fault.
 pub(crate) fn meaning(
@@ -17,52 +45,46 @@ pub(crate) fn meaning(
     reading: &Reading<'_>,
     kind: CheckKind,
 ) -> Result<Advice, AllocError> {
-    match kind {
-        CheckKind::UnknownColumn => unknown_column(alloc, table, reading),
-        CheckKind::UnknownVariable => unknown_variable(alloc, table, reading),
-        CheckKind::DoubleName => Ok(double_name(alloc, reading)),
-        CheckKind::KindMismatch => mismatch(alloc, table, reading),
-        CheckKind::FinalInDefine => Ok(Advice::new(
-            alloc,
+    let (what, help) = match kind {
+        CheckKind::UnknownColumn => return unknown_column(alloc, table, reading),
+        CheckKind::UnknownVariable => return unknown_variable(alloc, table, reading),
+        CheckKind::DoubleName => return Ok(double_name(alloc, reading)),
+        CheckKind::KindMismatch => return mismatch(alloc, table, reading),
+        CheckKind::FinalInDefine => (
             "FINAL can't be used in DEFINE",
             "leave FINAL out: a condition sees the rows up to its own",
-        )),
-        CheckKind::NestedNavigation => Ok(Advice::new(
-            alloc,
+        ),
+        CheckKind::NestedNavigation => (
             "this navigation can't be inside another",
             "only FIRST or LAST stand in PREV or NEXT: PREV(FIRST(A.p))\n\
             two rows back are PREV(p, 2); the second row of A is FIRST(A.p, 1)",
-        )),
-        CheckKind::BadBounds => Ok(bounds(alloc, reading)),
-        CheckKind::TooManyPermuted => Ok(Advice::new(
-            alloc,
+        ),
+        CheckKind::BadBounds => bounds(reading),
+        CheckKind::TooManyPermuted => (
             "PERMUTE has at most 8 parts",
             "write (A | B | ..){9}, and in each definition COUNT(A.*) = 1",
-        )),
-        CheckKind::ExclusionWithUnmatched => Ok(Advice::new(
-            alloc,
+        ),
+        CheckKind::ExclusionWithUnmatched => (
             "{- .. -} can't be with WITH UNMATCHED ROWS",
             "write ALL ROWS PER MATCH alone, or leave {- and -} out",
-        )),
-        CheckKind::MeasureOnly => Ok(Advice::new(
-            alloc,
+        ),
+        CheckKind::MeasureOnly => (
             "this is for MEASURES alone",
             "in a condition count rows, COUNT(A.*), or give the rows a variable of their own",
-        )),
-    }
+        ),
+    };
+    Ok(Advice::new(alloc, what, help))
 }
 
-/// A bound or an offset.
-fn bounds(alloc: Global, reading: &Reading<'_>) -> Advice {
+/// A bound or an offset: what is wrong, and what to write.
+fn bounds(reading: &Reading<'_>) -> (&'static str, &'static str) {
     if reading.here() == "{" {
-        return Advice::new(
-            alloc,
+        return (
             "the bounds are at most 1000, the lower one first",
             "write {2,5}; for more than 1000 times (A{1000}){3}",
         );
     }
-    Advice::new(
-        alloc,
+    (
         "an offset is at most 1000",
         "rows further away can't be asked for",
     )
@@ -70,49 +92,32 @@ fn bounds(alloc: Global, reading: &Reading<'_>) -> Advice {
 
 /// A name that was given before.
 fn double_name(alloc: Global, reading: &Reading<'_>) -> Advice {
-    let written = reading.here();
-    match reading.part() {
-        Part::Measures => {
-            let help = "write another name behind AS\n\
-            the columns of PARTITION BY stand in the answer by themselves, with ALL ROWS PER MATCH every column does";
-            Advice::with_what(
-                alloc,
-                Pieces::filled(alloc, "the name {} is taken", &[written]),
-                help,
-            )
-        }
-        Part::Define => {
-            Advice::with_what(
-                alloc,
-                Pieces::filled(alloc, "{} has a definition already", &[written]),
-                "join the two conditions by AND or OR",
-            )
-        }
-        Part::Subset => {
-            Advice::with_what(
-                alloc,
-                Pieces::filled(
-                    alloc,
-                    "the name {} is taken by a variable or a union",
-                    &[written],
-                ),
-                "give the union another name",
-            )
-        }
-        _ => {
-            Advice::with_what(
-                alloc,
-                Pieces::filled(alloc, "{} is listed already", &[written]),
-                "leave it out here: all rows of a partition have the same value in its columns",
-            )
-        }
-    }
+    let (form, help) = match reading.part() {
+        Part::Measures => (
+            "the name {} is taken",
+            "write another name behind AS\n\
+            the columns of PARTITION BY stand in the answer by themselves, with ALL ROWS PER MATCH every column does",
+        ),
+        Part::Define => (
+            "{} has a definition already",
+            "join the two conditions by AND or OR",
+        ),
+        Part::Subset => (
+            "the name {} is taken by a variable or a union",
+            "give the union another name",
+        ),
+        _ => (
+            "{} is listed already",
+            "leave it out here: all rows of a partition have the same value in its columns",
+        ),
+    };
+    Advice::with_what(alloc, Pieces::filled(alloc, form, &[reading.here()]), help)
 }
 
 /// A value or a condition of another kind.
 fn mismatch(alloc: Global, table: &Table, reading: &Reading<'_>) -> Result<Advice, AllocError> {
     let here = reading.here();
-    if matches!(here, "=" | "<>" | "<" | "<=" | ">" | ">=") {
+    if is_comparison(here) {
         return of_comparison(alloc, table, reading);
     }
     if here == "-" {
@@ -120,41 +125,8 @@ fn mismatch(alloc: Global, table: &Table, reading: &Reading<'_>) -> Result<Advic
             return Ok(advice);
         }
     }
-    Ok(of_signs_and_words(alloc, reading))
-}
-
-/// The same, by the sign or word alone.
-fn of_signs_and_words(alloc: Global, reading: &Reading<'_>) -> Advice {
-    let here = reading.here();
-    if matches!(here, "+" | "-" | "*") {
-        return Advice::new(
-            alloc,
-            "only whole numbers are added, subtracted and multiplied",
-            "both sides are columns of kind int, numbers or sums of them; texts can't be joined",
-        );
-    }
-    if is_one_of(here, "AND OR NOT") {
-        return Advice::new(
-            alloc,
-            "AND, OR and NOT come between conditions",
-            "write a comparison on each side: p > 5 AND q = 'a'; NOT binds closer than =",
-        );
-    }
-    if is_one_of(here, "SUM") {
-        return Advice::new(
-            alloc,
-            "SUM goes over a column of whole numbers",
-            "this one is text: COUNT, MIN and MAX take it, or its kind in the table is int",
-        );
-    }
-    if is_one_of(here, "IS") {
-        return Advice::new(
-            alloc,
-            "IS NULL asks of a value",
-            "a condition is before it: leave IS NULL out, or ask a column",
-        );
-    }
-    of_whole(alloc, reading)
+    let found = look_up(&KINDS, here).unwrap_or(of_whole(reading));
+    Ok(Advice::of(alloc, found))
 }
 
 /// A difference of which a side is a column of texts.
@@ -166,8 +138,8 @@ fn text_difference(
     let behind = reading.at.saturating_add(1);
     let left = last_name(reading, operand_start(reading, reading.at), reading.at);
     let right = last_name(reading, behind, operand_end(reading, behind));
-    for index in [left, right] {
-        if kind_at(alloc, table, reading, index)? == "text" {
+    for index in &[left, right] {
+        if kind_at(alloc, table, reading, *index)? == "text" {
             let what = "only whole numbers are added, subtracted and multiplied";
             return Ok(Some(Advice::with_help(
                 alloc,
@@ -176,7 +148,7 @@ fn text_difference(
                     alloc,
                     "{} is text: a date as text can't be subtracted\n\
             let --columns read it as seconds: docs/RECIPES.md, Dates and times",
-                    &[reading.written(index)],
+                    &[reading.written(*index)],
                 ),
             )));
         }
@@ -187,8 +159,8 @@ fn text_difference(
 /// The index of the last name from a token on to before another; the first index where there is none.
 fn last_name(reading: &Reading<'_>, start: usize, end: usize) -> usize {
     let mut last = start;
-    for (index, token) in reading.tokens.iter().enumerate().take(end).skip(start) {
-        if is_name(Some(token.kind)) {
+    for index in start..end {
+        if is_name(reading.kind(index)) {
             last = index;
         }
     }
@@ -201,25 +173,33 @@ fn of_comparison(
     table: &Table,
     reading: &Reading<'_>,
 ) -> Result<Advice, AllocError> {
-    let index = reading.at.saturating_add(1);
     let what = "a whole number and a text can't be compared";
-    let behind = reading.written(index);
-    if reading.kind(index) == Some(TokenKind::Text) {
-        let inside = behind.trim_matches('\'');
-        if is_date(inside) {
-            let help =
-                "dates as 2024-01-05 are ordered and compared where the table has the column as text\n\
-                        to subtract them let the file have seconds, and write a number";
-            return Ok(Advice::new(alloc, what, help));
-        }
-        if is_digits(inside) {
-            let help = "a number stands without quotes: p = 5\n\
-                        if the file's column is one of texts, its kind in the table is text";
-            return Ok(Advice::new(alloc, what, help));
-        }
+    if let Some(help) = of_text(reading) {
+        return Ok(Advice::new(alloc, what, help));
     }
     let help = two_kinds(alloc, table, reading)?;
     Ok(Advice::with_help(alloc, what, help))
+}
+
+/// What to write where the text behind the place is a date or a number.
+fn of_text(reading: &Reading<'_>) -> Option<&'static str> {
+    if reading.kind(reading.at.saturating_add(1)) != Some(TokenKind::Text) {
+        return None;
+    }
+    let inside = reading.next(1).trim_matches('\'');
+    if is_date(inside) {
+        return Some(
+            "dates as 2024-01-05 are ordered and compared where the table has the column as text\n\
+            to subtract them let the file have seconds, and write a number",
+        );
+    }
+    if is_digits(inside) {
+        return Some(
+            "a number stands without quotes: p = 5\n\
+            if the file's column is one of texts, its kind in the table is text",
+        );
+    }
+    None
 }
 
 /// Which side of a comparison has which kind, as far as its tokens tell.
@@ -233,18 +213,19 @@ fn two_kinds(alloc: Global, table: &Table, reading: &Reading<'_>) -> Result<Piec
         Some(before) => kind_at(alloc, table, reading, before)?,
         None => "",
     };
-    let help =
-        "a text is written in single quotes, a number in none; the kinds of columns are in the table";
     if left.is_empty() || right.is_empty() {
-        return Ok(Pieces::of(alloc, help));
+        return Ok(Pieces::of(alloc, QUOTES));
     }
-    let mut kinds = Pieces::filled(alloc, "{} is ", &[reading.back(1)]);
-    kinds.push(left);
-    kinds.push_filled(", {} is ", &[reading.written(index)]);
-    kinds.push(right);
-    kinds.push("\n");
-    kinds.push(help);
-    Ok(kinds)
+    Ok(sides(alloc, reading, index, left, right))
+}
+
+/// The same, where both kinds are known.
+fn sides(alloc: Global, reading: &Reading<'_>, index: usize, left: &str, right: &str) -> Pieces {
+    let form = "{} is {}, {} is {}\n";
+    let values = &[reading.back(1), left, reading.written(index), right];
+    let mut kinds = Pieces::filled(alloc, form, values);
+    kinds.push(QUOTES);
+    kinds
 }
 
 /// The kind of a literal or a column at a token; nothing where it is something else.
@@ -277,24 +258,24 @@ fn column_kind(table: &Table, name: &str) -> &'static str {
 
 /// Whether a text has digits alone, and perhaps signs.
 fn is_digits(inside: &str) -> bool {
+    for byte in inside.bytes() {
+        if !byte.is_ascii_digit() && byte != b'-' {
+            return false;
+        }
+    }
     !inside.is_empty()
-        && inside
-            .bytes()
-            .all(|byte| byte.is_ascii_digit() || byte == b'-')
 }
 
 /// A measure that is a condition, or a definition that is none.
-fn of_whole(alloc: Global, reading: &Reading<'_>) -> Advice {
-    if reading.part() == Part::Measures {
-        return Advice::new(
-            alloc,
-            "a measure is a value, and this is a condition",
-            "give rows for which it holds a variable of their own, and write CLASSIFIER() or COUNT(A.*)",
-        );
+fn of_whole(reading: &Reading<'_>) -> Hint {
+    match reading.part() {
+        Part::Measures => Hint {
+            what: "a measure is a value, and this is a condition",
+            help: "give rows for which it holds a variable of their own, and write CLASSIFIER() or COUNT(A.*)",
+        },
+        _ => Hint {
+            what: "a definition is a condition, and this is a value",
+            help: "compare it: p > 5, p <> 0, p IS NOT NULL",
+        },
     }
-    Advice::new(
-        alloc,
-        "a definition is a condition, and this is a value",
-        "compare it: p > 5, p <> 0, p IS NOT NULL",
-    )
 }

@@ -14,8 +14,14 @@ pub(crate) struct Passed {
     pub(crate) faults: Vec<LexFault>,
 }
 
-/// What begins with the first of these goes on to the second behind it, if that comes.
-const PAIRS: [(&str, &str); 7] = [
+/// What begins with the first of these goes on to the second behind it, if that comes. Signs of two characters are one fault, and
+/// go on to nothing.
+const PAIRS: [(&str, &str); 12] = [
+    ("!=", ""),
+    ("&&", ""),
+    ("::", ""),
+    (":=", ""),
+    ("\"\"", ""),
     ("/*", "*/"),
     ("//", "\n"),
     ("#", "\n"),
@@ -25,21 +31,30 @@ const PAIRS: [(&str, &str); 7] = [
     ("\u{201c}", "\u{201d}"),
 ];
 
-/// Signs of two characters that are one fault.
-const SIGNS: [&str; 5] = ["!=", "&&", "::", ":=", "\"\""];
-
 /// The text with so many of its faults passed over, at most.
 pub(crate) fn pass_over(alloc: Global, text: &str, most: u32) -> Result<Passed, AllocError> {
-    let mut read = String::from_str(alloc, text)?;
-    let mut faults = Vec::new(alloc);
+    let mut passed = Passed {
+        read: String::from_str(alloc, text)?,
+        faults: Vec::new(alloc),
+    };
     for _ in 0..most {
-        let Some(fault) = first_fault(alloc, read.as_str())? else {
-            return Ok(Passed { read, faults });
-        };
-        faults.push(fault)?;
-        read = without(alloc, read.as_str(), fault)?;
+        if !passed.pass_first(alloc)? {
+            break;
+        }
     }
-    Ok(Passed { read, faults })
+    Ok(passed)
+}
+
+impl Passed {
+    /// Passes over one more fault; whether there was one.
+    fn pass_first(&mut self, alloc: Global) -> Result<bool, AllocError> {
+        let Some(fault) = first_fault(alloc, self.read.as_str())? else {
+            return Ok(false);
+        };
+        self.faults.push(fault)?;
+        self.read = without(alloc, self.read.as_str(), fault)?;
+        Ok(true)
+    }
 }
 
 /// The first fault of a text that has one.
@@ -88,9 +103,6 @@ pub(crate) fn push_blanks(out: &mut Pieces, text: &str, part: Span) {
 
 /// How many bytes a bad character has, with what belongs to it.
 fn extent(rest: &str) -> usize {
-    if SIGNS.iter().any(|sign| rest.starts_with(*sign)) {
-        return 2;
-    }
     for (front, end) in &PAIRS {
         if let Some(inside) = rest.strip_prefix(*front) {
             return pair_extent(inside, end).saturating_add(front.len());
@@ -112,6 +124,12 @@ fn pair_extent(inside: &str, end: &str) -> usize {
 
 /// How many digits stand in front.
 fn digits(rest: &str) -> usize {
-    let found = rest.bytes().take_while(|byte| byte.is_ascii_digit());
-    found.count()
+    let mut count = 0usize;
+    for byte in rest.bytes() {
+        if !byte.is_ascii_digit() {
+            return count;
+        }
+        count = count.saturating_add(1);
+    }
+    count
 }

@@ -26,6 +26,17 @@ pub(crate) struct Statement {
     pub(crate) behind: Option<CompileFault>,
 }
 
+/// What stands outside of the brackets, and where.
+#[derive(Clone, Copy)]
+struct Outside {
+    /// Where what stands inside is in the statement.
+    span: Span,
+    /// What is wrong before MATCH_RECOGNIZE, if something stands there.
+    front: Option<CompileFault>,
+    /// What is wrong behind its closing bracket, likewise.
+    behind: Option<CompileFault>,
+}
+
 /// The indices of the tokens round what stands inside.
 #[derive(Clone, Copy)]
 struct Brackets {
@@ -38,16 +49,30 @@ struct Brackets {
 /// The statement round a clause; none where nothing stands round it.
 pub(crate) fn statement_of(alloc: Global, text: &str) -> Result<Option<Statement>, AllocError> {
     let passed = pass_over(alloc, text, MOST)?;
+    let Some(outside) = outside_of(alloc, text, &passed)? else {
+        return Ok(None);
+    };
+    Ok(Some(Statement {
+        inside: alone(alloc, text, outside.span)?,
+        span: outside.span,
+        read: passed.read,
+        front: outside.front,
+        behind: outside.behind,
+    }))
+}
+
+/// What stands outside of the first MATCH_RECOGNIZE ( .. ), if something does.
+fn outside_of(alloc: Global, text: &str, passed: &Passed) -> Result<Option<Outside>, AllocError> {
     let tokens = tokens_of(alloc, passed.read.as_str())?;
     let reading = Reading {
         text,
         tokens: tokens.as_slice(),
         at: 0,
     };
-    match brackets_of(&reading) {
-        Some(brackets) => of_brackets(alloc, &reading, passed, brackets),
-        None => Ok(None),
-    }
+    Ok(match brackets_of(&reading) {
+        Some(brackets) => outside_brackets(&reading, passed.faults.as_slice(), brackets),
+        None => None,
+    })
 }
 
 /// The brackets of the first MATCH_RECOGNIZE ( .. ).
@@ -63,42 +88,33 @@ fn brackets_of(reading: &Reading<'_>) -> Option<Brackets> {
     None
 }
 
-/// The statement, where something stands outside of these brackets.
-fn of_brackets(
-    alloc: Global,
+/// What stands outside of these brackets, if something does.
+fn outside_brackets(
     reading: &Reading<'_>,
-    passed: Passed,
+    faults: &[LexFault],
     brackets: Brackets,
-) -> Result<Option<Statement>, AllocError> {
+) -> Option<Outside> {
     let word = start_of(reading, brackets.word);
     let close = start_of(reading, brackets.close);
-    let faults = passed.faults.as_slice();
-    let front = fault_in(
-        reading,
-        faults,
-        Span {
-            start: 0,
-            end: word,
-        },
-    );
+    let before = Span {
+        start: 0,
+        end: word,
+    };
+    let front = fault_in(reading, faults, before);
     let behind = fault_in(reading, faults, behind_of(reading, close));
     if front.is_none() && behind.is_none() {
-        return Ok(None);
+        return None;
     }
     let open = start_of(reading, brackets.word.saturating_add(1));
     let span = Span {
         start: open.saturating_add(1),
         end: close,
     };
-    let inside = alone(alloc, reading.text, span)?;
-    let read = passed.read;
-    Ok(Some(Statement {
-        inside,
+    Some(Outside {
         span,
-        read,
         front,
         behind,
-    }))
+    })
 }
 
 /// Where a token begins; the text's end where there is none.

@@ -1,9 +1,24 @@
-//! Kinds of columns that people write and that there aren't.
+//! What people write in a table and can't stand in one.
 
 use rp_wording::Entry;
 
-/// Kinds of columns that there aren't.
-pub(crate) const KINDS: [Entry; 9] = [
+/// Constraints, signs in a name, and kinds of columns that there aren't.
+pub(crate) const KINDS: [Entry; 12] = [
+    (
+        "NOT NULL",
+        "a table has no constraints",
+        "leave it out: every column may be null",
+    ),
+    (
+        "-",
+        "a name with a minus sign is written in quotes",
+        "write \"net-price\" int, as the header has it",
+    ),
+    (
+        ".",
+        "a name with a point is written in quotes",
+        "write \"a.b\" int, as the header has it",
+    ),
     (
         "TIMESTAMP TIMESTAMPTZ DATETIME DATETIME2 DATE TIME TIMETZ INTERVAL YEAR",
         "there is no kind for dates and times",

@@ -1,12 +1,13 @@
 //! Why the text of a table is refused.
 
 use crate::table_kinds::KINDS;
+use rp_hints::push_new;
 use rp_lexer::{Mark, TokenKind};
 use rp_syntax::TableTextFault;
 use rp_value::{MAX_NAME_LEN, TableFault};
 use rp_wording::{
-    Advice, Hint, Pieces, Reading, Report, Source, TextReport, explain_lex, index_of, is_one_of,
-    look_up, meant, said, text_of,
+    Advice, Hint, Pieces, Reading, Report, Source, TextReport, explain_lex, is_one_of, look_up,
+    meant, said, text_of,
 };
 use std::alloc::{AllocError, Global};
 
@@ -41,16 +42,15 @@ fn explain(report: &mut TextReport<'_>, fault: &TableTextFault) -> Result<(), Al
 fn explain_expected(report: &mut TextReport<'_>, offset: usize) -> Result<(), AllocError> {
     let tokens = report.tokens()?;
     let reading = Reading::new(report.source.shown, tokens.as_slice(), offset);
-    if reading.is_keyword() && !is_one_of(reading.here(), "NOT NULL") {
-        let advice = reserved(report.alloc(), &reading);
-        return report.point(reading.span(), &advice);
-    }
     let advice = of_place(report.alloc(), &reading);
     report.point(reading.span(), &advice)
 }
 
 /// What is wrong at a token, with the words of the table where they tell what to write.
 fn of_place(alloc: Global, reading: &Reading<'_>) -> Advice {
+    if reading.is_keyword() && !is_one_of(reading.here(), "NOT NULL") {
+        return reserved(alloc, reading);
+    }
     if is_file_name(reading) {
         return Advice::with_help(
             alloc,
@@ -107,19 +107,13 @@ fn reserved(alloc: Global, reading: &Reading<'_>) -> Advice {
 
 /// What is wrong at a token.
 fn of_token(reading: &Reading<'_>) -> Hint {
-    if let Some(found) = of_shape(reading) {
-        return found;
-    }
-    if let Some(found) = look_up(&KINDS, reading.here()) {
-        return found;
-    }
-    if let Some(found) = of_words(reading) {
-        return found;
-    }
-    Hint {
-        what: "this can't come here",
-        help: LIKE,
-    }
+    of_shape(reading)
+        .or(look_up(&KINDS, reading.here()))
+        .or(of_words(reading))
+        .unwrap_or(Hint {
+            what: "this can't come here",
+            help: LIKE,
+        })
 }
 
 /// What is wrong by the tokens round the place alone.
@@ -145,29 +139,6 @@ fn of_shape(reading: &Reading<'_>) -> Option<Hint> {
     if reading.is_end() || reading.here() == "," {
         return of_missing(reading);
     }
-    of_signs(reading)
-}
-
-/// Constraints, and signs in a name.
-fn of_signs(reading: &Reading<'_>) -> Option<Hint> {
-    if is_one_of(reading.here(), "NOT NULL") {
-        return said(
-            "a table has no constraints",
-            "leave it out: every column may be null",
-        );
-    }
-    if reading.here() == "-" {
-        return said(
-            "a name with a minus sign is written in quotes",
-            "write \"net-price\" int, as the header has it",
-        );
-    }
-    if reading.here() == "." {
-        return said(
-            "a name with a point is written in quotes",
-            "write \"a.b\" int, as the header has it",
-        );
-    }
     None
 }
 
@@ -184,7 +155,7 @@ fn of_bracket(reading: &Reading<'_>) -> Option<Hint> {
 
 /// A name without a kind.
 fn of_missing(reading: &Reading<'_>) -> Option<Hint> {
-    if reading.here() == "," && (reading.back(1) == "," || reading.at == 0) {
+    if reading.here() == "," && begins_column(reading, reading.at) {
         return said("a column is missing before the comma", LIKE);
     }
     said(
@@ -195,17 +166,8 @@ fn of_missing(reading: &Reading<'_>) -> Option<Hint> {
 
 /// What is wrong by the words round the place.
 fn of_words(reading: &Reading<'_>) -> Option<Hint> {
-    if is_kind(reading.back(1)) && !reading.back(2).is_empty() && reading.back(2) != "," {
-        return said(
-            "a comma is missing",
-            "write a comma between columns: sym text, t int",
-        );
-    }
     if is_kind(reading.back(1)) {
-        return said(
-            "the name comes before the kind",
-            "write sym text in place of text sym",
-        );
+        return behind_kind(reading);
     }
     match reading.kind_here() {
         Some(TokenKind::Number) => said(
@@ -225,6 +187,20 @@ fn of_words(reading: &Reading<'_>) -> Option<Hint> {
     }
 }
 
+/// What is wrong behind a kind.
+fn behind_kind(reading: &Reading<'_>) -> Option<Hint> {
+    if reading.back(2).is_empty() || reading.back(2) == "," {
+        return said(
+            "the name comes before the kind",
+            "write sym text in place of text sym",
+        );
+    }
+    said(
+        "a comma is missing",
+        "write a comma between columns: sym text, t int",
+    )
+}
+
 /// Whether the word is a kind.
 fn is_kind(word: &str) -> bool {
     is_one_of(word, "INT INTEGER BIGINT TEXT VARCHAR")
@@ -235,45 +211,44 @@ fn explain_columns(report: &mut TextReport<'_>, fault: TableFault) -> Result<(),
     let alloc = report.alloc();
     let tokens = report.tokens()?;
     let mut reading = Reading::new(report.source.shown, tokens.as_slice(), 0);
-    let advice = match fault {
-        TableFault::DoubleName => {
-            reading.at = second_of_a_name(alloc, &reading)?;
-            double_name(alloc, &reading)
-        }
-        _ => {
-            reading.at = long_name(alloc, &reading)?;
-            Advice::new(
-                alloc,
-                "a name has at most 128 bytes",
-                "shorten it, in the header too",
-            )
-        }
-    };
-    report.point(reading.span(), &advice)
+    reading.at = bad_column(alloc, &reading, fault)?;
+    report.point(reading.span(), &of_column(alloc, &reading, fault))
 }
 
-/// A column's name that was given before.
-fn double_name(alloc: Global, reading: &Reading<'_>) -> Advice {
-    let written = reading.here();
-    let help =
-        "upper and lower case are one without quotes; a name in quotes is taken letter for letter";
-    Advice::with_what(
-        alloc,
-        Pieces::filled(alloc, "a column before is called {} too", &[written]),
-        help,
-    )
+/// The index of the name of the column for which there is no table.
+fn bad_column(
+    alloc: Global,
+    reading: &Reading<'_>,
+    fault: TableFault,
+) -> Result<usize, AllocError> {
+    match fault {
+        TableFault::DoubleName => second_of_a_name(alloc, reading),
+        _ => long_name(alloc, reading),
+    }
+}
+
+/// What is wrong with a column's name: that it was given before, or is too long.
+fn of_column(alloc: Global, reading: &Reading<'_>, fault: TableFault) -> Advice {
+    match fault {
+        TableFault::DoubleName => Advice::with_what(
+            alloc,
+            Pieces::filled(alloc, "a column before is called {} too", &[reading.here()]),
+            "upper and lower case are one without quotes; a name in quotes is taken letter for letter",
+        ),
+        _ => Advice::new(
+            alloc,
+            "a name has at most 128 bytes",
+            "shorten it, in the header too",
+        ),
+    }
 }
 
 /// The index of the first column's name that stands before too.
 fn second_of_a_name(alloc: Global, reading: &Reading<'_>) -> Result<usize, AllocError> {
     let mut names = Vec::new(alloc);
     for index in 0..reading.tokens.len() {
-        if begins_column(reading, index) {
-            let name = meant(alloc, reading.written(index))?;
-            if index_of(names.as_slice(), name.as_str()).is_some() {
-                return Ok(index);
-            }
-            names.push(name)?;
+        if begins_column(reading, index) && !push_new(&mut names, reading.written(index))? {
+            return Ok(index);
         }
     }
     Ok(0)
@@ -282,12 +257,17 @@ fn second_of_a_name(alloc: Global, reading: &Reading<'_>) -> Result<usize, Alloc
 /// The index of the first name that is too long.
 fn long_name(alloc: Global, reading: &Reading<'_>) -> Result<usize, AllocError> {
     for index in 0..reading.tokens.len() {
-        let name = meant(alloc, reading.written(index))?;
-        if begins_column(reading, index) && name.len() > MAX_NAME_LEN {
+        if begins_column(reading, index) && is_long(alloc, reading.written(index))? {
             return Ok(index);
         }
     }
     Ok(0)
+}
+
+/// Whether a name that is written so is too long.
+fn is_long(alloc: Global, written: &str) -> Result<bool, AllocError> {
+    let name = meant(alloc, written)?;
+    Ok(name.len() > MAX_NAME_LEN)
 }
 
 /// Whether a column begins at a token: the first, or one behind a comma.
