@@ -2,9 +2,10 @@
 ghost use Rattle.std.specs.Prelude.{◌≡◌};
 ghost use Rattle.rp_words.specs.declared.word.End.TheVariants.{Closed};
 
-use crate::edit::{Edit, edited};
+use crate::edit::Edited;
+use crate::extent::{Extent, extent_of};
 use crate::seeking::{Sought, Wanted, seek};
-use crate::tokens::Tokens;
+use crate::tokens::{Range, Tokens};
 use rp_compile::{CompileFault, compile};
 use rp_eval::AllRows;
 use rp_query::Query;
@@ -27,21 +28,39 @@ pub(crate) struct Case<'a> {
 }
 
 impl<'a> Case<'a> {
-    /// What is found by the clause with these edits. No query is what nobody can answer.
-    pub(crate) fn answer(&self, edits: &[Edit<'_>]) -> Result<Sought, AllocError> {
-        match self.compiled(edits)? {
+    /// The clause, to be written anew in some places.
+    pub(crate) fn edited(&self) -> Edited<'a> {
+        Edited::new(self.alloc, self.tokens)
+    }
+
+    /// Which rows are found by the clause with these words in place of a range.
+    pub(crate) fn extent_with(&self, range: Range, words: &str) -> Result<Extent, AllocError> {
+        let mut clause = self.edited();
+        clause.replace(range, words);
+        let sought = self.answer(clause)?;
+        Ok(extent_of(&sought))
+    }
+
+    /// What is found by a clause. No query is what nobody can answer.
+    pub(crate) fn answer(&self, clause: Edited<'_>) -> Result<Sought, AllocError> {
+        match self.compiled(clause)? {
             Some(query) => seek(self.alloc, &query, self.rows, self.wanted),
             None => Ok(Sought::GivenUp),
         }
     }
 
-    /// The query of the clause with these edits, where it has one.
-    pub(crate) fn compiled(&self, edits: &[Edit<'_>]) -> Result<Option<Query>, AllocError> {
-        let text = edited(self.alloc, self.tokens.text, edits)?;
+    /// The query of a clause, where it has one.
+    pub(crate) fn compiled(&self, clause: Edited<'_>) -> Result<Option<Query>, AllocError> {
+        let text = clause.finish()?;
         match compile(self.alloc, text.as_str(), self.query.table()) {
             Ok(query) => Ok(Some(query)),
             Err(CompileFault::OutOfMemory) => Err(AllocError),
             Err(_) => Ok(None),
         }
+    }
+
+    /// A range of the clause as it is written, in one line.
+    pub(crate) fn written(&self, range: Range) -> Result<String, AllocError> {
+        self.tokens.written(self.alloc, range)
     }
 }

@@ -104,10 +104,14 @@ fn run_length(labels: &[Label]) -> usize {
     let Some(first) = labels.first() else {
         return 0;
     };
-    labels
-        .iter()
-        .take_while(|label| label.var == first.var)
-        .count()
+    let mut length: usize = 0;
+    for label in labels {
+        if label.var != first.var {
+            break;
+        }
+        length = length.saturating_add(1);
+    }
+    length
 }
 
 /// Writes a variable and its rows, so many from one on.

@@ -1,6 +1,6 @@
 //! What is found of a partition, as an object of JSON for programs.
 
-use crate::demands::last_row;
+use crate::extent::last_row;
 use crate::lines::sign_of;
 use crate::reached::Reached;
 use crate::reasons::{Finding, Reasons};

@@ -1,5 +1,6 @@
 //! The parts of a pattern, its anchors, and the lower bounds of its quantifiers.
 
+use crate::list::List;
 use crate::tokens::{Range, Tokens};
 use rp_lexer::{Keyword, Mark, TokenKind};
 use std::alloc::{AllocError, Global};
@@ -35,25 +36,23 @@ pub(crate) fn pattern_of(tokens: &Tokens<'_>) -> Range {
 
 /// The parts of a pattern that follow one another: one where it is an alternation.
 pub(crate) fn parts_of(alloc: Global, tokens: &Tokens<'_>) -> Result<Vec<Range>, AllocError> {
-    let mut parts = Vec::new(alloc);
+    let mut parts = List::new(alloc);
     let pattern = tokens.without_brackets(pattern_of(tokens));
-    if tokens
-        .find(pattern, TokenKind::Mark(Mark::VerticalBar))
-        .is_some()
-    {
-        parts.push(pattern)?;
-        return Ok(parts);
-    }
+    let is_one = tokens.has(pattern, TokenKind::Mark(Mark::VerticalBar));
     let mut from = pattern.from;
     for _ in pattern.from..pattern.to {
         if from >= pattern.to {
             break;
         }
-        let to = part_end(tokens, from).min(pattern.to);
-        parts.push(Range { from, to })?;
+        let to = if is_one {
+            pattern.to
+        } else {
+            part_end(tokens, from).min(pattern.to)
+        };
+        parts.push(Range { from, to });
         from = to.max(from.saturating_add(1));
     }
-    Ok(parts)
+    parts.finish()
 }
 
 /// The token behind the part that begins at a token, with its quantifier.
@@ -76,10 +75,7 @@ fn behind_one(tokens: &Tokens<'_>, from: usize) -> usize {
     } else {
         from
     };
-    match tokens.closing(open) {
-        Some(close) => close.saturating_add(1),
-        None => open.saturating_add(1),
-    }
+    tokens.closing(open).unwrap_or(open).saturating_add(1)
 }
 
 /// The token behind the quantifier that begins at a token, without the `?` of a reluctant one.
@@ -88,42 +84,18 @@ fn quantifier_end(tokens: &Tokens<'_>, at: usize) -> Option<usize> {
         Some(TokenKind::Mark(Mark::Asterisk | Mark::Plus | Mark::QuestionMark)) => {
             Some(at.saturating_add(1))
         }
-        Some(TokenKind::Mark(Mark::LeftBrace)) => {
-            tokens.closing(at).map(|close| close.saturating_add(1))
-        }
+        Some(TokenKind::Mark(Mark::LeftBrace)) => Some(tokens.closing(at)?.saturating_add(1)),
         _ => None,
     }
 }
 
-/// The lower bounds above 0 of a pattern, in the order in which they are written.
-pub(crate) fn bounds_of(alloc: Global, tokens: &Tokens<'_>) -> Result<Vec<LowerBound>, AllocError> {
-    let mut bounds = Vec::new(alloc);
-    let pattern = pattern_of(tokens);
-    for at in pattern.from..pattern.to {
-        if let Some(bound) = bound_at(tokens, pattern, at) {
-            bounds.push(bound)?;
-        }
-    }
-    Ok(bounds)
+/// Whether a token is an anchor.
+pub(crate) fn is_anchor(tokens: &Tokens<'_>, at: usize) -> bool {
+    tokens.is(at, Mark::Circumflex) || tokens.is(at, Mark::DollarSign)
 }
 
-/// The anchors of a pattern, each a token.
-pub(crate) fn anchors_of(alloc: Global, tokens: &Tokens<'_>) -> Result<Vec<Range>, AllocError> {
-    let mut anchors = Vec::new(alloc);
-    let pattern = pattern_of(tokens);
-    for at in pattern.from..pattern.to {
-        if tokens.is(at, Mark::Circumflex) || tokens.is(at, Mark::DollarSign) {
-            anchors.push(Range {
-                from: at,
-                to: at.saturating_add(1),
-            })?;
-        }
-    }
-    Ok(anchors)
-}
-
-/// The lower bound of the quantifier at a token.
-fn bound_at(tokens: &Tokens<'_>, pattern: Range, at: usize) -> Option<LowerBound> {
+/// The lower bound of the quantifier at a token, where it is above 0.
+pub(crate) fn bound_at(tokens: &Tokens<'_>, pattern: Range, at: usize) -> Option<LowerBound> {
     let to = quantifier_end(tokens, at)?;
     let lower = lower_of(tokens, at)?;
     if lower == 0 {

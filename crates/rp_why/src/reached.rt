@@ -1,7 +1,6 @@
 //! How far the searches come.
 
 use crate::case::Case;
-use crate::edit::Edit;
 use crate::parts::parts_of;
 use crate::seeking::{Match, Sought};
 use crate::tokens::Range;
@@ -29,31 +28,27 @@ const NEVER: &str = " | $ ^ ";
 /// How far the searches come, where some parts are found with rows.
 pub(crate) fn how_far(case: &Case<'_>) -> Result<Option<Reached>, AllocError> {
     let parts = parts_of(case.alloc, &case.tokens)?;
-    let parts = parts.as_slice();
+    most_found(case, parts.as_slice())
+}
+
+/// The most of these parts that are found, if not all of them need be.
+fn most_found(case: &Case<'_>, parts: &[Range]) -> Result<Option<Reached>, AllocError> {
     for left_out in 1..parts.len() {
         let count = parts.len().saturating_sub(left_out);
-        if let Some(found) = found_by(case, parts, count)? {
-            return Ok(Some(reached_by(case, parts, count, found)?));
+        if let Sought::Found(found) = answer_by(case, parts, count)? {
+            return reached_by(case, parts, count, found);
         }
     }
     Ok(None)
 }
 
-/// The first match of so many parts.
-fn found_by(case: &Case<'_>, parts: &[Range], count: usize) -> Result<Option<Match>, AllocError> {
-    let Some(last) = count.checked_sub(1).and_then(|index| parts.get(index)) else {
-        return Ok(None);
-    };
-    let (_, end) = case.tokens.bytes(*last);
-    let edit = Edit {
-        start: end,
-        end,
-        text: NEVER,
-    };
-    match case.answer(&[edit])? {
-        Sought::Found(found) => Ok(Some(found)),
-        Sought::NotFound | Sought::GivenUp => Ok(None),
+/// What is found by so many parts.
+fn answer_by(case: &Case<'_>, parts: &[Range], count: usize) -> Result<Sought, AllocError> {
+    let mut clause = case.edited();
+    if let Some(last) = parts.get(count.saturating_sub(1)) {
+        clause.insert_behind(*last, NEVER);
     }
+    case.answer(clause)
 }
 
 /// What is said of so many parts that are found.
@@ -62,24 +57,19 @@ fn reached_by(
     parts: &[Range],
     count: usize,
     found: Match,
-) -> Result<Reached, AllocError> {
-    let from = match parts.first() {
-        Some(part) => part.from,
-        None => 0,
+) -> Result<Option<Reached>, AllocError> {
+    let (Some(first), Some(next)) = (parts.first(), parts.get(count)) else {
+        return Ok(None);
     };
-    let next = parts
-        .get(count)
-        .copied()
-        .unwrap_or(Range { from, to: from });
     let before = Range {
-        from,
+        from: first.from,
         to: next.from,
     };
-    Ok(Reached {
+    Ok(Some(Reached {
         found,
         parts: count as u64,
         of: parts.len() as u64,
-        written: case.tokens.written(case.alloc, before)?,
-        wanted: case.tokens.written(case.alloc, next)?,
-    })
+        written: case.written(before)?,
+        wanted: case.written(*next)?,
+    }))
 }

@@ -5,19 +5,23 @@ ghost use Rattle.rp_why.specs.Sought.{IsFinding};
 
 use crate::between::row_between;
 use crate::case::Case;
-use crate::demands::{anchor_way, bound_way, term_way};
-use crate::parts::{anchors_of, bounds_of};
+use crate::demands::{greatest_lower, lower_demand, term_demand, without_term};
+use crate::extent::{Extent, Span, extent_of};
+use crate::parts::{bound_at, is_anchor, pattern_of};
 use crate::reached::{Reached, how_far};
 use crate::seeking::{Match, Sought, Wanted, seek};
-use crate::terms::terms_of;
-use crate::tokens::Tokens;
-use crate::way::{Tried, Way, rank};
+use crate::terms::{Term, terms_of};
+use crate::tokens::{Range, Tokens};
+use crate::way::{Demand, Way, rank};
 use rp_eval::{AllRows, Rows};
-use rp_lexer::{LexFault, Token, lex};
 use rp_query::Query;
 use rp_value::Row;
+use rp_wording::tokens_of;
 use rp_words::End;
 use std::alloc::{AllocError, Global};
+
+/// A pattern that every match has anywhere.
+const EMPTY: &str = "()";
 
 /// What is found of a partition.
 #[derive(Drop)]
@@ -44,24 +48,32 @@ pub struct Reasons {
 }
 
 impl Reasons {
-    /// Takes up what trying a demand came to: bounds first, and of them those that fewer rows fail.
-    fn take(&mut self, tried: Tried) -> Result<(), AllocError> {
-        match tried {
-            Tried::Nothing => Ok(()),
-            Tried::GivenUp => {
+    /// The rows of the match that trying a demand came to. A try that was given up is counted.
+    fn rows_of(&mut self, extent: Extent) -> Option<Span> {
+        match extent {
+            Extent::Rows(rows) => Some(rows),
+            Extent::Nothing => None,
+            Extent::GivenUp => {
                 self.untried = self.untried.saturating_add(1);
-                Ok(())
-            }
-            Tried::Way(way) => {
-                let place = self
-                    .ways
-                    .iter()
-                    .position(|other| rank(other) > rank(&way))
-                    .unwrap_or(self.ways.len());
-                self.ways.insert(place, way)?;
-                Ok(())
+                None
             }
         }
+    }
+
+    /// Adds a demand without which these rows match: bounds first, and of them those that fewer rows fail.
+    fn add(&mut self, demand: Demand, rows: Span) -> Result<(), AllocError> {
+        let way = Way {
+            demand,
+            first: rows.first,
+            last: rows.last,
+        };
+        let place = self
+            .ways
+            .iter()
+            .position(|other| rank(other) > rank(&way))
+            .unwrap_or(self.ways.len());
+        self.ways.insert(place, way)?;
+        Ok(())
     }
 }
 
@@ -85,7 +97,7 @@ pub fn why(
         Sought::Found(found) => Ok(Finding::Matched(found)),
         Sought::GivenUp => Ok(Finding::GivenUp),
         Sought::NotFound => {
-            let tokens = tokens_of(alloc, query)?;
+            let tokens = tokens_of(alloc, query.text().as_str())?;
             let case = Case {
                 alloc,
                 query,
@@ -101,57 +113,75 @@ pub fn why(
     }
 }
 
-/// The tokens of a query's clause.
-fn tokens_of(alloc: Global, query: &Query) -> Result<Vec<Token>, AllocError> {
-    match lex(alloc, query.text().as_str()) {
-        Ok(tokens) => Ok(tokens),
-        Err(LexFault::OutOfMemory) => Err(AllocError),
-        Err(_) => Ok(Vec::new(alloc)),
-    }
-}
-
 /// Why there is no match.
 fn reasons_of(case: &Case<'_>) -> Result<Reasons, AllocError> {
-    let reached = how_far(case)?;
-    let from = match &reached {
-        Some(reached) => reached.found.first,
-        None => case.wanted.first,
-    };
     let mut reasons = Reasons {
-        reached,
+        reached: how_far(case)?,
         ways: Vec::new(case.alloc),
         untried: 0,
     };
-    add_terms(case, &mut reasons)?;
-    reasons.take(row_between(case, from)?)?;
-    add_anchors(case, &mut reasons)?;
-    add_bounds(case, &mut reasons)?;
+    add_ways(case, &mut reasons)?;
     Ok(reasons)
+}
+
+/// Tries the clause without each demand.
+fn add_ways(case: &Case<'_>, reasons: &mut Reasons) -> Result<(), AllocError> {
+    let from = match &reasons.reached {
+        Some(reached) => reached.found.first,
+        None => case.wanted.first,
+    };
+    add_terms(case, reasons)?;
+    let (row, extent) = row_between(case, from)?;
+    if let Some(rows) = reasons.rows_of(extent) {
+        reasons.add(Demand::RowBetween(row), rows)?;
+    }
+    add_anchors(case, reasons)?;
+    add_bounds(case, reasons)
 }
 
 /// Tries the clause without each term.
 fn add_terms(case: &Case<'_>, reasons: &mut Reasons) -> Result<(), AllocError> {
     let terms = terms_of(case.alloc, &case.tokens)?;
     for term in terms.as_slice() {
-        reasons.take(term_way(case, term)?)?;
+        add_term(case, term, reasons)?;
     }
     Ok(())
 }
 
-/// Tries the clause without each anchor.
+/// Tries the clause without a term.
+fn add_term(case: &Case<'_>, term: &Term, reasons: &mut Reasons) -> Result<(), AllocError> {
+    let sought = case.answer(without_term(case, term))?;
+    if let Some(rows) = reasons.rows_of(extent_of(&sought)) {
+        reasons.add(term_demand(case, term, &sought)?, rows)?;
+    }
+    Ok(())
+}
+
+/// Tries the clause with an empty pattern in the place of each anchor.
 fn add_anchors(case: &Case<'_>, reasons: &mut Reasons) -> Result<(), AllocError> {
-    let anchors = anchors_of(case.alloc, &case.tokens)?;
-    for anchor in anchors.as_slice() {
-        reasons.take(anchor_way(case, *anchor)?)?;
+    let pattern = pattern_of(&case.tokens);
+    for at in pattern.from..pattern.to {
+        if is_anchor(&case.tokens, at) {
+            let anchor = Range::one(at);
+            let extent = case.extent_with(anchor, EMPTY)?;
+            if let Some(rows) = reasons.rows_of(extent) {
+                reasons.add(Demand::Anchor(case.written(anchor)?), rows)?;
+            }
+        }
     }
     Ok(())
 }
 
-/// Tries the clause with lower bounds that are lower.
+/// Tries the clause with lower bounds that are lower, in the order in which they are written.
 fn add_bounds(case: &Case<'_>, reasons: &mut Reasons) -> Result<(), AllocError> {
-    let bounds = bounds_of(case.alloc, &case.tokens)?;
-    for bound in bounds.as_slice() {
-        reasons.take(bound_way(case, *bound)?)?;
+    let pattern = pattern_of(&case.tokens);
+    for at in pattern.from..pattern.to {
+        if let Some(bound) = bound_at(&case.tokens, pattern, at) {
+            let (lower, extent) = greatest_lower(case, bound)?;
+            if let Some(rows) = reasons.rows_of(extent) {
+                reasons.add(lower_demand(case, bound, lower)?, rows)?;
+            }
+        }
     }
     Ok(())
 }

@@ -149,45 +149,55 @@ pub(crate) fn failure_of(
     variables: &[usize],
 ) -> Result<Option<Failure>, AllocError> {
     let mut failure = None;
-    let mut entered = Entered::none(alloc, query, rows, found.first)?;
-    for label in found.labels.as_slice() {
-        let Some(before) = entered else {
-            return Ok(failure);
-        };
-        entered = before.enter(*label)?;
-        if let (Some(entered), Some(defined)) = (&entered, asked(query, label, variables)) {
-            failure = with_last(failure, entered, defined)?;
-        }
+    if let Some(none) = Entered::none(alloc, query, rows, found.first)? {
+        let labels = found.labels.as_slice();
+        enter_all(none, query, labels, variables, &mut failure)?;
     }
     Ok(failure)
 }
 
-/// The failure, where the last row is one more.
-fn with_last(
-    failure: Option<Failure>,
-    entered: &Entered<'_>,
-    defined: &Condition,
-) -> Result<Option<Failure>, AllocError> {
-    if entered.says(defined) == Seen::True {
-        return Ok(failure);
+/// Enters rows with these labels, as many as there are, and notes at which of them the condition of a label isn't true.
+fn enter_all(
+    none: Entered<'_>,
+    query: &Query,
+    labels: &[Label],
+    variables: &[usize],
+    failure: &mut Option<Failure>,
+) -> Result<(), AllocError> {
+    let mut before = none;
+    for label in labels {
+        let Some(entered) = before.enter(*label)? else {
+            return Ok(());
+        };
+        note_last(&entered, asked(query, label, variables), failure)?;
+        before = entered;
     }
-    match failure {
-        Some(earlier) => Ok(Some(one_more(earlier))),
-        None => Ok(Some(Failure {
-            row: entered.last(),
-            count: 1,
-            sides: entered.sides(defined)?,
-        })),
-    }
+    Ok(())
 }
 
-/// A failure at one more row.
-fn one_more(failure: Failure) -> Failure {
-    Failure {
-        row: failure.row,
-        count: failure.count.saturating_add(1),
-        sides: failure.sides,
+/// Notes a failure at the last row, where this condition isn't true of it.
+fn note_last(
+    entered: &Entered<'_>,
+    asked: Option<&Condition>,
+    failure: &mut Option<Failure>,
+) -> Result<(), AllocError> {
+    let Some(defined) = asked else {
+        return Ok(());
+    };
+    if entered.says(defined) == Seen::True {
+        return Ok(());
     }
+    match failure {
+        Some(earlier) => earlier.count = earlier.count.saturating_add(1),
+        None => {
+            *failure = Some(Failure {
+                row: entered.last(),
+                count: 1,
+                sides: entered.sides(defined)?,
+            });
+        }
+    }
+    Ok(())
 }
 
 /// The condition of a label's variable, if that is one of these.

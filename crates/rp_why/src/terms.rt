@@ -1,5 +1,6 @@
 //! The terms that the conditions of DEFINE demand.
 
+use crate::list::List;
 use crate::tokens::{Range, Tokens};
 use rp_lexer::{Keyword, Mark, TokenKind};
 use std::alloc::{AllocError, Global};
@@ -13,6 +14,24 @@ pub(crate) struct Term {
     pub(crate) places: Vec<Place>,
     /// Whether it is a comparison by `<`, `<=`, `>` or `>=`.
     pub(crate) is_bound: bool,
+}
+
+impl Term {
+    /// A term that is demanded at one place.
+    fn new(
+        alloc: Global,
+        written: String,
+        place: Place,
+        is_bound: bool,
+    ) -> Result<Term, AllocError> {
+        let mut places = Vec::new(alloc);
+        places.push(place)?;
+        Ok(Term {
+            written,
+            places,
+            is_bound,
+        })
+    }
 }
 
 /// Where a term is demanded.
@@ -29,19 +48,26 @@ pub(crate) struct Place {
 impl Place {
     /// The name of the variable.
     pub(crate) fn name(&self) -> Range {
-        Range {
-            from: self.variable,
-            to: self.variable.saturating_add(1),
-        }
+        Range::one(self.variable)
     }
 }
 
 /// The terms of a clause, in the order in which they are written.
 pub(crate) fn terms_of(alloc: Global, tokens: &Tokens<'_>) -> Result<Vec<Term>, AllocError> {
     let mut terms = Vec::new(alloc);
-    let Some(define) = tokens.word(Keyword::Define) else {
-        return Ok(terms);
-    };
+    if let Some(define) = tokens.word(Keyword::Define) {
+        add_definitions(alloc, tokens, define, &mut terms)?;
+    }
+    Ok(terms)
+}
+
+/// Adds the terms of the definitions behind the word DEFINE.
+fn add_definitions(
+    alloc: Global,
+    tokens: &Tokens<'_>,
+    define: usize,
+    terms: &mut Vec<Term>,
+) -> Result<(), AllocError> {
     let mut rest = Range {
         from: define.saturating_add(1),
         to: tokens.list.len(),
@@ -57,57 +83,66 @@ pub(crate) fn terms_of(alloc: Global, tokens: &Tokens<'_>) -> Result<Vec<Term>, 
             from: rest.from,
             to: end,
         };
-        add_definition(alloc, tokens, definition, &mut terms)?;
+        add_definition(alloc, tokens, definition, terms)?;
         rest.from = end.saturating_add(1);
         if rest.from >= rest.to {
             break;
         }
     }
-    Ok(terms)
+    Ok(())
 }
 
-/// Adds the terms of one definition: a name, AS, and a condition.
+/// Adds the terms of one definition.
 fn add_definition(
     alloc: Global,
     tokens: &Tokens<'_>,
     definition: Range,
     terms: &mut Vec<Term>,
 ) -> Result<(), AllocError> {
-    let condition = Range {
-        from: definition.from.saturating_add(2),
-        to: definition.to,
-    };
-    let mut open = Vec::new(alloc);
-    open.push(condition)?;
-    for _ in definition.from..definition.to.saturating_mul(2) {
-        let Some(range) = open.pop() else {
-            return Ok(());
-        };
-        let inside = tokens.without_brackets(range);
-        match conjuncts(tokens, inside) {
-            Some((first, rest)) => {
-                open.push(rest)?;
-                open.push(first)?;
-            }
-            None => {
-                let place = Place {
-                    variable: definition.from,
-                    condition,
-                    term: inside,
-                };
-                add_term(alloc, tokens, place, terms)?;
-            }
-        }
+    let places = places_in(alloc, tokens, definition)?;
+    for place in places.as_slice() {
+        add_term(alloc, tokens, *place, terms)?;
     }
     Ok(())
 }
 
+/// Where terms are demanded by one definition: a name, AS, and a condition.
+fn places_in(
+    alloc: Global,
+    tokens: &Tokens<'_>,
+    definition: Range,
+) -> Result<Vec<Place>, AllocError> {
+    let condition = Range {
+        from: definition.from.saturating_add(2),
+        to: definition.to,
+    };
+    let mut places = List::new(alloc);
+    let mut open = List::new(alloc);
+    open.push(condition);
+    for _ in definition.from..definition.to.saturating_mul(2) {
+        let Some(range) = open.pop() else {
+            break;
+        };
+        let term = tokens.without_brackets(range);
+        match conjuncts(tokens, term) {
+            Some((first, rest)) => {
+                open.push(rest);
+                open.push(first);
+            }
+            None => places.push(Place {
+                variable: definition.from,
+                condition,
+                term,
+            }),
+        }
+    }
+    open.finish()?;
+    places.finish()
+}
+
 /// What is before and behind the first AND of a condition that is one of AND.
 fn conjuncts(tokens: &Tokens<'_>, condition: Range) -> Option<(Range, Range)> {
-    if tokens
-        .find(condition, TokenKind::Keyword(Keyword::Or))
-        .is_some()
-    {
+    if tokens.has(condition, TokenKind::Keyword(Keyword::Or)) {
         return None;
     }
     let and = tokens.find(condition, TokenKind::Keyword(Keyword::And))?;
@@ -130,33 +165,30 @@ fn add_term(
     terms: &mut Vec<Term>,
 ) -> Result<(), AllocError> {
     let written = tokens.written(alloc, place.term)?;
+    if add_place(terms, written.as_str(), place)? {
+        return Ok(());
+    }
+    let is_bound = is_bound(tokens, place.term);
+    terms.push(Term::new(alloc, written, place, is_bound)?)?;
+    Ok(())
+}
+
+/// Adds a place to the term that is written so. Gives whether there is one.
+fn add_place(terms: &mut Vec<Term>, written: &str, place: Place) -> Result<bool, AllocError> {
     for term in terms.iter_mut() {
-        if term.written.as_str() == written.as_str() {
+        if term.written.as_str() == written {
             term.places.push(place)?;
-            return Ok(());
+            return Ok(true);
         }
     }
-    let mut places = Vec::new(alloc);
-    places.push(place)?;
-    terms.push(Term {
-        written,
-        places,
-        is_bound: is_bound(tokens, place.term),
-    })?;
-    Ok(())
+    Ok(false)
 }
 
 /// Whether a term is a comparison that bounds something.
 fn is_bound(tokens: &Tokens<'_>, term: Range) -> bool {
-    let marks = [
-        Mark::LessThan,
-        Mark::LessThanOrEquals,
-        Mark::GreaterThan,
-        Mark::GreaterThanOrEquals,
-    ];
-    let is_one = tokens.find(term, TokenKind::Keyword(Keyword::Or)).is_none();
-    is_one
-        && marks
-            .iter()
-            .any(|mark| tokens.find(term, TokenKind::Mark(*mark)).is_some())
+    !tokens.has(term, TokenKind::Keyword(Keyword::Or))
+        && (tokens.has(term, TokenKind::Mark(Mark::LessThan))
+            || tokens.has(term, TokenKind::Mark(Mark::LessThanOrEquals))
+            || tokens.has(term, TokenKind::Mark(Mark::GreaterThan))
+            || tokens.has(term, TokenKind::Mark(Mark::GreaterThanOrEquals)))
 }

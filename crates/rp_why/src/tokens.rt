@@ -1,15 +1,26 @@
 //! The tokens of a clause in its text.
 
 use rp_lexer::{Keyword, Mark, Token, TokenKind};
+use rp_wording::Pieces;
 use std::alloc::{AllocError, Global};
 
 /// Tokens of a clause: from one to the one before another, by their indexes.
-#[derive(Clone, Copy, Debug, PartialEq, Eq)]
+#[derive(Clone, Copy)]
 pub(crate) struct Range {
     /// The index of the first.
     pub(crate) from: usize,
     /// The index behind the last.
     pub(crate) to: usize,
+}
+
+impl Range {
+    /// A token alone.
+    pub(crate) fn one(index: usize) -> Range {
+        Range {
+            from: index,
+            to: index.saturating_add(1),
+        }
+    }
 }
 
 /// A clause's text, and its tokens.
@@ -35,32 +46,14 @@ impl<'a> Tokens<'a> {
         self.kind(index) == Some(TokenKind::Mark(mark))
     }
 
-    /// Whether a token is `+`.
-    pub(crate) fn is_plus(&self, index: usize) -> bool {
-        self.is(index, Mark::Plus)
-    }
-
     /// The first token of this reserved word, wherever it is.
     pub(crate) fn word(&self, keyword: Keyword) -> Option<usize> {
-        self.list
-            .iter()
-            .position(|token| token.kind == TokenKind::Keyword(keyword))
-    }
-
-    /// Whether a token opens a bracket.
-    fn opens(&self, index: usize) -> bool {
-        matches!(
-            self.kind(index),
-            Some(TokenKind::Mark(Mark::LeftParenthesis | Mark::LeftBrace | Mark::LeftBraceMinus))
-        )
-    }
-
-    /// Whether a token closes a bracket.
-    fn closes(&self, index: usize) -> bool {
-        matches!(
-            self.kind(index),
-            Some(TokenKind::Mark(Mark::RightParenthesis | Mark::RightBrace | Mark::RightBraceMinus))
-        )
+        for (index, token) in self.list.iter().enumerate() {
+            if token.kind == TokenKind::Keyword(keyword) {
+                return Some(index);
+            }
+        }
+        None
     }
 
     /// The first token of a range that is of this kind and in no bracket of the range. So a closing bracket is found that is opened
@@ -68,16 +61,18 @@ impl<'a> Tokens<'a> {
     pub(crate) fn find(&self, range: Range, kind: TokenKind) -> Option<usize> {
         let mut depth: usize = 0;
         for index in range.from..range.to {
-            if depth == 0 && self.kind(index) == Some(kind) {
+            let here = self.kind(index)?;
+            if depth == 0 && here == kind {
                 return Some(index);
             }
-            if self.opens(index) {
-                depth = depth.saturating_add(1);
-            } else if self.closes(index) {
-                depth = depth.saturating_sub(1);
-            }
+            depth = depth_behind(here, depth);
         }
         None
+    }
+
+    /// Whether a sign or a word is in a range, in no bracket of it.
+    pub(crate) fn has(&self, range: Range, kind: TokenKind) -> bool {
+        self.find(range, kind).is_some()
     }
 
     /// The bracket that closes the one at an index.
@@ -129,15 +124,28 @@ impl<'a> Tokens<'a> {
 
     /// A range as it is written, in one line: a blank is between two tokens where anything is between them.
     pub(crate) fn written(&self, alloc: Global, range: Range) -> Result<String, AllocError> {
-        let mut out = String::new(alloc);
+        let mut out = Pieces::new(alloc);
         let mut end = None;
         for token in self.list.get(range.from..range.to).unwrap_or(&[]) {
             if end.is_some() && end != Some(token.start) {
-                out.push(' ')?;
+                out.push(" ");
             }
-            out.push_str(self.text.get(token.start..token.end).unwrap_or(""))?;
+            out.push(self.text.get(token.start..token.end).unwrap_or(""));
             end = Some(token.end);
         }
-        Ok(out)
+        out.finish()
+    }
+}
+
+/// How many brackets are open behind a token, by how many are before it.
+fn depth_behind(kind: TokenKind, depth: usize) -> usize {
+    match kind {
+        TokenKind::Mark(Mark::LeftParenthesis | Mark::LeftBrace | Mark::LeftBraceMinus) => {
+            depth.saturating_add(1)
+        }
+        TokenKind::Mark(Mark::RightParenthesis | Mark::RightBrace | Mark::RightBraceMinus) => {
+            depth.saturating_sub(1)
+        }
+        _ => depth,
     }
 }

@@ -50,17 +50,6 @@ pub struct LowerBoundDemand {
     pub part: String,
 }
 
-/// What trying the clause without a demand came to.
-#[derive(Drop)]
-pub(crate) enum Tried {
-    /// There is a match.
-    Way(Way),
-    /// There is none either.
-    Nothing,
-    /// The searches take more turns than they may.
-    GivenUp,
-}
-
 /// How telling a demand is: the lower the more. Bounds come before other terms, and these before a row between, anchors and quantifiers; of
 /// terms those come first that fewer rows of the match fail.
 pub(crate) fn rank(way: &Way) -> (u8, u64) {
