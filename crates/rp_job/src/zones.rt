@@ -1,6 +1,6 @@
 //! Time zones by name, whose rules are files of the system.
+use crate::fault::ProgramFault;
 use rp_columns::{Columns, ZoneFault};
-use rp_fault::ProgramFault;
 use std::alloc::AllocError;
 use std::env::{self, VarError};
 use std::fs::File;

@@ -1,17 +1,18 @@
 //! The rows of an input, by the options that say how it is read.
+use crate::fault::ProgramFault;
 use crate::progress::Progress;
 use crate::zones::with_zones;
 use rp_columns::{Columns, InputColumn, read_columns};
 use rp_command::{InputFormat, InputOptions};
-use rp_explain_inputs::{csv_fault_line, objects_fault_line};
-use rp_fault::ProgramFault;
 use rp_input::{
     ColumnsCsvFault, CsvLayout, is_delimiter, read_rows, read_rows_by, rows_by, rows_of,
 };
 use rp_io::{CountedDevice, Intake, READS};
 use rp_objects::{ObjectsFault, rows_by_objects};
+use rp_proposal::{csv_fault_line, objects_fault_line};
 use rp_syntax::read_table;
 use rp_value::{Row, Table, Text};
+use rp_wording::Pieces;
 use std::alloc::{AllocError, Global};
 use std::fs::File;
 use std::io::{self, Read};
@@ -72,8 +73,10 @@ impl InputForm {
 
 /// The byte that a text of `--delimiter` is for.
 fn delimiter_of(text: &str) -> Result<u8, ProgramFault> {
+    if text == "\\t" {
+        return Ok(b'\t');
+    }
     match text.as_bytes() {
-        b"\\t" => Ok(b'\t'),
         [byte] if is_delimiter(*byte) => Ok(*byte),
         _ => Err(ProgramFault::Usage(
             "--delimiter is one character of ASCII, as ; or \\t, and no quote or line end",
@@ -85,12 +88,17 @@ fn delimiter_of(text: &str) -> Result<u8, ProgramFault> {
 fn null_words(alloc: Global, words: &[String], is_csv: bool) -> Result<Vec<Text>, AllocError> {
     let mut nulls = Vec::new(alloc);
     for word in words {
-        nulls.push(Text::new(alloc, String::from_str(alloc, word.as_str())?)?)?;
+        nulls.push(text_from(alloc, word.as_str())?)?;
     }
     if words.is_empty() && is_csv {
-        nulls.push(Text::new(alloc, String::new(alloc))?)?;
+        nulls.push(text_from(alloc, "")?)?;
     }
     Ok(nulls)
+}
+
+/// A text of these characters.
+fn text_from(alloc: Global, word: &str) -> Result<Text, AllocError> {
+    Text::new(alloc, String::from_str(alloc, word)?)
 }
 
 impl InputShape {
@@ -144,13 +152,18 @@ impl InputShape {
         match self {
             InputShape::Table(table) => match rows_of(alloc, bytes, table) {
                 Ok(rows) => Ok(rows),
-                Err(fault) => Err(in_file(alloc, name, ProgramFault::from(fault))?),
+                Err(fault) => Err(in_file(alloc, name, ProgramFault::from(fault))),
             },
-            InputShape::Columns(columns) => rows_of_bytes(alloc, bytes, columns, form, name),
+            InputShape::Columns(columns) => {
+                match rows_by(alloc, bytes, form.layout, columns, form.nulls.as_slice()) {
+                    Ok(rows) => Ok(rows),
+                    Err(fault) => Err(columns_fault(alloc, name, columns.as_slice(), fault)),
+                }
+            }
             InputShape::Objects(columns) => {
                 match rows_by_objects(alloc, bytes, columns, form.nulls.as_slice()) {
                     Ok(rows) => Ok(rows),
-                    Err(fault) => Err(objects_fault(alloc, name, columns.as_slice(), fault)?),
+                    Err(fault) => Err(objects_fault(alloc, name, columns.as_slice(), fault)),
                 }
             }
         }
@@ -169,7 +182,7 @@ impl InputShape {
                 let nulls = form.nulls.as_slice();
                 match read_rows_by(alloc, reader, form.layout, columns, nulls, READS) {
                     Ok(rows) => Ok(rows),
-                    Err(fault) => Err(columns_fault(alloc, None, columns.as_slice(), fault)?),
+                    Err(fault) => Err(columns_fault(alloc, None, columns.as_slice(), fault)),
                 }
             }
         }
@@ -216,10 +229,7 @@ pub fn rows_of_files(
     let mut all = Vec::new(rt.alloc());
     for name in files {
         let bytes = bytes_of(rt, Some(name.as_str()), progress)?;
-        let rows = shape.rows(rt.alloc(), bytes.as_slice(), form, Some(name.as_str()))?;
-        for row in rows {
-            all.push(row)?;
-        }
+        all.append(&mut shape.rows(rt.alloc(), bytes.as_slice(), form, Some(name.as_str()))?)?;
     }
     Ok(all)
 }
@@ -253,8 +263,7 @@ pub fn bytes_of(
     };
     match read_all(rt.alloc(), &mut file, name, size, progress) {
         Ok(bytes) => Ok(bytes),
-        Err(error) if error.kind() == io::ErrorKind::OutOfMemory => Err(ProgramFault::OutOfMemory),
-        Err(_) => Err(unreadable(rt.alloc(), name)?),
+        Err(error) => Err(unread(rt.alloc(), name, &error)),
     }
 }
 
@@ -292,60 +301,51 @@ fn read_all(
     Ok(bytes)
 }
 
-/// The rows of an input that was read, and where it has none why.
-pub fn rows_of_bytes(
-    alloc: Global,
-    bytes: &[u8],
-    columns: &Columns,
-    form: &InputForm,
-    name: Option<&str>,
-) -> Result<Vec<Row>, ProgramFault> {
-    match rows_by(alloc, bytes, form.layout, columns, form.nulls.as_slice()) {
-        Ok(rows) => Ok(rows),
-        Err(fault) => Err(columns_fault(alloc, name, columns.as_slice(), fault)?),
-    }
-}
-
 /// A file that is to be read.
 fn opened(rt: &HostRuntime, name: &str) -> Result<File, ProgramFault> {
     match File::open(rt, name) {
         Ok(file) => Ok(file),
-        Err(error) if error.kind() == io::ErrorKind::OutOfMemory => Err(ProgramFault::OutOfMemory),
-        Err(_) => Err(unreadable(rt.alloc(), name)?),
+        Err(error) => Err(unread(rt.alloc(), name, &error)),
     }
+}
+
+/// The fault of a call that opens or reads a file.
+fn unread(alloc: Global, name: &str, error: &io::Error) -> ProgramFault {
+    if error.kind() == io::ErrorKind::OutOfMemory {
+        return ProgramFault::OutOfMemory;
+    }
+    unreadable(alloc, name)
 }
 
 /// The fault of a file that can't be read.
-fn unreadable(alloc: Global, name: &str) -> Result<ProgramFault, AllocError> {
-    Ok(ProgramFault::InputFile(String::from_str(alloc, name)?))
-}
-
-/// A fault of an input, with the name of its file where it has one.
-fn in_file(
-    alloc: Global,
-    name: Option<&str>,
-    fault: ProgramFault,
-) -> Result<ProgramFault, AllocError> {
-    match (name, &fault) {
-        (Some(name), ProgramFault::Read) => unreadable(alloc, name),
-        (
-            Some(name),
-            ProgramFault::CsvHeader
-            | ProgramFault::CsvRecord(_)
-            | ProgramFault::CsvField(_)
-            | ProgramFault::Input(_),
-        ) => told_of_file(alloc, name, &fault),
-        _ => Ok(fault),
+fn unreadable(alloc: Global, name: &str) -> ProgramFault {
+    match String::from_str(alloc, name) {
+        Ok(name) => ProgramFault::InputFile(name),
+        Err(_) => ProgramFault::OutOfMemory,
     }
 }
 
-/// The fault of an input behind the name of its file.
-fn told_of_file(
-    alloc: Global,
-    name: &str,
-    fault: &ProgramFault,
-) -> Result<ProgramFault, AllocError> {
-    Ok(ProgramFault::Input(format!(in alloc; "{name}: {fault}")?))
+/// The fault of an input, which this text tells.
+fn told_so(text: Result<String, AllocError>) -> ProgramFault {
+    match text {
+        Ok(text) => ProgramFault::Input(text),
+        Err(_) => ProgramFault::OutOfMemory,
+    }
+}
+
+/// A fault of an input, with the name of its file where it has one.
+fn in_file(alloc: Global, name: Option<&str>, fault: ProgramFault) -> ProgramFault {
+    let Some(name) = name else {
+        return fault;
+    };
+    match &fault {
+        ProgramFault::Read => unreadable(alloc, name),
+        ProgramFault::CsvHeader
+        | ProgramFault::CsvRecord(_)
+        | ProgramFault::CsvField(_)
+        | ProgramFault::Input(_) => told_so(format!(in alloc; "{name}: {fault}")),
+        _ => fault,
+    }
 }
 
 /// The fault of an input by columns, as `csv: Form at record 3, column cents`.
@@ -354,17 +354,14 @@ fn columns_fault(
     name: Option<&str>,
     columns: &[InputColumn],
     fault: ColumnsCsvFault,
-) -> Result<ProgramFault, AllocError> {
+) -> ProgramFault {
     let fault = match fault {
         ColumnsCsvFault::Read => ProgramFault::Read,
         ColumnsCsvFault::Turns => ProgramFault::Turns,
         ColumnsCsvFault::OutOfMemory => ProgramFault::OutOfMemory,
         ColumnsCsvFault::Header => ProgramFault::CsvHeader,
         ColumnsCsvFault::Record(number) => ProgramFault::CsvRecord(number),
-        fault => {
-            let line = csv_fault_line(alloc, columns, &fault)?;
-            ProgramFault::Input(format!(in alloc; "csv: {line}")?)
-        }
+        fault => told_line(alloc, "csv: ", csv_fault_line(alloc, columns, &fault)),
     };
     in_file(alloc, name, fault)
 }
@@ -375,11 +372,17 @@ fn objects_fault(
     name: Option<&str>,
     columns: &[InputColumn],
     fault: ObjectsFault,
-) -> Result<ProgramFault, AllocError> {
+) -> ProgramFault {
     if fault == ObjectsFault::OutOfMemory {
-        return Ok(ProgramFault::OutOfMemory);
+        return ProgramFault::OutOfMemory;
     }
-    let line = objects_fault_line(alloc, columns, &fault)?;
-    let told = format!(in alloc; "json: {line}")?;
-    in_file(alloc, name, ProgramFault::Input(told))
+    let line = objects_fault_line(alloc, columns, &fault);
+    in_file(alloc, name, told_line(alloc, "json: ", line))
+}
+
+/// The fault of an input, by its line behind the word for what the input is.
+fn told_line(alloc: Global, word: &str, line: Result<String, AllocError>) -> ProgramFault {
+    let mut text = Pieces::of(alloc, word);
+    text.push_made(line);
+    told_so(text.finish())
 }

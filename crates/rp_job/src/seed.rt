@@ -1,5 +1,5 @@
 //! The seed by which partitions are found.
-use rp_fault::ProgramFault;
+use crate::fault::ProgramFault;
 use std::collections::hash_map::RandomState;
 
 /// A hasher whose seed the system draws. Where it can't be had, that is the fault of a read.

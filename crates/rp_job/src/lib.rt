@@ -1,0 +1,26 @@
+//! What the jobs have in common: how the program ends, by a verdict, or early by a fault, which has a line on standard error and an exit
+//! status; and what a job is asked, and of which rows, by the options that say so: the columns and the form of an input, its files, a
+//! condition, time zones by name, and how far a long answer is.
+//!
+//! Which fault of the program comes of which fault of a crate below is said by `specs/Faults`, and the exit status of each by
+//! `specs/Statuses`.
+#![tactic(auto)]
+
+mod asked;
+mod fault;
+mod input;
+mod progress;
+mod seed;
+mod shown;
+mod telling;
+mod verdict;
+mod zones;
+
+pub use asked::Asked;
+pub use fault::ProgramFault;
+pub use input::{InputForm, InputShape, bytes_of, columns_of, rows_of_input, table_of};
+pub use progress::Progress;
+pub use seed::seeded_hasher;
+pub use shown::shown_key;
+pub use telling::{end_with, tell};
+pub use verdict::Verdict;
