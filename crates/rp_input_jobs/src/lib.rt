@@ -1,12 +1,12 @@
-//! The jobs that read an input: `check`, `whole`, `why` and `source`.
+//! The jobs that read an input: `whole`, `why` and `source`, with a clause over it, and `trace`.
 #![tactic(auto)]
 
-mod check;
 mod source;
+mod trace;
 mod whole;
 mod why;
 
-pub use check::run_check;
 pub use source::run_source;
+pub use trace::run_trace_job;
 pub use whole::run_answer;
 pub use why::run_why;

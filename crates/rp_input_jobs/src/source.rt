@@ -2,14 +2,14 @@
 use rp_command::SourceJob;
 use rp_compile::compile;
 use rp_drive::{Conversation, Counted, DriveFault, Stop, drive_within};
-use rp_fault::ProgramFault;
 use rp_feed::Packet;
 use rp_io::{CountedDevice, Lines, Outlet, READS};
-use rp_job_input::{InputForm, InputShape, rows_of_input, seeded_hasher, shown_key};
+use rp_job::{InputForm, InputShape, ProgramFault, rows_of_input, seeded_hasher, shown_key};
 use rp_numbering::number_rows;
 use rp_protocol::{MAX_LINE_LEN, Refusal, Reply, reply_line, saved_of};
 use rp_query::Query;
 use rp_value::Row;
+use rp_wording::Pieces;
 use std::alloc::{AllocError, Global};
 use std::io::{IsTerminal, Read};
 use std::net::{Shutdown, TcpStream};
@@ -223,16 +223,28 @@ fn refusal_text(
     packet: &Packet,
     refusal: Refusal,
 ) -> Result<String, AllocError> {
-    let number = node.number;
-    let reply = reply_line(alloc, &Reply::Refused(refusal))?;
+    let mut text = Pieces::of(alloc, "node ");
+    text.push_number(node.number);
+    text.push(": ");
+    text.push_made(reply_line(alloc, &Reply::Refused(refusal)));
     match packet {
-        Packet::Row { number: row, cells } => {
-            let key = shown_key(alloc, &node.query.key(alloc, cells)?)?;
-            format!(in alloc; "node {number}: {reply} at row {row} of {key}")
+        Packet::Row { number, cells } => {
+            text.push(" at row ");
+            text.push_number(*number);
+            text.push(" of ");
+            text.push_made(key_of_row(alloc, node.query, cells));
         }
         Packet::Close { key, count } => {
-            let key = shown_key(alloc, key)?;
-            format!(in alloc; "node {number}: {reply} at the close of {key} after row {count}")
+            text.push(" at the close of ");
+            text.push_made(shown_key(alloc, key));
+            text.push(" after row ");
+            text.push_number(*count);
         }
     }
+    text.finish()
+}
+
+/// The key of a row as people read it.
+fn key_of_row(alloc: Global, query: &Query, cells: &Row) -> Result<String, AllocError> {
+    shown_key(alloc, &query.key(alloc, cells)?)
 }

@@ -1,8 +1,7 @@
 //! `why`: what is in the way of a match, partition by partition.
 use rp_command::{ReportFormat, WhyJob};
-use rp_fault::{ProgramFault, Verdict};
 use rp_io::{CountedDevice, write_all};
-use rp_job_input::{Asked, seeded_hasher, shown_key};
+use rp_job::{Asked, ProgramFault, Verdict, seeded_hasher, shown_key};
 use rp_json::cells_of;
 use rp_numbering::{Part, order_rows, partitions};
 use rp_query::Query;
@@ -21,7 +20,7 @@ pub fn run_why(rt: &HostRuntime, job: &WhyJob) -> Result<Verdict, ProgramFault> 
     let asked = Asked {
         input: &job.input,
         clause: job.clause.as_str(),
-        filter: job.filter.as_ref().map(|text| text.as_str()),
+        filter: &job.filter,
         files: job.files.as_slice(),
     };
     let (query, rows) = asked.query_and_rows(rt, &mut None)?;
