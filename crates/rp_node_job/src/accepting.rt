@@ -1,5 +1,5 @@
 //! How connections are accepted.
-use rp_fault::ProgramFault;
+use rp_job::ProgramFault;
 use std::net::{TcpListener, TcpStream};
 use std::time::Duration;
 use std::{io, thread};
@@ -33,6 +33,20 @@ const ENOBUFS: i32 = 105;
 const EHOSTDOWN: i32 = 112;
 
 const EHOSTUNREACH: i32 = 113;
+
+const PASSING: [i32; 11] = [
+    ENOMEM,
+    ENFILE,
+    EMFILE,
+    ENONET,
+    EPROTO,
+    ENOPROTOOPT,
+    ENETDOWN,
+    ENETUNREACH,
+    ENOBUFS,
+    EHOSTDOWN,
+    EHOSTUNREACH,
+];
 
 /// What to do after an error of accepting.
 enum Next {
@@ -85,18 +99,5 @@ fn next_after(error: &io::Error) -> Next {
 }
 
 fn is_passing(code: i32) -> bool {
-    matches!(
-        code,
-        ENOMEM
-            | ENFILE
-            | EMFILE
-            | ENONET
-            | EPROTO
-            | ENOPROTOOPT
-            | ENETDOWN
-            | ENETUNREACH
-            | ENOBUFS
-            | EHOSTDOWN
-            | EHOSTUNREACH
-    )
+    PASSING.as_slice().contains(&code)
 }

@@ -10,9 +10,8 @@ use crate::state::StateFile;
 use rp_checkpoint::RestartFault;
 use rp_command::NodeJob;
 use rp_compile::compile;
-use rp_fault::{ProgramFault, tell};
 use rp_io::{CountedDevice, Outlet, READS, write_all};
-use rp_job_input::{seeded_hasher, table_of};
+use rp_job::{ProgramFault, seeded_hasher, table_of, tell};
 use rp_node::{Node, begin, clause_difference};
 use rp_query::Query;
 use rp_serve::{RoundEnd, ServeFault, round_on, saved_line};
@@ -140,9 +139,7 @@ fn connection(
         READS,
     )?;
     write_if_new(rt, file, &end)?;
-    if job.acknowledge && !went_back(end.fault) {
-        acknowledge(rt, &mut writer, end.lines);
-    }
+    acknowledge(rt, job, &mut writer, &end);
     tell_end(rt, job, number, &end, reader.device.is_http);
     Ok(Standing {
         node: end.node,
@@ -165,9 +162,12 @@ fn write_if_new(
     Ok(())
 }
 
-/// Tells the client that what its lines did is saved. It needn't take that: then it doesn't know.
-fn acknowledge<W: Outlet>(rt: &HostRuntime, writer: &mut W, lines: u128) {
-    if let Ok(line) = saved_line(rt.alloc(), lines) {
+/// Tells the client, where the job asks for that, that what its lines did is saved. It needn't take that: then it doesn't know.
+fn acknowledge<W: Outlet>(rt: &HostRuntime, job: &NodeJob, writer: &mut W, end: &RoundEnd<Node>) {
+    if job.acknowledge
+        && !went_back(end.fault)
+        && let Ok(line) = saved_line(rt.alloc(), end.lines)
+    {
         let _ = write_all(writer, line.as_slice());
     }
 }
@@ -184,18 +184,23 @@ fn tell_refused(
     file: &StateFile<'_>,
     why: RestartFault,
 ) -> Result<(), ProgramFault> {
-    let fault = ProgramFault::Checkpoint(why);
-    tell(rt, &fault);
-    if why == RestartFault::ClauseDiffers
-        && let Some(bytes) = file.read(rt)?
-    {
-        let clause = job.clause.as_bytes();
-        match clause_difference(rt.alloc(), clause, bytes.as_slice())? {
-            Some(place) => {
-                let _ = eprintln!(rt; "rowmatch: clause differs from byte {place} on");
-            }
-            None => tell(rt, &"table differs"),
+    tell(rt, &ProgramFault::Checkpoint(why));
+    if why != RestartFault::ClauseDiffers {
+        return Ok(());
+    }
+    match file.read(rt)? {
+        Some(bytes) => tell_difference(rt, job.clause.as_bytes(), bytes.as_slice()),
+        None => Ok(()),
+    }
+}
+
+/// Tells from where on the clause differs from that of the file's bytes; or that the table does.
+fn tell_difference(rt: &HostRuntime, clause: &[u8], bytes: &[u8]) -> Result<(), ProgramFault> {
+    match clause_difference(rt.alloc(), clause, bytes)? {
+        Some(place) => {
+            let _ = eprintln!(rt; "rowmatch: clause differs from byte {place} on");
         }
+        None => tell(rt, &"table differs"),
     }
     Ok(())
 }
