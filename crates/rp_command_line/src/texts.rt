@@ -1,6 +1,6 @@
 //! The values of options on the command line that are texts, before clap reads it: a text may begin with a dash, as a clause does
 //! that begins with a comment, and it may come from a file.
-use rp_fault::ProgramFault;
+use rp_job::ProgramFault;
 use rp_node::without_blank_end;
 use std::alloc::{AllocError, Global};
 use std::{fs, io};
@@ -27,58 +27,31 @@ struct TextOption {
     value: Value,
 }
 
-const OPTIONS: [TextOption; 9] = [
-    TextOption {
-        word: "--table",
-        joined: "--table=",
-        value: Value::Text,
-    },
-    TextOption {
-        word: "--columns",
-        joined: "--columns=",
-        value: Value::Text,
-    },
-    TextOption {
-        word: "--clause",
-        joined: "--clause=",
-        value: Value::Text,
-    },
-    TextOption {
-        word: "--where",
-        joined: "--where=",
-        value: Value::Text,
-    },
-    TextOption {
-        word: "--table-file",
-        joined: "--table=",
-        value: Value::File,
-    },
-    TextOption {
-        word: "--columns-file",
-        joined: "--columns=",
-        value: Value::File,
-    },
-    TextOption {
-        word: "--clause-file",
-        joined: "--clause=",
-        value: Value::File,
-    },
-    TextOption {
-        word: "--delimiter",
-        joined: "--delimiter=",
-        value: Value::Word,
-    },
-    TextOption {
-        word: "--null",
-        joined: "--null=",
-        value: Value::Word,
-    },
-];
+/// The option of this name, if it is such an option.
+fn option_named(name: &str) -> Option<TextOption> {
+    let (word, joined, value) = match name {
+        "--table" => ("--table", "--table=", Value::Text),
+        "--columns" => ("--columns", "--columns=", Value::Text),
+        "--clause" => ("--clause", "--clause=", Value::Text),
+        "--where" => ("--where", "--where=", Value::Text),
+        "--table-file" => ("--table-file", "--table=", Value::File),
+        "--columns-file" => ("--columns-file", "--columns=", Value::File),
+        "--clause-file" => ("--clause-file", "--clause=", Value::File),
+        "--delimiter" => ("--delimiter", "--delimiter=", Value::Word),
+        "--null" => ("--null", "--null=", Value::Word),
+        _ => return None,
+    };
+    Some(TextOption {
+        word,
+        joined,
+        value,
+    })
+}
 
 /// The words with each such text joined to its option, as `--clause=TEXT`: so clap takes whatever it begins with. A byte order
 /// mark before a text is passed over, and so are blanks and line ends behind it: a file and what a shell makes of `$(cat FILE)` are
 /// one text. `trace` has no such option, and its words stay as they are.
-pub fn with_texts(rt: &HostRuntime, words: &[String]) -> Result<Vec<String>, ProgramFault> {
+pub(crate) fn with_texts(rt: &HostRuntime, words: &[String]) -> Result<Vec<String>, ProgramFault> {
     let mut joined = Vec::new(rt.alloc());
     if words.first().is_some_and(|word| word.as_str() == "trace") {
         push_all(rt.alloc(), &mut joined, words)?;
@@ -112,7 +85,8 @@ fn join_all(
     Ok(())
 }
 
-/// Adds a word, or the text of an option that waits for one. Where it is such an option, it waits then.
+/// Adds a word, or the text of an option that waits for one. Where it is such an option, it waits then, and the one before it has no
+/// value.
 fn join(
     rt: &HostRuntime,
     joined: &mut Vec<String>,
@@ -120,7 +94,7 @@ fn join(
     word: &str,
 ) -> Result<Option<TextOption>, ProgramFault> {
     match due {
-        Some(option) if is_option(word) => {
+        Some(option) if option_named(word).is_some() => {
             push_option(rt, joined, option)?;
             push_word(rt, joined, word)
         }
@@ -142,29 +116,21 @@ fn push_option(
     Ok(())
 }
 
-/// Whether the word is such an option: then the one before it has no value.
-fn is_option(word: &str) -> bool {
-    OPTIONS.as_slice().iter().any(|option| option.word == word)
-}
-
-/// Adds a word, unless it is such an option, which waits for its value then.
+/// Adds a word, unless it is such an option, which waits for its value then. It may have the value behind `=`.
 fn push_word(
     rt: &HostRuntime,
     joined: &mut Vec<String>,
     word: &str,
 ) -> Result<Option<TextOption>, ProgramFault> {
-    for option in OPTIONS.as_slice() {
-        if word == option.word {
-            return Ok(Some(*option));
-        }
-        if let Some(rest) = word.strip_prefix(option.word)
-            && let Some(value) = rest.strip_prefix("=")
-        {
-            joined.push(text_word(rt, *option, value)?)?;
-            return Ok(None);
-        }
+    let (name, value) = match word.split_once('=') {
+        Some((name, value)) => (name, Some(value)),
+        None => (word, None),
+    };
+    match (option_named(name), value) {
+        (Some(option), None) => return Ok(Some(option)),
+        (Some(option), Some(value)) => joined.push(text_word(rt, option, value)?)?,
+        (None, _) => joined.push(String::from_str(rt.alloc(), word)?)?,
     }
-    joined.push(String::from_str(rt.alloc(), word)?)?;
     Ok(None)
 }
 
