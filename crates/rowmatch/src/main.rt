@@ -1,41 +1,38 @@
 //! Row pattern matching over lines and streams.
 #![tactic(auto)]
 
-use rp_command::{not_utf8, read_command};
-use rp_fault::{ProgramFault, Verdict, told};
-use rp_jobs::{run_job, with_texts};
+use rp_check_job::run_check;
+use rp_command::Job;
+use rp_command_line::named_job;
+use rp_input_jobs::{run_answer, run_source, run_trace_job, run_why};
+use rp_job::{ProgramFault, Verdict, end_with};
+use rp_node_job::run_node;
+use std::io;
 use std::process::ExitCode;
-use std::rt::Env;
-use std::{env, io};
 
 fn main(rt: HostRuntime) -> io::Result<ExitCode> {
-    match run(&rt) {
-        Ok(Verdict::Clean) => Ok(ExitCode::SUCCESS),
-        Ok(Verdict::Findings) => Ok(ExitCode::from(1)),
-        Ok(Verdict::GivenUp) => Ok(ExitCode::from(3)),
-        Err(fault) => Ok(ExitCode::from(told(&rt, fault).status().unwrap_or(0))),
-    }
+    let status = match run(&rt) {
+        Ok(verdict) => verdict.status(),
+        Err(fault) => end_with(&rt, fault),
+    };
+    Ok(ExitCode::from(status))
 }
 
+/// Does the job that the command line names.
 fn run(rt: &HostRuntime) -> Result<Verdict, ProgramFault> {
-    let mut words = Vec::new(rt.alloc());
-    let all = match env::args(rt) {
-        Ok(all) => all,
-        Err(error) => return Err(unread(rt, &error)),
-    };
-    for word in all.skip(1) {
-        words.push(word)?;
-    }
-    let words = with_texts(rt, words.as_slice())?;
-    let job = read_command(rt.alloc(), words.as_slice())?;
+    let job = named_job(rt)?;
     run_job(rt, &job)
 }
 
-/// Why the arguments can't be read: one isn't UTF-8, or memory was refused.
-fn unread(rt: &HostRuntime, error: &io::Error) -> ProgramFault {
-    if error.kind() == io::ErrorKind::InvalidData {
-        ProgramFault::from(not_utf8(rt.alloc()))
-    } else {
-        ProgramFault::OutOfMemory
+/// Does a job. Only `check`, `whole` and `why` have a verdict.
+fn run_job(rt: &HostRuntime, job: &Job) -> Result<Verdict, ProgramFault> {
+    match job {
+        Job::Trace { pattern } => run_trace_job(rt, pattern.as_str())?,
+        Job::Whole(job) => return run_answer(rt, job),
+        Job::Node(job) => run_node(rt, job)?,
+        Job::Source(job) => run_source(rt, job)?,
+        Job::Check(job) => return run_check(rt, job),
+        Job::Why(job) => return run_why(rt, job),
     }
+    Ok(Verdict::Clean)
 }
