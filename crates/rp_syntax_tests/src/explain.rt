@@ -2,11 +2,12 @@
 use crate::support::{PRICES, same, unless_refused_twice};
 use rp_compile::{CompileFault, compile};
 use rp_explain_clauses::{explain_clause, explain_table};
-use rp_explain_inputs::{explain_csv, propose_columns};
+use rp_explain_inputs::explain_csv;
 use rp_explain_queries::describe;
 use rp_grammar::ParseFault;
 use rp_input::CsvFault;
 use rp_lexer::LexFault;
+use rp_proposal::propose_columns;
 use rp_query::Query;
 use rp_resolution::{CheckKind, Fault};
 use rp_syntax::{TableTextFault, read_table};
