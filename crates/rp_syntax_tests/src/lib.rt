@@ -17,3 +17,5 @@ mod lexer;
 mod support;
 #[cfg(test)]
 mod syntax;
+#[cfg(test)]
+mod tree;

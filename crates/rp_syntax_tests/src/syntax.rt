@@ -1,6 +1,7 @@
 //! Clauses and tables with their trees, and clauses at fault. Expected trees were worked out by a plain second program that descends by
 //! the written grammar, and so were the places of faults, by one that follows every way in which the rules may go on.
 use crate::support::{same, shows, unless_refused_twice};
+use crate::tree::tree_text;
 use rp_compile::CompileFault;
 use rp_grammar::ParseFault;
 use rp_lexer::lex;
@@ -16,15 +17,10 @@ fn clause_of(alloc: Global, text: &str) -> Result<Clause, CompileFault> {
     Ok(parse(alloc, text, tokens.as_slice())?)
 }
 
-/// A tree, as it prints itself.
-fn shown(alloc: Global, clause: &Clause) -> Result<String, CompileFault> {
-    Ok(format!(in alloc; "{clause:?}")?)
-}
-
 /// The tree of a text.
 fn tree_of(alloc: Global, text: &str) -> Result<String, CompileFault> {
     match clause_of(alloc, text) {
-        Ok(clause) => shown(alloc, &clause),
+        Ok(clause) => Ok(tree_text(alloc, &clause)?),
         Err(fault) => Err(fault),
     }
 }
