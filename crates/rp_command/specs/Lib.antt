@@ -3,3 +3,4 @@ pub mod Values
 pub mod Commands
 pub mod Jobs
 pub mod Listed
+pub mod Statuses

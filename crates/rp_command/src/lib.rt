@@ -11,8 +11,9 @@
 //!
 //!     [--table TEXT] [--columns TEXT] [--delimiter CHARACTER] [--null WORD].. [--no-header] [--from FORMAT]
 //!
-//! clap reads the words. What each job's command takes is said in `specs/Commands`, and which values a job has in
-//! `specs/Jobs`, by the words of `specs/Values`.
+//! clap reads the words, once the texts that come from files are among them. What each job's command takes is said in
+//! `specs/Commands`, which values a job has in `specs/Jobs`, by the words of `specs/Values`, and with which status the program ends where
+//! the words name no job in `specs/Statuses`.
 #![tactic(auto)]
 
 mod argument;
@@ -21,19 +22,23 @@ mod check;
 mod choices;
 mod command;
 mod commands;
+mod fault;
 pub mod help;
 mod input;
 mod job;
 mod node;
 mod options;
+mod program_words;
 mod reading;
 mod source;
+mod texts;
 mod trace;
 mod whole;
 mod why;
 
-pub use command::{not_utf8, read_command};
+pub use command::read_command;
 pub use job::{
     AnswerFormat, CheckJob, InputFormat, InputOptions, Job, JobFault, NodeJob, ReportFormat,
     SourceJob, WholeJob, WhyJob,
 };
+pub use program_words::named_job;
