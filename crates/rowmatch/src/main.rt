@@ -2,8 +2,7 @@
 #![tactic(auto)]
 
 use rp_check_job::run_check;
-use rp_command::Job;
-use rp_command_line::named_job;
+use rp_command::{Job, named_job};
 use rp_input_jobs::{run_answer, run_source, run_trace_job, run_why};
 use rp_job::{ProgramFault, Verdict, end_with};
 use rp_node_job::run_node;
@@ -11,17 +10,19 @@ use std::io;
 use std::process::ExitCode;
 
 fn main(rt: HostRuntime) -> io::Result<ExitCode> {
-    let status = match run(&rt) {
-        Ok(verdict) => verdict.status(),
-        Err(fault) => end_with(&rt, fault),
+    let status = match named_job(&rt) {
+        Ok(job) => status_of(&rt, &job),
+        Err(status) => status,
     };
     Ok(ExitCode::from(status))
 }
 
-/// Does the job that the command line names.
-fn run(rt: &HostRuntime) -> Result<Verdict, ProgramFault> {
-    let job = named_job(rt)?;
-    run_job(rt, &job)
+/// Does a job, and gives the exit status: of its verdict, or of its fault, which is told.
+fn status_of(rt: &HostRuntime, job: &Job) -> u8 {
+    match run_job(rt, job) {
+        Ok(verdict) => verdict.status(),
+        Err(fault) => end_with(rt, &fault),
+    }
 }
 
 /// Does a job. Only `check`, `whole` and `why` have a verdict.
