@@ -184,28 +184,12 @@ impl Written {
     #[cycle(terms)]
     fn expr(&mut self, expr: &Expr) {
         match expr {
-            Expr::Number { at, value } => {
-                self.value("Number { at: ", at);
-                self.value(", value: ", value);
-            }
-            Expr::Text { at, text } => {
-                self.value("Text { at: ", at);
-                self.value(", text: ", text);
-            }
-            Expr::Navigation(path) => {
-                self.push("Navigation(");
-                self.navigation(path);
-                return self.push(")");
-            }
+            Expr::Number { at, value } => self.literal("Number { at: ", *at, ", value: ", value),
+            Expr::Text { at, text } => self.literal("Text { at: ", *at, ", text: ", text),
+            Expr::Navigation(path) => return self.path(path),
             Expr::Aggregate(aggregate) => return self.aggregate(aggregate),
-            Expr::MatchNumber(at) => {
-                self.value("MatchNumber(", at);
-                return self.push(")");
-            }
-            Expr::Classifier(at) => {
-                self.value("Classifier(", at);
-                return self.push(")");
-            }
+            Expr::MatchNumber(at) => return self.call("MatchNumber(", *at),
+            Expr::Classifier(at) => return self.call("Classifier(", *at),
             Expr::Negative { at, body } => self.under("Negative { at: ", *at, body.as_ref()),
             Expr::Not { at, body } => self.under("Not { at: ", *at, body.as_ref()),
             Expr::IsNull { at, body, negated } => {
@@ -237,6 +221,18 @@ impl Written {
         self.push(" }");
     }
 
+    /// A number or a text behind its place.
+    fn literal<T: Debug>(&mut self, piece: &str, at: usize, name: &str, value: &T) {
+        self.value(piece, &at);
+        self.value(name, value);
+    }
+
+    /// A call without arguments.
+    fn call(&mut self, piece: &str, at: usize) {
+        self.value(piece, &at);
+        self.push(")");
+    }
+
     /// An expression behind the place of what belongs to it.
     #[cycle(terms)]
     fn under(&mut self, piece: &str, at: usize, body: &Expr) {
@@ -259,6 +255,12 @@ impl Written {
             self.push(")");
         }
         self.push("]");
+    }
+
+    fn path(&mut self, path: &Navigation) {
+        self.push("Navigation(");
+        self.navigation(path);
+        self.push(")");
     }
 
     fn navigation(&mut self, path: &Navigation) {
