@@ -11,7 +11,7 @@ use std::process::ExitCode;
 
 fn main(rt: HostRuntime) -> io::Result<ExitCode> {
     let status = match named_job(&rt) {
-        Ok(job) => status_of(&rt, &job),
+        Ok(job) => status_of(&rt, job.as_ref()),
         Err(status) => status,
     };
     Ok(ExitCode::from(status))

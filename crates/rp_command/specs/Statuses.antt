@@ -16,3 +16,7 @@ abbrev pub IsStatus : CommandLineFault → ℕ → Type 0
 IsStatus (Job (Line error)) status = (IsAskedFor error → status ≡ 0) × ((IsAskedFor error → ⊥) → status ≡ 2)
 IsStatus (Job OutOfMemory) status = status ≡ 3
 IsStatus (TextFile name) status = status ≡ 3
+
+-- the status to exit with once a fault is reported: its own, or that of a device where help or the version can't be written
+abbrev pub Ends : CommandLineFault → ℕ → Type 0
+Ends fault status = IsStatus fault status ⊎ (status ≡ 3)

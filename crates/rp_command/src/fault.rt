@@ -1,14 +1,13 @@
 //! How the program ends where its words name no job.
 
-ghost use Rattle.std.specs.Prelude.{◌≡◌};
-ghost use Rattle.rp_command.specs.declared.job.JobFault.TheVariants.{OutOfMemory};
+ghost use Rattle.rp_command.specs.Statuses.{Ends};
 
 use crate::job::JobFault;
 use std::alloc::{AllocError, AllocFailed};
 
 /// Why the program's words name no job.
 #[derive(Drop)]
-pub(crate) enum CommandLineFault {
+pub enum CommandLineFault {
     /// The file of this name, which should hold the text of an option, can't be read, or isn't UTF-8.
     TextFile(String),
     /// The words, with the texts that they name, are no job's.
@@ -19,7 +18,7 @@ impl CommandLineFault {
     ghost use Rattle.rp_command.specs.Statuses.{IsStatus};
 
     /// The exit status: 0 for help and the version, 2 for a mistake in the words, 3 for a file or memory.
-    fn status(&self) -> u8
+    pub fn status(&self) -> u8
         ensures { IsStatus self.now result }
     {
         match self {
@@ -33,7 +32,9 @@ impl CommandLineFault {
 
 /// Tells the fault, and gives the exit status: where help can't be written, that is a device's fault. What standard error doesn't
 /// take is lost.
-pub(crate) fn end_with(rt: &HostRuntime, fault: &CommandLineFault) -> u8 {
+pub(crate) fn end_with(rt: &HostRuntime, fault: &CommandLineFault) -> u8
+    ensures { Ends fault.now result }
+{
     match fault {
         CommandLineFault::TextFile(name) => {
             let _ = eprintln!(rt; "rowmatch: file: {name} can't be read as a text");

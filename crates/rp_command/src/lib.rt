@@ -37,6 +37,7 @@ mod whole;
 mod why;
 
 pub use command::read_command;
+pub use fault::CommandLineFault;
 pub use job::{
     AnswerFormat, CheckJob, InputFormat, InputOptions, Job, JobFault, NodeJob, ReportFormat,
     SourceJob, WholeJob, WhyJob,

@@ -11,7 +11,7 @@ use std::{env, io};
 /// which is written on standard output; 2 for a mistake in the words; 3 where a file with a text can't be read, where help can't be
 /// written, and where memory is refused. Of the words `whole --clause-file F` the job is `whole`, its clause is what F holds, and
 /// where there is no F the status is 3.
-pub fn named_job(rt: &HostRuntime) -> Result<Job, u8> {
+pub fn named_job(rt: &HostRuntime) -> Result<Box<Job>, u8> {
     match job_in(rt) {
         Ok(job) => Ok(job),
         Err(fault) => Err(end_with(rt, &fault)),
@@ -19,9 +19,10 @@ pub fn named_job(rt: &HostRuntime) -> Result<Job, u8> {
 }
 
 /// The job that the command line names.
-fn job_in(rt: &HostRuntime) -> Result<Job, CommandLineFault> {
+fn job_in(rt: &HostRuntime) -> Result<Box<Job>, CommandLineFault> {
     let words = with_texts(rt, words_of(rt)?.as_slice())?;
-    Ok(read_command(rt.alloc(), words.as_slice())?)
+    let job = read_command(rt.alloc(), words.as_slice())?;
+    Ok(Box::new(rt.alloc(), job)?)
 }
 
 /// The words of the command line, behind the program's name.
