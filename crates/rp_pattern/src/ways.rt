@@ -13,12 +13,21 @@ use std::rc::Rc;
 const MOST_PLACES: u32 = 4096;
 
 /// Choices on a stack, and the pattern that they begin with.
-#[derive(Drop)]
 pub(crate) enum Ways {
     /// Its parts are linked.
     Linked(Linked),
     /// It has a program.
     Compiled(Compiled),
+}
+
+/// It is let go of by a call, wherever it is held.
+impl Drop for Ways {
+    fn drop(self) {
+        match self {
+            Ways::Linked(_) => {}
+            Ways::Compiled(_) => {}
+        }
+    }
 }
 
 impl Ways {

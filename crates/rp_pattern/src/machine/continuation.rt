@@ -14,7 +14,6 @@ use std::alloc::{AllocError, Global};
 use std::rc::Rc;
 
 /// What is left of a pattern.
-#[derive(Drop)]
 pub(crate) enum Continuation {
     /// Nothing is left.
     Done,
@@ -24,6 +23,22 @@ pub(crate) enum Continuation {
     Row { var: usize, next: Node, then: Tail },
     /// Later parts, the first of which is reached.
     Reached(Rc<Link>),
+}
+
+/// It is let go of by a call, wherever it is held.
+impl Drop for Continuation {
+    fn drop(self) {
+        match self {
+            Continuation::Done => {}
+            Continuation::Then { node: _, then: _ } => {}
+            Continuation::Row {
+                var: _,
+                next: _,
+                then: _,
+            } => {}
+            Continuation::Reached(_) => {}
+        }
+    }
 }
 
 /// A choice that isn't taken up: how many labels come before it, and what is left of the pattern.
