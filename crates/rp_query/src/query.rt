@@ -93,7 +93,6 @@ pub struct Plan {
 }
 
 /// What a query is made of, as contracts see it.
-#[derive(Drop)]
 pub struct QueryData {
     /// The text of the clause.
     pub text: Text,
@@ -115,9 +114,25 @@ pub struct QueryData {
     pub plan: Plan,
 }
 
+/// It is let go of by a call, wherever it is held.
+impl Drop for QueryData {
+    fn drop(self) {
+        let QueryData {
+            text: _,
+            table: _,
+            pattern: _,
+            variables: _,
+            output: _,
+            reach: _,
+            partition: _,
+            order: _,
+            plan: _,
+        } = self;
+    }
+}
+
 /// A clause that was checked against a table, its names resolved. A further owner costs a count.
 /// Contracts see it as the data that it is made of.
-#[derive(Drop)]
 pub struct Query {
     parts: Rc<QueryData>,
     /// Its pattern, made ready for searches.
@@ -136,6 +151,20 @@ pub struct Query {
     ghost back: { IsTrue looks_back → ConditionsLookBack parts.value.plan },
     ghost led: { (l : Leads) → lead ≡ Some l → IsLeaderOf (form_of parts.value.pattern) l },
     ghost changed: { AreChangesOf parts.value.plan.totals.value.items changes.value },
+}
+
+/// It is let go of by a call, wherever it is held.
+impl Drop for Query {
+    fn drop(self) {
+        let Query {
+            parts: _,
+            prepared: _,
+            judges_rows: _,
+            looks_back: _,
+            lead: _,
+            changes: _,
+        } = self;
+    }
 }
 
 impl Plan {
