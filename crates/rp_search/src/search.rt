@@ -34,7 +34,6 @@ pub enum Outcome {
 
 /// A search for the first word of a pattern from a start row that the tests don't refuse. It may be paused and waits
 /// for further rows, and goes on from where it stood.
-#[derive(Drop)]
 pub struct Search {
     /// The choices not given up.
     choices: Choices,
@@ -47,6 +46,19 @@ pub struct Search {
     taken: u32,
     /// Those of all such runs since it was made. Only after the first ones does it remember where it failed.
     turns: u32,
+}
+
+/// It is let go of by a call, wherever it is held.
+impl Drop for Search {
+    fn drop(self) {
+        let Search {
+            choices: _,
+            outlook: _,
+            memo: _,
+            taken: _,
+            turns: _,
+        } = self;
+    }
 }
 
 #[tactic(auto, unfolding(crate::specs::Search::start_of_search, crate::specs::Search::labels_of_search, crate::specs::Search::words_from, crate::specs::Search::turns_from, crate::specs::Search::turns_of_run, crate::specs::Fits::left_by, crate::specs::Fits::ChoicesStand, crate::specs::Fits::LabelsStand, crate::specs::Fits::LabelsBelow, crate::specs::Fits::MemoStands, crate::specs::Fits::MarksStand))]
