@@ -32,13 +32,24 @@ use std::mem;
 use std::sync::ledger::Ledger;
 
 /// Where it stands in a partition's answer. It holds no rows.
-#[derive(Drop)]
 pub struct Walker {
     alloc: Global,
     state: MatcherState,
     stage: Stage,
     /// How many rows its searches have entered. It is lent to each, and nothing is decided by it.
     entered: Entries,
+}
+
+/// It is let go of by a call, wherever it is held.
+impl Drop for Walker {
+    fn drop(self) {
+        let Walker {
+            alloc: _,
+            state: _,
+            stage: _,
+            entered: _,
+        } = self;
+    }
 }
 
 #[tactic(auto, unfolding(crate::specs::Walking::record_of, crate::specs::Walking::Stands, crate::specs::Polls::left_in, crate::specs::Polls::entered_by, crate::specs::Bound::work_in, crate::specs::Bound::RemembersBy, crate::specs::Bound::search_seen))]
