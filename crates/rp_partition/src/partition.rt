@@ -22,10 +22,16 @@ use std::alloc::{AllocError, Global};
 use std::sync::ledger::Ledger;
 
 /// What was taken of a partition, and the walk over the rows up to the front, which the feed lends it at each poll.
-#[derive(Drop)]
 pub struct Partition {
     feed: Feed,
     walker: Walker,
+}
+
+/// It is let go of by a call, wherever it is held.
+impl Drop for Partition {
+    fn drop(self) {
+        let Partition { feed: _, walker: _ } = self;
+    }
 }
 
 impl Partition {
