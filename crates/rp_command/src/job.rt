@@ -8,7 +8,6 @@ use std::alloc::{AllocError, AllocFailed};
 use thiserror::Error as Fault;
 
 /// What the program is asked to do.
-#[derive(Drop)]
 pub enum Job {
     /// Matches lines of letters against the pattern.
     Trace { pattern: String },
@@ -22,6 +21,20 @@ pub enum Job {
     Check(CheckJob),
     /// Tells what is in the way of a match.
     Why(WhyJob),
+}
+
+/// It is let go of by a call, wherever it is held.
+impl Drop for Job {
+    fn drop(self) {
+        match self {
+            Job::Trace { pattern: _ } => {}
+            Job::Whole(_) => {}
+            Job::Node(_) => {}
+            Job::Source(_) => {}
+            Job::Check(_) => {}
+            Job::Why(_) => {}
+        }
+    }
 }
 
 /// The commands, of which each has jobs of its own.
