@@ -34,7 +34,6 @@ pub struct InputForm {
 }
 
 /// The columns of an input, and how its records become rows.
-#[derive(Drop)]
 pub enum InputShape {
     /// Those of a table, which the header names in order.
     Table(Table),
@@ -42,6 +41,17 @@ pub enum InputShape {
     Columns(Columns),
     /// The same, from the keys of objects.
     Objects(Columns),
+}
+
+/// It is let go of by a call, wherever it is held.
+impl Drop for InputShape {
+    fn drop(self) {
+        match self {
+            InputShape::Table(_) => {}
+            InputShape::Columns(_) => {}
+            InputShape::Objects(_) => {}
+        }
+    }
 }
 
 impl InputForm {
