@@ -1,10 +1,14 @@
 //! A clause is checked, and becomes a query.
 
-ghost use Rattle.std.specs.Prelude.{◌≡◌, [], true, false, IfOk, IfErr};
+ghost use Rattle.std.specs.Prelude.{◌≡◌, [], ◌++◌, map, true, false, IfOk, IfErr};
 ghost use Rattle.rp_query.specs.Sound.{IsSound};
 ghost use Rattle.rp_tree.specs.Clauses.{clause_tree};
 ghost use Rattle.rp_resolution.specs.Checked.{FirstFaultOr, Tells};
 ghost use Rattle.rp_resolution.specs.Queries.{rows_shown};
+ghost use Rattle.rp_resolution.specs.Context.{naming_of};
+ghost use Rattle.rp_resolution.specs.PartFaults.{each, union_faults};
+ghost use Rattle.rp_resolution.specs.Variables.{numbered, union_of};
+ghost use Rattle.rp_value.specs.declared.value.Value.TheVariants as value;
 ghost use Rattle.rp_check.specs.ClauseFaults.{faults, name_faults, listing_faults, expression_faults, shown_faults};
 ghost use Rattle.rp_check.specs.QueryOf.{IsQueryOf};
 ghost use Rattle.rp_check.specs.Checking.{IsNamed, ArePlaces, IsPlanned, IsMadeOf, spoken};
@@ -22,6 +26,7 @@ use rp_tree::{Clause, RowsPerMatch};
 use rp_value::{Column, Table, Text, Value};
 use rp_words::Pattern;
 use std::alloc::{AllocError, Global};
+use std::mem;
 use std::rc::Rc;
 
 /// The pattern, and the names of variables and unions.
@@ -59,15 +64,7 @@ fn name_all(alloc: Global, clause: &Clause) -> Result<Box<Named>, CheckFault>
 {
     let mut variables = Vec::new(alloc);
     let form = read(alloc, &mut variables, &clause.pattern)?;
-    let mut sets = variable_sets(alloc, variables.as_slice())?;
-    add_unions(
-        alloc,
-        variables.as_slice(),
-        &mut sets,
-        clause.subsets.as_slice(),
-    )?;
-    let classes = classes(alloc, variables.as_slice())?;
-    let classes = Rc::new(alloc, classes)?;
+    let (sets, classes) = sets_and_classes(alloc, variables.as_slice(), clause)?;
     let pattern = Pattern::new(form);
     let named = Box::new(
         alloc,
@@ -79,6 +76,24 @@ fn name_all(alloc: Global, clause: &Clause) -> Result<Box<Named>, CheckFault>
         },
     )?;
     Ok(named)
+}
+
+/// The sets of these variables and the unions of SUBSET, and what CLASSIFIER gives; or the first fault of SUBSET.
+fn sets_and_classes(
+    alloc: Global,
+    variables: &[Text],
+    clause: &Clause,
+) -> Result<(Vec<NamedSet>, Rc<Vec<Value>>), CheckFault>
+    ensures { let subsets = (clause_tree clause.now).subsets in
+        FirstFaultOr (each (union_faults variables.now) subsets)
+        (λ p. (map naming_of p.0.items ≡ numbered 0 variables.now ++ map (union_of variables.now) subsets)
+        × (p.1.value.items ≡ map value.Text variables.now)) result }
+{
+    let mut sets = variable_sets(alloc, variables)?;
+    add_unions(alloc, variables, &mut sets, clause.subsets.as_slice())?;
+    let classes = classes(alloc, variables)?;
+    let classes = Rc::new(alloc, classes)?;
+    Ok((sets, classes))
 }
 
 /// Where the names of PARTITION BY, ORDER BY and DEFINE stand, or their first fault.
@@ -238,17 +253,18 @@ fn assembled(
     table: &Table,
     named: Box<Named>,
     places: Box<Places>,
-    planned: Box<Planned>,
+    mut planned: Box<Planned>,
 ) -> Result<QueryData, AllocError>
     ensures { IfOk result
         (IsMadeOf (clause_tree clause.now) clause.now.text table.now named.value places.value planned.value) }
 {
     let text = clause.text.share()?;
     let table = table.share()?;
+    let shown = mem::replace(&mut planned.shown, Vec::new(alloc));
+    let output = output_of(alloc, clause, table.columns(), shown)?;
     let named = Box::into_inner(named);
     let places = Box::into_inner(places);
     let planned = Box::into_inner(planned);
-    let output = output_of(alloc, clause, table.columns(), planned.shown)?;
     let reach = whole_reach(planned.measures.as_slice(), planned.conditions.as_slice());
     let plan = Plan {
         measures: planned.measures,
