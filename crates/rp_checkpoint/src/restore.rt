@@ -1,9 +1,11 @@
 //! From a checkpoint to what it keeps.
-ghost use Rattle.std.specs.Prelude.{◌≡◌, ◌⊎◌, Ok, Err, IfOk, IfErr, codes, option_map};
+ghost use Rattle.std.specs.Prelude.{◌≡◌, ◌⊎◌, List, Ok, Err, IfOk, IfErr, codes, option_map};
 ghost use Rattle.serde_json.specs.Find.{as_bool, as_str};
 ghost use Rattle.serde_json.specs.View.{view, items_view};
 ghost use Rattle.rp_json.specs.Forms.{list_in, list_of};
 ghost use Rattle.rp_json.specs.Objects.{field};
+ghost use Rattle.rp_value.specs.declared.value.Value.{Value};
+ghost use Rattle.rp_checkpoint.specs.declared.node_data.HeldRow.{HeldRow as Held};
 ghost use Rattle.rp_checkpoint.specs.Checkpoints.{column_of, given_of, if_ascending, kind_of, need, node_of, pair_of, partition_of, partition_with, restored, restored_object, row_of, rows_of, version_of};
 
 use crate::node_data::{
@@ -14,6 +16,19 @@ use rp_seal::open;
 use rp_value::{Cells, Column, Kind, Row, Text};
 use serde_json::Value as Json;
 use std::alloc::{AllocError, Global};
+
+/// How far the searches of a partition have come.
+#[derive(Clone, Copy)]
+struct Progress {
+    at: u64,
+    close: Option<u64>,
+    covered: u64,
+    first: u64,
+    given: u128,
+    here: u64,
+    matches: u64,
+    over: bool,
+}
 
 /// What a checkpoint keeps, or the first fault of the bytes.
 pub fn read_checkpoint(alloc: Global, bytes: &[u8]) -> Result<NodeData, CheckpointFault>
@@ -196,8 +211,40 @@ fn partition_of(
     Ok(partition_with(version, json, key, rows))
 }
 
+/// A partition with its key and its rows.
 fn partition_with(version: u64, json: &Json, key: Cells, rows: HeldRows) -> Option<PartitionData>
     ensures { result ≡ partition_with version key rows (view json.now) }
+{
+    let progress = progress_of(version, json)?;
+    Some(PartitionData {
+        at: progress.at,
+        close: progress.close,
+        covered: progress.covered,
+        first: progress.first,
+        given: progress.given,
+        here: progress.here,
+        key,
+        matches: progress.matches,
+        over: progress.over,
+        rows,
+    })
+}
+
+/// What is kept of a partition beside its key and its rows.
+fn progress_of(version: u64, json: &Json) -> Option<Progress>
+    ensures { (key : List Value) → (rows : List Held) → partition_with version key rows (view json.now)
+        ≡ option_map (λ p. record {
+          at = p.at;
+          close = p.close;
+          covered = p.covered;
+          first = p.first;
+          given = p.given;
+          here = p.here;
+          key = key;
+          matches = p.matches;
+          over = p.over;
+          rows = rows;
+        }) result }
 {
     let at = whole(json, "at")?;
     let close = optional(json, "close")?;
@@ -210,17 +257,15 @@ fn partition_with(version: u64, json: &Json, key: Cells, rows: HeldRows) -> Opti
     if !has_fields(json, 10) {
         return None;
     }
-    Some(PartitionData {
+    Some(Progress {
         at,
         close,
         covered,
         first,
         given,
         here,
-        key,
         matches,
         over,
-        rows,
     })
 }
 

@@ -1,7 +1,7 @@
 //! From what is kept of a node to a checkpoint.
 ghost use Rattle.std.specs.Prelude.{◌≡◌, IfOk, Ok, Some};
-ghost use Rattle.serde_json.specs.Data.{array};
-ghost use Rattle.serde_json.specs.View.{view, items_view};
+ghost use Rattle.serde_json.specs.Data.{array, object, no_members};
+ghost use Rattle.serde_json.specs.View.{view, items_view, members_view};
 ghost use Rattle.rp_json.specs.Forms.{list_in, list_items};
 ghost use Rattle.rp_checkpoint.specs.Checkpoints.{checkpoint, column_data, column_of, node_data, partition_data, partition_of, restored, restored_object, row_data, row_of, rows_of};
 
@@ -27,14 +27,24 @@ fn node_json(alloc: Global, node: &NodeData) -> Result<Json, AllocError>
     ensures back { IfOk result (λ j. restored_object (view j) ≡ Ok node.now) }
 {
     let mut map = Map::new(alloc);
-    let clause = Json::try_from_str(alloc, node.clause.as_str())?;
-    serde_json::put(&mut map, alloc, "clause", clause)?;
-    let partitions = partitions_list(alloc, node.partitions.as_slice())?;
-    serde_json::put(&mut map, alloc, "partitions", Json::Array(partitions))?;
-    let table = columns_list(alloc, node.table.as_slice())?;
-    serde_json::put(&mut map, alloc, "table", Json::Array(table))?;
-    serde_json::put(&mut map, alloc, "version", Json::from(2u64))?;
+    put_node(alloc, &mut map, node)?;
     Ok(Json::Object(map))
+}
+
+/// The fields of a node's object, put into an empty one.
+fn put_node(alloc: Global, map: &mut Map<String, Json>, node: &NodeData) -> Result<(), AllocError>
+    requires { members_view map.old.entries ≡ no_members }
+    ensures data { IfOk result (λ _. object (members_view map.new.entries) ≡ node_data node.now) }
+    ensures back { IfOk result (λ _. restored_object (object (members_view map.new.entries)) ≡ Ok node.now) }
+{
+    let clause = Json::try_from_str(alloc, node.clause.as_str())?;
+    serde_json::put(map, alloc, "clause", clause)?;
+    let partitions = partitions_list(alloc, node.partitions.as_slice())?;
+    serde_json::put(map, alloc, "partitions", Json::Array(partitions))?;
+    let table = columns_list(alloc, node.table.as_slice())?;
+    serde_json::put(map, alloc, "table", Json::Array(table))?;
+    serde_json::put(map, alloc, "version", Json::from(2u64))?;
+    Ok(())
 }
 
 fn columns_list(alloc: Global, columns: &[Column]) -> Result<Vec<Json>, AllocError>
@@ -82,20 +92,34 @@ fn partition_json(alloc: Global, partition: &PartitionData) -> Result<Json, Allo
     ensures back { IfOk result (λ j. partition_of 2 (view j) ≡ Some partition.now) }
 {
     let mut map = Map::new(alloc);
-    serde_json::put(&mut map, alloc, "at", Json::from(partition.at))?;
-    serde_json::put(&mut map, alloc, "close", json_of_optional(partition.close))?;
-    serde_json::put(&mut map, alloc, "covered", Json::from(partition.covered))?;
-    serde_json::put(&mut map, alloc, "first", Json::from(partition.first))?;
-    let given = json_of_place(alloc, partition.given)?;
-    serde_json::put(&mut map, alloc, "given", given)?;
-    serde_json::put(&mut map, alloc, "here", Json::from(partition.here))?;
-    let key = json_of_cells(alloc, partition.key.as_slice())?;
-    serde_json::put(&mut map, alloc, "key", Json::Array(key))?;
-    serde_json::put(&mut map, alloc, "matches", Json::from(partition.matches))?;
-    serde_json::put(&mut map, alloc, "over", Json::Bool(partition.over))?;
-    let rows = rows_json(alloc, &partition.rows)?;
-    serde_json::put(&mut map, alloc, "rows", rows)?;
+    put_partition(alloc, &mut map, partition)?;
     Ok(Json::Object(map))
+}
+
+/// The fields of a partition's object, put into an empty one.
+fn put_partition(
+    alloc: Global,
+    map: &mut Map<String, Json>,
+    partition: &PartitionData,
+) -> Result<(), AllocError>
+    requires { members_view map.old.entries ≡ no_members }
+    ensures data { IfOk result (λ _. object (members_view map.new.entries) ≡ partition_data partition.now) }
+    ensures back { IfOk result (λ _. partition_of 2 (object (members_view map.new.entries)) ≡ Some partition.now) }
+{
+    serde_json::put(map, alloc, "at", Json::from(partition.at))?;
+    serde_json::put(map, alloc, "close", json_of_optional(partition.close))?;
+    serde_json::put(map, alloc, "covered", Json::from(partition.covered))?;
+    serde_json::put(map, alloc, "first", Json::from(partition.first))?;
+    let given = json_of_place(alloc, partition.given)?;
+    serde_json::put(map, alloc, "given", given)?;
+    serde_json::put(map, alloc, "here", Json::from(partition.here))?;
+    let key = json_of_cells(alloc, partition.key.as_slice())?;
+    serde_json::put(map, alloc, "key", Json::Array(key))?;
+    serde_json::put(map, alloc, "matches", Json::from(partition.matches))?;
+    serde_json::put(map, alloc, "over", Json::Bool(partition.over))?;
+    let rows = rows_json(alloc, &partition.rows)?;
+    serde_json::put(map, alloc, "rows", rows)?;
+    Ok(())
 }
 
 fn rows_json(alloc: Global, rows: &HeldRows) -> Result<Json, AllocError>
