@@ -8,6 +8,7 @@ use Rattle.rp_value.specs.declared.value.Kind.{Kind}
 use Rattle.rp_value.specs.declared.value.Value.{Value}
 use Rattle.rp_input.specs.declared.rows.CsvFault.{CsvFault}
 use Rattle.rp_input.specs.declared.rows.CsvFault.TheVariants.{Header, Record, Field, Read, Turns, OutOfMemory}
+use Rattle.rp_input.specs.Beginning.{IsBelowHeader}
 use Rattle.rp_input.specs.CsvRows.{AreRows, AreRowsOf, HasNoHeader, IsFirstFault, IsRowFault, IsTextFault, csv_records, most_records}
 use Rattle.rp_input.specs.Fields.{IsRow}
 use Rattle.rp_input.specs.Headers.{NamesColumns}
@@ -27,8 +28,8 @@ pub record Taken (columns : List Column) (text : List ℕ) (rows : List (List Va
 pub first_of : (text : List ℕ) (records : List (List (List ℕ))) (r : Reader (Bor (List ℕ))) → Stands 44 text records r → (after : List (List (List ℕ))) × (csv_records text ≡ records ++ after)
 first_of text records r at = begins 44 text records (reader_state r, at.rest, at.reached)
 
-pub first_taken : (columns : List Column) (text : List ℕ) (r : Reader (Bor (List ℕ))) (header : List (List ℕ)) → Stands 44 text (header ∷ []) r → NamesColumns columns header → Taken columns text [] 1 r
-first_taken columns text r header at named = record { header = header; records = []; stands = at; named = named; are = tt; place = omega arith }
+pub first_taken : (columns : List Column) (text : List ℕ) (r : Reader (Bor (List ℕ))) → IsBelowHeader columns text r → Taken columns text [] 1 r
+first_taken columns text r b = record { header = b.header; records = []; stands = b.stands; named = b.named; are = tt; place = omega arith }
 
 pub no_header : (columns : List Column) (text : List ℕ) → AreAll 44 text [] → HasNoHeader columns text
 no_header columns text all = inl (all_of 44 text [] all)

@@ -3,12 +3,20 @@ use Rattle.std.specs.Prelude.{◌≡◌, ℕ, List, [], ◌∷◌, ◌++◌, len
 use Rattle.std.specs.Borrow.{Bor}
 use Rattle.csv.specs.declared.reader.Reader.{Reader}
 use Rattle.rp_columns.specs.declared.columns.InputColumn.{InputColumn}
+use Rattle.rp_value.specs.declared.table.Column.{Column}
 use Rattle.rp_input.specs.ByColumns.{AreLaidOut}
+use Rattle.rp_input.specs.Headers.{NamesColumns}
 use Rattle.rp_input.specs.Layouts.{records_by}
 use Rattle.rp_input.specs.Placed.{ArePlaced}
 use Rattle.rp_input.specs.Standing.{Stands}
 use Rattle.rp_input.specs.declared.layout.CsvLayout.{CsvLayout}
 use Rattle.rp_input.specs.declared.placed.Placed.{Placed}
+
+-- it has read a header, which names the columns of a table
+pub record IsBelowHeader (columns : List Column) (text : List ℕ) (r : Reader (Bor (List ℕ))) : Type 0 where
+  pub header : List (List ℕ)
+  pub stands : Stands 44 text (header ∷ []) r
+  pub named : NamesColumns columns header
 
 -- it has read a header, in which each column has its place
 pub record HasRead (delimiter : ℕ) (columns : List InputColumn) (text : List ℕ) (placed : List Placed) (width : ℕ) (r : Reader (Bor (List ℕ))) : Type 0 where

@@ -1,8 +1,11 @@
 //! The rows of a CSV text by columns that are computed.
 ghost use Rattle.std.specs.Prelude.{◌≡◌, ◌<◌, ◌^◌, ℕ, List, [], IfOk, IfErr, OnOk};
 ghost use Rattle.csv.specs.Records.{fields_of};
-ghost use Rattle.rp_input.specs.ByColumns.{AreRowsByColumns, IsByColumnsFault};
+ghost use Rattle.rp_input.specs.Beginning.{Begins};
+ghost use Rattle.rp_input.specs.ByColumns.{AreRowsByColumns, IsByColumnsFault, IsRecordFault, TakesRow};
 ghost use Rattle.rp_input.specs.Standing.{Stands};
+ghost use Rattle.rp_input.specs.declared.layout.CsvLayout.{CsvLayout};
+ghost use Rattle.rp_columns.specs.declared.columns.InputColumn.{InputColumn};
 ghost use Rattle.rp_value.specs.RowLists.{rows_added};
 
 use crate::columns_fault::ColumnsCsvFault;
@@ -11,69 +14,11 @@ use crate::placed::{CellFault, take_cells};
 use crate::places::{Places, places_of};
 use crate::records::{reader_of, take_record};
 use crate::rows::MAX_RECORDS;
+use crate::taking::Taking;
 use csv::{ByteRecord, Reader};
-use rp_columns::{Columns, Texts};
-use rp_value::{Row, RowList, Text, Value};
-use std::alloc::{AllocError, Global};
-
-/// The rows of the records so far, and what is used again for the next one.
-#[derive(Drop)]
-struct Taking {
-    texts: Texts,
-    cells: Vec<Value>,
-    rows: RowList,
-}
-
-impl Taking {
-    ghost use Rattle.rp_input.specs.ByColumns.{IsRecordFault, TakesRow};
-
-    fn new(alloc: Global) -> Result<Taking, AllocError>
-        ensures { IfOk result (λ taking. rows_added taking.rows ≡ []) }
-    {
-        Ok(Taking {
-            texts: Texts::new(alloc)?,
-            cells: Vec::new(alloc),
-            rows: RowList::new(alloc),
-        })
-    }
-
-    /// Takes the record of this number, from 1, as the next row, where it has as many fields as it has to have.
-    fn take(
-        &mut self,
-        alloc: Global,
-        nulls: &[Text],
-        places: &Places,
-        fields: &ByteRecord,
-        number: u64,
-    ) -> Result<(), ColumnsCsvFault>
-        requires { number < 2 ^ 63 }
-        ensures ok { OnOk result (TakesRow nulls.now places.now.columns.items places.now.width number
-            (fields_of fields.now) (rows_added self.old.rows) (rows_added self.new.rows)) }
-        ensures err { IfErr result (λ fault. IsRecordFault nulls.now places.now.columns.items places.now.width
-            (fields_of fields.now) number fault) }
-    {
-        if fields.len() != places.width {
-            return Err(ColumnsCsvFault::Record(number));
-        }
-        match take_cells(
-            alloc,
-            &mut self.texts,
-            nulls,
-            number,
-            places.columns.as_slice(),
-            fields,
-            &mut self.cells,
-        ) {
-            Ok(()) => {}
-            Err(CellFault::Field(index, why)) => {
-                return Err(ColumnsCsvFault::Field(number, index, why));
-            }
-            Err(CellFault::OutOfMemory) => return Err(ColumnsCsvFault::OutOfMemory),
-        }
-        self.rows.push(&mut self.cells)?;
-        Ok(())
-    }
-}
+use rp_columns::Columns;
+use rp_value::{Row, Text};
+use std::alloc::Global;
 
 /// The rows of a CSV text by columns.
 ///
@@ -109,17 +54,73 @@ fn take_all(
     ensures err { (text : List ℕ) → Stands layout.delimiter text [] reader.old →
         IfErr result (λ fault. IsByColumnsFault nulls.now layout columns.now text fault) }
 {
-    let places = places_of(alloc, layout, columns.as_slice(), reader)?;
     let mut fields = ByteRecord::new(alloc);
-    let mut taking = Taking::new(alloc)?;
+    let places = places_of(alloc, layout, columns.as_slice(), reader, &mut fields)?;
+    let mut taking = Taking::new(alloc, fields)?;
+    take_rows(alloc, nulls, &places, reader, &mut taking)?;
+    Ok(taking.into_rows()?)
+}
+
+/// Takes each record that a reader has before it as a row, by the places of the columns, where none was taken yet.
+fn take_rows(
+    alloc: Global,
+    nulls: &[Text],
+    places: &Places,
+    reader: &mut Reader<&[u8]>,
+    taking: &mut Taking,
+) -> Result<(), ColumnsCsvFault>
+    requires { rows_added taking.old.rows ≡ [] }
+    ensures ok { (layout : CsvLayout) (columns : List InputColumn) (text : List ℕ) →
+        Begins layout columns text places.now.columns.items places.now.width reader.old →
+        OnOk result (AreRowsByColumns nulls.now layout columns text (rows_added taking.new.rows)) }
+    ensures err { (layout : CsvLayout) (columns : List InputColumn) (text : List ℕ) →
+        Begins layout columns text places.now.columns.items places.now.width reader.old →
+        IfErr result (λ fault. IsByColumnsFault nulls.now layout columns text fault) }
+{
     for number in 1..MAX_RECORDS + 1 {
-        if !take_record(reader, &mut fields)? {
-            return Ok(taking.rows.into_rows()?);
+        if !take_record(reader, &mut taking.fields)? {
+            return Ok(());
         }
-        taking.take(alloc, nulls, &places, &fields, number)?;
+        take_row(alloc, nulls, places, number, taking)?;
     }
-    if take_record(reader, &mut fields)? {
+    if take_record(reader, &mut taking.fields)? {
         return Err(ColumnsCsvFault::Record(MAX_RECORDS + 1));
     }
-    Ok(taking.rows.into_rows()?)
+    Ok(())
+}
+
+/// Takes the record at hand, of this number from 1, as the next row, where it has as many fields as it has to have.
+fn take_row(
+    alloc: Global,
+    nulls: &[Text],
+    places: &Places,
+    number: u64,
+    taking: &mut Taking,
+) -> Result<(), ColumnsCsvFault>
+    requires { number < 2 ^ 63 }
+    ensures ok { OnOk result (TakesRow nulls.now places.now.columns.items places.now.width number
+        (fields_of taking.old.fields) (rows_added taking.old.rows) (rows_added taking.new.rows)) }
+    ensures err { IfErr result (λ fault. IsRecordFault nulls.now places.now.columns.items places.now.width
+        (fields_of taking.old.fields) number fault) }
+{
+    if taking.fields.len() != places.width {
+        return Err(ColumnsCsvFault::Record(number));
+    }
+    match take_cells(
+        alloc,
+        &mut taking.texts,
+        nulls,
+        number,
+        places.columns.as_slice(),
+        &taking.fields,
+        &mut taking.cells,
+    ) {
+        Ok(()) => {}
+        Err(CellFault::Field(index, why)) => {
+            return Err(ColumnsCsvFault::Field(number, index, why));
+        }
+        Err(CellFault::OutOfMemory) => return Err(ColumnsCsvFault::OutOfMemory),
+    }
+    taking.rows.push(&mut taking.cells)?;
+    Ok(())
 }

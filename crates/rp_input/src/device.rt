@@ -45,9 +45,9 @@ pub(crate) fn read_all<R: Intake>(
         Consumes (R.seen reader.old).remaining (R.seen reader.new).remaining bytes.items) }
     ensures reads { ReadsWithin reads (bytes_told result) (R.seen reader.old) (R.seen reader.new) }
 {
-    let mut bytes = Vec::new(alloc);
     let mut chunk = Vec::new(alloc);
     chunk.resize(CHUNK, 0)?;
+    let mut bytes = Vec::new(alloc);
     for _read in 0..reads {
         let Ok(count) = reader.read(chunk.as_mut_slice()) else {
             return Err(DeviceFault::Read);

@@ -21,12 +21,14 @@ pub(crate) struct Places {
     pub(crate) width: usize,
 }
 
-/// Where columns stand in the records of a text of this layout. The header, where there is one, is taken from the reader.
+/// Where columns stand in the records of a text of this layout. The header, where there is one, is taken from the
+/// reader into a record that is lent.
 pub(crate) fn places_of(
     alloc: Global,
     layout: CsvLayout,
     columns: &[InputColumn],
     reader: &mut Reader<&[u8]>,
+    header: &mut ByteRecord,
 ) -> Result<Places, ColumnsCsvFault>
     ensures ok { IfOk result (λ places. (text : List ℕ) → Stands layout.delimiter text [] reader.old
         → Begins layout columns.now text places.columns.items places.width reader.new) }
@@ -34,27 +36,27 @@ pub(crate) fn places_of(
         → Stands layout.delimiter text [] reader.old → IsByColumnsFault words layout columns.now text fault) }
 {
     if layout.has_header {
-        return places_below(alloc, columns, reader);
+        return places_below(alloc, columns, reader, header);
     }
     Ok(places_in_order(alloc, columns)?)
 }
 
-/// Where columns stand below the header, which comes next.
+/// Where columns stand below the header, which comes next and is taken into a record that is lent.
 fn places_below(
     alloc: Global,
     columns: &[InputColumn],
     reader: &mut Reader<&[u8]>,
+    header: &mut ByteRecord,
 ) -> Result<Places, ColumnsCsvFault>
     ensures ok { IfOk result (λ places. (delimiter : ℕ) (text : List ℕ) → Stands delimiter text [] reader.old
         → HasRead delimiter columns.now text places.columns.items places.width reader.new) }
     ensures err { IfErr result (λ fault. (delimiter : ℕ) (text : List ℕ) → Stands delimiter text [] reader.old
         → IsHeaderFault delimiter columns.now text fault) }
 {
-    let mut header = ByteRecord::new(alloc);
-    if !take_record(reader, &mut header)? {
+    if !take_record(reader, header)? {
         return Err(ColumnsCsvFault::Header);
     }
-    let placed = placed_in(alloc, columns, &header)?;
+    let placed = placed_in(alloc, columns, header)?;
     Ok(Places {
         columns: placed,
         width: header.len(),

@@ -1,5 +1,7 @@
 //! The rows of a CSV text.
-ghost use Rattle.std.specs.Prelude.{◌≡◌, ℕ, List, [], IfOk, IfErr};
+ghost use Rattle.std.specs.Prelude.{◌≡◌, ℕ, List, [], IfOk, IfErr, OnOk};
+ghost use Rattle.rp_value.specs.RowLists.{rows_added};
+ghost use Rattle.rp_input.specs.Beginning.{IsBelowHeader};
 ghost use Rattle.rp_input.specs.CsvRows.{AreRowsOf, IsTextFault};
 ghost use Rattle.rp_input.specs.Devices.{of_device_csv};
 ghost use Rattle.rp_input.specs.Standing.{Stands};
@@ -95,21 +97,54 @@ fn take_all(alloc: Global, table: &Table, reader: &mut Reader<&[u8]>) -> Result<
         IfErr result (λ fault. IsTextFault table.now text fault) }
 {
     let mut fields = ByteRecord::new(alloc);
-    if !take_record(reader, &mut fields)? {
+    take_header(alloc, table, reader, &mut fields)?;
+    let mut taking = Taking::new(alloc, fields)?;
+    take_rows(alloc, table, reader, &mut taking)?;
+    Ok(taking.into_rows()?)
+}
+
+/// Takes the first record, which has to name the columns of the table.
+fn take_header(
+    alloc: Global,
+    table: &Table,
+    reader: &mut Reader<&[u8]>,
+    header: &mut ByteRecord,
+) -> Result<(), CsvFault>
+    ensures ok { (text : List ℕ) → Stands 44 text [] reader.old →
+        OnOk result (IsBelowHeader table.now text reader.new) }
+    ensures err { (text : List ℕ) → Stands 44 text [] reader.old →
+        IfErr result (λ fault. IsTextFault table.now text fault) }
+{
+    if !take_record(reader, header)? {
         return Err(CsvFault::Header);
     }
-    if !names_columns(alloc, table.columns(), &fields)? {
+    if !names_columns(alloc, table.columns(), header)? {
         return Err(CsvFault::Header);
     }
-    let mut taking = Taking::new(alloc)?;
+    Ok(())
+}
+
+/// Takes each record that a reader has before it, below the header, as a row, where none was taken yet.
+fn take_rows(
+    alloc: Global,
+    table: &Table,
+    reader: &mut Reader<&[u8]>,
+    taking: &mut Taking,
+) -> Result<(), CsvFault>
+    requires { rows_added taking.old.rows ≡ [] }
+    ensures ok { (text : List ℕ) → IsBelowHeader table.now text reader.old →
+        OnOk result (AreRowsOf table.now text (rows_added taking.new.rows)) }
+    ensures err { (text : List ℕ) → IsBelowHeader table.now text reader.old →
+        IfErr result (λ fault. IsTextFault table.now text fault) }
+{
     for number in 1..MAX_RECORDS + 1 {
-        if !take_record(reader, &mut fields)? {
-            return Ok(taking.into_rows()?);
+        if !take_record(reader, &mut taking.fields)? {
+            return Ok(());
         }
-        fields = taking.take(alloc, table, fields, number)?;
+        taking.take(alloc, table, number)?;
     }
-    if take_record(reader, &mut fields)? {
+    if take_record(reader, &mut taking.fields)? {
         return Err(CsvFault::Record(MAX_RECORDS + 1));
     }
-    Ok(taking.into_rows()?)
+    Ok(())
 }

@@ -1,9 +1,5 @@
-use Rattle.std.proofs.Common.{◌≡◌, ◌≤◌, ◌+◌, ◌++◌, true, false, rules, arith}
-use Rattle.csv.specs.Records.{fields_of}
-use Rattle.rp_value.specs.RowLists.{rows_added}
+use Rattle.std.proofs.Common.{rules}
 use Rattle.rp_input.specs.ByColumns.{IsByColumnsFault}
-use Rattle.rp_input.specs.CsvRows.{most_records}
-use Rattle.rp_input.proofs.TakenByColumns.{all_taken, fault_taken, first_taken, limit_taken, taken_more}
 use Rattle.rp_input.proofs.by_columns.take_all.Goals as goal
 
 pub returns-in_err-places-clause-err : goal.returns-in_err-places-clause-err
@@ -12,50 +8,8 @@ returns-in_err-places-clause-err c = λ text stands.
     rw c.as_slice.ensures at (c.in_err-places.ensures.err c.args.nulls.now text stands) in
     search (rules, is)
 
-pub loop-number-init : goal.loop-number-init
-loop-number-init c = λ text stands.
-    rw c.in_ok-taking.ensures (first_taken c.args.nulls.now c.args.layout c.args.columns.now text c.in_ok-places.places.columns.items c.in_ok-places.places.width c.places_of.new.reader
-    (rw c.as_slice.ensures at (c.in_ok-places.ensures.ok text stands)))
-
-pub returns-then-not-branch-clause-ok : goal.returns-then-not-branch-clause-ok
-returns-then-not-branch-clause-ok c = λ text stands.
-    let t = c.loop-number.invariant text stands in
-    let found : c.in_ok-take_record.field-0 ≡ false = search rules in
-    let all = rw found at (c.in_ok-take_record.ensures c.args.layout.delimiter text (t.first ++ t.records) t.stands) in
-    let small : c.loop-number.number ≤ most_records + 1 = omega arith in
-    rw c.in_ok-into_rows.ensures (all_taken c.args.nulls.now c.args.layout c.args.columns.now text c.in_ok-places.places.columns.items c.in_ok-places.places.width (rows_added c.loop-number.taking.rows) c.loop-number.number c.loop-number.reader t small all)
-
-pub returns-in_err-take-clause-err : goal.returns-in_err-take-clause-err
-returns-in_err-take-clause-err c = λ text stands.
-    let t = c.loop-number.invariant text stands in
-    let found : c.in_ok-take_record.field-0 ≡ true = search rules in
-    let at = rw found at (c.in_ok-take_record.ensures c.args.layout.delimiter text (t.first ++ t.records) t.stands) in
-    let small : c.loop-number.number ≤ most_records = omega arith in
-    let is : IsByColumnsFault c.args.nulls.now c.args.layout c.args.columns.now text c.in_err-take.field-0.0 =
-    fault_taken c.args.nulls.now c.args.layout c.args.columns.now text c.in_ok-places.places.columns.items c.in_ok-places.places.width (rows_added c.loop-number.taking.rows) c.loop-number.number c.loop-number.reader t c.take_record.new.reader (fields_of c.take_record.new.fields) c.in_err-take.field-0.0 small at
-    c.in_err-take.ensures.err in
+pub returns-in_err-take_rows-clause-err : goal.returns-in_err-take_rows-clause-err
+returns-in_err-take_rows-clause-err c = λ text stands.
+    let is : IsByColumnsFault c.args.nulls.now c.args.layout c.args.columns.now text c.in_err-take_rows.field-0.0 =
+    c.in_err-take_rows.ensures.err c.args.layout c.args.columns.now text (rw c.as_slice.ensures at (c.in_ok-places.ensures.ok text stands)) in
     search (rules, is)
-
-pub loop-number-preserved : goal.loop-number-preserved
-loop-number-preserved c = λ text stands.
-    let t = c.loop-number.invariant text stands in
-    let found : c.in_ok-take_record.field-0 ≡ true = search rules in
-    let at = rw found at (c.in_ok-take_record.ensures c.args.layout.delimiter text (t.first ++ t.records) t.stands) in
-    let one = c.in_ok-take.ensures.ok in
-    rw one.2 (taken_more c.args.nulls.now c.args.layout c.args.columns.now text c.in_ok-places.places.columns.items c.in_ok-places.places.width (rows_added c.loop-number.taking.rows) c.loop-number.number c.loop-number.reader t c.take_record.new.reader (fields_of c.take_record.new.fields) one.0 at one.1)
-
-pub returns-then-branch-clause-err : goal.returns-then-branch-clause-err
-returns-then-branch-clause-err c = λ text stands.
-    let t = c.loop-number.invariant text stands in
-    let found : c.in_ok-take_record-2.field-0 ≡ true = search rules in
-    let at = rw found at (c.in_ok-take_record-2.ensures c.args.layout.delimiter text (t.first ++ t.records) t.stands) in
-    let last : c.loop-number.number ≡ most_records + 1 = omega arith in
-    limit_taken c.args.nulls.now c.args.layout c.args.columns.now text c.in_ok-places.places.columns.items c.in_ok-places.places.width (rows_added c.loop-number.taking.rows) c.loop-number.number c.loop-number.reader t c.take_record-2.new.reader (fields_of c.take_record-2.new.fields) at last
-
-pub returns-clause-ok : goal.returns-clause-ok
-returns-clause-ok c = λ text stands.
-    let t = c.loop-number.invariant text stands in
-    let found : c.in_ok-take_record-2.field-0 ≡ false = search rules in
-    let all = rw found at (c.in_ok-take_record-2.ensures c.args.layout.delimiter text (t.first ++ t.records) t.stands) in
-    let small : c.loop-number.number ≤ most_records + 1 = omega arith in
-    rw c.in_ok-into_rows-2.ensures (all_taken c.args.nulls.now c.args.layout c.args.columns.now text c.in_ok-places.places.columns.items c.in_ok-places.places.width (rows_added c.loop-number.taking.rows) c.loop-number.number c.loop-number.reader t small all)

@@ -8,6 +8,8 @@ use Rattle.rp_input.proofs.taking.Taking.take.Goals as goal
 pub returns-in_default-clause-err : goal.returns-in_default-clause-err
 returns-in_default-clause-err c =
     let kinds = kinds_of c.args.table.now in
-    let many : length (fields_of c.args.fields) ≡ length kinds = search (rules, length-map) in
-    let refused : AllText (fields_of c.args.fields) → ⊥ = λ all. true≢false (sym (c.in_default.ensures.refused all)) in
-    (refl, many, no_text kinds (fields_of c.args.fields) many refused)
+    let fields = fields_of c.args.self.now.fields in
+    let many : length fields ≡ length kinds = search (rules, length-map) in
+    let same : fields_of c.replace-fields.result ≡ fields = search rules in
+    let refused : AllText fields → ⊥ = λ all. true≢false (sym (c.in_default.ensures.refused (rw same all))) in
+    (refl, many, no_text kinds fields many refused)
