@@ -30,19 +30,9 @@ pub fn rows_by_objects(
     ensures ok { IfOk result (λ rows. AreRowsByObjects nulls.now columns.now text.now rows.items) }
     ensures err { IfErr result (λ fault. IsByObjectsFault nulls.now columns.now text.now fault) }
 {
-    let mut lines = Lines::new(text);
     let mut taking = Taking::new(alloc)?;
-    for number in 1..MAX_OBJECTS + 1 {
-        let line = match lines.next_full() {
-            Some(line) => line,
-            None => return Ok(taking.rows.into_rows()?),
-        };
-        taking.take(alloc, nulls, columns.as_slice(), line, lines.taken, number)?;
-    }
-    match lines.next_full() {
-        Some(_line) => Err(ObjectsFault::TooMany(lines.taken)),
-        None => Ok(taking.rows.into_rows()?),
-    }
+    taking.take_lines(alloc, nulls, columns.as_slice(), text)?;
+    Ok(taking.rows.into_rows()?)
 }
 
 /// The rows of the objects so far, and what is used again for the next one.
@@ -61,11 +51,37 @@ impl Taking {
         ensures { IfOk result (λ taking. rows_added taking.rows ≡ []) }
     {
         Ok(Taking {
-            scratch: Scratch::new(alloc),
             texts: Texts::new(alloc)?,
+            scratch: Scratch::new(alloc),
             cells: Vec::new(alloc),
             rows: RowList::new(alloc),
         })
+    }
+
+    /// Takes each line of a text that isn't blank as a row, where none was taken yet.
+    fn take_lines(
+        &mut self,
+        alloc: Global,
+        nulls: &[Text],
+        columns: &[InputColumn],
+        text: &[u8],
+    ) -> Result<(), ObjectsFault>
+        requires { rows_added self.old.rows ≡ [] }
+        ensures ok { OnOk result (AreRowsByObjects nulls.now columns.now text.now (rows_added self.new.rows)) }
+        ensures err { IfErr result (λ fault. IsByObjectsFault nulls.now columns.now text.now fault) }
+    {
+        let mut lines = Lines::new(text);
+        for number in 1..MAX_OBJECTS + 1 {
+            let line = match lines.next_full() {
+                Some(line) => line,
+                None => return Ok(()),
+            };
+            self.take(alloc, nulls, columns, line, lines.taken, number)?;
+        }
+        match lines.next_full() {
+            Some(_line) => Err(ObjectsFault::TooMany(lines.taken)),
+            None => Ok(()),
+        }
     }
 
     /// Takes the line of this place as the next row, the object of this number, both from 1.
@@ -86,19 +102,19 @@ impl Taking {
         let Ok(text) = std::str::from_utf8(line) else {
             return Err(ObjectsFault::NotObject(place));
         };
-        let object = match read_object(alloc, text, &mut self.scratch, place) {
-            Ok(object) => object,
+        let taken = match read_object(alloc, text, &mut self.scratch, place) {
+            Ok(object) => take_cells(
+                alloc,
+                &mut self.texts,
+                nulls,
+                number,
+                columns,
+                &object,
+                &mut self.cells,
+            ),
             Err(fault) => return Err(fault),
         };
-        match take_cells(
-            alloc,
-            &mut self.texts,
-            nulls,
-            number,
-            columns,
-            &object,
-            &mut self.cells,
-        ) {
+        match taken {
             Ok(()) => {}
             Err(CellsFault::Field(index, why)) => {
                 return Err(ObjectsFault::Field(place, index, why));
