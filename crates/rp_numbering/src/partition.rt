@@ -1,6 +1,7 @@
 //! The partitions of rows.
 ghost use Rattle.std.specs.Prelude.{◌≡◌, ◌++◌, ◌∷◌, [], None, IfOk, OnOk};
 ghost use Rattle.indexmap.specs.IndexMap.{get};
+ghost use Rattle.rp_query.specs.Keys.{values_in as values_are};
 ghost use Rattle.rp_numbering.specs.Partitions.{partitions as partitions_are};
 ghost use Rattle.rp_numbering.specs.Gathering.{parts_added, parts_of, with_row};
 
@@ -54,11 +55,27 @@ fn gather(
     let mut room = Vec::new(alloc);
     let mut cells = Vec::new(alloc);
     for row in rows {
-        let key = values_in(room, columns, &row)?;
-        copy_cells(&mut cells, &row)?;
-        room = add_row(alloc, &mut parts, key, &mut cells)?;
+        room = gather_row(alloc, columns, &row, &mut parts, room, &mut cells)?;
     }
     Ok(parts)
+}
+
+/// Adds a row to the partition of its key, which comes last where it is new. The key is made in the room that is given, and
+/// the cells are copied into their list, out of which they then go. Gives back the room of a key that isn't kept.
+fn gather_row(
+    alloc: Global,
+    columns: &[usize],
+    row: &Row,
+    parts: &mut Parts,
+    room: Vec<Value>,
+    cells: &mut Vec<Value>,
+) -> Result<Vec<Value>, AllocError>
+    ensures { OnOk result (parts_added parts.new.entries ≡
+        with_row (parts_added parts.old.entries) (values_are columns.now row.now) row.now) }
+{
+    let key = values_in(room, columns, row)?;
+    copy_cells(cells, row)?;
+    add_row(alloc, parts, key, cells)
 }
 
 /// The rows of each key, as a list each.

@@ -3,9 +3,8 @@ use Rattle.std.proofs.lemmas.Grind.{common_steps}
 use Rattle.std.specs.Cmp.{IsEquivalence}
 use Rattle.std.specs.Vec.Iter.{into_iter_items}
 use Rattle.rp_value.specs.contracts.cells.CellsEq.TheImpl.Laws.{laws-law}
-use Rattle.rp_query.specs.Keys.{same_key}
+use Rattle.rp_query.specs.Keys.{same_key, values_in}
 use Rattle.rp_numbering.specs.Gathering.{with_row}
-use Rattle.rp_numbering.specs.Partitions.{partitions}
 use Rattle.rp_numbering.proofs.Gathering.{partitions_more}
 use Rattle.rp_numbering.proofs.partition.gather.Goals as goal
 
@@ -18,9 +17,7 @@ loop-row-preserved c =
     let gives : into_iter_items c.loop-row.row-iterator ≡ row ∷ into_iter_items c.next.new.self = grind (arith, common_steps, c.in-Some.ensures.steps) in
     record {
       gathered = c.in_ok-room.ensures
-          ∙ ap (λ parts. with_row parts c.in_ok-key.key c.copy_cells.new.cells.items) inv.gathered
-          ∙ ap (λ cells. with_row (partitions c.args.columns.now before) c.in_ok-key.key cells) c.in_ok-copy_cells.ensures
-          ∙ ap (λ key. with_row (partitions c.args.columns.now before) key row) c.in_ok-key.ensures
+          ∙ ap (λ parts. with_row parts (values_in c.args.columns.now row) row) inv.gathered
           ∙ sym (partitions_more laws c.args.columns.now before row);
       left = append_assoc before (row ∷ []) (into_iter_items c.next.new.self) ∙ ap (λ t. before ++ t) (sym gives) ∙ inv.left;
     }
