@@ -33,8 +33,8 @@ fn output_names(alloc: Global, query: &Query) -> Result<Vec<Text>, AllocError>
 fn header(alloc: Global, query: &Query) -> Result<Records, AllocError>
     ensures { IfOk result (λ records. records ≡ header_text query.now) }
 {
-    let mut records = Records::new(alloc);
     let names = output_names(alloc, query)?;
+    let mut records = Records::new(alloc);
     records.push_names(names.as_slice())?;
     Ok(records)
 }
