@@ -18,9 +18,16 @@ use std::marker::Model;
 
 /// The values of a partition's key, of an item or of a row to be, which contracts see as
 /// their list.
-#[derive(Debug, Drop)]
+#[derive(Debug)]
 pub struct Cells {
     values: Vec<Value>,
+}
+
+/// It is let go of by a call, wherever it is held.
+impl Drop for Cells {
+    fn drop(self) {
+        let Cells { values: _ } = self;
+    }
 }
 
 impl Model for Cells {
@@ -112,7 +119,8 @@ impl Cells {
     pub fn into_vec(self) -> Vec<Value>
         ensures { result.items ≡ self }
     {
-        self.values
+        let Cells { values } = self;
+        values
     }
 
     /// Equal cells. No text is copied: each gets a further owner.

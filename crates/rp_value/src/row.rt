@@ -16,21 +16,33 @@ use std::rc::Rc;
 use thiserror::Error;
 
 /// Rows of one width, whose cells lie one after another.
-#[derive(Drop)]
 struct Block {
     width: usize,
     cells: Vec<Value>,
 }
 
+/// It is let go of by a call, wherever it is held.
+impl Drop for Block {
+    fn drop(self) {
+        let Block { width: _, cells: _ } = self;
+    }
+}
+
 /// A row, whose cells further owners share. Contracts see it as the list of its cells.
 ///
 /// `Table::row` makes one that fits its table; `RowList` makes many, whose cells lie in common blocks.
-#[derive(Drop)]
 pub struct Row {
     block: Rc<Block>,
     /// Where its cells begin in the block.
     from: usize,
     ghost within: { from + block.value.width ≤ length block.value.cells.items },
+}
+
+/// It is let go of by a call, wherever it is held.
+impl Drop for Row {
+    fn drop(self) {
+        let Row { block: _, from: _ } = self;
+    }
 }
 
 impl Model for Row {

@@ -18,13 +18,20 @@ use thiserror::Error;
 pub const MAX_NAME_LEN: usize = 128;
 
 /// A column of a table.
-#[derive(Debug, PartialEq, Eq, Drop)]
+#[derive(Debug, PartialEq, Eq)]
 pub struct Column {
     /// The name as it was given, in its own case. In a table it has 1 to 128 bytes, and no
     /// other column has it.
     pub name: Text,
     /// What the column's cells may be beside null.
     pub kind: Kind,
+}
+
+/// It is let go of by a call, wherever it is held.
+impl Drop for Column {
+    fn drop(self) {
+        let Column { name: _, kind: _ } = self;
+    }
 }
 
 impl Column {
@@ -42,9 +49,16 @@ impl Column {
 
 /// A table: one column or more, whose names differ and have 1 to 128 bytes. Contracts see it
 /// as the list of its columns.
-#[derive(Debug, Drop)]
+#[derive(Debug)]
 pub struct Table {
     columns: Rc<Vec<Column>>,
+}
+
+/// It is let go of by a call, wherever it is held.
+impl Drop for Table {
+    fn drop(self) {
+        let Table { columns: _ } = self;
+    }
 }
 
 impl Model for Table {

@@ -14,9 +14,16 @@ use std::marker::Model;
 use std::rc::Rc;
 
 /// A text, whose bytes further owners share. Contracts see it as the list of its UTF-8 bytes.
-#[derive(Debug, Drop)]
+#[derive(Debug)]
 pub struct Text {
     string: Rc<String>,
+}
+
+/// It is let go of by a call, wherever it is held.
+impl Drop for Text {
+    fn drop(self) {
+        let Text { string: _ } = self;
+    }
 }
 
 impl Model for Text {

@@ -36,7 +36,7 @@ impl Kind {
 /// `==` and the hash are those of a key of a map, in which null equals null. The order is that of ORDER BY, ascending:
 /// whole numbers are below texts, and null is last. None of these is SQL's comparison: what a condition asks is `comparison_truth`.
 // The derived order goes by the variants from the first on.
-#[derive(Debug, PartialEq, Eq, PartialOrd, Ord, Hash, Drop)]
+#[derive(Debug, PartialEq, Eq, PartialOrd, Ord, Hash)]
 pub enum Value {
     /// A whole number.
     Int(i64),
@@ -44,6 +44,17 @@ pub enum Value {
     Text(Text),
     /// No value. A column of any kind may hold it.
     Null,
+}
+
+/// It is let go of by a call, wherever it is held.
+impl Drop for Value {
+    fn drop(self) {
+        match self {
+            Value::Int(_) => {}
+            Value::Text(_) => {}
+            Value::Null => {}
+        }
+    }
 }
 
 impl Value {
