@@ -38,7 +38,6 @@ pub struct SplitPoint {
 }
 
 /// The words of a pattern from a start row, listed lazily in preferment order.
-#[derive(Drop)]
 pub struct Choices {
     start: u64,
     begun: bool,
@@ -46,6 +45,18 @@ pub struct Choices {
     ways: Ways,
     ghost rises: { IsTrue (rises (length labels.items) (stack_of ways)) },
     ghost ends: { start + length labels.items < 2 ^ 64 },
+}
+
+/// It is let go of by a call, wherever it is held.
+impl Drop for Choices {
+    fn drop(self) {
+        let Choices {
+            start: _,
+            begun: _,
+            labels: _,
+            ways: _,
+        } = self;
+    }
 }
 
 impl Choices {

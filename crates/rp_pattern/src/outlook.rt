@@ -29,7 +29,6 @@ pub enum Sight {
 }
 
 /// The words that would follow a row, in preferment order. No more is told of them than whether there is one.
-#[derive(Drop)]
 pub struct Outlook {
     start: u64,
     ways: Ways,
@@ -38,6 +37,17 @@ pub struct Outlook {
     ghost starts: { start < 2 ^ 64 },
     ghost within: { IsTrue (rises (most_u64 - start) (stack_of ways)) },
     ghost served: { AreServed visited (kept_of ways) start (stack_of ways) },
+}
+
+/// It is let go of by a call, wherever it is held.
+impl Drop for Outlook {
+    fn drop(self) {
+        let Outlook {
+            start: _,
+            ways: _,
+            visited: _,
+        } = self;
+    }
 }
 
 impl Outlook {

@@ -6,9 +6,15 @@ use rp_words::Pattern;
 use std::alloc::{AllocError, Global};
 
 /// A pattern made ready once, for searches that share it: as a program, or as linked parts where that would be too large.
-#[derive(Drop)]
 pub struct Prepared {
     ways: Ways,
+}
+
+/// It is let go of by a call, wherever it is held.
+impl Drop for Prepared {
+    fn drop(self) {
+        let Prepared { ways: _ } = self;
+    }
 }
 
 impl Prepared {

@@ -50,7 +50,6 @@ pub enum Instruction {
 }
 
 /// A pattern, compiled: a list of instructions, each at its place. It doesn't change, so that searches share it.
-#[derive(Drop)]
 pub struct Program {
     places: Vec<Place>,
     first: u32,
@@ -58,6 +57,16 @@ pub struct Program {
     ghost named: { (place : ℕ) → place < length places.items → IsTrue (names_hold (length places.items) place (place_at places.items place)) },
     ghost words: { (n : ℕ) (e : End) (place row : ℕ) → place < length places.items → (made n e (parts n e places.items) (place_at places.items place)).0 row ≡ (at (parts n e places.items) place).0 row },
     ghost turns: { (n : ℕ) (e : End) (place row : ℕ) → place < length places.items → (made n e (parts n e places.items) (place_at places.items place)).1 row ≤ (at (parts n e places.items) place).1 row },
+}
+
+/// It is let go of by a call, wherever it is held.
+impl Drop for Program {
+    fn drop(self) {
+        let Program {
+            places: _,
+            first: _,
+        } = self;
+    }
 }
 
 #[tactic(auto, unfolding(crate::specs::Programs::place_count, crate::specs::Programs::next_place, crate::specs::Programs::first_place, crate::specs::Programs::place_words, crate::specs::Programs::place_turns))]
