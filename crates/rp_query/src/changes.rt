@@ -20,12 +20,21 @@ pub enum Change {
 }
 
 /// What a row changes of each total of a plan, by the variable that it is mapped to.
-#[derive(Drop)]
 pub struct Changes {
     /// In the order of the plan, for each variable up to the greatest that a total names.
     by_variable: Vec<Vec<Change>>,
     /// For each other variable.
     others: Vec<Change>,
+}
+
+/// It is let go of by a call, wherever it is held.
+impl Drop for Changes {
+    fn drop(self) {
+        let Changes {
+            by_variable: _,
+            others: _,
+        } = self;
+    }
 }
 
 #[tactic(auto, unfolding(crate::specs::Changes::kept_for))]

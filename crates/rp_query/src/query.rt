@@ -52,7 +52,6 @@ pub enum Source {
 }
 
 /// A column of the output.
-#[derive(Drop)]
 pub struct OutputColumn {
     /// Its name.
     pub name: Text,
@@ -62,8 +61,18 @@ pub struct OutputColumn {
     pub from: Source,
 }
 
+/// It is let go of by a call, wherever it is held.
+impl Drop for OutputColumn {
+    fn drop(self) {
+        let OutputColumn {
+            name: _,
+            kind: _,
+            from: _,
+        } = self;
+    }
+}
+
 /// Where the next search starts after a match, with names resolved.
-#[derive(Drop)]
 pub enum SkipTo {
     /// The row after the match's last, also where nothing is written.
     PastLastRow,
@@ -75,8 +84,19 @@ pub enum SkipTo {
     Last(Variables),
 }
 
+/// It is let go of by a call, wherever it is held.
+impl Drop for SkipTo {
+    fn drop(self) {
+        match self {
+            SkipTo::PastLastRow => {}
+            SkipTo::NextRow => {}
+            SkipTo::First(_) => {}
+            SkipTo::Last(_) => {}
+        }
+    }
+}
+
 /// What is computed for a match, with names resolved.
-#[derive(Drop)]
 pub struct Plan {
     /// The measures, in text order.
     pub measures: Vec<Expr>,
@@ -90,6 +110,20 @@ pub struct Plan {
     pub definitions: Vec<Option<usize>>,
     /// What is kept of the rows for navigation and aggregates, which name an entry by its place.
     pub totals: Rc<Vec<Total>>,
+}
+
+/// It is let go of by a call, wherever it is held.
+impl Drop for Plan {
+    fn drop(self) {
+        let Plan {
+            measures: _,
+            rows: _,
+            skip: _,
+            conditions: _,
+            definitions: _,
+            totals: _,
+        } = self;
+    }
 }
 
 /// What a query is made of, as contracts see it.
