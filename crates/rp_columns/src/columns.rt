@@ -11,18 +11,37 @@ use std::alloc::{AllocError, Global};
 use std::marker::Model;
 
 /// A column: its name in clauses, how its fields are read, and the name under which they stand in the header.
-#[derive(Drop)]
 pub struct InputColumn {
     pub name: Text,
     pub reading: Reading,
     pub source: Text,
 }
 
+/// It is let go of by a call, wherever it is held.
+impl Drop for InputColumn {
+    fn drop(self) {
+        let InputColumn {
+            name: _,
+            reading: _,
+            source: _,
+        } = self;
+    }
+}
+
 /// The columns of an input, in the order in which clauses see them. They make a table. Contracts see them as their list.
-#[derive(Drop)]
 pub struct Columns {
     columns: Vec<InputColumn>,
     table: Table,
+}
+
+/// It is let go of by a call, wherever it is held.
+impl Drop for Columns {
+    fn drop(self) {
+        let Columns {
+            columns: _,
+            table: _,
+        } = self;
+    }
 }
 
 impl Model for Columns {

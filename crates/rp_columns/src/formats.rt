@@ -9,11 +9,20 @@ use std::marker::Model;
 use std::rc::Rc;
 
 /// A format as strptime has it. Contracts see it as its bytes.
-#[derive(Drop)]
 pub struct Format {
     text: Text,
     /// The same with minutes in the place of seconds.
     minutes: Rc<Vec<u8>>,
+}
+
+/// It is let go of by a call, wherever it is held.
+impl Drop for Format {
+    fn drop(self) {
+        let Format {
+            text: _,
+            minutes: _,
+        } = self;
+    }
 }
 
 impl Model for Format {

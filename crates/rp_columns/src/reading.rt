@@ -27,7 +27,6 @@ pub enum Unit {
 }
 
 /// How a field becomes a value: what it means is `value_of` of `specs/Readings`.
-#[derive(Drop)]
 pub enum Reading {
     /// The field as it is.
     Text,
@@ -48,6 +47,23 @@ pub enum Reading {
     FormattedDay(Format),
     /// The number of the record, from 1 on, and no field.
     Record,
+}
+
+/// It is let go of by a call, wherever it is held.
+impl Drop for Reading {
+    fn drop(self) {
+        match self {
+            Reading::Text => {}
+            Reading::Lower => {}
+            Reading::Int => {}
+            Reading::Decimal(_, _) => {}
+            Reading::Instant(_, _) => {}
+            Reading::Day => {}
+            Reading::Formatted(_, _, _) => {}
+            Reading::FormattedDay(_) => {}
+            Reading::Record => {}
+        }
+    }
 }
 
 impl Reading {

@@ -9,9 +9,15 @@ const PLACES: usize = 1024;
 
 /// The last texts of an input, each at a place that its bytes choose. A column of few symbols takes one text for each of
 /// them, and not one for each row.
-#[derive(Drop)]
 pub struct Texts {
     kept: Vec<Option<Text>>,
+}
+
+/// It is let go of by a call, wherever it is held.
+impl Drop for Texts {
+    fn drop(self) {
+        let Texts { kept: _ } = self;
+    }
 }
 
 impl Texts {

@@ -22,16 +22,32 @@ pub(crate) enum Source {
 }
 
 /// `reading(source, arguments)`, `reading()`, or `reading` alone.
-#[derive(Drop)]
 pub(crate) struct Called {
     pub reading: Name,
     pub source: Source,
     pub arguments: Vec<Argument>,
 }
 
+/// It is let go of by a call, wherever it is held.
+impl Drop for Called {
+    fn drop(self) {
+        let Called {
+            reading: _,
+            source: _,
+            arguments: _,
+        } = self;
+    }
+}
+
 /// `name = reading(source, arguments)`, `name = reading()`, or `name reading`, whose source is the name.
-#[derive(Drop)]
 pub(crate) struct Written {
     pub name: Name,
     pub called: Called,
+}
+
+/// It is let go of by a call, wherever it is held.
+impl Drop for Written {
+    fn drop(self) {
+        let Written { name: _, called: _ } = self;
+    }
 }

@@ -16,7 +16,6 @@ use std::rc::Rc;
 use thiserror::Error;
 
 /// Where the clocks stand that show the times of a column.
-#[derive(Drop)]
 pub enum Zone {
     /// They are so many seconds ahead of UTC, always.
     Fixed(i32),
@@ -24,8 +23,17 @@ pub enum Zone {
     Region(Region),
 }
 
+/// It is let go of by a call, wherever it is held.
+impl Drop for Zone {
+    fn drop(self) {
+        match self {
+            Zone::Fixed(_) => {}
+            Zone::Region(_) => {}
+        }
+    }
+}
+
 /// A time zone of the IANA Time Zone Database, as `Europe/Berlin`.
-#[derive(Drop)]
 pub struct Region {
     /// Its identifier in the database.
     pub name: Text,
@@ -33,10 +41,23 @@ pub struct Region {
     pub rules: Option<Rules>,
 }
 
+/// It is let go of by a call, wherever it is held.
+impl Drop for Region {
+    fn drop(self) {
+        let Region { name: _, rules: _ } = self;
+    }
+}
+
 /// The rules of a region, which its columns share. Contracts see them as their table.
-#[derive(Drop)]
 pub struct Rules {
     table: Rc<Tzif>,
+}
+
+/// It is let go of by a call, wherever it is held.
+impl Drop for Rules {
+    fn drop(self) {
+        let Rules { table: _ } = self;
+    }
 }
 
 impl Model for Rules {
