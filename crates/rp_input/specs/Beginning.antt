@@ -11,6 +11,7 @@ use Rattle.rp_input.specs.Placed.{ArePlaced}
 use Rattle.rp_input.specs.Standing.{Stands}
 use Rattle.rp_input.specs.declared.layout.CsvLayout.{CsvLayout}
 use Rattle.rp_input.specs.declared.placed.Placed.{Placed}
+use Rattle.rp_input.specs.declared.places.Places.{Places}
 
 -- it has read a header, which names the columns of a table
 pub record IsBelowHeader (columns : List Column) (text : List ℕ) (r : Reader (Bor (List ℕ))) : Type 0 where
@@ -30,3 +31,6 @@ pub record Begins (layout : CsvLayout) (columns : List InputColumn) (text : List
   pub first : List (List (List ℕ))
   pub stands : Stands layout.delimiter text first r
   pub laid_out : (records : List (List (List ℕ))) → records_by layout.delimiter text ≡ first ++ records → AreLaidOut layout columns text placed width records
+
+abbrev pub BeginsAt : CsvLayout → List InputColumn → List ℕ → Places → Reader (Bor (List ℕ)) → Type 0
+BeginsAt layout columns text places r = Begins layout columns text places.columns.items places.width r

@@ -1,7 +1,7 @@
 //! The rows of a CSV text by columns that are computed.
 ghost use Rattle.std.specs.Prelude.{◌≡◌, ◌<◌, ◌^◌, ℕ, List, [], IfOk, IfErr, OnOk};
 ghost use Rattle.csv.specs.Records.{fields_of};
-ghost use Rattle.rp_input.specs.Beginning.{Begins};
+ghost use Rattle.rp_input.specs.Beginning.{BeginsAt};
 ghost use Rattle.rp_input.specs.ByColumns.{AreRowsByColumns, IsByColumnsFault, IsRecordFault, TakesRow};
 ghost use Rattle.rp_input.specs.Standing.{Stands};
 ghost use Rattle.rp_input.specs.declared.layout.CsvLayout.{CsvLayout};
@@ -71,10 +71,10 @@ fn take_rows(
 ) -> Result<(), ColumnsCsvFault>
     requires { rows_added taking.old.rows ≡ [] }
     ensures ok { (layout : CsvLayout) (columns : List InputColumn) (text : List ℕ) →
-        Begins layout columns text places.now.columns.items places.now.width reader.old →
+        BeginsAt layout columns text places.now reader.old →
         OnOk result (AreRowsByColumns nulls.now layout columns text (rows_added taking.new.rows)) }
     ensures err { (layout : CsvLayout) (columns : List InputColumn) (text : List ℕ) →
-        Begins layout columns text places.now.columns.items places.now.width reader.old →
+        BeginsAt layout columns text places.now reader.old →
         IfErr result (λ fault. IsByColumnsFault nulls.now layout columns text fault) }
 {
     for number in 1..MAX_RECORDS + 1 {

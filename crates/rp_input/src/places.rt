@@ -1,7 +1,7 @@
 //! Where columns stand in the records of a text.
 ghost use Rattle.std.specs.Prelude.{◌≡◌, ◌<◌, ◌^◌, ℕ, List, [], IfOk, IfErr};
 ghost use Rattle.csv.specs.Records.{fields_of};
-ghost use Rattle.rp_input.specs.Beginning.{Begins, HasRead};
+ghost use Rattle.rp_input.specs.Beginning.{BeginsAt, HasRead};
 ghost use Rattle.rp_input.specs.ByColumns.{IsByColumnsFault, IsHeaderFault, IsPlacesFault};
 ghost use Rattle.rp_input.specs.Placed as spec;
 ghost use Rattle.rp_input.specs.Standing.{Stands};
@@ -31,7 +31,7 @@ pub(crate) fn places_of(
     header: &mut ByteRecord,
 ) -> Result<Places, ColumnsCsvFault>
     ensures ok { IfOk result (λ places. (text : List ℕ) → Stands layout.delimiter text [] reader.old
-        → Begins layout columns.now text places.columns.items places.width reader.new) }
+        → BeginsAt layout columns.now text places reader.new) }
     ensures err { IfErr result (λ fault. (words : List (List ℕ)) (text : List ℕ)
         → Stands layout.delimiter text [] reader.old → IsByColumnsFault words layout columns.now text fault) }
 {
