@@ -16,6 +16,7 @@ use Rattle.rp_checkpoint.specs.declared.node_data.HeldRow.{HeldRow}
 use Rattle.rp_checkpoint.specs.declared.node_data.PartitionData.{PartitionData}
 use Rattle.rp_checkpoint.specs.declared.node_data.NodeData.{NodeData}
 use Rattle.rp_checkpoint.specs.declared.node_data.CheckpointFault.{CheckpointFault}
+use Rattle.rp_checkpoint.specs.declared.restore.Progress.{Progress}
 use Rattle.rp_checkpoint.specs.declared.node_data.CheckpointFault.TheVariants.{Digest, NotJson, Version, BadField}
 
 -- with what was read, or nothing
@@ -74,6 +75,21 @@ partition_data p = object (
     member (codes "matches") (whole_data p.matches) (
     member (codes "over") (boolean p.over) (
     member (codes "rows") (array (list_items row_data p.rows)) no_members))))))))))
+
+-- of so much progress, with its key and its rows
+abbrev pub progressed : List Value → List HeldRow → Progress → PartitionData
+progressed key rows p = record {
+  at = p.at;
+  close = p.close;
+  covered = p.covered;
+  first = p.first;
+  given = p.given;
+  here = p.here;
+  key = key;
+  matches = p.matches;
+  over = p.over;
+  rows = rows;
+}
 
 -- with its key and its rows
 abbrev pub partition_with : ℕ → List Value → List HeldRow → Data → Option PartitionData

@@ -108,7 +108,6 @@ impl Columns {
 }
 
 /// What is kept of a partition.
-#[derive(Drop)]
 pub struct PartitionData {
     /// The start row of the present search.
     pub at: u64,
@@ -128,6 +127,24 @@ pub struct PartitionData {
     /// Whether End or a fault was given.
     pub over: bool,
     pub rows: HeldRows,
+}
+
+/// It is let go of by a call, wherever it is held.
+impl Drop for PartitionData {
+    fn drop(self) {
+        let PartitionData {
+            at: _,
+            close: _,
+            covered: _,
+            first: _,
+            given: _,
+            here: _,
+            key: _,
+            matches: _,
+            over: _,
+            rows: _,
+        } = self;
+    }
 }
 
 /// Partitions, which contracts see as their list.
@@ -162,13 +179,23 @@ impl Partitions {
 }
 
 /// What a checkpoint keeps of a node.
-#[derive(Drop)]
 pub struct NodeData {
     /// The clause's text, as it was compiled.
     pub clause: Text,
     pub table: Columns,
     /// In order of first arrival.
     pub partitions: Partitions,
+}
+
+/// It is let go of by a call, wherever it is held.
+impl Drop for NodeData {
+    fn drop(self) {
+        let NodeData {
+            clause: _,
+            table: _,
+            partitions: _,
+        } = self;
+    }
 }
 
 /// Why bytes are no checkpoint, the first reason in the order of the variants.

@@ -6,7 +6,7 @@ ghost use Rattle.rp_json.specs.Forms.{list_in, list_of};
 ghost use Rattle.rp_json.specs.Objects.{field};
 ghost use Rattle.rp_value.specs.declared.value.Value.{Value};
 ghost use Rattle.rp_checkpoint.specs.declared.node_data.HeldRow.{HeldRow as Held};
-ghost use Rattle.rp_checkpoint.specs.Checkpoints.{column_of, given_of, if_ascending, kind_of, need, node_of, pair_of, partition_of, partition_with, restored, restored_object, row_of, rows_of, version_of};
+ghost use Rattle.rp_checkpoint.specs.Checkpoints.{column_of, given_of, if_ascending, kind_of, need, node_of, pair_of, partition_of, partition_with, progressed, restored, restored_object, row_of, rows_of, version_of};
 
 use crate::node_data::{
     CheckpointFault, Columns, HeldRow, HeldRows, NodeData, PartitionData, Partitions, ascend,
@@ -232,19 +232,8 @@ fn partition_with(version: u64, json: &Json, key: Cells, rows: HeldRows) -> Opti
 
 /// What is kept of a partition beside its key and its rows.
 fn progress_of(version: u64, json: &Json) -> Option<Progress>
-    ensures { (key : List Value) → (rows : List Held) → partition_with version key rows (view json.now)
-        ≡ option_map (λ p. record {
-          at = p.at;
-          close = p.close;
-          covered = p.covered;
-          first = p.first;
-          given = p.given;
-          here = p.here;
-          key = key;
-          matches = p.matches;
-          over = p.over;
-          rows = rows;
-        }) result }
+    ensures { (key : List Value) → (rows : List Held) →
+        partition_with version key rows (view json.now) ≡ option_map (progressed key rows) result }
 {
     let at = whole(json, "at")?;
     let close = optional(json, "close")?;
