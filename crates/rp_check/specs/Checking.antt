@@ -8,7 +8,7 @@ use Rattle.rp_value.specs.declared.value.Value.{Value}
 use Rattle.rp_value.specs.declared.value.Value.TheVariants as value
 use Rattle.rp_words.specs.Bounds.{is_allowed}
 use Rattle.rp_words.specs.PatternForm.{form_of}
-use Rattle.rp_tree.specs.Clauses.{ClauseTree}
+use Rattle.rp_tree.specs.Clauses.{ClauseTree, UnionTree}
 use Rattle.rp_check.specs.declared.checking.Named.{Named}
 use Rattle.rp_check.specs.declared.checking.Places.{Places}
 use Rattle.rp_check.specs.declared.checking.Planned.{Planned}
@@ -37,6 +37,11 @@ pub record IsNamed (c : ClauseTree) (n : Named) : Type 0 where
   pub sets : map naming_of n.sets.items
       ≡ numbered 0 (variables_of c.pattern) ++ map (union_of (variables_of c.pattern)) c.subsets
   pub classes : n.classes.value.items ≡ map value.Text (variables_of c.pattern)
+
+-- the sets of these variables and of the unions of SUBSET, and what CLASSIFIER gives
+abbrev pub AreSetsAndClasses : List (List ℕ) → List UnionTree → List NamedSet → List Value → Type 0
+AreSetsAndClasses variables subsets sets classes =
+    (map naming_of sets ≡ numbered 0 variables ++ map (union_of variables) subsets) × (classes ≡ map value.Text variables)
 
 pub record ArePlaces (variables : List (List ℕ)) (columns : List Column) (c : ClauseTree) (l : Places) : Type 0 where
   pub partition : l.partition.items ≡ map (λ n. number_at (column_named n.text columns)) c.partition

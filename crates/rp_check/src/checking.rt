@@ -1,17 +1,14 @@
 //! A clause is checked, and becomes a query.
 
-ghost use Rattle.std.specs.Prelude.{◌≡◌, [], ◌++◌, map, true, false, IfOk, IfErr};
+ghost use Rattle.std.specs.Prelude.{◌≡◌, [], true, false, IfOk, IfErr};
 ghost use Rattle.rp_query.specs.Sound.{IsSound};
 ghost use Rattle.rp_tree.specs.Clauses.{clause_tree};
 ghost use Rattle.rp_resolution.specs.Checked.{FirstFaultOr, Tells};
 ghost use Rattle.rp_resolution.specs.Queries.{rows_shown};
-ghost use Rattle.rp_resolution.specs.Context.{naming_of};
 ghost use Rattle.rp_resolution.specs.PartFaults.{each, union_faults};
-ghost use Rattle.rp_resolution.specs.Variables.{numbered, union_of};
-ghost use Rattle.rp_value.specs.declared.value.Value.TheVariants as value;
 ghost use Rattle.rp_check.specs.ClauseFaults.{faults, name_faults, listing_faults, expression_faults, shown_faults};
 ghost use Rattle.rp_check.specs.QueryOf.{IsQueryOf};
-ghost use Rattle.rp_check.specs.Checking.{IsNamed, ArePlaces, IsPlanned, IsMadeOf, spoken};
+ghost use Rattle.rp_check.specs.Checking.{AreSetsAndClasses, IsNamed, ArePlaces, IsPlanned, IsMadeOf, spoken};
 
 use rp_query::{
     Condition, Expr, OrderColumn, OutputColumn, Plan, Query, QueryData, RowsPerMatch as RowsShown,
@@ -86,8 +83,7 @@ fn sets_and_classes(
 ) -> Result<(Vec<NamedSet>, Rc<Vec<Value>>), CheckFault>
     ensures { let subsets = (clause_tree clause.now).subsets in
         FirstFaultOr (each (union_faults variables.now) subsets)
-        (λ p. (map naming_of p.0.items ≡ numbered 0 variables.now ++ map (union_of variables.now) subsets)
-        × (p.1.value.items ≡ map value.Text variables.now)) result }
+        (λ p. AreSetsAndClasses variables.now subsets p.0.items p.1.value.items) result }
 {
     let mut sets = variable_sets(alloc, variables)?;
     add_unions(alloc, variables, &mut sets, clause.subsets.as_slice())?;
