@@ -21,7 +21,6 @@ use std::marker::Model;
 /// A feed takes 72 bytes where it stands, and no other memory before its first row; with one row 96 bytes more, four
 /// places of 24. Only rows take places, whatever their numbers are. Places grow by doubling and are used again; they are
 /// given back where the partition is closed and its last row is dropped.
-#[derive(Drop)]
 pub struct Feed {
     /// The least number whose row isn't dropped.
     first: u64,
@@ -31,6 +30,18 @@ pub struct Feed {
     rows: VecDeque<(u64, Row)>,
     /// The count of the close.
     closed: Option<u64>,
+}
+
+/// It is let go of by a call, wherever it is held.
+impl Drop for Feed {
+    fn drop(self) {
+        let Feed {
+            first: _,
+            ready: _,
+            rows: _,
+            closed: _,
+        } = self;
+    }
 }
 
 impl Model for Feed {

@@ -10,11 +10,20 @@ use std::alloc::{AllocError, Global};
 use std::rc::Rc;
 
 /// A pattern variable or a union.
-#[derive(Drop)]
 pub struct NamedSet {
     pub name: Text,
     /// The numbers of its members.
     pub members: Vec<usize>,
+}
+
+/// It is let go of by a call, wherever it is held.
+impl Drop for NamedSet {
+    fn drop(self) {
+        let NamedSet {
+            name: _,
+            members: _,
+        } = self;
+    }
 }
 
 /// What an expression may name, and where it stands.

@@ -18,12 +18,21 @@ pub(crate) enum Stage {
 }
 
 /// A search that has ended.
-#[derive(Drop)]
 pub(crate) enum Ended {
     /// With a match.
     Match(Run),
     /// Without one.
     NoMatch(Run),
+}
+
+/// It is let go of by a call, wherever it is held.
+impl Drop for Ended {
+    fn drop(self) {
+        match self {
+            Ended::Match(_) => {}
+            Ended::NoMatch(_) => {}
+        }
+    }
 }
 
 impl Ended {
