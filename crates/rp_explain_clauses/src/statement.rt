@@ -12,7 +12,6 @@ use std::alloc::{AllocError, Global};
 const MOST: u32 = 64;
 
 /// What stands in MATCH_RECOGNIZE ( .. ), and that something stands before or behind it.
-#[derive(Drop)]
 pub(crate) struct Statement {
     /// The statement with blanks in place of all that stands outside, so that each offset stays.
     pub(crate) inside: String,
@@ -24,6 +23,19 @@ pub(crate) struct Statement {
     pub(crate) front: Option<CompileFault>,
     /// What is wrong behind its closing bracket, likewise.
     pub(crate) behind: Option<CompileFault>,
+}
+
+/// It is let go of by a call, wherever it is held.
+impl Drop for Statement {
+    fn drop(self) {
+        let Statement {
+            inside: _,
+            span: _,
+            read: _,
+            front: _,
+            behind: _,
+        } = self;
+    }
 }
 
 /// What stands outside of the brackets, and where.

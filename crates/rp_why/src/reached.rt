@@ -7,7 +7,6 @@ use crate::tokens::Range;
 use std::alloc::AllocError;
 
 /// How far searches come: the most parts of the pattern that are found one after another.
-#[derive(Drop)]
 pub struct Reached {
     /// The first match of these parts.
     pub found: Match,
@@ -19,6 +18,19 @@ pub struct Reached {
     pub written: String,
     /// The next part as it is written.
     pub wanted: String,
+}
+
+/// It is let go of by a call, wherever it is held.
+impl Drop for Reached {
+    fn drop(self) {
+        let Reached {
+            found: _,
+            parts: _,
+            of: _,
+            written: _,
+            wanted: _,
+        } = self;
+    }
 }
 
 /// What comes behind the parts that are looked for, so that a match has them alone: the rest of the pattern after the end of the

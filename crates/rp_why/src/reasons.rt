@@ -24,7 +24,6 @@ use std::alloc::{AllocError, Global};
 const EMPTY: &str = "()";
 
 /// What is found of a partition.
-#[derive(Drop)]
 pub enum Finding {
     /// It has a match: the first.
     Matched(Match),
@@ -36,8 +35,19 @@ pub enum Finding {
     GivenUp,
 }
 
+/// It is let go of by a call, wherever it is held.
+impl Drop for Finding {
+    fn drop(self) {
+        match self {
+            Finding::Matched(_) => {}
+            Finding::Unmatched(_) => {}
+            Finding::NoRow(_) => {}
+            Finding::GivenUp => {}
+        }
+    }
+}
+
 /// Why there is no match.
-#[derive(Drop)]
 pub struct Reasons {
     /// How far the searches come; none where not even the first part of the pattern is found.
     pub reached: Option<Reached>,
@@ -45,6 +55,17 @@ pub struct Reasons {
     pub ways: Vec<Way>,
     /// How many demands weren't tried to the end.
     pub untried: u64,
+}
+
+/// It is let go of by a call, wherever it is held.
+impl Drop for Reasons {
+    fn drop(self) {
+        let Reasons {
+            reached: _,
+            ways: _,
+            untried: _,
+        } = self;
+    }
 }
 
 impl Reasons {

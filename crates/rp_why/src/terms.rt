@@ -6,7 +6,6 @@ use rp_lexer::{Keyword, Mark, TokenKind};
 use std::alloc::{AllocError, Global};
 
 /// A term of a condition: a condition between ANDs, or a whole one. One that several variables demand is one term.
-#[derive(Drop)]
 pub(crate) struct Term {
     /// The term as it is written.
     pub(crate) written: String,
@@ -14,6 +13,17 @@ pub(crate) struct Term {
     pub(crate) places: Vec<Place>,
     /// Whether it is a comparison by `<`, `<=`, `>` or `>=`.
     pub(crate) is_bound: bool,
+}
+
+/// It is let go of by a call, wherever it is held.
+impl Drop for Term {
+    fn drop(self) {
+        let Term {
+            written: _,
+            places: _,
+            is_bound: _,
+        } = self;
+    }
 }
 
 impl Term {

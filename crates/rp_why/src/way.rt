@@ -14,7 +14,6 @@ pub struct Way {
 }
 
 /// A demand.
-#[derive(Drop)]
 pub enum Demand {
     /// A term of conditions.
     Term(TermDemand),
@@ -26,8 +25,19 @@ pub enum Demand {
     RowBetween(u64),
 }
 
+/// It is let go of by a call, wherever it is held.
+impl Drop for Demand {
+    fn drop(self) {
+        match self {
+            Demand::Term(_) => {}
+            Demand::LowerBound(_) => {}
+            Demand::Anchor(_) => {}
+            Demand::RowBetween(_) => {}
+        }
+    }
+}
+
 /// A term of conditions.
-#[derive(Drop)]
 pub struct TermDemand {
     /// The term as it is written.
     pub written: String,
@@ -39,8 +49,19 @@ pub struct TermDemand {
     pub failure: Option<Failure>,
 }
 
+/// It is let go of by a call, wherever it is held.
+impl Drop for TermDemand {
+    fn drop(self) {
+        let TermDemand {
+            written: _,
+            variables: _,
+            is_bound: _,
+            failure: _,
+        } = self;
+    }
+}
+
 /// A lower bound of a quantifier.
-#[derive(Drop)]
 pub struct LowerBoundDemand {
     /// The quantifier as it is written.
     pub written: String,
@@ -48,6 +69,17 @@ pub struct LowerBoundDemand {
     pub instead: String,
     /// The part that it repeats, as it is written.
     pub part: String,
+}
+
+/// It is let go of by a call, wherever it is held.
+impl Drop for LowerBoundDemand {
+    fn drop(self) {
+        let LowerBoundDemand {
+            written: _,
+            instead: _,
+            part: _,
+        } = self;
+    }
 }
 
 /// How telling a demand is: the lower the more. Bounds come before other terms, and these before a row between, anchors and quantifiers; of

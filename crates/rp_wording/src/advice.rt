@@ -4,10 +4,16 @@ use crate::pieces::Pieces;
 use std::alloc::{AllocError, Global};
 
 /// What is told of a place. Making it never fails: whoever asks for its texts is told where memory was refused to one.
-#[derive(Drop)]
 pub struct Advice {
     what: Pieces,
     help: Pieces,
+}
+
+/// It is let go of by a call, wherever it is held.
+impl Drop for Advice {
+    fn drop(self) {
+        let Advice { what: _, help: _ } = self;
+    }
 }
 
 /// The same as texts of the program.

@@ -7,7 +7,6 @@ use std::alloc::{AllocError, Global};
 use std::fmt::{Display, Write};
 
 /// What is said of a fault: a text for people, and its parts for programs.
-#[derive(Drop)]
 pub struct Report {
     /// All of it: the line that the program prints, the place with its line and a mark under it, what is wrong there and
     /// what to write. Each line ends in LF.
@@ -20,6 +19,19 @@ pub struct Report {
     pub help: String,
     /// Where it is; None where the fault has no place.
     pub mark: Option<Mark>,
+}
+
+/// It is let go of by a call, wherever it is held.
+impl Drop for Report {
+    fn drop(self) {
+        let Report {
+            text: _,
+            kind: _,
+            message: _,
+            help: _,
+            mark: _,
+        } = self;
+    }
 }
 
 /// Where something is in a text.
