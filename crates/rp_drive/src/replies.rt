@@ -8,7 +8,6 @@ use rp_protocol::{LineFault, Reply, reply_within};
 use std::alloc::{AllocError, Global};
 
 /// The replies of a node, a line each.
-#[derive(Drop)]
 pub(crate) struct Replies {
     pub(crate) alloc: Global,
     pub(crate) lines: Lines,
@@ -18,6 +17,19 @@ pub(crate) struct Replies {
     /// Whether the input has ended.
     pub(crate) over: bool,
     ghost kept: { lines.kept ≡ limit + 1 },
+}
+
+/// It is let go of by a call, wherever it is held.
+impl Drop for Replies {
+    fn drop(self) {
+        let Replies {
+            alloc: _,
+            lines: _,
+            line: _,
+            limit: _,
+            over: _,
+        } = self;
+    }
 }
 
 impl Replies {

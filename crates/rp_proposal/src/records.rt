@@ -6,13 +6,24 @@ use std::alloc::{AllocError, Global};
 
 /// The records of a CSV text, one after another. Going on never fails: where memory is refused there is no further record, and
 /// whoever asks for what was found is told.
-#[derive(Drop)]
 pub struct Records<'a> {
     alloc: Global,
     /// In a box, since a reader is large; None where memory was refused to it.
     reader: Option<Box<Reader<&'a [u8]>>>,
     fields: ByteRecord,
     is_cut: bool,
+}
+
+/// It is let go of by a call, wherever it is held.
+impl<'a> Drop for Records<'a> {
+    fn drop(self) {
+        let Records {
+            alloc: _,
+            reader: _,
+            fields: _,
+            is_cut: _,
+        } = self;
+    }
 }
 
 impl<'a> Records<'a> {

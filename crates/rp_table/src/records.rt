@@ -14,7 +14,6 @@ use std::mem;
 
 /// Whole records, one after another. Contracts see them as their bytes. Where memory is refused, those that are
 /// gathered are lost.
-#[derive(Drop)]
 pub struct Records {
     alloc: Global,
     writer: Writer<Vec<u8>>,
@@ -22,6 +21,18 @@ pub struct Records {
     row: ByteRecord,
     /// Memory for the next records.
     spare: Vec<u8>,
+}
+
+/// It is let go of by a call, wherever it is held.
+impl Drop for Records {
+    fn drop(self) {
+        let Records {
+            alloc: _,
+            writer: _,
+            row: _,
+            spare: _,
+        } = self;
+    }
 }
 
 impl Model for Records {

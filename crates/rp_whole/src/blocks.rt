@@ -6,7 +6,6 @@ use std::alloc::{AllocError, Global};
 use std::mem;
 
 /// A text of whole lines, and the line that comes next.
-#[derive(Drop)]
 pub(crate) struct LineBlock {
     alloc: Global,
     pub(crate) text: Vec<u8>,
@@ -14,6 +13,18 @@ pub(crate) struct LineBlock {
     pub(crate) line: Vec<u8>,
     /// Memory for the next text, while one is written.
     spare: Vec<u8>,
+}
+
+/// It is let go of by a call, wherever it is held.
+impl Drop for LineBlock {
+    fn drop(self) {
+        let LineBlock {
+            alloc: _,
+            text: _,
+            line: _,
+            spare: _,
+        } = self;
+    }
 }
 
 impl LineBlock {

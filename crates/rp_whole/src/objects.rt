@@ -10,11 +10,21 @@ use rp_value::Cells;
 use std::alloc::{AllocError, Global};
 
 /// A line for each output row, and the partitions whose answers skip faults ended.
-#[derive(Drop)]
 pub(crate) struct RowObjects {
     alloc: Global,
     block: LineBlock,
     stopped: Vec<Stopped>,
+}
+
+/// It is let go of by a call, wherever it is held.
+impl Drop for RowObjects {
+    fn drop(self) {
+        let RowObjects {
+            alloc: _,
+            block: _,
+            stopped: _,
+        } = self;
+    }
 }
 
 impl Gathered for RowObjects {
@@ -70,6 +80,11 @@ impl Gathered for RowObjects {
     }
 
     fn into_stopped(self) -> Vec<Stopped> {
-        self.stopped
+        let RowObjects {
+            alloc: _,
+            block: _,
+            stopped,
+        } = self;
+        stopped
     }
 }

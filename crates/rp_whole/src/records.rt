@@ -11,11 +11,21 @@ use rp_value::{Cells, Text};
 use std::alloc::{AllocError, Global};
 
 /// The records of rows, and the partitions whose answers skip faults ended.
-#[derive(Drop)]
 pub(crate) struct RowRecords {
     alloc: Global,
     records: Records,
     stopped: Vec<Stopped>,
+}
+
+/// It is let go of by a call, wherever it is held.
+impl Drop for RowRecords {
+    fn drop(self) {
+        let RowRecords {
+            alloc: _,
+            records: _,
+            stopped: _,
+        } = self;
+    }
 }
 
 /// The names of the output columns.
@@ -84,6 +94,11 @@ impl Gathered for RowRecords {
     }
 
     fn into_stopped(self) -> Vec<Stopped> {
-        self.stopped
+        let RowRecords {
+            alloc: _,
+            records: _,
+            stopped,
+        } = self;
+        stopped
     }
 }
