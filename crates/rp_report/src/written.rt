@@ -24,18 +24,21 @@ impl Written {
             measures: Vec::new(alloc),
             columns: Vec::new(alloc),
         };
+        written.read(alloc, text)?;
+        Ok(written)
+    }
+
+    fn read(&mut self, alloc: Global, text: &str) -> Result<(), AllocError> {
         let tokens = match lex(alloc, text) {
             Ok(tokens) => tokens,
             Err(LexFault::OutOfMemory) => return Err(AllocError),
-            Err(_) => return Ok(written),
+            Err(_) => return Ok(()),
         };
-        let clause = match parse(alloc, text, tokens.as_slice()) {
-            Ok(clause) => clause,
-            Err(ParseFault::OutOfMemory) => return Err(AllocError),
-            Err(_) => return Ok(written),
-        };
-        written.add_all(alloc, text, tokens.as_slice(), &clause)?;
-        Ok(written)
+        match parse(alloc, text, tokens.as_slice()) {
+            Ok(clause) => self.add_all(alloc, text, tokens.as_slice(), &clause),
+            Err(ParseFault::OutOfMemory) => Err(AllocError),
+            Err(_) => Ok(()),
+        }
     }
 
     fn add_all(
