@@ -9,7 +9,6 @@ use rp_wording::{Pieces, Report};
 use std::alloc::{AllocError, Global};
 
 /// What was found so far. Where memory is refused to a part of it, whoever asks for it is told.
-#[derive(Drop)]
 pub(crate) struct Found {
     pub(crate) alloc: Global,
     /// What is printed for people.
@@ -22,6 +21,20 @@ pub(crate) struct Found {
     pub(crate) rows: Option<u64>,
     /// What is wrong, each with what its text is called.
     faults: Vec<(&'static str, Report)>,
+}
+
+/// It is let go of by a call, wherever it is held.
+impl Drop for Found {
+    fn drop(self) {
+        let Found {
+            alloc: _,
+            text: _,
+            shape: _,
+            query: _,
+            rows: _,
+            faults: _,
+        } = self;
+    }
 }
 
 impl Found {

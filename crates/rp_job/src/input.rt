@@ -21,7 +21,6 @@ use std::io::{self, Read};
 const CHUNK: usize = 65_536;
 
 /// What an input looks like, whatever its columns are.
-#[derive(Drop)]
 pub struct InputForm {
     /// How the text of a CSV is laid out.
     pub layout: CsvLayout,
@@ -31,6 +30,18 @@ pub struct InputForm {
     pub nulls: Vec<Text>,
     /// Whether a table alone says how the input is read: it is a CSV with commas and a header, in which an empty field is null.
     is_plain: bool,
+}
+
+/// It is let go of by a call, wherever it is held.
+impl Drop for InputForm {
+    fn drop(self) {
+        let InputForm {
+            layout: _,
+            from: _,
+            nulls: _,
+            is_plain: _,
+        } = self;
+    }
 }
 
 /// The columns of an input, and how its records become rows.
