@@ -110,12 +110,25 @@ fn tell_partition(
     let mut rows = rows;
     order_rows(query, &mut rows)?;
     let finding = why(rt.alloc(), query, rows, wanted(job, count))?;
+    print_finding(rt, job, query, key, count, &finding)?;
+    Ok(verdict_of(&finding))
+}
+
+/// Prints what is found of a partition of so many rows.
+fn print_finding(
+    rt: &HostRuntime,
+    job: &WhyJob,
+    query: &Query,
+    key: &Cells,
+    count: u64,
+    finding: &Finding,
+) -> Result<(), ProgramFault> {
     let bytes = match job.format {
-        ReportFormat::Text => lines_of(rt.alloc(), query, key, count, &finding)?,
-        ReportFormat::Json => object_of(rt.alloc(), query, key, count, &finding)?,
+        ReportFormat::Text => lines_of(rt.alloc(), query, key, count, finding)?,
+        ReportFormat::Json => object_of(rt.alloc(), query, key, count, finding)?,
     };
     match write_all(&mut CountedDevice::new(rt.stdout()), bytes.as_slice()) {
-        Ok(()) => Ok(verdict_of(&finding)),
+        Ok(()) => Ok(()),
         Err(_) => Err(ProgramFault::Write),
     }
 }
