@@ -15,6 +15,7 @@ use rp_job::{ProgramFault, seeded_hasher, table_of, tell};
 use rp_node::{Node, begin, clause_difference};
 use rp_query::Query;
 use rp_serve::{RoundEnd, ServeFault, round_on, saved_line};
+use std::alloc::Global;
 use std::net::{TcpListener, TcpStream};
 use std::time::Duration;
 
@@ -30,8 +31,7 @@ struct Standing {
 
 /// Serves as many connections as the job asks for. Begins from its file where that is there and accepted, else with nothing.
 pub fn run_node(rt: &HostRuntime, job: &NodeJob) -> Result<(), ProgramFault> {
-    let table = table_of(rt.alloc(), job.table.as_str())?;
-    let query = compile(rt.alloc(), job.clause.as_str(), &table)?;
+    let query = query_of(rt.alloc(), job)?;
     let mut file = StateFile::take(rt, job.state.as_str())?;
     let standing = begun(rt, job, &mut file, query)?;
     let Ok(listener) = TcpListener::bind(rt, job.listen.as_str()) else {
@@ -39,6 +39,12 @@ pub fn run_node(rt: &HostRuntime, job: &NodeJob) -> Result<(), ProgramFault> {
     };
     tell_listening(rt, job, &listener);
     serve_all(rt, job, &listener, &mut file, standing)
+}
+
+/// The query of the job's clause, over its table.
+fn query_of(alloc: Global, job: &NodeJob) -> Result<Query, ProgramFault> {
+    let table = table_of(alloc, job.table.as_str())?;
+    Ok(compile(alloc, job.clause.as_str(), &table)?)
 }
 
 /// The node as it begins. A file that is refused is told, and stays until there is something else to be kept.
