@@ -169,13 +169,19 @@ fn field_text(
 ) -> Result<String, EventFault> {
     let mut texts = Texts::new(alloc)?;
     match read(alloc, &mut texts, nulls, &column.reading, 7, field) {
-        Ok(Value::Text(text)) => {
+        Ok(value) => value_text(alloc, &value),
+        Err(ReadingFault::OutOfMemory) => Err(EventFault::OutOfMemory),
+        Err(fault) => Ok(format!(in alloc; "{fault}")?),
+    }
+}
+
+fn value_text(alloc: Global, value: &Value) -> Result<String, EventFault> {
+    match value {
+        Value::Text(text) => {
             let text = text.as_str();
             Ok(format!(in alloc; "[{text}]")?)
         }
-        Ok(value) => cell_text(alloc, &value),
-        Err(ReadingFault::OutOfMemory) => Err(EventFault::OutOfMemory),
-        Err(fault) => Ok(format!(in alloc; "{fault}")?),
+        _ => cell_text(alloc, value),
     }
 }
 
