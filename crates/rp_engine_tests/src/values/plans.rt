@@ -65,7 +65,7 @@ pub fn is_number<'a, R: Rows>(
     requires { Looks R.known view.now }
 {
     match measure(expr, view)? {
-        Cell::Ready(Value::Int(number)) => holds(rt, number == wanted),
+        Cell::Ready(value) => holds(rt, value == Value::Int(wanted)),
         _ => holds(rt, false),
     }
     Ok(())
