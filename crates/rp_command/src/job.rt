@@ -94,7 +94,7 @@ pub struct WholeJob {
 }
 
 /// How an answer is printed.
-#[derive(Clone, Copy, Debug, PartialEq, Eq)]
+#[derive(Clone, Copy)]
 pub enum AnswerFormat {
     /// `lines`: a line of JSON for each item.
     Lines,
@@ -179,7 +179,7 @@ pub struct WhyJob {
 }
 
 /// How what is found is printed.
-#[derive(Clone, Copy, Debug, PartialEq, Eq)]
+#[derive(Clone, Copy)]
 pub enum ReportFormat {
     /// `text`: for people.
     Text,

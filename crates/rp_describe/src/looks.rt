@@ -16,7 +16,7 @@ use rp_query::{
 use rp_words::{Form, law_leaders};
 
 /// Which rows a condition looks at.
-#[derive(Clone, Copy, Debug, PartialEq, Eq)]
+#[derive(Clone, Copy, PartialEq, Eq)]
 pub struct Looks {
     /// So many rows before its own, at most.
     pub back: u64,

@@ -33,7 +33,7 @@ pub enum DriveFault {
 }
 
 /// Where a conversation ended early, and why.
-#[derive(Clone, Copy, Debug, PartialEq, Eq)]
+#[derive(Clone, Copy)]
 pub struct Stop {
     /// Why it ended.
     pub fault: DriveFault,

@@ -16,9 +16,9 @@ use rp_query::{
     goes_from_own_row,
 };
 use rp_value::{Judged, Tri};
+use std::alloc::AllocError;
 
 /// A look at the row that is judged from a first row, whatever is mapped between.
-#[derive(Clone, Copy)]
 pub(crate) struct Ends<'a, R: Rows> {
     rows: &'a R,
     totals: &'a [Total],
@@ -28,6 +28,14 @@ pub(crate) struct Ends<'a, R: Rows> {
     first: u64,
     own: u64,
 }
+
+impl<'a, R: Rows> Clone for Ends<'a, R> {
+    fn clone(&self) -> Result<Ends<'a, R>, AllocError> {
+        Ok(*self)
+    }
+}
+
+impl<'a, R: Rows> Copy for Ends<'a, R> {}
 
 /// The start row below which the row that is judged is refused: the view's own where none is known. Where a variable is known to lead,
 /// so many start rows are looked at, at most, the view's own counted.

@@ -3,7 +3,7 @@
 use rp_value::{Cells, Row};
 
 /// A row of a partition, or its end.
-#[derive(PartialEq, Eq, Drop)]
+#[derive(Drop)]
 pub enum Packet {
     /// A row.
     Row {

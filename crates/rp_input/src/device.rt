@@ -12,7 +12,7 @@ use std::alloc::{AllocError, AllocFailed, Global};
 const CHUNK: usize = 65_536;
 
 /// Why a device's bytes weren't read to their end.
-#[derive(Clone, Copy, Debug, PartialEq, Eq)]
+#[derive(Clone, Copy)]
 pub(crate) enum DeviceFault {
     Read,
     Turns,

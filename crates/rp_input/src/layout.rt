@@ -3,7 +3,7 @@ ghost use Rattle.std.specs.Prelude.{◌≡◌};
 ghost use Rattle.rp_input.specs.Layouts as spec;
 
 /// How the text of a CSV is laid out.
-#[derive(Clone, Copy, Debug, PartialEq, Eq)]
+#[derive(Clone, Copy, PartialEq, Eq)]
 pub struct CsvLayout {
     /// What stands between two fields of a record. Any byte is taken; one that is no delimiter by `is_delimiter` has another
     /// meaning in a CSV, or is a piece of a character, and the text is then not read as its writer meant it.

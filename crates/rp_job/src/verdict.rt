@@ -1,7 +1,7 @@
 //! How a job ends that comes to its end.
 
 /// How a job ended that came to its end.
-#[derive(Clone, Copy, PartialEq, Eq)]
+#[derive(Clone, Copy)]
 pub enum Verdict {
     /// Nothing was found.
     Clean,

@@ -1,7 +1,7 @@
 //! Where a walk over the start rows stands.
 
 /// A start row, and what the walk remembers of the matches before it.
-#[derive(Clone, Copy, PartialEq, Eq)]
+#[derive(Clone, Copy)]
 pub struct Place {
     /// The row.
     pub start: u64,

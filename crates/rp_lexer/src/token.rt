@@ -3,7 +3,7 @@
 use crate::kind::TokenKind;
 
 /// A token of a text. Offsets count bytes from 0.
-#[derive(Clone, Copy, Debug, PartialEq, Eq)]
+#[derive(Clone, Copy)]
 pub struct Token {
     /// What the token is.
     pub kind: TokenKind,

@@ -12,7 +12,7 @@ use rp_words::{End, Label, Pattern};
 use std::alloc::{AllocError, Global};
 
 /// What the preferred choice came to when it was taken up.
-#[derive(Clone, Copy, Debug, PartialEq, Eq)]
+#[derive(Clone, Copy, Debug)]
 pub enum Taken {
     /// It maps a known row, the next one: the label is the last of `labels`. The choice stays until `admit` or `give_up`.
     Row,
@@ -27,7 +27,7 @@ pub enum Taken {
 }
 
 /// Where the preferred choice gives way to two others, or may.
-#[derive(Clone, Copy, Debug, PartialEq, Eq)]
+#[derive(Clone, Copy)]
 pub struct SplitPoint {
     /// The place of the pattern that it is at, by its number.
     pub place: u32,

@@ -7,7 +7,7 @@ ghost use Rattle.rp_place.specs.Lines.{first_line, last_line, line_number};
 const LF: u8 = b'\n';
 
 /// A part of a text by byte offsets from 0.
-#[derive(Clone, Copy, Debug, PartialEq, Eq)]
+#[derive(Clone, Copy)]
 pub struct Span {
     /// The offset of its first byte.
     pub start: usize,
@@ -17,7 +17,7 @@ pub struct Span {
 
 /// A place in a line, and the part of the line that is meant there. It may be put together from texts that the caller
 /// has: they need not stand in one text.
-#[derive(Clone, Copy, Debug)]
+#[derive(Clone, Copy)]
 pub struct Place<'a> {
     /// The number of the line, from 1.
     pub line: usize,

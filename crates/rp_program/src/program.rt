@@ -10,7 +10,7 @@ use rp_words::Pattern;
 use std::alloc::{AllocError, Global};
 
 /// What stands at a place of a program. Each place that it names is one of the program.
-#[derive(Clone, Copy, Debug, PartialEq, Eq)]
+#[derive(Clone, Copy)]
 pub enum Instruction {
     /// Nothing is left of the pattern: the labels are a full word.
     Match,

@@ -4,7 +4,7 @@ use rp_feed::Packet;
 use rp_value::Cells;
 
 /// What a line asks of a node.
-#[derive(PartialEq, Eq, Drop)]
+#[derive(Drop)]
 pub enum Request {
     /// To take a packet.
     Packet(Packet),

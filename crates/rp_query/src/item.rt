@@ -2,7 +2,7 @@
 use rp_value::Cells;
 
 /// Why a skip rule names no row that a search could start at.
-#[derive(Clone, Copy, Debug, PartialEq, Eq)]
+#[derive(Clone, Copy, Debug)]
 pub enum SkipFault {
     /// No row of the match is mapped to the variable.
     SkipNoRow,

@@ -9,7 +9,7 @@ use crate::plan::{Condition, Edge, Expr, Function, Navigation, RowsOf, Total, Va
 use crate::query::{Plan, Query, QueryData};
 
 /// Which rows of a match a condition may depend on. Rows of the partition are told by their distance from these.
-#[derive(Clone, Copy, Debug, PartialEq, Eq)]
+#[derive(Clone, Copy)]
 pub enum Locality {
     /// The row that is judged, which is mapped to the variable whose condition it is.
     Row,
@@ -26,7 +26,7 @@ pub enum Locality {
 }
 
 /// A variable that each match begins with.
-#[derive(Clone, Copy, Debug, PartialEq, Eq)]
+#[derive(Clone, Copy)]
 pub struct Leader {
     /// Its number.
     pub variable: usize,

@@ -21,7 +21,7 @@ use std::marker::Model;
 use std::rc::Rc;
 
 /// Which rows a match gives.
-#[derive(Clone, Copy, Debug, PartialEq, Eq)]
+#[derive(Clone, Copy, PartialEq, Eq)]
 pub enum RowsPerMatch {
     /// ONE ROW PER MATCH, also where nothing is written.
     One,
@@ -34,7 +34,7 @@ pub enum RowsPerMatch {
 }
 
 /// A column by which rows are ordered.
-#[derive(Clone, Copy, Debug, PartialEq, Eq)]
+#[derive(Clone, Copy)]
 pub struct OrderColumn {
     /// Its number, from 1.
     pub column: usize,
@@ -43,7 +43,7 @@ pub struct OrderColumn {
 }
 
 /// Where the cells of an output column come from.
-#[derive(Clone, Copy, Debug, PartialEq, Eq)]
+#[derive(Clone, Copy)]
 pub enum Source {
     /// The table's column of this number, from 1.
     Column(usize),

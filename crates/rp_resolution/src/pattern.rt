@@ -60,7 +60,7 @@ fn variable(names: &mut Vec<Text>, name: &Name) -> Result<Form, CheckFault>
 }
 
 /// How parts are joined.
-#[derive(Clone, Copy, Debug, PartialEq, Eq)]
+#[derive(Clone, Copy)]
 pub(crate) enum Joint {
     Concatenation,
     Alternation,

@@ -42,7 +42,7 @@ pub fn trace_pattern(alloc: Global, text: &str) -> Result<Pattern, TracePatternF
 }
 
 /// Why no form begins here.
-#[derive(Clone, Copy, Debug, PartialEq, Eq)]
+#[derive(Clone, Copy)]
 enum Stop {
     /// Where this many symbols are left, the next one can't follow.
     At(usize),

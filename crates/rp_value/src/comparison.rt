@@ -5,7 +5,7 @@ ghost use Rattle.rp_value.specs.Compared.{holds};
 use std::cmp::Ordering;
 
 /// A comparison of two values (ISO/IEC 9075-2:2016, comparison predicate). `Value::comparison_truth` gives its truth value.
-#[derive(Clone, Copy, Debug, PartialEq, Eq, Hash)]
+#[derive(Clone, Copy, PartialEq, Eq)]
 pub enum Comparison {
     /// `=`
     Equal,

@@ -10,7 +10,7 @@ use std::marker::Model;
 ///
 /// Adding 9223372036854775807, 1 and -1 gives 9223372036854775807, though the sum of the
 /// first two is outside 64 bits.
-#[derive(Clone, Copy, Debug, PartialEq, Eq)]
+#[derive(Clone, Copy)]
 pub struct RunningSum {
     count: u64,
     sum: i128,

@@ -5,7 +5,7 @@ ghost use Rattle.rp_value.specs.TruthLaws.{ToldStays};
 
 /// One of the three truth values of SQL, whose order is false, unknown, true
 /// (ISO/IEC 9075-2:2016, boolean value expression).
-#[derive(Clone, Copy, Debug, PartialEq, Eq, Hash)]
+#[derive(Clone, Copy, Debug, PartialEq, Eq)]
 pub enum Tri {
     /// The condition holds.
     True,
@@ -51,7 +51,7 @@ impl Tri {
 }
 
 /// The truth value of a condition, or `Open` where it depends on rows that have not come.
-#[derive(Clone, Copy, Debug, PartialEq, Eq, Hash)]
+#[derive(Clone, Copy, Debug, PartialEq, Eq)]
 pub enum Judged {
     /// The rows that have come settle it: none that come later change it.
     Told(Tri),

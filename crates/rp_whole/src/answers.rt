@@ -27,7 +27,7 @@ use std::num::NonZeroU64;
 use std::sync::ledger::Blank;
 
 /// The partitions whose answers ended early, in order.
-#[derive(Debug, Drop)]
+#[derive(Drop)]
 pub struct EndedEarly {
     /// Those that skip faults ended.
     pub stopped: Vec<Stopped>,

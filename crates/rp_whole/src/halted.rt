@@ -6,7 +6,7 @@ use rp_value::Cells;
 use std::alloc::AllocError;
 
 /// A partition whose answer was given up: what follows the items that were written isn't known.
-#[derive(Debug, Drop)]
+#[derive(Drop)]
 pub struct Halted {
     /// The key of the partition.
     pub key: Cells,

@@ -6,7 +6,7 @@ use rp_value::Cells;
 use std::alloc::{AllocError, Global};
 
 /// A partition whose answer a skip fault ended: after it no item follows, not even an end.
-#[derive(Debug, Drop)]
+#[derive(Drop)]
 pub struct Stopped {
     /// The key of the partition.
     pub key: Cells,

@@ -5,7 +5,7 @@ use rp_place::Span;
 use std::alloc::{AllocError, Global};
 
 /// A part of a clause.
-#[derive(Clone, Copy, Debug, PartialEq, Eq)]
+#[derive(Clone, Copy, PartialEq, Eq)]
 pub enum Part {
     /// Before any part.
     Front,

@@ -35,7 +35,7 @@ impl Drop for Report {
 }
 
 /// Where something is in a text.
-#[derive(Clone, Copy, Debug, PartialEq, Eq)]
+#[derive(Clone, Copy)]
 pub struct Mark {
     /// The offset of its first byte, from 0.
     pub byte: usize,
