@@ -1,10 +1,10 @@
 -- What a table has.
-use Rattle.std.proofs.Common.{◌≡◌, ◌≢◌, ℕ, ◌+◌, ◌*◌, ◌/◌, ◌%◌, Option, None, length, sym, zero, suc, ◌<◌, Bool, true, false, cond, nat_eq, replicate, List, [], ◌∷◌, ◌++◌, set, slice_get, Some, ◌⊎◌, inl, inr, refl, ap, ◌∙◌, subst, arith}
+use Rattle.std.proofs.Common.{◌≡◌, ◌≢◌, ℕ, ◌+◌, ◌*◌, ◌/◌, ◌%◌, Option, None, length, sym, zero, suc, ◌<◌, ◌≤◌, Bool, true, false, cond, nat_eq, replicate, List, [], ◌∷◌, ◌++◌, set, slice_get, Some, ◌⊎◌, inl, inr, refl, ap, ◌∙◌, subst, arith}
 use Rattle.std.proofs.Math.Nat.{add-mul-mod_self_right, mod-add-div', mul_assoc, mul_comm}
 use Rattle.std.proofs.lemmas.Bool.Decides.{eqb_tells}
 use Rattle.rp_search.specs.declared.table.Failure.{Failure}
 use Rattle.rp_search.specs.declared.table.Rows.{Rows}
-use Rattle.rp_search.specs.Table.{until_at, until_row, until_in}
+use Rattle.rp_search.specs.Table.{until_at, until_row, until_in, IsFreeFor, RowsKeepFrom}
 
 -- a place without rows
 pub until_pushed : (xs : List Rows) (x : Rows) (q r : ℕ) → ((r : ℕ) → until_row x r ≡ 0) → until_in (slice_get (xs ++ x ∷ []) q) r ≡ until_in (slice_get xs q) r
@@ -33,6 +33,27 @@ until_set (z ∷ xs) x y (suc place) row until (suc q) r at adds h = go (until_s
         (until_in (slice_get (set xs place y) q) r ≡ until_in (slice_get xs q) r) ⊎ ((suc q ≡ suc place) × (r ≡ row) × (until_in (slice_get (set xs place y) q) r ≡ until))
     go (inl k) = inl k
     go (inr k) = inr (ap suc k.0, k.1, k.2)
+
+-- What a place's rows keep from a start row on, the places keep where those rows are set.
+pub kept_at : (xs : List Rows) (x y : Rows) (place row from q r : ℕ) → slice_get xs place ≡ Some x → RowsKeepFrom from row x y → from ≤ r → from < until_in (slice_get xs q) r →
+    (until_in (slice_get (set xs place y) q) r ≡ until_in (slice_get xs q) r) ⊎ ((q ≡ place) × (r ≡ row))
+kept_at [] x y place row from q r at keeps low high = absurd cc
+kept_at (z ∷ xs) x y zero row from zero r at keeps low high = go (keeps r low (subst (λ rows. from < until_row rows r) (sym same) high))
+  where
+    same : x ≡ z
+    same = cc
+
+    go : (until_row y r ≡ until_row x r) ⊎ (r ≡ row) → (until_row y r ≡ until_row z r) ⊎ ((zero ≡ zero) × (r ≡ row))
+    go (inl k) = inl (k ∙ ap (λ rows. until_row rows r) same)
+    go (inr k) = inr (refl, k)
+kept_at (z ∷ xs) x y zero row from (suc q) r at keeps low high = inl refl
+kept_at (z ∷ xs) x y (suc place) row from zero r at keeps low high = inl refl
+kept_at (z ∷ xs) x y (suc place) row from (suc q) r at keeps low high = go (kept_at xs x y place row from q r at keeps low high)
+  where
+    go : (until_in (slice_get (set xs place y) q) r ≡ until_in (slice_get xs q) r) ⊎ ((q ≡ place) × (r ≡ row)) →
+        (until_in (slice_get (set xs place y) q) r ≡ until_in (slice_get xs q) r) ⊎ ((suc q ≡ suc place) × (r ≡ row))
+    go (inl k) = inl k
+    go (inr k) = inr (ap suc k.0, k.1)
 
 -- a slot that has nothing
 abbrev pub nothing : Failure
@@ -99,3 +120,73 @@ taken_over others old new at from row until f found of_row is high twice held ap
     go : ((nat_eq r row ≡ true) × (r ≡ row)) ⊎ ((nat_eq r row ≡ false) × (r ≢ row)) → until_row new r ≡ until_row others r
     go (inl k) = ap (λ x. until_row new x) k.1 ∙ held ∙ is ∙ ap (λ x. until_row others x) (sym k.1)
     go (inr k) = by either k.1
+
+before_or_at : (a b : ℕ) → a < b + 1 → (a ≡ b) ⊎ (a < b)
+before_or_at a b below = go (lt_or_eq a b)
+  where
+    lt_or_eq : (a b : ℕ) → (a ≡ b) ⊎ ((a < b) ⊎ (b < a))
+    lt_or_eq zero zero = inl refl
+    lt_or_eq zero (suc b) = inr (inl (omega arith))
+    lt_or_eq (suc a) zero = inr (inr (omega arith))
+    lt_or_eq (suc a) (suc b) = more (lt_or_eq a b)
+      where
+        more : (a ≡ b) ⊎ ((a < b) ⊎ (b < a)) → (suc a ≡ suc b) ⊎ ((suc a < suc b) ⊎ (suc b < suc a))
+        more (inl e) = inl (ap suc e)
+        more (inr (inl e)) = inr (inl (omega (arith, e)))
+        more (inr (inr e)) = inr (inr (omega (arith, e)))
+
+    go : (a ≡ b) ⊎ ((a < b) ⊎ (b < a)) → (a ≡ b) ⊎ (a < b)
+    go (inl e) = inl e
+    go (inr (inl e)) = inr e
+    go (inr (inr e)) = absurd (omega (arith, below, e))
+
+-- Once one more slot of the others is taken over, what all slots so far have for rows from a start row on is there.
+pub taken_next : (others old new : Rows) (from at : ℕ) →
+    ((r : ℕ) → from ≤ r → from < until_row others r → r % length others.slots.items < at → until_row old r ≡ until_row others r) →
+    ((r : ℕ) → from ≤ r → from < until_row others r → (r % length others.slots.items ≡ at) ⊎ (until_row old r ≡ until_row others r) → until_row new r ≡ until_row others r) →
+    (r : ℕ) → from ≤ r → from < until_row others r → r % length others.slots.items < at + 1 → until_row new r ≡ until_row others r
+taken_next others old new from at before taken r low high below = taken r low high (go (before_or_at (r % length others.slots.items) at below))
+  where
+    go : (r % length others.slots.items ≡ at) ⊎ (r % length others.slots.items < at) → (r % length others.slots.items ≡ at) ⊎ (until_row old r ≡ until_row others r)
+    go (inl here) = inl here
+    go (inr earlier) = inr (before r low high earlier)
+
+-- and nothing else is
+pub only_next : (others old new : Rows) → ((r : ℕ) → 0 < until_row old r → until_row old r ≡ until_row others r) →
+    ((r : ℕ) → 0 < until_row new r → (until_row new r ≡ until_row old r) ⊎ (until_row new r ≡ until_row others r)) →
+    (r : ℕ) → 0 < until_row new r → until_row new r ≡ until_row others r
+only_next others old new before only r some = go (only r some)
+  where
+    go : (until_row new r ≡ until_row old r) ⊎ (until_row new r ≡ until_row others r) → until_row new r ≡ until_row others r
+    go (inl kept) = kept ∙ before r (omega (arith, kept, some))
+    go (inr taken) = taken
+
+-- Where the slot of a row is free, what others had is kept as one is set there.
+pub kept_but_one : (old new : Rows) (from row : ℕ) → IsFreeFor from row old →
+    ((r : ℕ) → r % length old.slots.items ≢ row % length old.slots.items → until_row new r ≡ until_row old r) → RowsKeepFrom from row old new
+kept_but_one old new from row free others r low high = go (eqb_tells (r % length old.slots.items) (row % length old.slots.items))
+  where
+    go : ((nat_eq (r % length old.slots.items) (row % length old.slots.items) ≡ true) × (r % length old.slots.items ≡ row % length old.slots.items))
+        ⊎ ((nat_eq (r % length old.slots.items) (row % length old.slots.items) ≡ false) × (r % length old.slots.items ≢ row % length old.slots.items)) →
+        (until_row new r ≡ until_row old r) ⊎ (r ≡ row)
+    go (inl same) = inr (free r low high same.1)
+    go (inr other) = inl (others r other.1)
+
+-- the same by way of rows that have what the old ones had from a start row on
+pub kept_through : (old rows new : Rows) (from row : ℕ) → ((r : ℕ) → from ≤ r → from < until_row old r → until_row rows r ≡ until_row old r) →
+    RowsKeepFrom from row rows new → RowsKeepFrom from row old new
+kept_through old rows new from row same kept r low high = go (kept r low (let is = same r low high in omega (arith, is, high)))
+  where
+    go : (until_row new r ≡ until_row rows r) ⊎ (r ≡ row) → (until_row new r ≡ until_row old r) ⊎ (r ≡ row)
+    go (inl is) = inl (is ∙ same r low high)
+    go (inr is) = inr is
+
+-- by way of rows that have nothing that the old ones hadn't
+pub only_through : (old rows new : Rows) (row until : ℕ) → ((r : ℕ) → 0 < until_row rows r → until_row rows r ≡ until_row old r) →
+    ((r : ℕ) → 0 < until_row new r → (until_row new r ≡ until_row rows r) ⊎ ((r ≡ row) × (until_row new r ≡ until))) →
+    (r : ℕ) → 0 < until_row new r → (until_row new r ≡ until_row old r) ⊎ ((r ≡ row) × (until_row new r ≡ until))
+only_through old rows new row until before only r some = go (only r some)
+  where
+    go : (until_row new r ≡ until_row rows r) ⊎ ((r ≡ row) × (until_row new r ≡ until)) → (until_row new r ≡ until_row old r) ⊎ ((r ≡ row) × (until_row new r ≡ until))
+    go (inl is) = inl (is ∙ before r (omega (arith, is, some)))
+    go (inr is) = inr is
