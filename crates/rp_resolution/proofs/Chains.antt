@@ -1,5 +1,6 @@
 -- Chains of operators.
 use Rattle.std.proofs.Common.{◌≡◌, ◌∙◌, ℕ, pos, Bool, List, [], ◌∷◌, ◌++◌, map, Some, Ok, Err, Result, refl, sym, ap, append_assoc, length, arith, drop, get_or, suc, ◌+◌, ◌<◌, add-one, drop-cons}
+use Rattle.std.specs.Prelude.{MatchResult}
 use Rattle.rp_tree.specs.declared.tree.Operation.{Operation}
 use Rattle.rp_value.specs.declared.value.Value.TheVariants as value
 use Rattle.rp_value.specs.declared.value.Kind.TheVariants as kind
@@ -9,15 +10,16 @@ use Rattle.rp_tree.specs.declared.tree.Expr.{Expr}
 use Rattle.rp_query.specs.Formulas as formula
 use Rattle.rp_resolution.specs.declared.fault.CheckKind.TheVariants.{KindMismatch}
 use Rattle.rp_resolution.specs.declared.fault.CheckFault.{CheckFault}
+use Rattle.rp_resolution.specs.declared.fault.CheckFault.TheVariants as refusal
 use Rattle.rp_resolution.specs.declared.resolved.Resolved.{Resolved}
-use Rattle.rp_query.specs.Formulas.{PlainTotal}
+use Rattle.rp_query.specs.Formulas.{Formula, PlainTotal}
 use Rattle.rp_resolution.specs.Context.{Context}
-use Rattle.rp_resolution.specs.Sorts.{Valued, Truth, takes, operator_sort, may_be_number, may_be_condition, may_be_value}
+use Rattle.rp_resolution.specs.Sorts.{Sort, Valued, Truth, sort_of, takes, operator_sort, may_be_number, may_be_condition, may_be_value}
 use Rattle.rp_resolution.specs.ExprFaults.{unless, expr_faults}
-use Rattle.rp_resolution.specs.Resolved.{operated, nullness, totals}
-use Rattle.rp_resolution.specs.Checked.{Tells, FirstFaultOr, Checks, Resolves, sort_in, formula_in}
+use Rattle.rp_resolution.specs.Resolved.{operated, nullness, resolved, totals}
+use Rattle.rp_resolution.specs.Checked.{Tells, FirstFaultOr, Is, Checks, Resolves, sort_in, formula_in}
 use Rattle.rp_resolution.specs.Grouping.{wrapped, AreLefts}
-use Rattle.rp_resolution.proofs.Telling.{tells_front, tells_behind, none_in_both}
+use Rattle.rp_resolution.proofs.Telling.{tells_front, tells_behind, none_in_both, tells_memory}
 
 -- what an operator makes of two operands
 abbrev pub Operated : Operation → Resolved → Resolved → Result Resolved CheckFault → Type 0
@@ -162,6 +164,9 @@ pub sum_fails : (x : Context) (before mid now : List PlainTotal) (whole : Term) 
     → SoFar x before whole sum mid ((o, u) ∷ rest) → Resolves x mid u right now → Operated o sum right (Err e) → Tells e (expr_faults x whole)
 sum_fails x before mid now whole sum right o u rest e s stands told = rw s.is_whole (chain_fails x e (Operate s.t o u) rest (operate_fails x before mid now s.t u o sum right e s.stands stands told))
 
+pub all_summed : (x : Context) (before : List PlainTotal) (whole : Term) (sum : Resolved) (now : List PlainTotal) → SoFar x before whole sum now [] → Resolves x before whole sum now
+all_summed x before whole sum now s = rw s.is_whole s.stands
+
 pub next_last : (x : Context) (before mid now : List PlainTotal) (whole : Term) (lefts : List (Resolved × Operation)) (last next : Resolved) (o : Operation) (u : Term) (rest : List (Operation × Term))
     → GoneThrough x before whole lefts last mid ((o, u) ∷ rest) → Resolves x mid u next now → GoneThrough x before whole (lefts ++ (last, o) ∷ []) next now rest
 next_last x before mid now whole lefts last next o u rest g stands = record {
@@ -239,6 +244,18 @@ null_checks x before now at negated t b (Ok r) body done = record {
   totals = body.totals;
 }
 null_checks x before now at negated t b (Err e) body told = tells_behind e (expr_faults x t) _ body.clean (rw body.sort told)
+
+-- a value alone, where nothing is at fault
+pub value_checks : (x : Context) (before now : List PlainTotal) (t : Term) (sort : Sort) (f : Formula) (result : Result Resolved CheckFault)
+    → expr_faults x t ≡ [] → sort_of x t ≡ Some sort → f ≡ resolved x before t → now ≡ before ++ totals x t
+    → MatchResult result (Is sort f) (λ e. e ≡ refusal.OutOfMemory) → Checks x before t result now
+value_checks x before now t sort f (Ok r) clean known meant added is = record {
+  clean = clean;
+  sort = known ∙ ap Some (sym is.0);
+  formula = is.1 ∙ meant;
+  totals = added;
+}
+value_checks x before now t sort f (Err e) clean known meant added is = tells_memory e (expr_faults x t) is
 
 -- the first of what is still to be gone through
 pub taken : (items : List (Operation × Expr)) (i : ℕ) (p : Operation × Expr) → i < length items → p ≡ get_or items i p

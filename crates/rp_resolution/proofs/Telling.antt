@@ -1,6 +1,6 @@
 -- Faults of a part are faults of the whole.
 use Rattle.std.proofs.Common.{◌≡◌, ℕ, Bool, true, false, ◌&&◌, Option, None, Some, List, [], ◌++◌, Result, Ok, Err, refl}
-use Rattle.std.specs.Prelude.{IsErr, IfOk}
+use Rattle.std.specs.Prelude.{IsErr, IfOk, MatchResult}
 use Rattle.rp_resolution.specs.declared.fault.Fault.{Fault}
 use Rattle.rp_resolution.specs.declared.fault.CheckKind.{CheckKind}
 use Rattle.rp_resolution.specs.declared.fault.CheckFault.{CheckFault}
@@ -8,7 +8,7 @@ use Rattle.rp_resolution.specs.declared.fault.CheckFault.TheVariants as refusal
 use Rattle.rp_value.specs.declared.value.Kind.TheVariants.{Int, Text}
 use Rattle.rp_resolution.specs.Sorts.{Sort, Valued, Truth, may_be_value, comparable}
 use Rattle.rp_resolution.specs.ExprFaults.{unless}
-use Rattle.rp_resolution.specs.Checked.{Tells, first_fault, no_memory}
+use Rattle.rp_resolution.specs.Checked.{Tells, FirstFaultOr, first_fault, no_memory}
 
 -- the first of the first part's faults is the first of all
 pub tells_front : (e : CheckFault) (fs gs : List Fault) → Tells e fs → Tells e (fs ++ gs)
@@ -32,6 +32,16 @@ passed test kind at holds = rw holds refl
 -- want of memory may be told at any time
 pub tells_memory : (e : CheckFault) (fs : List Fault) → e ≡ refusal.OutOfMemory → Tells e fs
 tells_memory e fs is = rw is (no_memory fs)
+
+-- a last test, whose answer tells nothing else
+pub allowed : {X : Type 0} (fs gs : List Fault) (Right : X → Type 0) (r : Result X CheckFault) → fs ≡ [] → FirstFaultOr gs Right r → FirstFaultOr (fs ++ gs) (λ x. Unit {0}) r
+allowed fs gs Right (Ok x) none done = (none_in_both fs gs none done.0, tt)
+allowed fs gs Right (Err e) none told = tells_behind e fs gs none told
+
+-- where nothing is at fault, want of memory alone may be told
+pub clean_or_memory : {X : Type 0} (fs : List Fault) (Right : X → Type 0) (r : Result X CheckFault) → fs ≡ [] → MatchResult r Right (λ e. e ≡ refusal.OutOfMemory) → FirstFaultOr fs Right r
+clean_or_memory fs Right (Ok x) clean right = (clean, right)
+clean_or_memory fs Right (Err e) clean is = tells_memory e fs is
 
 -- where an error is answered, anything holds of what is given else
 pub not_given : {X E : Type 0} (r : Result X E) (P : X → Type 0) → IsErr r → IfOk r P

@@ -41,7 +41,7 @@ fn number(
     ensures { Checks (context_of names.now) (map plain_total totals.now.items) (Number at value)
         result (map plain_total totals.now.items) }
 {
-    Ok(valued(alloc, number_literal(value), Kind::Int)?)
+    valued(alloc, number_literal(value), Kind::Int)
 }
 
 /// A text.
@@ -56,7 +56,7 @@ fn text_literal(
         result (map plain_total totals.now.items) }
 {
     let text = text.share()?;
-    Ok(valued(alloc, Expr::Literal(Value::Text(text)), Kind::Text)?)
+    valued(alloc, Expr::Literal(Value::Text(text)), Kind::Text)
 }
 
 /// A column or a navigation.
@@ -70,7 +70,7 @@ fn placed(
         result (map plain_total totals.new.items) }
 {
     let (place, kind) = navigation(alloc, names, totals, path)?;
-    Ok(valued(alloc, Expr::Navigation(place), kind)?)
+    valued(alloc, Expr::Navigation(place), kind)
 }
 
 /// The aggregate of this number.
@@ -95,7 +95,7 @@ fn aggregate(
     let number = totals.len();
     let is_final = is_final(written.scope);
     totals.push(total)?;
-    Ok(valued(alloc, numbered(number, is_final), kind)?)
+    valued(alloc, numbered(number, is_final), kind)
 }
 
 /// `MATCH_NUMBER()`
@@ -109,7 +109,7 @@ fn match_number(
         result (map plain_total totals.now.items) }
 {
     require(!names.in_define, CheckKind::MeasureOnly, at)?;
-    Ok(valued(alloc, Expr::MatchNumber, Kind::Int)?)
+    valued(alloc, Expr::MatchNumber, Kind::Int)
 }
 
 /// `CLASSIFIER()`
@@ -124,7 +124,7 @@ fn classifier(
 {
     require(!names.in_define, CheckKind::MeasureOnly, at)?;
     let classes = names.classes.clone()?;
-    Ok(valued(alloc, Expr::Classifier(classes), Kind::Text)?)
+    valued(alloc, Expr::Classifier(classes), Kind::Text)
 }
 
 /// Operands with operators between them, grouped from the right. The nearest on the left stands last.
@@ -195,9 +195,8 @@ pub(crate) fn resolve(
             let mut last = resolve(alloc, names, totals, &**first)?;
             let mut lefts = Vec::new(alloc);
             'lasts: for (operation, operand) in rest {
-                let next = resolve(alloc, names, totals, operand)?;
                 lefts.push((last, *operation))?;
-                last = next;
+                last = resolve(alloc, names, totals, operand)?;
             }
             grouped(alloc, lefts, last)
         }

@@ -15,7 +15,6 @@ ghost use Rattle.rp_query.specs.declared.query.Source.TheVariants as source;
 use crate::expr::resolve;
 use crate::fault::{CheckFault, CheckKind};
 use crate::names::Names;
-use crate::operand::{condition, value};
 use crate::place::{fault, variables};
 use crate::resolved::Resolved;
 use rp_grammar::Name;
@@ -55,7 +54,7 @@ fn measured(
 {
     let found = resolve(alloc, names, totals, expr)?;
     let kind = kind_in(&found);
-    match value(found) {
+    match found.into_value() {
         Some(expr) => Ok(TypedExpr {
             expr: Box::into_inner(expr),
             kind,
@@ -77,7 +76,7 @@ fn defined(
         (condition_formula c)) result }
 {
     let found = resolve(alloc, names, totals, expr)?;
-    match condition(found) {
+    match found.into_condition() {
         Some(condition) => Ok(Box::into_inner(condition)),
         None => Err(fault(CheckKind::KindMismatch, at)),
     }

@@ -280,8 +280,7 @@ fn allow_definition(
 {
     member(variables, &definition.name)?;
     let is_double = is_defined(&definition.name.text, earlier);
-    require(!is_double, CheckKind::DoubleName, definition.name.at)?;
-    Ok(())
+    require(!is_double, CheckKind::DoubleName, definition.name.at)
 }
 
 /// Each definition is of a variable, and of another.
@@ -348,8 +347,7 @@ fn allow_measure(
 {
     let name = &measure.name;
     let is_double = is_given(&name.text, rows, partition, columns, earlier);
-    require(!is_double, CheckKind::DoubleName, name.at)?;
-    Ok(())
+    require(!is_double, CheckKind::DoubleName, name.at)
 }
 
 /// Whether something else in the output has the name.

@@ -1,6 +1,6 @@
 //! Operators.
 
-ghost use Rattle.std.specs.Prelude.{◌≡◌, true, false, IfOk, MatchOption, pos};
+ghost use Rattle.std.specs.Prelude.{◌≡◌, MatchResult, pos};
 ghost use Rattle.rp_value.specs.declared.value.Value.TheVariants as value;
 ghost use Rattle.rp_value.specs.declared.value.Kind.TheVariants as kind_as;
 ghost use Rattle.rp_query.specs.Formulas.{value_formula, condition_formula};
@@ -13,58 +13,24 @@ ghost use Rattle.rp_resolution.specs.declared.fault.CheckKind.TheVariants.{KindM
 ghost use Rattle.rp_query.specs.declared.plan.Operation.TheVariants.{Minus};
 
 use crate::fault::{CheckFault, CheckKind};
-use crate::place::{fault, require};
+use crate::place::fault;
 use crate::resolved::Resolved;
 use rp_query::{Condition, Expr, Operation};
 use rp_tree::{Operation as Sign, Operator};
 use rp_value::{Comparison, Kind, Value};
-use std::alloc::{AllocError, Global};
-
-/// The expression of a value.
-pub(crate) fn value(operand: Resolved) -> Option<Box<Expr>>
-    ensures { MatchOption result (may_be_value (sort_known operand) ≡ false)
-        (λ e. (may_be_value (sort_known operand) ≡ true) × (value_formula e.value ≡ formula_in operand)) }
-{
-    match operand {
-        Resolved::Value(expr, _) => Some(expr),
-        Resolved::Condition(_) => None,
-    }
-}
-
-/// The expression of a whole number.
-fn number(operand: Resolved) -> Option<Box<Expr>>
-    ensures { MatchOption result (may_be_number (sort_known operand) ≡ false)
-        (λ e. (may_be_number (sort_known operand) ≡ true) × (value_formula e.value ≡ formula_in operand)) }
-{
-    match operand {
-        Resolved::Value(expr, Kind::Int) => Some(expr),
-        Resolved::Value(_, Kind::Text) => None,
-        Resolved::Condition(_) => None,
-    }
-}
-
-/// The condition, if it is one.
-pub(crate) fn condition(operand: Resolved) -> Option<Box<Condition>>
-    ensures { MatchOption result (may_be_condition (sort_known operand) ≡ false)
-        (λ c. (may_be_condition (sort_known operand) ≡ true) × (condition_formula c.value ≡ formula_in operand)) }
-{
-    match operand {
-        Resolved::Value(_, _) => None,
-        Resolved::Condition(condition) => Some(condition),
-    }
-}
+use std::alloc::Global;
 
 /// An expression of this kind.
-pub(crate) fn valued(alloc: Global, expr: Expr, kind: Kind) -> Result<Resolved, AllocError>
-    ensures { IfOk result (Is (Valued kind) (value_formula expr)) }
+pub(crate) fn valued(alloc: Global, expr: Expr, kind: Kind) -> Result<Resolved, CheckFault>
+    ensures { MatchResult result (Is (Valued kind) (value_formula expr)) (λ e. e ≡ CheckFault.OutOfMemory) }
 {
     let expr = Box::new(alloc, expr)?;
     Ok(Resolved::Value(expr, kind))
 }
 
 /// A condition.
-fn truth(alloc: Global, condition: Condition) -> Result<Resolved, AllocError>
-    ensures { IfOk result (Is Truth (condition_formula condition)) }
+fn truth(alloc: Global, condition: Condition) -> Result<Resolved, CheckFault>
+    ensures { MatchResult result (Is Truth (condition_formula condition)) (λ e. e ≡ CheckFault.OutOfMemory) }
 {
     let condition = Box::new(alloc, condition)?;
     Ok(Resolved::Condition(condition))
@@ -120,13 +86,13 @@ fn arithmetic(
         (Is (Valued kind_as.Int) (formula.Arithmetic operation (formula_in left) (formula_in right)))
         result }
 {
-    let Some(left) = number(left) else {
+    let Some(left) = left.into_number() else {
         return Err(fault(CheckKind::KindMismatch, at));
     };
-    let Some(right) = number(right) else {
+    let Some(right) = right.into_number() else {
         return Err(fault(CheckKind::KindMismatch, at));
     };
-    Ok(valued(alloc, calculated(operation, left, right), Kind::Int)?)
+    valued(alloc, calculated(operation, left, right), Kind::Int)
 }
 
 /// AND of two conditions.
@@ -140,13 +106,13 @@ fn conjunction(
         (Is Truth (formula.And (formula_in left) (formula_in right)))
         result }
 {
-    let Some(left) = condition(left) else {
+    let Some(left) = left.into_condition() else {
         return Err(fault(CheckKind::KindMismatch, at));
     };
-    let Some(right) = condition(right) else {
+    let Some(right) = right.into_condition() else {
         return Err(fault(CheckKind::KindMismatch, at));
     };
-    Ok(truth(alloc, both(left, right))?)
+    truth(alloc, both(left, right))
 }
 
 /// OR of two conditions.
@@ -160,13 +126,13 @@ fn disjunction(
         (Is Truth (formula.Or (formula_in left) (formula_in right)))
         result }
 {
-    let Some(left) = condition(left) else {
+    let Some(left) = left.into_condition() else {
         return Err(fault(CheckKind::KindMismatch, at));
     };
-    let Some(right) = condition(right) else {
+    let Some(right) = right.into_condition() else {
         return Err(fault(CheckKind::KindMismatch, at));
     };
-    Ok(truth(alloc, either(left, right))?)
+    truth(alloc, either(left, right))
 }
 
 fn is_number(operand: &Resolved) -> bool
@@ -208,14 +174,16 @@ fn compared(
         (Is Truth (formula.Compare comparison (formula_in left) (formula_in right)))
         result }
 {
-    require(are_comparable(&left, &right), CheckKind::KindMismatch, at)?;
-    let Some(left) = value(left) else {
+    if !are_comparable(&left, &right) {
+        return Err(fault(CheckKind::KindMismatch, at));
+    }
+    let Some(left) = left.into_value() else {
         return Err(fault(CheckKind::KindMismatch, at));
     };
-    let Some(right) = value(right) else {
+    let Some(right) = right.into_value() else {
         return Err(fault(CheckKind::KindMismatch, at));
     };
-    Ok(truth(alloc, weighed(comparison, left, right))?)
+    truth(alloc, weighed(comparison, left, right))
 }
 
 /// An operator between two operands.
@@ -263,11 +231,11 @@ pub(crate) fn negative(alloc: Global, at: usize, body: Resolved) -> Result<Resol
         (Is (Valued kind_as.Int) (formula.Arithmetic Minus (formula.Literal (value.Int (pos 0))) (formula_in body)))
         result }
 {
-    let Some(body) = number(body) else {
+    let Some(body) = body.into_number() else {
         return Err(fault(CheckKind::KindMismatch, at));
     };
     let zero = Box::new(alloc, Expr::Literal(Value::Int(0)))?;
-    Ok(valued(alloc, calculated(Operation::Minus, zero, body), Kind::Int)?)
+    valued(alloc, calculated(Operation::Minus, zero, body), Kind::Int)
 }
 
 /// NOT of a condition.
@@ -275,10 +243,10 @@ pub(crate) fn inverted(alloc: Global, at: usize, body: Resolved) -> Result<Resol
     ensures { FirstFaultOr (unless (may_be_condition (sort_known body)) KindMismatch at)
         (Is Truth (formula.Not (formula_in body))) result }
 {
-    let Some(body) = condition(body) else {
+    let Some(body) = body.into_condition() else {
         return Err(fault(CheckKind::KindMismatch, at));
     };
-    Ok(truth(alloc, negated(body))?)
+    truth(alloc, negated(body))
 }
 
 /// IS NULL or IS NOT NULL of a value.
@@ -291,12 +259,12 @@ pub(crate) fn null_test(
     ensures { FirstFaultOr (unless (may_be_value (sort_known body)) KindMismatch at)
         (Is Truth (nullness negate (formula_in body))) result }
 {
-    let Some(body) = value(body) else {
+    let Some(body) = body.into_value() else {
         return Err(fault(CheckKind::KindMismatch, at));
     };
     let test = Box::new(alloc, is_null(body))?;
     if negate {
-        return Ok(truth(alloc, negated(test))?);
+        return truth(alloc, negated(test));
     }
     Ok(Resolved::Condition(test))
 }

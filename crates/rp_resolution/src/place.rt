@@ -6,7 +6,7 @@ ghost use Rattle.rp_query.specs.Formulas.{members_of, plain_total};
 ghost use Rattle.rp_resolution.specs.Context.{context_of, members_named};
 ghost use Rattle.rp_resolution.specs.Sorts.{Valued, column_sort, aggregate_sort};
 ghost use Rattle.rp_resolution.specs.ExprFaults.{unless, variable_faults, qualifier_faults, column_faults, scope_faults, nesting_faults, offset_faults, path_faults, counted_faults, sum_faults, function_faults, is_step, may_hold, scope_in};
-ghost use Rattle.rp_resolution.specs.Resolved.{unqualified, members_meant, column_number, column_place, moved, rows_or, is_final, listing_total, rows_meant, total_counted, total_over};
+ghost use Rattle.rp_resolution.specs.Resolved.{unqualified, members_meant, column_number, column_place, moved, rows_or, is_final, listing_total, rows_meant, total_over};
 ghost use Rattle.rp_resolution.specs.Checked.{FirstFaultOr, Navigates};
 
 use crate::fault::{CheckFault, CheckKind, Fault};
@@ -290,48 +290,104 @@ pub(crate) fn navigation(
     }
 }
 
-/// What COUNT goes over.
-fn counted(alloc: Global, names: &Names, argument: &Counted) -> Result<Total, CheckFault>
-    ensures { FirstFaultOr (counted_faults (context_of names.now) argument.now)
-        (λ t. plain_total t ≡ total_counted (context_of names.now) argument.now) result }
+/// The total of COUNT.
+fn counted(alloc: Global, names: &Names, argument: &Counted) -> Result<(Total, Kind), CheckFault>
+    ensures { let x = context_of names.now in let function = AggregateFunction.Count argument.now in
+        FirstFaultOr (counted_faults x argument.now)
+        (λ t. (plain_total t.0 ≡ total_over x function) × (aggregate_sort x function ≡ Some (Valued t.1))) result }
 {
     match argument {
-        Counted::Rows => Ok(Total {
-            variables: Variables::Universal,
-            function: Function::Rows,
-        }),
+        Counted::Rows => {
+            let variables = Variables::Universal;
+            let function = Function::Rows;
+            Ok((
+                Total {
+                    variables,
+                    function,
+                },
+                Kind::Int,
+            ))
+        }
         Counted::RowsOf(name) => {
             let variables = variables(alloc, names, name)?;
             let function = Function::Rows;
-            Ok(Total {
-                variables,
-                function,
-            })
+            Ok((
+                Total {
+                    variables,
+                    function,
+                },
+                Kind::Int,
+            ))
         }
         Counted::Column(reference) => {
             let (variables, number, _) = column(alloc, names, reference)?;
             let function = Function::Count(number);
-            Ok(Total {
-                variables,
-                function,
-            })
+            Ok((
+                Total {
+                    variables,
+                    function,
+                },
+                Kind::Int,
+            ))
         }
     }
 }
 
-/// SUM of a column, which must be of whole numbers.
-fn summed(alloc: Global, names: &Names, at: usize, reference: &Column) -> Result<Total, CheckFault>
-    ensures { FirstFaultOr (sum_faults (context_of names.now) at reference.now)
-        (λ t. (members_of t.variables ≡ members_meant (context_of names.now) reference.now.qualifier)
-        × (t.function ≡ Function.Sum (column_number (context_of names.now) reference.now))) result }
+/// The total of SUM of a column, which must be of whole numbers.
+fn summed(
+    alloc: Global,
+    names: &Names,
+    at: usize,
+    reference: &Column,
+) -> Result<(Total, Kind), CheckFault>
+    ensures { let x = context_of names.now in let function = AggregateFunction.Sum reference.now in
+        FirstFaultOr (sum_faults x at reference.now)
+        (λ t. (plain_total t.0 ≡ total_over x function) × (aggregate_sort x function ≡ Some (Valued t.1))) result }
 {
     let (variables, number, kind) = column(alloc, names, reference)?;
     require(kind == Kind::Int, CheckKind::KindMismatch, at)?;
     let function = Function::Sum(number);
-    Ok(Total {
-        variables,
-        function,
-    })
+    Ok((
+        Total {
+            variables,
+            function,
+        },
+        Kind::Int,
+    ))
+}
+
+/// The total of MIN of a column, and the kind of the column.
+fn least(alloc: Global, names: &Names, reference: &Column) -> Result<(Total, Kind), CheckFault>
+    ensures { let x = context_of names.now in let function = AggregateFunction.Min reference.now in
+        FirstFaultOr (column_faults x reference.now)
+        (λ t. (plain_total t.0 ≡ total_over x function) × (aggregate_sort x function ≡ Some (Valued t.1))) result }
+{
+    let (variables, number, kind) = column(alloc, names, reference)?;
+    let function = Function::Least(number);
+    Ok((
+        Total {
+            variables,
+            function,
+        },
+        kind,
+    ))
+}
+
+/// The total of MAX of a column, and the kind of the column.
+fn greatest(alloc: Global, names: &Names, reference: &Column) -> Result<(Total, Kind), CheckFault>
+    ensures { let x = context_of names.now in let function = AggregateFunction.Max reference.now in
+        FirstFaultOr (column_faults x reference.now)
+        (λ t. (plain_total t.0 ≡ total_over x function) × (aggregate_sort x function ≡ Some (Valued t.1))) result }
+{
+    let (variables, number, kind) = column(alloc, names, reference)?;
+    let function = Function::Greatest(number);
+    Ok((
+        Total {
+            variables,
+            function,
+        },
+        kind,
+    ))
 }
 
 /// The total of an aggregate whose word stands at the offset, and the kind of its value.
@@ -346,29 +402,9 @@ pub(crate) fn totalled(
         × (aggregate_sort (context_of names.now) function.now ≡ Some (Valued t.1))) result }
 {
     match function {
-        AggregateFunction::Count(argument) => Ok((counted(alloc, names, argument)?, Kind::Int)),
-        AggregateFunction::Sum(reference) => Ok((summed(alloc, names, at, reference)?, Kind::Int)),
-        AggregateFunction::Min(reference) => {
-            let (variables, number, kind) = column(alloc, names, reference)?;
-            let function = Function::Least(number);
-            Ok((
-                Total {
-                    variables,
-                    function,
-                },
-                kind,
-            ))
-        }
-        AggregateFunction::Max(reference) => {
-            let (variables, number, kind) = column(alloc, names, reference)?;
-            let function = Function::Greatest(number);
-            Ok((
-                Total {
-                    variables,
-                    function,
-                },
-                kind,
-            ))
-        }
+        AggregateFunction::Count(argument) => counted(alloc, names, argument),
+        AggregateFunction::Sum(reference) => summed(alloc, names, at, reference),
+        AggregateFunction::Min(reference) => least(alloc, names, reference),
+        AggregateFunction::Max(reference) => greatest(alloc, names, reference),
     }
 }

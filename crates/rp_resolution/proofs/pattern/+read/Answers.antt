@@ -1,9 +1,12 @@
-use Rattle.std.proofs.Common.{rules, ◌≡◌, ◌≤◌, ◌+◌, [], ◌++◌, map, take, drop, length, ap, arith}
+use Rattle.std.proofs.Common.{rules, ◌≡◌, ◌∙◌, ◌≤◌, ◌+◌, [], ◌++◌, map, take, drop, length, ap, sym, arith}
 use Rattle.std.specs.Prelude.{nat_le}
 use Rattle.std.proofs.lemmas.List.{drop_all, take_all, length-map}
 use Rattle.std.proofs.lemmas.Bool.Decides.{nat_tests}
 use Rattle.rp_tree.specs.Tree as tree
-use Rattle.rp_tree.specs.Tree.{tree_of}
+use Rattle.rp_tree.specs.Tree.{Tree, tree_of, tree_step}
+use Rattle.rp_tree.specs.declared.tree.Pattern.TheOpen as P
+use Rattle.rp_tree.specs.declared.tree.Pattern.TheVariants as V
+use Rattle.rp_tree.specs.declared.tree.Pattern.TheFolds.{fold-roll-Pattern}
 use Rattle.rp_resolution.specs.declared.fault.CheckKind.TheVariants.{TooManyPermuted}
 use Rattle.rp_resolution.specs.ExprFaults.{unless}
 use Rattle.rp_resolution.specs.PartFaults.{pattern_faults, part_count}
@@ -105,3 +108,35 @@ read_all-returns t c =
     let i = c.loop-part.part-index in
     let so = rw (drop_all i xs c.loop-part-test.false, take_all i xs c.loop-part-test.false) at c.loop-part.invariant in
     all_read c.args.names.now.items (map tree_of xs) c.loop-part.names.items c.loop-part.forms.items so
+
+pub read-returns-in-Variable : goal.read-returns-in-Variable
+read-returns-in-Variable t c =
+    let whole : tree_of c.args.pattern.now ≡ tree.Variable c.in-Variable.name = ap tree_of c.in-Variable.is ∙ (ap tree_of (sym (V.rolls-Variable c.in-Variable.name)) ∙ fold-roll-Pattern Tree tree_step (P.Variable c.in-Variable.name)) in
+    rw whole c.variable.ensures
+
+pub read-returns-in-Concatenation : goal.read-returns-in-Concatenation
+read-returns-in-Concatenation t c =
+    let whole : tree_of c.args.pattern.now ≡ tree.joined_all tree.Concatenation (map tree_of c.in-Concatenation.parts.items) = ap tree_of c.in-Concatenation.is ∙ (ap tree_of (sym (V.rolls-Concatenation c.in-Concatenation.parts)) ∙ fold-roll-Pattern Tree tree_step (P.Concatenation c.in-Concatenation.parts)) in
+    rw whole (rw c.as_slice.ensures.value at c.joined.ensures)
+
+pub read-returns-in-Alternation : goal.read-returns-in-Alternation
+read-returns-in-Alternation t c =
+    let whole : tree_of c.args.pattern.now ≡ tree.joined_all tree.Alternation (map tree_of c.in-Alternation.parts.items) = ap tree_of c.in-Alternation.is ∙ (ap tree_of (sym (V.rolls-Alternation c.in-Alternation.parts)) ∙ fold-roll-Pattern Tree tree_step (P.Alternation c.in-Alternation.parts)) in
+    rw whole (rw c.as_slice-in-Alternation.ensures.value at c.joined-in-Alternation.ensures)
+
+pub read-returns-in-Permute : goal.read-returns-in-Permute
+read-returns-in-Permute t c =
+    let whole : tree_of c.args.pattern.now ≡ tree.Permute c.in-Permute.at (tree.joined_all tree.Beside (map tree_of c.in-Permute.parts.items)) = ap tree_of c.in-Permute.is ∙ (ap tree_of (sym (V.rolls-Permute c.in-Permute.at c.in-Permute.parts)) ∙ fold-roll-Pattern Tree tree_step (P.Permute c.in-Permute.at c.in-Permute.parts)) in
+    rw whole (rw c.as_slice-in-Permute.ensures.value at c.permutation.ensures)
+
+pub read-returns-in-Exclusion : goal.read-returns-in-Exclusion
+read-returns-in-Exclusion t c =
+    let whole : tree_of c.args.pattern.now ≡ tree.Exclusion c.in-Exclusion.at (tree_of c.in-Exclusion.body.value) = ap tree_of c.in-Exclusion.is ∙ (ap tree_of (sym (V.rolls-Exclusion c.in-Exclusion.at c.in-Exclusion.body)) ∙ fold-roll-Pattern Tree tree_step (P.Exclusion c.in-Exclusion.at c.in-Exclusion.body)) in
+    let same : c.deref.result.now ≡ c.in-Exclusion.body.value = c.deref.ensures in
+    rw whole (rw same at c.exclusion.ensures)
+
+pub read-returns-in-Quantified : goal.read-returns-in-Quantified
+read-returns-in-Quantified t c =
+    let whole : tree_of c.args.pattern.now ≡ tree.Quantified c.in-Quantified.quantifier (tree_of c.in-Quantified.body.value) = ap tree_of c.in-Quantified.is ∙ (ap tree_of (sym (V.rolls-Quantified c.in-Quantified.body c.in-Quantified.quantifier)) ∙ fold-roll-Pattern Tree tree_step (P.Quantified c.in-Quantified.body c.in-Quantified.quantifier)) in
+    let same : c.deref-in-Quantified.result.now ≡ c.in-Quantified.body.value = c.deref-in-Quantified.ensures in
+    rw whole (rw same at c.quantified.ensures)
