@@ -2,11 +2,12 @@
 use Rattle.std.proofs.Common.{◌≡◌, ◌∙◌, ℕ, suc, ◌+◌, ◌≤◌, Bool, true, false, ◌&&◌, List, [], ◌∷◌, ◌++◌, map, length, refl, sym, ap, cond, arith, ◌<◌, ◌||◌, Option, None, Some}
 use Rattle.std.proofs.lemmas.List.{append-nil}
 use Rattle.std.specs.List.{list_any, position, position_or_len}
-use Rattle.std.specs.Prelude.{not, nat_lt, unwrap_or}
+use Rattle.std.specs.Prelude.{not, nat_lt, unwrap_or, option_map}
 use Rattle.std.proofs.lemmas.Bool.Decides.{nat_tests}
 use Rattle.rp_words.specs.declared.form.Form.{Form}
 use Rattle.rp_words.specs.Bounds.{is_allowed}
 use Rattle.rp_words.specs.Variables.{all_true}
+use Rattle.rp_tree.specs.declared.tree.Quantifier.{Quantifier}
 use Rattle.rp_tree.specs.Tree as tree
 use Rattle.rp_tree.specs.Tree.{Tree}
 use Rattle.rp_resolution.specs.PartFaults.{pattern_faults, first_of, first_exclusion}
@@ -95,6 +96,29 @@ reads_permuted names at ts now fs whole r is allowed = record {
   extra = r.extra;
   grown = r.grown;
   shape = λ more. is ∙ ap shape.Permute (ap (shape.joined_all shape.Beside) (r.shapes more) ∙ sym (shape_joined tree.Beside shape.Beside beside (now ++ more) ts));
+}
+
+-- a part that is read, as one whose rows aren't shown
+pub reads_hidden : (names : List (List ℕ)) (at : ℕ) (t : Tree) (now : List (List ℕ)) (body whole : Form)
+    → Reads names t now body → shape_of whole ≡ shape.Exclusion (shape_of body) → is_allowed whole ≡ is_allowed body → Reads names (tree.Exclusion at t) now whole
+reads_hidden names at t now body whole r is allowed = record {
+  allowed = allowed ∙ r.allowed;
+  names = r.names;
+  extra = r.extra;
+  grown = r.grown;
+  shape = λ more. is ∙ ap shape.Exclusion (r.shape more);
+}
+
+-- a part that is read, as one that is repeated
+pub reads_repeated : (names : List (List ℕ)) (q : Quantifier) (t : Tree) (now : List (List ℕ)) (body whole : Form)
+    → Reads names t now body → shape_of whole ≡ shape.Quantified (shape_of body) q.lower.count (option_map (λ b. b.count) q.upper) q.reluctant
+    → is_allowed whole ≡ is_allowed body → Reads names (tree.Quantified q t) now whole
+reads_repeated names q t now body whole r is allowed = record {
+  allowed = allowed ∙ r.allowed;
+  names = r.names;
+  extra = r.extra;
+  grown = r.grown;
+  shape = λ more. is ∙ ap (λ s. shape.Quantified s q.lower.count (option_map (λ b. b.count) q.upper) q.reluctant) (r.shape more);
 }
 
 -- the last two of a list of shapes are joined

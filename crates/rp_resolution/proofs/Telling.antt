@@ -1,6 +1,6 @@
 -- Faults of a part are faults of the whole.
 use Rattle.std.proofs.Common.{◌≡◌, ℕ, Bool, true, false, ◌&&◌, Option, None, Some, List, [], ◌++◌, Result, Ok, Err, refl}
-use Rattle.std.specs.Prelude.{IsErr, IfOk, MatchResult}
+use Rattle.std.specs.Prelude.{IsErr, IfOk, IfErr, MatchResult}
 use Rattle.rp_resolution.specs.declared.fault.Fault.{Fault}
 use Rattle.rp_resolution.specs.declared.fault.CheckKind.{CheckKind}
 use Rattle.rp_resolution.specs.declared.fault.CheckFault.{CheckFault}
@@ -42,6 +42,12 @@ allowed fs gs Right (Err e) none told = tells_behind e fs gs none told
 pub clean_or_memory : {X : Type 0} (fs : List Fault) (Right : X → Type 0) (r : Result X CheckFault) → fs ≡ [] → MatchResult r Right (λ e. e ≡ refusal.OutOfMemory) → FirstFaultOr fs Right r
 clean_or_memory fs Right (Ok x) clean right = (clean, right)
 clean_or_memory fs Right (Err e) clean is = tells_memory e fs is
+
+-- the same, where two facts of the answer make it right
+pub right_or_memory : {X : Type 0} (fs : List Fault) (P Q Right : X → Type 0) (r : Result X CheckFault) → fs ≡ [] → ((x : X) → P x → Q x → Right x)
+    → IfOk r P → IfOk r Q → IfErr r (λ e. e ≡ refusal.OutOfMemory) → FirstFaultOr fs Right r
+right_or_memory fs P Q Right (Ok x) clean makes p q is = (clean, makes x p q)
+right_or_memory fs P Q Right (Err e) clean makes p q is = tells_memory e fs is
 
 -- where an error is answered, anything holds of what is given else
 pub not_given : {X E : Type 0} (r : Result X E) (P : X → Type 0) → IsErr r → IfOk r P

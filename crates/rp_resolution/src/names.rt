@@ -1,12 +1,13 @@
 //! What an expression may name.
 
-ghost use Rattle.std.specs.Prelude.{◌≡◌, map, option_map, IfSome, IfOk, length, ◌<◌};
+ghost use Rattle.std.specs.Prelude.{◌≡◌, map, option_map, IfSome, MatchResult, length, ◌<◌};
 ghost use Rattle.rp_resolution.specs.Context.{column_named, members_named, naming_of, is_name};
 ghost use Rattle.rp_query.specs.Formulas.{members_of};
 
+use crate::fault::CheckFault;
 use rp_query::Variables;
 use rp_value::{Column, Text, Value};
-use std::alloc::{AllocError, Global};
+use std::alloc::Global;
 use std::rc::Rc;
 
 /// A pattern variable or a union.
@@ -65,8 +66,9 @@ pub(crate) fn set_named<'a>(name: &Text, sets: &'a [NamedSet]) -> Option<&'a Nam
 }
 
 /// The members of a set, as those that are meant.
-pub(crate) fn among(alloc: Global, set: &NamedSet) -> Result<Variables, AllocError>
-    ensures { IfOk result (λ v. members_of v ≡ Some set.now.members.items) }
+pub(crate) fn among(alloc: Global, set: &NamedSet) -> Result<Variables, CheckFault>
+    ensures { MatchResult result (λ v. members_of v ≡ Some set.now.members.items)
+        (λ e. e ≡ CheckFault.OutOfMemory) }
 {
     let mut members = Vec::new(alloc);
     members.extend_from_slice(set.members.as_slice())?;

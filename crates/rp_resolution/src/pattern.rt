@@ -1,6 +1,6 @@
 //! The pattern of a clause, its variables numbered by first appearance.
 
-ghost use Rattle.std.specs.Prelude.{◌≡◌, true, length, map, [], ◌≤◌, ◌<◌, ◌&&◌, IfOk, IfSome, option_map};
+ghost use Rattle.std.specs.Prelude.{◌≡◌, true, length, map, [], ◌≤◌, ◌<◌, ◌&&◌, IfOk, IfErr, IfSome, option_map};
 ghost use Rattle.std.specs.List.{position};
 ghost use Rattle.rp_words.specs.Bounds.{is_allowed, bounds_hold};
 ghost use Rattle.rp_words.specs.Variables.{all_true};
@@ -80,9 +80,10 @@ fn join(alloc: Global, joint: Joint, first: Form, second: Form) -> Result<Form, 
 }
 
 /// The parts joined from the right.
-fn join_all(alloc: Global, joint: Joint, parts: Vec<Form>) -> Result<Form, AllocError>
+fn join_all(alloc: Global, joint: Joint, parts: Vec<Form>) -> Result<Form, CheckFault>
     ensures shape { IfOk result (λ f. shape_of f ≡ shape.joined_all (shape_joint joint) (map shape_of parts.items)) }
     ensures allowed { IfOk result (λ f. all_true (map is_allowed parts.items) ≡ true → is_allowed f ≡ true) }
+    ensures refused { IfErr result (λ e. e ≡ CheckFault.OutOfMemory) }
 {
     let mut parts = parts;
     let Some(mut last) = parts.pop() else {
@@ -117,20 +118,22 @@ fn one_at_least(parts: Vec<Form>) -> Result<Vec<Form>, AllocError>
 }
 
 /// The parts in any order. PERMUTE of nothing is that of the empty pattern.
-fn in_any_order(alloc: Global, parts: Vec<Form>) -> Result<Form, AllocError>
+fn in_any_order(alloc: Global, parts: Vec<Form>) -> Result<Form, CheckFault>
     requires { length parts.items ≤ 8 }
     ensures shape { IfOk result
         (λ f. shape_of f ≡ shape.Permute (shape.joined_all shape.Beside (map shape_of parts.items))) }
     ensures allowed { IfOk result (λ f. all_true (map is_allowed parts.items) ≡ true → is_allowed f ≡ true) }
+    ensures refused { IfErr result (λ e. e ≡ CheckFault.OutOfMemory) }
 {
     let some = one_at_least(parts)?;
     let owners = owned(alloc, some)?;
     Ok(Form::Permute(owners))
 }
 
-fn hidden(alloc: Global, body: Form) -> Result<Form, AllocError>
+fn hidden(alloc: Global, body: Form) -> Result<Form, CheckFault>
     ensures shape { IfOk result (λ f. shape_of f ≡ shape.Exclusion (shape_of body)) }
     ensures allowed { IfOk result (λ f. is_allowed f ≡ is_allowed body) }
+    ensures refused { IfErr result (λ e. e ≡ CheckFault.OutOfMemory) }
 {
     let body = Rc::new(alloc, body)?;
     Ok(Form::Exclusion(body))
@@ -147,11 +150,12 @@ fn bounds_hold(lower: u64, upper: Option<Bound>) -> bool
 }
 
 /// The body again and again.
-fn repeated(alloc: Global, body: Form, quantifier: Quantifier) -> Result<Form, AllocError>
+fn repeated(alloc: Global, body: Form, quantifier: Quantifier) -> Result<Form, CheckFault>
     requires { bounds_hold quantifier.lower.count (option_map (λ b. b.count) quantifier.upper) ≡ true }
     ensures shape { let upper = option_map (λ b. b.count) quantifier.upper in IfOk result
         (λ f. shape_of f ≡ shape.Quantified (shape_of body) quantifier.lower.count upper quantifier.reluctant) }
     ensures allowed { IfOk result (λ f. is_allowed f ≡ is_allowed body) }
+    ensures refused { IfErr result (λ e. e ≡ CheckFault.OutOfMemory) }
 {
     let body = Rc::new(alloc, body)?;
     let reluctant = quantifier.reluctant;
@@ -199,8 +203,7 @@ fn joined(
         FirstFaultOr (pattern_faults whole) (Reads names.old.items whole names.new.items) result }
 {
     let forms = read_all(alloc, names, parts)?;
-    let form = join_all(alloc, joint, forms)?;
-    Ok(form)
+    join_all(alloc, joint, forms)
 }
 
 #[cycle(read)]
@@ -215,8 +218,7 @@ fn permutation(
 {
     require(parts.len() <= MAX_PARTS, CheckKind::TooManyPermuted, at)?;
     let forms = read_all(alloc, names, parts)?;
-    let form = in_any_order(alloc, forms)?;
-    Ok(form)
+    in_any_order(alloc, forms)
 }
 
 #[cycle(read)]
@@ -230,8 +232,7 @@ fn exclusion(
         FirstFaultOr (pattern_faults whole) (Reads names.old.items whole names.new.items) result }
 {
     let body = read(alloc, names, body)?;
-    let form = hidden(alloc, body)?;
-    Ok(form)
+    hidden(alloc, body)
 }
 
 #[cycle(read)]
@@ -247,8 +248,7 @@ fn quantified(
     let body = read(alloc, names, body)?;
     let holds = bounds_hold(quantifier.lower.count, quantifier.upper);
     require(holds, CheckKind::BadBounds, quantifier.at)?;
-    let form = repeated(alloc, body, quantifier)?;
-    Ok(form)
+    repeated(alloc, body, quantifier)
 }
 
 /// The form of a pattern, or its first fault. The names of its variables are put behind those before it.

@@ -43,7 +43,7 @@ pub(crate) fn variables(alloc: Global, names: &Names, name: &Name) -> Result<Var
         (λ v. members_of v ≡ members_named name.now.text (context_of names.now).sets) result }
 {
     match set_named(&name.text, names.sets) {
-        Some(set) => Ok(among(alloc, set)?),
+        Some(set) => among(alloc, set),
         None => Err(fault(CheckKind::UnknownVariable, name.at)),
     }
 }
@@ -146,10 +146,7 @@ fn allow_offset(offset: Option<Offset>) -> Result<(), CheckFault>
     ensures { FirstFaultOr (offset_faults offset) (λ u. Unit {0}) result }
 {
     match offset {
-        Some(offset) => {
-            require(offset.rows <= MAX_OFFSET, CheckKind::BadBounds, offset.at)?;
-            Ok(())
-        }
+        Some(offset) => require(offset.rows <= MAX_OFFSET, CheckKind::BadBounds, offset.at),
         None => Ok(()),
     }
 }

@@ -1,5 +1,5 @@
-use Rattle.std.proofs.Common.{rules, ◌≡◌, ◌∙◌, ◌≤◌, ◌+◌, [], ◌++◌, map, take, drop, length, ap, sym, arith}
-use Rattle.std.specs.Prelude.{nat_le}
+use Rattle.std.proofs.Common.{rules, ◌≡◌, ◌∙◌, true, ◌≤◌, ◌+◌, [], ◌++◌, map, take, drop, length, ap, sym, arith}
+use Rattle.std.specs.Prelude.{nat_le, option_map}
 use Rattle.std.proofs.lemmas.List.{drop_all, take_all, length-map}
 use Rattle.std.proofs.lemmas.Bool.Decides.{nat_tests}
 use Rattle.rp_tree.specs.Tree as tree
@@ -9,26 +9,23 @@ use Rattle.rp_tree.specs.declared.tree.Pattern.TheVariants as V
 use Rattle.rp_tree.specs.declared.tree.Pattern.TheFolds.{fold-roll-Pattern}
 use Rattle.rp_resolution.specs.declared.fault.CheckKind.TheVariants.{TooManyPermuted}
 use Rattle.rp_resolution.specs.ExprFaults.{unless}
-use Rattle.rp_resolution.specs.PartFaults.{pattern_faults, part_count}
+use Rattle.rp_resolution.specs.PartFaults.{pattern_faults, quantifier_faults, part_count}
 use Rattle.rp_resolution.specs.Joints.{tree_joint, shape_joint}
 use Rattle.rp_same_query.specs.Shapes as shape
 use Rattle.rp_same_query.specs.Shapes.{shape_of}
 use Rattle.rp_resolution.specs.Shapes.{shaped}
-use Rattle.rp_resolution.proofs.Telling.{telling, tells_front, tells_behind}
+use Rattle.rp_resolution.specs.Reading.{Reads}
+use Rattle.rp_words.specs.Bounds.{is_allowed}
+use Rattle.rp_words.specs.Variables.{all_true}
+use Rattle.rp_resolution.proofs.Telling.{telling, tells_front, tells_behind, none_in_both, right_or_memory}
 use Rattle.rp_resolution.proofs.Each.{cut, one_taken}
-use Rattle.rp_resolution.proofs.Joining.{beside, by_joint, faults_joined, reads_joined, reads_permuted}
+use Rattle.rp_resolution.proofs.Joining.{beside, by_joint, faults_joined, reads_joined, reads_permuted, reads_hidden, reads_repeated}
 use Rattle.rp_resolution.proofs.OneTree.{few_parts}
 use Rattle.rp_resolution.proofs.Parts.{none_read, one_read, one_wrong, all_read}
 use Rattle.rp_resolution.proofs.pattern.+read.Goals as goal
 
-pub exclusion-returns-in_err-form : goal.exclusion-returns-in_err-form
-exclusion-returns-in_err-form t c = search (rules, telling)
-
 pub quantified-returns-in_err-body : goal.quantified-returns-in_err-body
 quantified-returns-in_err-body t c = search (rules, telling)
-
-pub quantified-returns-in_err-form : goal.quantified-returns-in_err-form
-quantified-returns-in_err-form t c = search (rules, telling)
 
 pub permutation-returns-in_err-require : goal.permutation-returns-in_err-require
 permutation-returns-in_err-require t c =
@@ -51,32 +48,56 @@ permutation-in_any_order-requires t c =
     let same : length (map shape_of c.in_ok-forms.forms.items) ≡ length (map (shaped (c.read_all.new.names.items ++ [])) ts) = ap length (c.in_ok-forms.ensures.1.shapes []) in
     omega (arith, same, length-map c.in_ok-forms.forms.items shape_of, length-map ts (shaped (c.read_all.new.names.items ++ [])), length-map c.args.parts.now tree_of)
 
-pub permutation-returns-in_err-form : goal.permutation-returns-in_err-form
-permutation-returns-in_err-form t c = search (rules, telling)
-
 pub permutation-returns : goal.permutation-returns
 permutation-returns t c =
     let ts = map tree_of c.args.parts.now in
-    let none = rw (few_parts c.args.parts.now) at c.in_ok-require.ensures.0 in (
-      rw (none, faults_joined tree.Beside shape.Beside beside ts) c.in_ok-forms.ensures.0,
-      reads_permuted c.args.names.now.items c.args.at ts c.read_all.new.names.items c.in_ok-forms.forms.items c.in_ok-form.form c.in_ok-forms.ensures.1 c.in_ok-form.ensures.shape (c.in_ok-form.ensures.allowed c.in_ok-forms.ensures.1.allowed),
-    )
+    let whole = tree.Permute c.args.at (tree.joined_all tree.Beside ts) in
+    let none = rw (few_parts c.args.parts.now) at c.in_ok-require.ensures.0 in
+    let clean : pattern_faults whole ≡ [] = rw (none, faults_joined tree.Beside shape.Beside beside ts) c.in_ok-forms.ensures.0 in
+    let forms = c.in_ok-forms.forms.items in
+    right_or_memory (pattern_faults whole) (λ f. shape_of f ≡ shape.Permute (shape.joined_all shape.Beside (map shape_of forms))) (λ f. all_true (map is_allowed forms) ≡ true → is_allowed f ≡ true)
+    (Reads c.args.names.now.items whole c.read_all.new.names.items) c.in_any_order.result clean
+    (λ f is allowed. reads_permuted c.args.names.now.items c.args.at ts c.read_all.new.names.items forms f c.in_ok-forms.ensures.1 is (allowed c.in_ok-forms.ensures.1.allowed))
+    c.in_any_order.ensures.shape c.in_any_order.ensures.allowed c.in_any_order.ensures.refused
 
 pub joined-returns-in_err-forms : goal.joined-returns-in_err-forms
 joined-returns-in_err-forms t c =
     let told = rw (← faults_joined (tree_joint c.args.joint) (shape_joint c.args.joint) (by_joint c.args.joint) (map tree_of c.args.parts.now)) at c.in_err-forms.ensures in
     search (rules, told)
 
-pub joined-returns-in_err-form : goal.joined-returns-in_err-form
-joined-returns-in_err-form t c = search (rules, telling)
-
 pub joined-returns : goal.joined-returns
 joined-returns t c =
     let ts = map tree_of c.args.parts.now in
-    let joins = by_joint c.args.joint in (
-      rw (faults_joined (tree_joint c.args.joint) (shape_joint c.args.joint) joins ts) c.in_ok-forms.ensures.0,
-      reads_joined (tree_joint c.args.joint) (shape_joint c.args.joint) joins c.args.names.now.items ts c.read_all.new.names.items c.in_ok-forms.forms.items c.in_ok-form.form c.in_ok-forms.ensures.1 c.in_ok-form.ensures.shape (c.in_ok-form.ensures.allowed c.in_ok-forms.ensures.1.allowed),
-    )
+    let joins = by_joint c.args.joint in
+    let whole = tree.joined_all (tree_joint c.args.joint) ts in
+    let clean : pattern_faults whole ≡ [] = rw (faults_joined (tree_joint c.args.joint) (shape_joint c.args.joint) joins ts) c.in_ok-forms.ensures.0 in
+    let forms = c.in_ok-forms.forms.items in
+    right_or_memory (pattern_faults whole) (λ f. shape_of f ≡ shape.joined_all (shape_joint c.args.joint) (map shape_of forms)) (λ f. all_true (map is_allowed forms) ≡ true → is_allowed f ≡ true)
+    (Reads c.args.names.now.items whole c.read_all.new.names.items) c.join_all.result clean
+    (λ f is allowed. reads_joined (tree_joint c.args.joint) (shape_joint c.args.joint) joins c.args.names.now.items ts c.read_all.new.names.items forms f c.in_ok-forms.ensures.1 is (allowed c.in_ok-forms.ensures.1.allowed))
+    c.join_all.ensures.shape c.join_all.ensures.allowed c.join_all.ensures.refused
+
+pub exclusion-returns : goal.exclusion-returns
+exclusion-returns t c =
+    let part = tree_of c.args.body.now in
+    let whole = tree.Exclusion c.args.at part in
+    let body = c.in_ok-body.body in
+    right_or_memory (pattern_faults whole) (λ f. shape_of f ≡ shape.Exclusion (shape_of body)) (λ f. is_allowed f ≡ is_allowed body)
+    (Reads c.args.names.now.items whole c.read.new.names.items) c.hidden.result c.in_ok-body.ensures.0
+    (λ f is allowed. reads_hidden c.args.names.now.items c.args.at part c.read.new.names.items body f c.in_ok-body.ensures.1 is allowed)
+    c.hidden.ensures.shape c.hidden.ensures.allowed c.hidden.ensures.refused
+
+pub quantified-returns : goal.quantified-returns
+quantified-returns t c =
+    let part = tree_of c.args.body.now in
+    let q = c.args.quantifier in
+    let whole = tree.Quantified q part in
+    let body = c.in_ok-body.body in
+    let within = rw c.bounds_hold-holds.ensures at c.in_ok-require.ensures.0 in
+    right_or_memory (pattern_faults whole) (λ f. shape_of f ≡ shape.Quantified (shape_of body) q.lower.count (option_map (λ b. b.count) q.upper) q.reluctant) (λ f. is_allowed f ≡ is_allowed body)
+    (Reads c.args.names.now.items whole c.read.new.names.items) c.repeated.result (none_in_both (pattern_faults part) (quantifier_faults q) c.in_ok-body.ensures.0 within)
+    (λ f is allowed. reads_repeated c.args.names.now.items q part c.read.new.names.items body f c.in_ok-body.ensures.1 is allowed)
+    c.repeated.ensures.shape c.repeated.ensures.allowed c.repeated.ensures.refused
 
 pub read_all-loop-part-init : goal.read_all-loop-part-init
 read_all-loop-part-init t c = rw c.new-forms.ensures.items (none_read c.args.names.now.items (map tree_of c.args.parts.now))
