@@ -33,27 +33,30 @@ order =
 
 -- expr AS name
 unfoldable pub measure : ℕ → Grammar MeasureTree
-measure room = gives (λ x. record { at = x.0; term = x.1.0; name = x.1.1.1 }) (here then whole_expr room then word (key keyword.As) then name)
+measure room = gives (λ x. record { at = x.0; term = x.1.0; name = x.1.1 }) (here then whole_expr room then gives second (word (key keyword.As) then name))
 
--- three reserved words that ask for these rows
-abbrev pub three_words : Keyword → Keyword → Keyword → RowsPerMatch → Grammar RowsPerMatch
-three_words a b c rows = gives (λ x. rows) (word (key a) then word (key b) then word (key c))
+-- two reserved words and three, with the offset of the first
+abbrev pub two_words : Keyword → Keyword → Grammar ℕ
+two_words a b = gives (λ x. x.0) (word (key a) then word (key b))
+
+abbrev pub three_words : Keyword → Keyword → Keyword → Grammar ℕ
+three_words a b c = gives (λ x. x.0) (two_words a b then word (key c))
 
 -- SHOW EMPTY MATCHES | OMIT EMPTY MATCHES | WITH UNMATCHED ROWS, or nothing
 unfoldable pub shown : Grammar RowsPerMatch
 shown =
-    three_words keyword.Show keyword.Empty keyword.Matches rows_as.AllShowEmpty
-    or three_words keyword.Omit keyword.Empty keyword.Matches rows_as.AllOmitEmpty
-    or three_words keyword.With keyword.Unmatched keyword.Rows rows_as.AllWithUnmatched
+    gives (λ at. rows_as.AllShowEmpty) (three_words keyword.Show keyword.Empty keyword.Matches)
+    or gives (λ at. rows_as.AllOmitEmpty) (three_words keyword.Omit keyword.Empty keyword.Matches)
+    or gives (λ at. rows_as.AllWithUnmatched) (three_words keyword.With keyword.Unmatched keyword.Rows)
     or nothing rows_as.AllShowEmpty
 
 -- ONE ROW PER MATCH
 abbrev pub one_row : Grammar RowsPerMatch
-one_row = gives (λ x. rows_as.One) (word (key keyword.One) then word (key keyword.Row) then word (key keyword.Per) then word (key keyword.Match))
+one_row = gives (λ x. rows_as.One) (two_words keyword.One keyword.Row then two_words keyword.Per keyword.Match)
 
 -- ALL ROWS PER MATCH shown
 abbrev pub all_rows : Grammar RowsPerMatch
-all_rows = gives (λ x. x.1.1.1.1) (word (key keyword.All) then word (key keyword.Rows) then word (key keyword.Per) then word (key keyword.Match) then shown)
+all_rows = gives (λ x. x.1.1) (two_words keyword.All keyword.Rows then two_words keyword.Per keyword.Match then shown)
 
 -- one_row | all_rows
 unfoldable pub rows : Grammar RowsPerMatch
@@ -62,7 +65,7 @@ rows = one_row or all_rows
 -- NEXT ROW | FIRST name | LAST name | name
 unfoldable pub target : Grammar Skip
 target =
-    gives (λ x. skip_as.ToNextRow) (word (key keyword.Next) then word (key keyword.Row))
+    gives (λ at. skip_as.ToNextRow) (two_words keyword.Next keyword.Row)
     or gives (λ x. skip_as.ToFirst x.1) (word (key keyword.First) then name)
     or gives (λ x. skip_as.ToLast x.1) (word (key keyword.Last) then name)
     or gives skip_as.ToLast name
@@ -70,8 +73,8 @@ target =
 -- AFTER MATCH SKIP (PAST LAST ROW | TO target)
 unfoldable pub skip : Grammar Skip
 skip =
-    gives (λ x. x.1.1.1) (word (key keyword.After) then word (key keyword.Match) then word (key keyword.Skip) then (
-    gives (λ x. skip_as.PastLastRow) (word (key keyword.Past) then word (key keyword.Last) then word (key keyword.Row))
+    gives second (three_words keyword.After keyword.Match keyword.Skip then (
+    gives (λ at. skip_as.PastLastRow) (three_words keyword.Past keyword.Last keyword.Row)
     or gives second (word (key keyword.To) then target)))
 
 -- name "=" "(" name , .. ")"
@@ -98,11 +101,11 @@ or_past (Some s) = s
 
 -- [PARTITION BY name , ..]
 unfoldable pub partition_part : Grammar (List Name)
-partition_part = gives or_none (optional (gives (λ x. x.1.1) (word (key keyword.Partition) then word (key keyword.By) then listed name)))
+partition_part = gives or_none (optional (gives second (two_words keyword.Partition keyword.By then listed name)))
 
 -- [ORDER BY order , ..]
 unfoldable pub order_part : Grammar (List Order)
-order_part = gives or_none (optional (gives (λ x. x.1.1) (word (key keyword.Order) then word (key keyword.By) then listed order)))
+order_part = gives or_none (optional (gives second (two_words keyword.Order keyword.By then listed order)))
 
 -- [MEASURES measure , ..]
 unfoldable pub measures_part : ℕ → Grammar (List MeasureTree)
@@ -142,11 +145,13 @@ body room =
 abbrev pub max_open : ℕ
 max_open = 100
 
--- body | MATCH_RECOGNIZE "(" body ")"
+-- "(" body ")"
+abbrev pub bracketed : Grammar ClauseTree
+bracketed = gives (λ x. x.1.0) (opening max_open open_mark then body (max_open - 1) then word close_mark)
+
+-- body | MATCH_RECOGNIZE bracketed
 unfoldable pub clause : Grammar ClauseTree
-clause =
-    gives (λ x. x.1.1.0) (word (key keyword.MatchRecognize) then opening max_open open_mark then body (max_open - 1) then word close_mark)
-    or body max_open
+clause = gives second (word (key keyword.MatchRecognize) then bracketed) or body max_open
 
 -- the tokens of the text derive the clause
 abbrev pub Derives : List ℕ → List Token → ClauseTree → Type 0

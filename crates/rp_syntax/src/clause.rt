@@ -9,8 +9,9 @@ ghost use Rattle.rp_grammar.specs.Names.{name};
 ghost use Rattle.rp_grammar.specs.Readers.{Reads, ReadsSome, itself};
 ghost use Rattle.rp_tree.specs.Clauses.{clause_tree, definition_tree, later_trees, measure_tree, union_tree};
 ghost use Rattle.rp_syntax.specs.Derived.{DerivesNone, DerivesOnly};
-ghost use Rattle.rp_syntax.specs.ClauseGrammar.{Derives, all_rows, body, clause, define_part, definition, later_parts, measure, measures_part, one_row, order, order_part, partition_part, pattern_part, rows, rows_part, shown, skip, skip_part, subset_part, target, three_words, union};
+ghost use Rattle.rp_syntax.specs.ClauseGrammar.{Derives, all_rows, body, bracketed, clause, define_part, definition, later_parts, measure, measures_part, one_row, order, order_part, partition_part, pattern_part, rows_part, shown, skip, skip_part, subset_part, target, three_words, two_words, union};
 
+use crate::cursor::after;
 use rp_expressions::expr;
 use rp_grammar::{Name, ParseFault, Parsed, begins, name, opening, place, word};
 use rp_lexer::{Keyword, Mark, Token, TokenKind};
@@ -29,8 +30,7 @@ fn order<'a>(alloc: Global, text: &str, tokens: &'a [Token]) -> Parsed<'a, Order
     ensures { Reads order itself text.now tokens.now result }
 {
     let (name, rest) = name(alloc, text, tokens)?;
-    if begins(rest, TokenKind::Keyword(Keyword::Asc)) {
-        let (_, rest) = word(text, rest, TokenKind::Keyword(Keyword::Asc))?;
+    if let Some(rest) = after(rest, TokenKind::Keyword(Keyword::Asc)) {
         return Ok((
             Order {
                 name,
@@ -39,8 +39,7 @@ fn order<'a>(alloc: Global, text: &str, tokens: &'a [Token]) -> Parsed<'a, Order
             rest,
         ));
     }
-    if begins(rest, TokenKind::Keyword(Keyword::Desc)) {
-        let (_, rest) = word(text, rest, TokenKind::Keyword(Keyword::Desc))?;
+    if let Some(rest) = after(rest, TokenKind::Keyword(Keyword::Desc)) {
         return Ok((
             Order {
                 name,
@@ -116,16 +115,16 @@ fn names<'a>(alloc: Global, text: &str, tokens: &'a [Token]) -> Parsed<'a, Vec<N
     requires stands { All (IsToken text.now) tokens.now }
     ensures { Reads (listed name) (λ x. x.items) text.now tokens.now result }
 {
-    let (first, mut rest) = name(alloc, text, tokens)?;
     let mut items = Vec::new(alloc);
-    items.push(first)?;
-    'items: while begins(rest, TokenKind::Mark(Mark::Comma)) {
-        let (_, behind) = word(text, rest, TokenKind::Mark(Mark::Comma))?;
-        let (item, behind) = name(alloc, text, behind)?;
+    let mut rest = tokens;
+    'items: loop {
+        let (item, behind) = name(alloc, text, rest)?;
         items.push(item)?;
-        rest = behind;
+        match after(behind, TokenKind::Mark(Mark::Comma)) {
+            Some(next) => rest = next,
+            None => return Ok((items, behind)),
+        }
     }
-    Ok((items, rest))
 }
 
 /// Columns to order by with commas between, and what follows.
@@ -133,16 +132,16 @@ fn orders<'a>(alloc: Global, text: &str, tokens: &'a [Token]) -> Parsed<'a, Vec<
     requires stands { All (IsToken text.now) tokens.now }
     ensures { Reads (listed order) (λ x. x.items) text.now tokens.now result }
 {
-    let (first, mut rest) = order(alloc, text, tokens)?;
     let mut items = Vec::new(alloc);
-    items.push(first)?;
-    'items: while begins(rest, TokenKind::Mark(Mark::Comma)) {
-        let (_, behind) = word(text, rest, TokenKind::Mark(Mark::Comma))?;
-        let (item, behind) = order(alloc, text, behind)?;
+    let mut rest = tokens;
+    'items: loop {
+        let (item, behind) = order(alloc, text, rest)?;
         items.push(item)?;
-        rest = behind;
+        match after(behind, TokenKind::Mark(Mark::Comma)) {
+            Some(next) => rest = next,
+            None => return Ok((items, behind)),
+        }
     }
-    Ok((items, rest))
 }
 
 /// Measures with commas between, and what follows.
@@ -155,16 +154,16 @@ fn measures<'a>(
     requires stands { All (IsToken text.now) tokens.now }
     ensures { Reads (listed (measure room)) (λ x. map measure_tree x.items) text.now tokens.now result }
 {
-    let (first, mut rest) = measure(alloc, text, tokens, room)?;
     let mut items = Vec::new(alloc);
-    items.push(first)?;
-    'items: while begins(rest, TokenKind::Mark(Mark::Comma)) {
-        let (_, behind) = word(text, rest, TokenKind::Mark(Mark::Comma))?;
-        let (item, behind) = measure(alloc, text, behind, room)?;
+    let mut rest = tokens;
+    'items: loop {
+        let (item, behind) = measure(alloc, text, rest, room)?;
         items.push(item)?;
-        rest = behind;
+        match after(behind, TokenKind::Mark(Mark::Comma)) {
+            Some(next) => rest = next,
+            None => return Ok((items, behind)),
+        }
     }
-    Ok((items, rest))
 }
 
 /// Unions with commas between, and what follows.
@@ -172,16 +171,16 @@ fn unions<'a>(alloc: Global, text: &str, tokens: &'a [Token], room: usize) -> Pa
     requires stands { All (IsToken text.now) tokens.now }
     ensures { Reads (listed (union room)) (λ x. map union_tree x.items) text.now tokens.now result }
 {
-    let (first, mut rest) = union(alloc, text, tokens, room)?;
     let mut items = Vec::new(alloc);
-    items.push(first)?;
-    'items: while begins(rest, TokenKind::Mark(Mark::Comma)) {
-        let (_, behind) = word(text, rest, TokenKind::Mark(Mark::Comma))?;
-        let (item, behind) = union(alloc, text, behind, room)?;
+    let mut rest = tokens;
+    'items: loop {
+        let (item, behind) = union(alloc, text, rest, room)?;
         items.push(item)?;
-        rest = behind;
+        match after(behind, TokenKind::Mark(Mark::Comma)) {
+            Some(next) => rest = next,
+            None => return Ok((items, behind)),
+        }
     }
-    Ok((items, rest))
 }
 
 /// Definitions with commas between, and what follows.
@@ -194,31 +193,60 @@ fn definitions<'a>(
     requires stands { All (IsToken text.now) tokens.now }
     ensures { Reads (listed (definition room)) (λ x. map definition_tree x.items) text.now tokens.now result }
 {
-    let (first, mut rest) = definition(alloc, text, tokens, room)?;
     let mut items = Vec::new(alloc);
-    items.push(first)?;
-    'items: while begins(rest, TokenKind::Mark(Mark::Comma)) {
-        let (_, behind) = word(text, rest, TokenKind::Mark(Mark::Comma))?;
-        let (item, behind) = definition(alloc, text, behind, room)?;
+    let mut rest = tokens;
+    'items: loop {
+        let (item, behind) = definition(alloc, text, rest, room)?;
         items.push(item)?;
-        rest = behind;
+        match after(behind, TokenKind::Mark(Mark::Comma)) {
+            Some(next) => rest = next,
+            None => return Ok((items, behind)),
+        }
     }
-    Ok((items, rest))
 }
 
-/// Three words that ask for these rows, and what follows.
+/// Two reserved words, and what follows.
+fn two_words<'a>(
+    text: &str,
+    tokens: &'a [Token],
+    first: Keyword,
+    second: Keyword,
+) -> Parsed<'a, usize>
+    requires stands { All (IsToken text.now) tokens.now }
+    ensures { Reads (two_words first second) itself text.now tokens.now result }
+{
+    let (at, rest) = word(text, tokens, TokenKind::Keyword(first))?;
+    let (_, rest) = word(text, rest, TokenKind::Keyword(second))?;
+    Ok((at, rest))
+}
+
+/// Three reserved words, and what follows.
 fn three_words<'a>(
+    text: &str,
+    tokens: &'a [Token],
+    first: Keyword,
+    second: Keyword,
+    third: Keyword,
+) -> Parsed<'a, usize>
+    requires stands { All (IsToken text.now) tokens.now }
+    ensures { Reads (three_words first second third) itself text.now tokens.now result }
+{
+    let (at, rest) = two_words(text, tokens, first, second)?;
+    let (_, rest) = word(text, rest, TokenKind::Keyword(third))?;
+    Ok((at, rest))
+}
+
+/// Three reserved words that ask for these rows, and what follows.
+fn words_for<'a>(
     text: &str,
     tokens: &'a [Token],
     words: (Keyword, Keyword, Keyword),
     rows: RowsPerMatch,
 ) -> Parsed<'a, RowsPerMatch>
     requires stands { All (IsToken text.now) tokens.now }
-    ensures { Reads (three_words words.0 words.1 words.2 rows) itself text.now tokens.now result }
+    ensures { Reads (gives (λ at. rows) (three_words words.0 words.1 words.2)) itself text.now tokens.now result }
 {
-    let (_, rest) = word(text, tokens, TokenKind::Keyword(words.0))?;
-    let (_, rest) = word(text, rest, TokenKind::Keyword(words.1))?;
-    let (_, rest) = word(text, rest, TokenKind::Keyword(words.2))?;
+    let (_, rest) = three_words(text, tokens, words.0, words.1, words.2)?;
     Ok((rows, rest))
 }
 
@@ -230,15 +258,15 @@ fn shown<'a>(text: &str, tokens: &'a [Token]) -> Parsed<'a, RowsPerMatch>
 {
     if begins(tokens, TokenKind::Keyword(Keyword::Show)) {
         let words = (Keyword::Show, Keyword::Empty, Keyword::Matches);
-        return three_words(text, tokens, words, RowsPerMatch::AllShowEmpty);
+        return words_for(text, tokens, words, RowsPerMatch::AllShowEmpty);
     }
     if begins(tokens, TokenKind::Keyword(Keyword::Omit)) {
         let words = (Keyword::Omit, Keyword::Empty, Keyword::Matches);
-        return three_words(text, tokens, words, RowsPerMatch::AllOmitEmpty);
+        return words_for(text, tokens, words, RowsPerMatch::AllOmitEmpty);
     }
     if begins(tokens, TokenKind::Keyword(Keyword::With)) {
         let words = (Keyword::With, Keyword::Unmatched, Keyword::Rows);
-        return three_words(text, tokens, words, RowsPerMatch::AllWithUnmatched);
+        return words_for(text, tokens, words, RowsPerMatch::AllWithUnmatched);
     }
     Ok((RowsPerMatch::AllShowEmpty, tokens))
 }
@@ -248,10 +276,8 @@ fn one_row<'a>(text: &str, tokens: &'a [Token]) -> Parsed<'a, RowsPerMatch>
     requires stands { All (IsToken text.now) tokens.now }
     ensures { Reads one_row itself text.now tokens.now result }
 {
-    let (_, rest) = word(text, tokens, TokenKind::Keyword(Keyword::One))?;
-    let (_, rest) = word(text, rest, TokenKind::Keyword(Keyword::Row))?;
-    let (_, rest) = word(text, rest, TokenKind::Keyword(Keyword::Per))?;
-    let (_, rest) = word(text, rest, TokenKind::Keyword(Keyword::Match))?;
+    let (_, rest) = two_words(text, tokens, Keyword::One, Keyword::Row)?;
+    let (_, rest) = two_words(text, rest, Keyword::Per, Keyword::Match)?;
     Ok((RowsPerMatch::One, rest))
 }
 
@@ -260,48 +286,72 @@ fn all_rows<'a>(text: &str, tokens: &'a [Token]) -> Parsed<'a, RowsPerMatch>
     requires stands { All (IsToken text.now) tokens.now }
     ensures { Reads all_rows itself text.now tokens.now result }
 {
-    let (_, rest) = word(text, tokens, TokenKind::Keyword(Keyword::All))?;
-    let (_, rest) = word(text, rest, TokenKind::Keyword(Keyword::Rows))?;
-    let (_, rest) = word(text, rest, TokenKind::Keyword(Keyword::Per))?;
-    let (_, rest) = word(text, rest, TokenKind::Keyword(Keyword::Match))?;
+    let (_, rest) = two_words(text, tokens, Keyword::All, Keyword::Rows)?;
+    let (_, rest) = two_words(text, rest, Keyword::Per, Keyword::Match)?;
     shown(text, rest)
 }
 
-/// Rows per match, and what follows.
-#[tactic(auto, unfolding(crate::specs::ClauseGrammar::rows))]
-fn rows<'a>(text: &str, tokens: &'a [Token]) -> Parsed<'a, RowsPerMatch>
+/// NEXT ROW, and what follows.
+fn to_next_row<'a>(text: &str, tokens: &'a [Token]) -> Parsed<'a, Skip>
     requires stands { All (IsToken text.now) tokens.now }
-    ensures { Reads rows itself text.now tokens.now result }
+    ensures { Reads (gives (λ at. Skip.ToNextRow) (two_words Keyword.Next Keyword.Row)) itself text.now tokens.now result }
 {
-    if begins(tokens, TokenKind::Keyword(Keyword::One)) {
-        return one_row(text, tokens);
-    }
-    all_rows(text, tokens)
+    let (_, rest) = two_words(text, tokens, Keyword::Next, Keyword::Row)?;
+    Ok((Skip::ToNextRow, rest))
+}
+
+/// The variable behind FIRST, and what follows.
+fn to_first<'a>(alloc: Global, text: &str, tokens: &'a [Token]) -> Parsed<'a, Skip>
+    requires stands { All (IsToken text.now) tokens.now }
+    ensures { Reads (gives Skip.ToFirst name) itself text.now tokens.now result }
+{
+    let (variable, rest) = name(alloc, text, tokens)?;
+    Ok((Skip::ToFirst(variable), rest))
+}
+
+/// The variable behind LAST or behind TO, and what follows.
+fn to_last<'a>(alloc: Global, text: &str, tokens: &'a [Token]) -> Parsed<'a, Skip>
+    requires stands { All (IsToken text.now) tokens.now }
+    ensures { Reads (gives Skip.ToLast name) itself text.now tokens.now result }
+{
+    let (variable, rest) = name(alloc, text, tokens)?;
+    Ok((Skip::ToLast(variable), rest))
 }
 
 /// Where a skip goes to, and what follows.
-#[tactic(auto, unfolding(crate::specs::ClauseGrammar::target))]
 fn target<'a>(alloc: Global, text: &str, tokens: &'a [Token]) -> Parsed<'a, Skip>
     requires stands { All (IsToken text.now) tokens.now }
     ensures { Reads target itself text.now tokens.now result }
 {
     if begins(tokens, TokenKind::Keyword(Keyword::Next)) {
-        let (_, rest) = word(text, tokens, TokenKind::Keyword(Keyword::Next))?;
-        let (_, rest) = word(text, rest, TokenKind::Keyword(Keyword::Row))?;
-        return Ok((Skip::ToNextRow, rest));
+        return to_next_row(text, tokens);
     }
-    if begins(tokens, TokenKind::Keyword(Keyword::First)) {
-        let (_, rest) = word(text, tokens, TokenKind::Keyword(Keyword::First))?;
-        let (variable, rest) = name(alloc, text, rest)?;
-        return Ok((Skip::ToFirst(variable), rest));
+    if let Some(rest) = after(tokens, TokenKind::Keyword(Keyword::First)) {
+        return to_first(alloc, text, rest);
     }
-    if begins(tokens, TokenKind::Keyword(Keyword::Last)) {
-        let (_, rest) = word(text, tokens, TokenKind::Keyword(Keyword::Last))?;
-        let (variable, rest) = name(alloc, text, rest)?;
-        return Ok((Skip::ToLast(variable), rest));
+    if let Some(rest) = after(tokens, TokenKind::Keyword(Keyword::Last)) {
+        return to_last(alloc, text, rest);
     }
-    let (variable, rest) = name(alloc, text, tokens)?;
-    Ok((Skip::ToLast(variable), rest))
+    to_last(alloc, text, tokens)
+}
+
+/// PAST LAST ROW, and what follows.
+fn past_last_row<'a>(text: &str, tokens: &'a [Token]) -> Parsed<'a, Skip>
+    requires stands { All (IsToken text.now) tokens.now }
+    ensures { Reads (gives (λ at. Skip.PastLastRow) (three_words Keyword.Past Keyword.Last Keyword.Row)) itself
+        text.now tokens.now result }
+{
+    let (_, rest) = three_words(text, tokens, Keyword::Past, Keyword::Last, Keyword::Row)?;
+    Ok((Skip::PastLastRow, rest))
+}
+
+/// TO with where it goes to, and what follows.
+fn to_target<'a>(alloc: Global, text: &str, tokens: &'a [Token]) -> Parsed<'a, Skip>
+    requires stands { All (IsToken text.now) tokens.now }
+    ensures { Reads (gives second (word (TokenKind.Keyword Keyword.To) then target)) itself text.now tokens.now result }
+{
+    let (_, rest) = word(text, tokens, TokenKind::Keyword(Keyword::To))?;
+    target(alloc, text, rest)
 }
 
 /// AFTER MATCH SKIP with where it goes to, and what follows.
@@ -310,17 +360,11 @@ fn skip<'a>(alloc: Global, text: &str, tokens: &'a [Token]) -> Parsed<'a, Skip>
     requires stands { All (IsToken text.now) tokens.now }
     ensures { Reads skip itself text.now tokens.now result }
 {
-    let (_, rest) = word(text, tokens, TokenKind::Keyword(Keyword::After))?;
-    let (_, rest) = word(text, rest, TokenKind::Keyword(Keyword::Match))?;
-    let (_, rest) = word(text, rest, TokenKind::Keyword(Keyword::Skip))?;
+    let (_, rest) = three_words(text, tokens, Keyword::After, Keyword::Match, Keyword::Skip)?;
     if begins(rest, TokenKind::Keyword(Keyword::Past)) {
-        let (_, rest) = word(text, rest, TokenKind::Keyword(Keyword::Past))?;
-        let (_, rest) = word(text, rest, TokenKind::Keyword(Keyword::Last))?;
-        let (_, rest) = word(text, rest, TokenKind::Keyword(Keyword::Row))?;
-        return Ok((Skip::PastLastRow, rest));
+        return past_last_row(text, rest);
     }
-    let (_, rest) = word(text, rest, TokenKind::Keyword(Keyword::To))?;
-    target(alloc, text, rest)
+    to_target(alloc, text, rest)
 }
 
 /// Perhaps PARTITION BY, and what follows.
@@ -332,8 +376,7 @@ fn partition_part<'a>(alloc: Global, text: &str, tokens: &'a [Token]) -> Parsed<
     if !begins(tokens, TokenKind::Keyword(Keyword::Partition)) {
         return Ok((Vec::new(alloc), tokens));
     }
-    let (_, rest) = word(text, tokens, TokenKind::Keyword(Keyword::Partition))?;
-    let (_, rest) = word(text, rest, TokenKind::Keyword(Keyword::By))?;
+    let (_, rest) = two_words(text, tokens, Keyword::Partition, Keyword::By)?;
     names(alloc, text, rest)
 }
 
@@ -346,8 +389,7 @@ fn order_part<'a>(alloc: Global, text: &str, tokens: &'a [Token]) -> Parsed<'a, 
     if !begins(tokens, TokenKind::Keyword(Keyword::Order)) {
         return Ok((Vec::new(alloc), tokens));
     }
-    let (_, rest) = word(text, tokens, TokenKind::Keyword(Keyword::Order))?;
-    let (_, rest) = word(text, rest, TokenKind::Keyword(Keyword::By))?;
+    let (_, rest) = two_words(text, tokens, Keyword::Order, Keyword::By)?;
     orders(alloc, text, rest)
 }
 
@@ -362,11 +404,10 @@ fn measures_part<'a>(
     requires stands { All (IsToken text.now) tokens.now }
     ensures { ReadsSome (measures_part room) (λ x. map measure_tree x.items) text.now tokens.now result }
 {
-    if !begins(tokens, TokenKind::Keyword(Keyword::Measures)) {
-        return Ok((Vec::new(alloc), tokens));
+    match after(tokens, TokenKind::Keyword(Keyword::Measures)) {
+        Some(rest) => measures(alloc, text, rest, room),
+        None => Ok((Vec::new(alloc), tokens)),
     }
-    let (_, rest) = word(text, tokens, TokenKind::Keyword(Keyword::Measures))?;
-    measures(alloc, text, rest, room)
 }
 
 /// Perhaps SUBSET, and what follows.
@@ -380,11 +421,10 @@ fn subset_part<'a>(
     requires stands { All (IsToken text.now) tokens.now }
     ensures { ReadsSome (subset_part room) (λ x. map union_tree x.items) text.now tokens.now result }
 {
-    if !begins(tokens, TokenKind::Keyword(Keyword::Subset)) {
-        return Ok((Vec::new(alloc), tokens));
+    match after(tokens, TokenKind::Keyword(Keyword::Subset)) {
+        Some(rest) => unions(alloc, text, rest, room),
+        None => Ok((Vec::new(alloc), tokens)),
     }
-    let (_, rest) = word(text, tokens, TokenKind::Keyword(Keyword::Subset))?;
-    unions(alloc, text, rest, room)
 }
 
 /// DEFINE, and what follows.
@@ -426,12 +466,13 @@ fn rows_part<'a>(text: &str, tokens: &'a [Token]) -> Parsed<'a, RowsPerMatch>
     requires stands { All (IsToken text.now) tokens.now }
     ensures { ReadsSome rows_part itself text.now tokens.now result }
 {
-    if !begins(tokens, TokenKind::Keyword(Keyword::One))
-        && !begins(tokens, TokenKind::Keyword(Keyword::All))
-    {
-        return Ok((RowsPerMatch::One, tokens));
+    if begins(tokens, TokenKind::Keyword(Keyword::One)) {
+        return one_row(text, tokens);
     }
-    rows(text, tokens)
+    if begins(tokens, TokenKind::Keyword(Keyword::All)) {
+        return all_rows(text, tokens);
+    }
+    Ok((RowsPerMatch::One, tokens))
 }
 
 /// Perhaps a skip, and what follows.
@@ -498,21 +539,33 @@ fn body<'a>(alloc: Global, text: &str, tokens: &'a [Token], room: usize) -> Pars
     Ok((clause, rest))
 }
 
+/// The parts of a clause between brackets, and what follows.
+fn bracketed<'a>(alloc: Global, text: &str, tokens: &'a [Token]) -> Parsed<'a, Clause>
+    requires stands { All (IsToken text.now) tokens.now }
+    ensures reads { Reads bracketed clause_tree text.now tokens.now result }
+    ensures text { IfOk result (λ x. x.0.text ≡ text.now) }
+{
+    let (_, rest) = opening(
+        text,
+        tokens,
+        TokenKind::Mark(Mark::LeftParenthesis),
+        MAX_OPEN,
+    )?;
+    let (clause, rest) = body(alloc, text, rest, MAX_OPEN - 1)?;
+    let (_, rest) = word(text, rest, TokenKind::Mark(Mark::RightParenthesis))?;
+    Ok((clause, rest))
+}
+
 /// A clause, and what follows.
-#[tactic(auto, unfolding(crate::specs::ClauseGrammar::clause))]
 fn clause<'a>(alloc: Global, text: &str, tokens: &'a [Token]) -> Parsed<'a, Clause>
     requires stands { All (IsToken text.now) tokens.now }
     ensures reads { Reads clause clause_tree text.now tokens.now result }
     ensures text { IfOk result (λ x. x.0.text ≡ text.now) }
 {
-    if !begins(tokens, TokenKind::Keyword(Keyword::MatchRecognize)) {
-        return body(alloc, text, tokens, MAX_OPEN);
+    match after(tokens, TokenKind::Keyword(Keyword::MatchRecognize)) {
+        Some(rest) => bracketed(alloc, text, rest),
+        None => body(alloc, text, tokens, MAX_OPEN),
     }
-    let (_, rest) = word(text, tokens, TokenKind::Keyword(Keyword::MatchRecognize))?;
-    let (_, rest) = opening(text, rest, TokenKind::Mark(Mark::LeftParenthesis), MAX_OPEN)?;
-    let (clause, rest) = body(alloc, text, rest, MAX_OPEN - 1)?;
-    let (_, rest) = word(text, rest, TokenKind::Mark(Mark::RightParenthesis))?;
-    Ok((clause, rest))
 }
 
 /// The clause that the tokens of the text derive.

@@ -10,6 +10,7 @@
 #![tactic(auto)]
 
 mod clause;
+mod cursor;
 mod table;
 
 pub use clause::parse;

@@ -8,7 +8,8 @@ ghost use Rattle.rp_value.specs.declared.table.Column.{Column};
 ghost use Rattle.rp_syntax.specs.TableGrammar.{IsTableText, IsTextFault, column, column_kind, kind_called, table, told_lex, told_table};
 ghost use Rattle.rp_syntax.specs.declared.table.TableTextFault.TheVariants.{OutOfMemory};
 
-use rp_grammar::{ParseFault, Parsed, begins, name, named, place, token, word};
+use crate::cursor::after;
+use rp_grammar::{ParseFault, Parsed, name, named, place, token};
 use rp_lexer::{LexFault, Mark, Token, TokenKind, law_lexes, lex};
 use rp_value::{Kind, Table, TableFault};
 use std::alloc::{AllocError, AllocFailed, Global};
@@ -111,16 +112,16 @@ fn columns<'a>(alloc: Global, text: &str, tokens: &'a [Token]) -> Parsed<'a, Vec
     requires stands { All (IsToken text.now) tokens.now }
     ensures { Reads table (λ x. columns_of x.items) text.now tokens.now result }
 {
-    let (first, mut rest) = column(alloc, text, tokens)?;
     let mut items = Vec::new(alloc);
-    items.push(first)?;
-    'items: while begins(rest, TokenKind::Mark(Mark::Comma)) {
-        let (_, behind) = word(text, rest, TokenKind::Mark(Mark::Comma))?;
-        let (item, behind) = column(alloc, text, behind)?;
+    let mut rest = tokens;
+    'items: loop {
+        let (item, behind) = column(alloc, text, rest)?;
         items.push(item)?;
-        rest = behind;
+        match after(behind, TokenKind::Mark(Mark::Comma)) {
+            Some(next) => rest = next,
+            None => return Ok((items, behind)),
+        }
     }
-    Ok((items, rest))
 }
 
 /// The columns that all tokens derive.

@@ -1,30 +1,30 @@
-use Rattle.std.proofs.Common.{rules, ◌∙◌, sym}
-use Rattle.rp_grammar.proofs.Loops.{list_begins, list_ends, list_goes_on, list_refused}
+use Rattle.std.proofs.Common.{◌<◌, length, arith}
+use Rattle.rp_lexer.specs.Lexes.{IsToken}
+use Rattle.rp_grammar.proofs.Loops.{list_ends}
 use Rattle.rp_grammar.specs.Names.{name}
+use Rattle.rp_syntax.proofs.Following.{all_after, shorter_after}
+use Rattle.rp_syntax.proofs.Lists.{first_due, item_read, next_due}
 use Rattle.rp_syntax.proofs.clause.names.Goals as goal
 
 pub items-init : goal.items-init
 items-init c = record {
-  stands = search rules;
-  shorter = search rules;
-  reads = rw (c.in_ok-push.ensures.items, c.new-items.ensures.items) (list_begins c.args.text.now name c.args.tokens.now c.in_ok-first.rest.now c.in_ok-first.first c.in_ok-first.ensures.exact);
+  stands = c.requires.stands;
+  no_longer = omega arith;
+  due = rw c.new-items.ensures.items (first_due c.args.text.now name c.args.tokens.now);
 }
 
 pub items-preserved : goal.items-preserved
-items-preserved c = record {
-  stands = search rules;
-  shorter = search rules;
-  reads = list_goes_on c.args.text.now name c.in_ok-push-2.ensures.items c.in_ok-behind.ensures.exact c.in_ok-item.ensures.exact (search rules) c.items.invariant.reads;
-}
+items-preserved c =
+    let less : length c.in-Some.next.now < length c.in_ok-item.behind.now = shorter_after c.in-Some.ensures in
+    record {
+      stands = all_after (IsToken c.args.text.now) c.in-Some.ensures c.in_ok-item.ensures.stands;
+      no_longer = omega (arith, c.in_ok-item.ensures.shorter, c.items.invariant.no_longer);
+      due = next_due c.args.text.now name c.in-Some.ensures (item_read c.args.text.now name c.in_ok-push.ensures.items c.in_ok-item.ensures.exact c.in_ok-item.ensures.shorter c.items.invariant.due);
+    }
 
-pub returns-in_err-item : goal.returns-in_err-item
-returns-in_err-item c =
-    let none = list_refused c.args.text.now name c.in_err-item.field-0.0 c.in_ok-behind.ensures.exact c.in_err-item.ensures.exact c.items.invariant.reads in
-    search (rules, none)
-
-pub returns : goal.returns
-returns c = record {
-  exact = list_ends c.args.text.now name (sym c.begins.ensures ∙ c.items-test.false) c.items.invariant.reads;
-  stands = c.items.invariant.stands;
-  shorter = c.items.invariant.shorter;
+pub returns-in-None : goal.returns-in-None
+returns-in-None c = record {
+  exact = list_ends c.args.text.now name c.in-None.ensures (item_read c.args.text.now name c.in_ok-push.ensures.items c.in_ok-item.ensures.exact c.in_ok-item.ensures.shorter c.items.invariant.due);
+  stands = c.in_ok-item.ensures.stands;
+  shorter = omega (arith, c.in_ok-item.ensures.shorter, c.items.invariant.no_longer);
 }

@@ -1,8 +1,8 @@
-use Rattle.std.proofs.Common.{◌<◌, length, All}
+use Rattle.std.proofs.Common.{◌≤◌, length, All}
 use Rattle.rp_lexer.specs.Lexes.{IsToken}
 use Rattle.rp_grammar.specs.Grammar.{listed}
-use Rattle.rp_grammar.proofs.Loops.{ListGoesOn}
 use Rattle.rp_grammar.specs.Names.{name}
+use Rattle.rp_syntax.proofs.Lists.{ItemDue}
 use Rattle.rp_syntax.proofs.clause.names.Given as goal
 
 abbrev pub decreases-items : goal.decreases-items
@@ -11,6 +11,6 @@ decreases-items l = length l.rest
 abbrev pub invariant-items : goal.invariant-items
 invariant-items l = record {
   stands : All (IsToken l.text) l.rest;
-  shorter : length l.rest < length l.tokens;
-  reads : ListGoesOn l.text name l.items.items l.rest ((listed name).read l.text l.tokens);
+  no_longer : length l.rest ≤ length l.tokens;
+  due : ItemDue l.text name l.items.items l.rest ((listed name).read l.text l.tokens);
 }

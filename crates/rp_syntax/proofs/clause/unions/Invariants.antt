@@ -1,9 +1,9 @@
-use Rattle.std.proofs.Common.{◌<◌, length, All, map}
+use Rattle.std.proofs.Common.{◌≤◌, length, All, map}
 use Rattle.rp_lexer.specs.Lexes.{IsToken}
 use Rattle.rp_grammar.specs.Grammar.{listed}
-use Rattle.rp_grammar.proofs.Loops.{ListGoesOn}
 use Rattle.rp_tree.specs.Clauses.{union_tree}
 use Rattle.rp_syntax.specs.ClauseGrammar.{union}
+use Rattle.rp_syntax.proofs.Lists.{ItemDue}
 use Rattle.rp_syntax.proofs.clause.unions.Given as goal
 
 abbrev pub decreases-items : goal.decreases-items
@@ -12,6 +12,6 @@ decreases-items l = length l.rest
 abbrev pub invariant-items : goal.invariant-items
 invariant-items l = record {
   stands : All (IsToken l.text) l.rest;
-  shorter : length l.rest < length l.tokens;
-  reads : ListGoesOn l.text (union l.room) (map union_tree l.items.items) l.rest ((listed (union l.room)).read l.text l.tokens);
+  no_longer : length l.rest ≤ length l.tokens;
+  due : ItemDue l.text (union l.room) (map union_tree l.items.items) l.rest ((listed (union l.room)).read l.text l.tokens);
 }
