@@ -37,13 +37,19 @@ behind_word {A = A} {B = B} {rest = rest} text f g follows = rw (follows.tokens_
     each (Err e) = refl
     each (Ok y) = refl
 
+-- What stands behind a front is read as it is alone.
+pub second_after : {A B : Type 0} {tokens rest : List Token} {x : A} (text : List ℕ) (g : Grammar A) (h : Grammar B)
+    → g.read text tokens ≡ Ok (x, rest) → (gives second (g then h)).read text tokens ≡ h.read text rest
+second_after {A = A} {B = B} {rest = rest} {x = x} text g h front = rw front (each (h.read text rest))
+  where
+    each : (read : Result (B × List Token) ParseFault)
+        → (◌>>=◌ {A = (A × B) × List Token} {B = B × List Token} (◌>>=◌ {A = B × List Token} {B = (A × B) × List Token} read (λ y. Ok ((x, y.0), y.1))) (λ z. Ok (z.0.1, z.1))) ≡ read
+    each (Err e) = refl
+    each (Ok y) = refl
+
 pub second_behind : {A : Type 0} {k : TokenKind} {tokens rest : List Token} (text : List ℕ) (g : Grammar A)
     → Follows k tokens rest → (gives second (word k then g)).read text tokens ≡ g.read text rest
-second_behind {A = A} {rest = rest} text g follows = behind_word text (λ x. x) g follows ∙ each (g.read text rest)
-  where
-    each : (read : Result (A × List Token) ParseFault) → (◌>>=◌ {A = A × List Token} {B = A × List Token} read (λ x. Ok (x.0, x.1))) ≡ read
-    each (Err e) = refl
-    each (Ok x) = refl
+second_behind {k = k} text g follows = second_after text (word k) g (word_after text follows)
 
 -- A part that need not be there is read as it is alone, where it begins.
 pub part_read : {A : Type 0} (text : List ℕ) (part : Option A → A) (g : Grammar A) (tokens : List Token)

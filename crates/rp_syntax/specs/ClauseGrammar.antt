@@ -1,7 +1,6 @@
 -- The grammar of clauses.
-use Rattle.std.specs.Prelude.{ℕ, ◌-◌, List, [], Option, Some, None, Bool, true, false}
+use Rattle.std.specs.Prelude.{ℕ, ◌-◌, List, [], Option, Some, None, true, false}
 use Rattle.rp_lexer.specs.declared.token.Token.{Token}
-use Rattle.rp_lexer.specs.declared.kind.TokenKind.{TokenKind}
 use Rattle.rp_lexer.specs.declared.kind.TokenKind.TheVariants as kind
 use Rattle.rp_lexer.specs.declared.kind.Mark.TheVariants as mark
 use Rattle.rp_lexer.specs.declared.kind.Keyword.{Keyword}

@@ -1,5 +1,5 @@
 -- The grammar of a table's text, and what is wrong with a text that is none.
-use Rattle.std.specs.Prelude.{◌≡◌, ℕ, List, [], ◌∷◌, Option, Some, None, Bool, ◌||◌, ◌==◌, codes, if◌then◌else◌}
+use Rattle.std.specs.Prelude.{◌≡◌, ℕ, List, [], ◌∷◌, Option, Some, None, ◌||◌, ◌==◌, codes, if◌then◌else◌}
 use Rattle.std.specs.Cmp.Lexicographic.{pointwise}
 use Rattle.rp_lexer.specs.Faults.{IsFirstFault}
 use Rattle.rp_lexer.specs.Meanings.{bytes_of}

@@ -1,4 +1,3 @@
-use Rattle.std.proofs.Common.{refl, arith}
 use Rattle.rp_lexer.specs.Lexes.{IsToken}
 use Rattle.rp_grammar.specs.Grammar.{listed}
 use Rattle.rp_syntax.specs.ClauseGrammar.{measure, measures_part}

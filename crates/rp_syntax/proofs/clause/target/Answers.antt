@@ -1,4 +1,3 @@
-use Rattle.std.proofs.Common.{sym}
 use Rattle.rp_lexer.specs.Lexes.{IsToken}
 use Rattle.rp_tree.specs.declared.tree.Skip.TheVariants as skip_as
 use Rattle.rp_grammar.specs.Names.{name}
