@@ -3,6 +3,7 @@ mod Fractions
 mod Utf8
 mod ColumnsLaws
 mod Items
+mod Mapped
 mod Resolving
 mod OneText
 mod TableColumns

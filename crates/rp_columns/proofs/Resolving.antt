@@ -1,6 +1,5 @@
 -- Columns that are resolved one after another.
-use Rattle.std.proofs.Common.{◌≡◌, ◌∙◌, ◌+◌, ◌<◌, ℕ, zero, suc, List, [], ◌∷◌, ◌++◌, length, get_or, take, drop, map, Some, sym, ap, arith}
-use Rattle.std.proofs.lemmas.List.{map_push, take_more}
+use Rattle.std.proofs.Common.{◌≡◌, ◌+◌, ◌<◌, ℕ, zero, suc, List, [], ◌∷◌, ◌++◌, length, get_or, take, drop, map, Some, sym, ap, arith}
 use Rattle.rp_columns.specs.ColumnsGrammar.{WrittenTree, written_tree}
 use Rattle.rp_columns.specs.Resolved.{AreColumns, column_of}
 use Rattle.rp_columns.specs.declared.columns.InputColumn.{InputColumn}
@@ -11,10 +10,6 @@ columns_more [] [] w c are is = (is, tt)
 columns_more [] (d ∷ cs) w c are is = absurd are
 columns_more (v ∷ ws) [] w c are is = absurd are
 columns_more (v ∷ ws) (d ∷ cs) w c are is = (are.0, columns_more ws cs w c are.1 is)
-
--- those up to a place, and the one that stands there
-pub trees_more : (ws : List Written) (i : ℕ) (w : Written) → i < length ws → w ≡ get_or ws i w → map written_tree (take (i + 1) ws) ≡ map written_tree (take i ws) ++ written_tree w ∷ []
-trees_more ws i w lt is = ap (map written_tree) (take_more ws i w lt ∙ ap (λ x. take i ws ++ x ∷ []) (sym is)) ∙ map_push written_tree (take i ws) w
 
 -- those before a place, the one that stands there, and those behind it
 pub trees_round : (ws : List Written) (i : ℕ) (w : Written) → i < length ws → w ≡ get_or ws i w → map written_tree ws ≡ map written_tree (take i ws) ++ written_tree w ∷ map written_tree (drop (i + 1) ws)

@@ -38,9 +38,15 @@ plain_name = one_of (kind.Name ∷ []) name_in
 abbrev pub literal : Grammar (List ℕ)
 literal = one_of (kind.Text ∷ []) text_in
 
+abbrev pub number_argument : Grammar Argument
+number_argument = gives argument_as.Number number
+
+abbrev pub text_argument : Grammar Argument
+text_argument = gives argument_as.Text literal
+
 -- number | text
 unfoldable pub argument : Grammar Argument
-argument = gives argument_as.Number number or gives argument_as.Text literal
+argument = number_argument or text_argument
 
 -- ("," argument)*
 abbrev pub arguments : Grammar (List Argument)

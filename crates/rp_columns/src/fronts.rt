@@ -1,8 +1,8 @@
 //! Readers of the fronts of some bytes.
-ghost use Rattle.std.specs.Prelude.{◌≡◌, ◌<◌, ◌≤◌, ◌+◌, ◌*◌, ◌^◌, ℕ, IfOk, length};
+ghost use Rattle.std.specs.Prelude.{◌≡◌, ◌<◌, ◌≤◌, ◌+◌, ◌*◌, ◌^◌, ℕ, IfOk, MatchOption, [], length};
 ghost use Rattle.std.specs.Int.Digits.{number_from_digits_after};
 ghost use Rattle.rp_columns.specs.Fronts as spec;
-ghost use Rattle.rp_columns.specs.Holding.{Holds};
+ghost use Rattle.rp_columns.specs.Holding.{Holds, TakesDigit};
 
 use crate::fault::ReadingFault;
 
@@ -105,8 +105,19 @@ pub(crate) fn are_blanks(bytes: &[u8]) -> bool
     without_blanks(bytes).is_empty()
 }
 
-/// The digits that the bytes begin with, behind those of a number.
+/// The digit that comes first, and what follows it. None where none does.
 #[tactic(auto, unfolding(crate::specs::Fronts::leading_digits))]
+fn first_digit(bytes: &[u8]) -> Option<(u8, &[u8])>
+    ensures { MatchOption result (spec.leading_digits bytes.now ≡ ([], bytes.now))
+        (λ p. TakesDigit bytes.now p.0 p.1.now) }
+{
+    match bytes {
+        [digit @ b'0'..=b'9', rest @ ..] => Some((*digit - b'0', rest)),
+        _ => None,
+    }
+}
+
+/// The digits that the bytes begin with, behind those of a number.
 pub(crate) fn leading_digits(before: Option<u64>, bytes: &[u8]) -> Digits<'_>
     ensures value { (n : ℕ) → Holds before n
         → Holds result.value (number_from_digits_after 10 n (spec.leading_digits bytes.now).0) }
@@ -116,8 +127,8 @@ pub(crate) fn leading_digits(before: Option<u64>, bytes: &[u8]) -> Digits<'_>
     let mut value = before;
     let mut count = 0usize;
     let mut rest = bytes;
-    'digits: while let [digit @ b'0'..=b'9', behind @ ..] = rest {
-        value = pushed(value, *digit - b'0');
+    'digits: while let Some((digit, behind)) = first_digit(rest) {
+        value = pushed(value, digit);
         count += 1;
         rest = behind;
     }

@@ -5,7 +5,7 @@ ghost use Rattle.rp_lexer.specs.Lexes.{IsToken};
 ghost use Rattle.rp_grammar.specs.Grammar.{word as spec_word};
 ghost use Rattle.rp_grammar.specs.Reading.{place as spec_place, starts};
 ghost use Rattle.rp_grammar.specs.Readers.{Reads, ReadsSome, itself};
-ghost use Rattle.rp_columns.specs.ColumnsGrammar.{argument, arguments, called, called_tree, called_with, column, columns, operands, plain_name, written_tree};
+ghost use Rattle.rp_columns.specs.ColumnsGrammar.{argument, arguments, called, called_tree, called_with, column, columns, number_argument, operands, plain_name, text_argument, written_tree};
 
 use crate::written::{Argument, Called, Source, Written};
 use rp_grammar::{Name, ParseFault, Parsed, begins, name, number, place, text_at, token, word};
@@ -30,11 +30,28 @@ fn argument<'a>(alloc: Global, text: &str, tokens: &'a [Token]) -> Parsed<'a, Ar
     ensures { Reads argument itself text.now tokens.now result }
 {
     if begins(tokens, TokenKind::Number) {
-        let (number, rest) = number(text, tokens)?;
-        return Ok((Argument::Number(number), rest));
+        return number_argument(text, tokens);
     }
+    text_argument(alloc, text, tokens)
+}
+
+/// A number that a reading takes, and what follows.
+fn number_argument<'a>(text: &str, tokens: &'a [Token]) -> Parsed<'a, Argument>
+    requires stands { All (IsToken text.now) tokens.now }
+    ensures { Reads number_argument itself text.now tokens.now result }
+{
+    let (number, rest) = number(text, tokens)?;
+    Ok((Argument::Number(number), rest))
+}
+
+/// A text that a reading takes, and what follows.
+fn text_argument<'a>(alloc: Global, text: &str, tokens: &'a [Token]) -> Parsed<'a, Argument>
+    requires stands { All (IsToken text.now) tokens.now }
+    ensures { Reads text_argument itself text.now tokens.now result }
+{
     let (token, rest) = token(text, tokens, TokenKind::Text)?;
-    Ok((Argument::Text(text_at(alloc, text, token)?), rest))
+    let literal = text_at(alloc, text, token)?;
+    Ok((Argument::Text(literal), rest))
 }
 
 /// What a reading takes, each behind a comma, and what follows.
@@ -90,7 +107,7 @@ fn operands<'a>(
 }
 
 /// A reading alone or behind `=`, and what follows.
-#[tactic(auto, unfolding(crate::specs::ColumnsGrammar::called, crate::specs::ColumnsGrammar::called_with))]
+#[tactic(auto, unfolding(crate::specs::ColumnsGrammar::called))]
 fn called<'a>(alloc: Global, text: &str, tokens: &'a [Token]) -> Parsed<'a, Called>
     requires stands { All (IsToken text.now) tokens.now }
     ensures { Reads called called_tree text.now tokens.now result }
