@@ -3,10 +3,10 @@
 ghost use Rattle.std.specs.Prelude.{◌≡◌, ◌≤◌, All, IfOk};
 ghost use Rattle.rp_lexer.specs.Lexes.{IsToken};
 ghost use Rattle.rp_grammar.specs.Reading.{starts};
-ghost use Rattle.rp_grammar.specs.Grammar.{gives, optional};
+ghost use Rattle.rp_grammar.specs.Grammar.{gives, optional, ◌then◌, word};
 ghost use Rattle.rp_grammar.specs.Readers.{Reads, ReadsSome, itself};
 ghost use Rattle.rp_tree.specs.Paths.{Move, path_of};
-ghost use Rattle.rp_expressions.specs.NavigationGrammar.{argument, column, deeper_path, edge, ending, inside_path, offset, path, plain, plain_kinds, scope};
+ghost use Rattle.rp_expressions.specs.NavigationGrammar.{argument, column, deeper_path, edge, ending, inside_path, key, moved, offset, path, plain, plain_kinds, scope};
 
 use rp_grammar::{Parsed, begins, begins_name, name, number, opening, place, word};
 use rp_lexer::{Keyword, Mark, Token, TokenKind};
@@ -161,13 +161,28 @@ pub(crate) fn plain<'a>(
         return Ok((Navigation::Column(column), rest));
     }
     if begins(tokens, TokenKind::Keyword(Keyword::Prev)) {
-        let (at, rest) = word(text, tokens, TokenKind::Keyword(Keyword::Prev))?;
-        let ((path, rows), rest) = argument(alloc, text, rest, room)?;
-        return Ok((moved(alloc, Movement::Prev, at, path, rows)?, rest));
+        return movement(alloc, text, tokens, room, Keyword::Prev, Movement::Prev);
     }
-    let (at, rest) = word(text, tokens, TokenKind::Keyword(Keyword::Next))?;
+    movement(alloc, text, tokens, room, Keyword::Next, Movement::Next)
+}
+
+/// A navigation by the movement that this word asks for, and what follows.
+#[cycle(navigation)]
+fn movement<'a>(
+    alloc: Global,
+    text: &str,
+    tokens: &'a [Token],
+    room: usize,
+    asked_by: Keyword,
+    movement: Movement,
+) -> Parsed<'a, Navigation>
+    requires stands { All (IsToken text.now) tokens.now }
+    ensures { Reads (gives (moved movement) (word (key asked_by) then argument room (inside_path room))) path_of
+        text.now tokens.now result }
+{
+    let (at, rest) = word(text, tokens, TokenKind::Keyword(asked_by))?;
     let ((path, rows), rest) = argument(alloc, text, rest, room)?;
-    Ok((moved(alloc, Movement::Next, at, path, rows)?, rest))
+    Ok((moved(alloc, movement, at, path, rows)?, rest))
 }
 
 /// A navigation by FIRST or LAST under this scope, and what follows.
@@ -184,13 +199,23 @@ pub(crate) fn edge<'a>(
     ensures { Reads (gives (λ f. f scope) (edge room (inside_path room))) path_of text.now tokens.now result }
 {
     if begins(tokens, TokenKind::Keyword(Keyword::First)) {
-        let (at, rest) = word(text, tokens, TokenKind::Keyword(Keyword::First))?;
-        let ((path, rows), rest) = argument(alloc, text, rest, room)?;
-        return Ok((moved(alloc, Movement::First(scope), at, path, rows)?, rest));
+        return movement(
+            alloc,
+            text,
+            tokens,
+            room,
+            Keyword::First,
+            Movement::First(scope),
+        );
     }
-    let (at, rest) = word(text, tokens, TokenKind::Keyword(Keyword::Last))?;
-    let ((path, rows), rest) = argument(alloc, text, rest, room)?;
-    Ok((moved(alloc, Movement::Last(scope), at, path, rows)?, rest))
+    movement(
+        alloc,
+        text,
+        tokens,
+        room,
+        Keyword::Last,
+        Movement::Last(scope),
+    )
 }
 
 fn moved(
