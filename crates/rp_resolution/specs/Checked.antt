@@ -1,6 +1,7 @@
 -- What a check answers.
 use Rattle.std.specs.Prelude.{◌≡◌, List, [], ◌∷◌, ◌++◌, length, Option, Some, Result, Ok, Err}
 use Rattle.rp_value.specs.declared.value.Kind.{Kind}
+use Rattle.rp_tree.specs.declared.tree.AggregateFunction.{AggregateFunction}
 use Rattle.rp_tree.specs.Paths.{Path}
 use Rattle.rp_tree.specs.Terms.{Term}
 use Rattle.rp_resolution.specs.declared.fault.Fault.{Fault}
@@ -9,9 +10,10 @@ use Rattle.rp_resolution.specs.declared.fault.CheckFault.TheVariants as refusal
 use Rattle.rp_resolution.specs.declared.resolved.Resolved.{Resolved}
 use Rattle.rp_resolution.specs.declared.resolved.Resolved.TheVariants.{Value, Condition}
 use Rattle.rp_query.specs.declared.plan.Navigation.{Navigation}
-use Rattle.rp_query.specs.Formulas.{Formula, PlainTotal, value_formula, condition_formula}
+use Rattle.rp_query.specs.declared.plan.Total.{Total}
+use Rattle.rp_query.specs.Formulas.{Formula, PlainTotal, plain_total, value_formula, condition_formula}
 use Rattle.rp_resolution.specs.Context.{Context}
-use Rattle.rp_resolution.specs.Sorts.{Sort, Valued, Truth, sort_of, path_sort}
+use Rattle.rp_resolution.specs.Sorts.{Sort, Valued, Truth, sort_of, path_sort, aggregate_sort}
 use Rattle.rp_resolution.specs.ExprFaults.{expr_faults}
 use Rattle.rp_resolution.specs.Resolved as resolved
 
@@ -45,6 +47,10 @@ abbrev pub Navigates : Context → List PlainTotal → Path → List PlainTotal 
 Navigates x before path now n =
     (n.0 ≡ resolved.place_of x (length before) path) × (path_sort x path ≡ Some (Valued n.1))
     × (now ≡ before ++ resolved.listing_total (resolved.path_members x path))
+
+-- the total of an aggregate, and the kind of its value
+abbrev pub IsTotalOf : Context → AggregateFunction → Total × Kind → Type 0
+IsTotalOf x function t = (plain_total t.0 ≡ resolved.total_over x function) × (aggregate_sort x function ≡ Some (Valued t.1))
 
 -- an expression without faults, after these aggregates, is resolved; now there are these aggregates
 pub record Resolves (x : Context) (before : List PlainTotal) (t : Term) (r : Resolved) (now : List PlainTotal)

@@ -4,10 +4,10 @@ ghost use Rattle.std.specs.Prelude.{◌≡◌, ◌++◌, true, map, length, Some
 ghost use Rattle.rp_tree.specs.Paths.{path_of, At, Move};
 ghost use Rattle.rp_query.specs.Formulas.{members_of, plain_total};
 ghost use Rattle.rp_resolution.specs.Context.{context_of, members_named};
-ghost use Rattle.rp_resolution.specs.Sorts.{Valued, column_sort, aggregate_sort};
+ghost use Rattle.rp_resolution.specs.Sorts.{Valued, column_sort};
 ghost use Rattle.rp_resolution.specs.ExprFaults.{unless, variable_faults, qualifier_faults, column_faults, scope_faults, nesting_faults, offset_faults, path_faults, counted_faults, sum_faults, function_faults, is_step, may_hold, scope_in};
-ghost use Rattle.rp_resolution.specs.Resolved.{unqualified, members_meant, column_number, column_place, moved, rows_or, is_final, listing_total, rows_meant, total_over};
-ghost use Rattle.rp_resolution.specs.Checked.{FirstFaultOr, Navigates};
+ghost use Rattle.rp_resolution.specs.Resolved.{unqualified, members_meant, column_number, column_place, moved, rows_or, is_final, listing_total, rows_meant};
+ghost use Rattle.rp_resolution.specs.Checked.{FirstFaultOr, IsTotalOf, Navigates};
 
 use crate::fault::{CheckFault, CheckKind, Fault};
 use crate::names::{Names, among, column_named, set_named};
@@ -289,9 +289,8 @@ pub(crate) fn navigation(
 
 /// The total of COUNT.
 fn counted(alloc: Global, names: &Names, argument: &Counted) -> Result<(Total, Kind), CheckFault>
-    ensures { let x = context_of names.now in let function = AggregateFunction.Count argument.now in
-        FirstFaultOr (counted_faults x argument.now)
-        (λ t. (plain_total t.0 ≡ total_over x function) × (aggregate_sort x function ≡ Some (Valued t.1))) result }
+    ensures { let x = context_of names.now in
+        FirstFaultOr (counted_faults x argument.now) (IsTotalOf x (AggregateFunction.Count argument.now)) result }
 {
     match argument {
         Counted::Rows => {
@@ -337,9 +336,8 @@ fn summed(
     at: usize,
     reference: &Column,
 ) -> Result<(Total, Kind), CheckFault>
-    ensures { let x = context_of names.now in let function = AggregateFunction.Sum reference.now in
-        FirstFaultOr (sum_faults x at reference.now)
-        (λ t. (plain_total t.0 ≡ total_over x function) × (aggregate_sort x function ≡ Some (Valued t.1))) result }
+    ensures { let x = context_of names.now in
+        FirstFaultOr (sum_faults x at reference.now) (IsTotalOf x (AggregateFunction.Sum reference.now)) result }
 {
     let (variables, number, kind) = column(alloc, names, reference)?;
     require(kind == Kind::Int, CheckKind::KindMismatch, at)?;
@@ -355,9 +353,8 @@ fn summed(
 
 /// The total of MIN of a column, and the kind of the column.
 fn least(alloc: Global, names: &Names, reference: &Column) -> Result<(Total, Kind), CheckFault>
-    ensures { let x = context_of names.now in let function = AggregateFunction.Min reference.now in
-        FirstFaultOr (column_faults x reference.now)
-        (λ t. (plain_total t.0 ≡ total_over x function) × (aggregate_sort x function ≡ Some (Valued t.1))) result }
+    ensures { let x = context_of names.now in
+        FirstFaultOr (column_faults x reference.now) (IsTotalOf x (AggregateFunction.Min reference.now)) result }
 {
     let (variables, number, kind) = column(alloc, names, reference)?;
     let function = Function::Least(number);
@@ -372,9 +369,8 @@ fn least(alloc: Global, names: &Names, reference: &Column) -> Result<(Total, Kin
 
 /// The total of MAX of a column, and the kind of the column.
 fn greatest(alloc: Global, names: &Names, reference: &Column) -> Result<(Total, Kind), CheckFault>
-    ensures { let x = context_of names.now in let function = AggregateFunction.Max reference.now in
-        FirstFaultOr (column_faults x reference.now)
-        (λ t. (plain_total t.0 ≡ total_over x function) × (aggregate_sort x function ≡ Some (Valued t.1))) result }
+    ensures { let x = context_of names.now in
+        FirstFaultOr (column_faults x reference.now) (IsTotalOf x (AggregateFunction.Max reference.now)) result }
 {
     let (variables, number, kind) = column(alloc, names, reference)?;
     let function = Function::Greatest(number);
@@ -395,8 +391,7 @@ pub(crate) fn totalled(
     function: &AggregateFunction,
 ) -> Result<(Total, Kind), CheckFault>
     ensures { FirstFaultOr (function_faults (context_of names.now) at function.now)
-        (λ t. (plain_total t.0 ≡ total_over (context_of names.now) function.now)
-        × (aggregate_sort (context_of names.now) function.now ≡ Some (Valued t.1))) result }
+        (IsTotalOf (context_of names.now) function.now) result }
 {
     match function {
         AggregateFunction::Count(argument) => counted(alloc, names, argument),
