@@ -1,3 +1,4 @@
+mod FieldTexts
 mod Onto
 mod Plain
 pub mod Texts
