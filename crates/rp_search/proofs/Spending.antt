@@ -22,7 +22,7 @@ use Rattle.rp_search.specs.declared.table.Table.{Table}
 use Rattle.rp_search.specs.Asked.{Asked, AskedExtend, rows_from}
 use Rattle.rp_search.specs.Memo.{AreMarksUnder, IsMarkOfTop, RemembersUnder, failed_until, marked_on, lessened}
 use Rattle.rp_search.specs.Table.{until_of}
-use Rattle.rp_search.specs.Work.{KeepsAll, NotesAll, IsFresh, SettledCosts, Sinks, Spent, TakesLess, TakeLess, added_by, fresh_work, rows_ahead, unmarked}
+use Rattle.rp_search.specs.Work.{KeepsAll, NoneOrEver, NotesAll, IsFresh, SettledCosts, SettledEver, Sinks, Spent, TakesLess, TakeLess, added_by, fresh_work, rows_ahead, unmarked}
 use Rattle.rp_search.proofs.ChoiceSteps.{later_still, now_later}
 use Rattle.rp_search.proofs.Fresh.{fresh_equal, fresh_set}
 
@@ -257,6 +257,15 @@ sinks_asked old new asked asked' same s = subst (λ a. Sinks old new a.known a.e
 pub settled_cost : (old new : Choices) (seen : Seen) → (seen ≡ True) ⊎ (seen ≡ NotTrue) → SettledCosts old new seen → IsNumbered (kept old) → costs new < costs old
 settled_cost old new seen (inl e) h numbered = (subst (SettledCosts old new) e h) numbered
 settled_cost old new seen (inr e) h numbered = (subst (SettledCosts old new) e h) numbered
+
+settled_for_ever : (until : ℕ) (seen : Seen) → (seen ≡ True) ⊎ (seen ≡ NotTrue) → SettledEver until seen → most_u64 ≤ until
+settled_for_ever until seen (inl is) ever = subst (SettledEver until) is ever
+settled_for_ever until seen (inr is) ever = subst (SettledEver until) is ever
+
+-- where something is marked, start rows are looked at, so that a row that is settled is settled for ever
+pub settled_ever : (marks marks' : List Mark) (looks until : ℕ) (seen : Seen) → marks' ≡ marks → (seen ≡ True) ⊎ (seen ≡ NotTrue) → (marks ≡ []) ⊎ (0 < looks) → (0 < looks → SettledEver until seen) → NoneOrEver marks' until
+settled_ever marks marks' looks until seen same is (inl none) ever = inl (same ∙ none)
+settled_ever marks marks' looks until seen same is (inr some) ever = inr (settled_for_ever until seen is (ever some))
 
 -- a choice was split, and its mark set, or not
 pub set_noted : (old new : Choices) (asked asked' : Asked) (mark : Option Mark) (marks set after : List Mark) (r : Result Unit AllocError) → OnOk r (set ≡ marked_on mark marks) → OnErr r (set ≡ marks) →

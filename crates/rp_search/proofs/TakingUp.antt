@@ -16,7 +16,7 @@ use Rattle.rp_search.specs.Fits.{ChoicesFit, StandsAtRow, left_by, test_from, Ch
 use Rattle.rp_search.specs.Found.{tested}
 use Rattle.rp_search.specs.Memo.{Above, Remembers}
 use Rattle.rp_search.specs.Search.{start_of_search, labels_of_search, words_from}
-use Rattle.rp_search.specs.Turned.{AddsLabel, IsRunning, IsWithinRun, MapsNewRow, SearchSpent, TookTurn, Turned}
+use Rattle.rp_search.specs.Turned.{AddsLabel, AreCutBack, IsRunning, IsWithinRun, MapsNewRow, SearchSpent, TookTurn, Turned}
 use Rattle.rp_search.specs.Work.{TakeLess, counted}
 use Rattle.rp_search.proofs.ChoiceSteps.{now_later, cut_true, stands_splits, stands_full, stands_open, stands_nothing, stands_row, maps_row, finds_match, finds_wait, finds_none}
 use Rattle.rp_search.proofs.Marks.{still_above}
@@ -59,6 +59,10 @@ module _ (s : Search) (c : Choices) (asked : Asked) (Before : ℕ → List Label
   pub less_on : (t : Taken) → TakenAs s.choices c asked.known asked.end t → TakeLess c asked s.memo.marks
   unfolding MarksStand
   less_on t h = less_again s.choices c asked s.memo.marks (taken_sinks s.choices c asked.known asked.end t plan under h) high r.marks
+
+  pub cuts_back : AreFirstOf (entered c) (entered s.choices) → AreCutBack (Before (start_of c)) (entered c)
+  unfolding start_of_search labels_of_search
+  cuts_back cut = record { before = entered s.choices; entered_before = subst (λ i. Before i (entered s.choices)) (sym whole_is.start) r.entered; depth = cut.0; cut = cut.1 }
 
   within : (memo : Memo) → AreFirstOf (entered c) (entered s.choices) → ChoicesFit c asked.known asked.end (test_from s.choices asked) → IsWithinRun (record s { choices = c; memo = memo }) asked
   unfolding LabelsBelow

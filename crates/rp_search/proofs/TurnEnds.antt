@@ -16,13 +16,13 @@ use Rattle.rp_words.specs.Mapping.{Mapping, Full, Open}
 use Rattle.rp_words.specs.Mapping.{preceded}
 use Rattle.rp_words.specs.Later.{IsLater}
 use Rattle.rp_words.specs.LabelLaws.{IsBelow}
-use Rattle.rp_pattern.specs.Choices.{start_of, entered, whole, whole_turns, whole_turns_from, remaining, turns_left, below, turns_left_below, after, turns_left_after, AreFirstOf, AreStrictlyFirstOf, IsSameWhole}
+use Rattle.rp_pattern.specs.Choices.{start_of, entered, whole, whole_from, whole_turns, whole_turns_from, remaining, turns_left, below, turns_left_below, after, turns_left_after, AreFirstOf, AreStrictlyFirstOf, IsSameWhole}
 use Rattle.rp_search.specs.declared.search.Outcome.{Outcome}
 use Rattle.rp_search.specs.declared.search.Outcome.TheVariants.{Match, NoMatch, Waits, Paused}
 use Rattle.rp_search.specs.Found.{Test, tested, found, Waits as FoundWaits}
 use Rattle.rp_search.specs.Asked.{Asked, AreBelow, rows_from}
-use Rattle.rp_search.specs.Search.{HasMoved, IsAtStart, found_by, labels_of_search, start_of_search, turns_from, most_turns}
-use Rattle.rp_search.specs.Fits.{ChoicesFit, StandsBy, StandsAtRow, StandsAtRowBy, Explores, AreAdmitted, ChoicesStand, LabelsStand, LabelsBelow, MarksStand, MemoStands, SearchStands, test_from, unless_open, left_given, left_by}
+use Rattle.rp_search.specs.Search.{HasMoved, IsAtStart, IsSameSearch, found_by, labels_of_search, start_of_search, words_from, turns_from, most_turns}
+use Rattle.rp_search.specs.Fits.{ChoicesFit, StandsBy, StandsAtRow, StandsAtRowBy, Explores, AreAdmitted, ChoicesStand, LabelsStand, LabelsBelow, MarksStand, MemoStands, SearchFits, SearchStands, test_from, unless_open, left_given, left_by}
 use Rattle.rp_search.specs.Memo.{IsBlank}
 use Rattle.rp_search.specs.Work.{TakeLess}
 use Rattle.rp_search.specs.Turned.{AddsLabel, AreCutBack, Goes, GoesOn, IsOpenAt, IsWithinRun, Settled, Turned}
@@ -32,6 +32,27 @@ use Rattle.rp_search.proofs.Marks.{blank_remembers}
 -- a fact at the rows and the end that were read is one at those of the tests
 pub at_known : (P : ℕ → End → Type 0) (n n' : ℕ) (e e' : End) → n ≡ n' → e ≡ e' → P n e → P n' e'
 at_known P n n' e e' h k p = subst (λ m. P m e') h (subst (λ f. P n f) k p)
+
+-- a search stays the same where the whole of its choices does
+pub same_search : (old new : Search) → IsSameWhole old.choices new.choices → IsSameSearch old new
+unfolding start_of_search words_from turns_from whole whole_from whole_turns whole_turns_from start_of
+same_search old new keeps = record {
+  start = keeps.start;
+  pattern = record { words = keeps.pattern.words; turns = keeps.pattern.left };
+  words = keeps.words;
+  turns = keeps.left;
+}
+
+pub same_itself : (c : Choices) → IsSameWhole c c
+same_itself c = record {
+  start = refl;
+  words = λ n e. refl;
+  left = λ n e. refl;
+  pattern = record { words = λ n e row. refl; left = λ n e row. refl; places = λ place n e row. refl };
+}
+
+pub some_label : (ls before : List Label) (last : Label) → ls ≡ before ++ last ∷ [] → 0 < length ls
+some_label ls before last is = subst (λ xs. 0 < length xs) (sym is) (omega (arith, length-append before (last ∷ [])))
 
 pub open_end : (e : End) → (e ≡ ClosedEnd → ⊥) → e ≡ OpenEnd
 open_end OpenEnd h = refl
@@ -79,12 +100,54 @@ left_plainly c p n e test none = ap (λ q. left_given q c n e test) none
 pub fewer_plainly : (old new : Choices) (p : Option Outlook) (n : ℕ) (e : End) (test test' : Test) → p ≡ None → turns_left new n e ≤ turns_left old n e → left_given p new n e test' ≤ left_given p old n e test
 fewer_plainly old new p n e test test' none h = omega (arith, h, left_plainly old p n e test none, left_plainly new p n e test' none)
 
+-- where fewer turns are left for the choices, so are for the search
+pub left_lowered : (old new : Search) (asked : Asked) → old.outlook ≡ None → new.outlook ≡ None → turns_left new.choices asked.known asked.end < turns_left old.choices asked.known asked.end → left_by new asked + 1 ≤ left_by old asked
+unfolding left_by
+left_lowered old new asked none none' less =
+    omega (arith, less, left_plainly old.choices old.outlook asked.known asked.end (test_from old.choices asked) none, left_plainly new.choices new.outlook asked.known asked.end (test_from new.choices asked) none')
+
+pub settled_lowers : (old new : Choices) (asked asked' : Asked) (seen : Seen) → asked' ≡ asked → (seen ≡ True) ⊎ (seen ≡ NotTrue) → Settled old new asked' seen → turns_left new asked.known asked.end < turns_left old asked.known asked.end
+settled_lowers old new asked asked' seen same is settled =
+    let g : GoesOn old new asked = subst (GoesOn old new) same (settled_goes old new asked' seen is settled) in
+    g.goes.turns
+
 -- while a row is explored
 pub left_exploring : (c : Choices) (outlook : Outlook) (n : ℕ) (e : End) (test : Test) → test (entered c) ≡ OpenTest → left_given (Some outlook) c n e test ≡ turns_left_below c n e + turns_ahead outlook n e
 left_exploring c outlook n e test h = ap (λ z. unless_open z (turns_left c n e) (turns_left_below c n e + turns_ahead outlook n e)) h
 
 pub fewer_exploring : (c : Choices) (old new : Outlook) (n : ℕ) (e : End) (test : Test) → test (entered c) ≡ OpenTest → turns_ahead new n e ≤ turns_ahead old n e → left_given (Some new) c n e test ≤ turns_left_below c n e + turns_ahead old n e
 fewer_exploring c old new n e test seen h = omega (arith, h, left_exploring c new n e test seen)
+
+pub left_stays : (old new : Search) (asked : Asked) → new.outlook ≡ old.outlook → new.choices ≡ old.choices → left_by new asked ≤ left_by old asked
+unfolding left_by
+left_stays old new asked outlook choices =
+    let now : left_given new.outlook new.choices asked.known asked.end (test_from new.choices asked) ≡ left_given old.outlook old.choices asked.known asked.end (test_from old.choices asked) =
+    ap (λ p. left_given p new.choices asked.known asked.end (test_from new.choices asked)) outlook ∙ ap (λ c. left_given old.outlook c asked.known asked.end (test_from c asked)) choices in
+    omega (arith, now)
+
+-- a search that fits what is asked is within a run, while the row that it explores is open
+pub fits_within : (old new : Search) (asked : Asked) → new.outlook ≡ old.outlook → new.choices ≡ old.choices → SearchFits old asked → IsOpenAt new.outlook new.choices (test_from new.choices asked) → IsWithinRun new asked
+unfolding ChoicesStand LabelsStand LabelsBelow
+fits_within old new asked outlook choices fits is_open = record {
+  fits = record {
+    stands = subst (λ c. StandsBy c asked) (sym choices) fits.stands;
+    labels = subst (λ c. AreAdmitted new.outlook c asked.known asked.end (test_from c asked)) (sym choices)
+        (subst (λ p. AreAdmitted p old.choices asked.known asked.end (test_from old.choices asked)) (sym outlook) fits.labels);
+    below = subst (λ c. AreBelow asked.variables (entered c)) (sym choices) fits.below;
+  };
+  is_open = is_open;
+}
+
+-- to explore a row takes its turn
+pub explored_lowers : (old new : Search) (outlook : Outlook) (asked : Asked) → old.outlook ≡ None → new.outlook ≡ Some outlook → new.choices ≡ old.choices → StandsAtRowBy old.choices asked →
+    turns_ahead outlook asked.known asked.end ≡ turns_left_after new.choices asked.known asked.end → test_from old.choices asked (entered old.choices) ≡ OpenTest → left_by new asked + 1 ≤ left_by old asked
+unfolding left_by
+explored_lowers old new outlook asked none some same row ahead seen =
+    let n = asked.known in
+    let e = asked.end in
+    let now : left_given new.outlook new.choices n e (test_from new.choices asked) ≡ left_given (Some outlook) old.choices n e (test_from old.choices asked) =
+    ap (λ p. left_given p new.choices n e (test_from new.choices asked)) some ∙ ap (λ c. left_given (Some outlook) c n e (test_from c asked)) same in
+    omega (arith, now, left_exploring old.choices outlook n e (test_from old.choices asked) seen, ahead, ap (λ c. turns_left_after c n e) same, row.divides.turns n e (now_later n e), left_plainly old.choices old.outlook n e (test_from old.choices asked) none)
 
 -- a row that is settled, in place of one that was explored
 settled_in : (seen : Seen) (new standing exploring : ℕ) → (seen ≡ OpenTest → ⊥) → new < standing → new ≤ unless_open seen standing exploring
@@ -97,6 +160,20 @@ left_settled old new outlook p q n e test some none decided h =
     let now : left_given q new n e test ≡ turns_left new n e = left_plainly new q n e test none in
     subst (λ k. k ≤ left_given p old n e test) (sym now)
     (subst (λ r. turns_left new n e ≤ left_given r old n e test) (sym some) (settled_in (test (entered old)) (turns_left new n e) (turns_left old n e) (turns_left_below old n e + turns_ahead outlook n e) decided h))
+
+settled_decides : (seen told : Seen) → (seen ≡ True) ⊎ (seen ≡ NotTrue) → seen ≡ told → told ≡ OpenTest → ⊥
+settled_decides seen told (inl is) same is_open = let no : True ≡ OpenTest = sym is ∙ same ∙ is_open in absurd (cc)
+settled_decides seen told (inr is) same is_open = let no : NotTrue ≡ OpenTest = sym is ∙ same ∙ is_open in absurd (cc)
+
+pub left_where_settled : (old new : Search) (outlook : Outlook) (asked : Asked) (seen : Seen) → old.outlook ≡ Some outlook → new.outlook ≡ None → (seen ≡ True) ⊎ (seen ≡ NotTrue) → seen ≡ test_from old.choices asked (entered old.choices) →
+    Settled old.choices new.choices asked seen → left_by new asked ≤ left_by old asked
+unfolding left_by
+left_where_settled old new outlook asked seen some none is told settled =
+    let n = asked.known in
+    let e = asked.end in
+    let test = test_from old.choices asked in
+    let low = left_settled old.choices new.choices outlook old.outlook new.outlook n e test some none (settled_decides seen (test (entered old.choices)) is told) (settled_lowers old.choices new.choices asked asked seen refl is settled) in
+    omega (arith, low, left_plainly new.choices new.outlook n e test none, left_plainly new.choices new.outlook n e (test_from new.choices asked) none)
 
 -- a word would follow a row
 pub explored_word : (c : Choices) (outlook : Outlook) (n : ℕ) (e : End) (test : Test) → ChoicesFit c n e test → Explores c outlook n e test → test (entered c) ≡ OpenTest → 0 < words_ahead outlook n e → found test (whole c n e) ≡ FoundWaits

@@ -1,4 +1,5 @@
-use Rattle.std.proofs.Common.{◌≡◌, ◌∙◌, ◌<◌, ◌≤◌, IfOk, ap, arith, inr, refl, rules, subst, sym}
+use Rattle.std.proofs.Common.{◌≡◌, ◌∙◌, ◌<◌, ◌≤◌, IfOk, OnOk, ap, arith, inr, refl, subst, sym}
+use Rattle.std.proofs.lemmas.Result.{IfOk-from_err}
 use Rattle.rp_words.specs.Numbers.{most_u64}
 use Rattle.rp_pattern.specs.declared.outlook.Sight.TheVariants.{Further, Word, Nothing}
 use Rattle.rp_pattern.specs.Choices.{start_of, entered, height, whole, whole_from}
@@ -9,10 +10,12 @@ use Rattle.rp_search.specs.Found.{found}
 use Rattle.rp_search.specs.Search.{found_by, start_of_search, labels_of_search, words_from}
 use Rattle.rp_search.specs.Fits.{left_by, ChoicesStand, LabelsStand, LabelsBelow, MarksStand, MemoStands}
 use Rattle.rp_search.specs.Memo.{Above, Remembers, RemembersUpTo}
-use Rattle.rp_search.specs.Turned.{CanTurn, Goes, TookTurn, exploring}
+use Rattle.rp_search.specs.Turned.{CanTurn, Goes, IsRunning, TookTurn, exploring}
 use Rattle.rp_search.specs.Work.{added_by}
 use Rattle.rp_search.proofs.ChoiceSteps.{now_later}
+use Rattle.rp_search.proofs.RunSoFar.{covers_same, same_then}
 use Rattle.rp_search.proofs.Marks.{explored_passes, nothing_remembers, up_to_any}
+use Rattle.rp_search.proofs.TurnEnds.{same_itself, same_search}
 use Rattle.rp_search.proofs.TurnEnds.{at_known, below_front, open_end, searches_plainly, left_exploring, left_plainly, explored_word, explored_nothing, turned_after}
 use Rattle.rp_search.proofs.Spending.{each_ok, gave_sinks, noted_less, remembered_high, row_fewer}
 use Rattle.rp_search.proofs.search.Search.explore.Goals as goal
@@ -87,7 +90,7 @@ take_up-requires-in-Nothing-clause-can_turn g c =
     let after : Search = record { choices = new; outlook = c.args.self.now.outlook; memo = c.note_failures.new.self; taken = c.args.self.now.taken; turns = c.args.self.now.turns } in
     subst (λ a. CanTurn after a (g.T.Tests.entered c.cut_back.new.tests)) (sym same)
     (record {
-      covers = search rules;
+      covers = covers_same _ after asked (same_search _ after gave.whole) c.requires.can_turn.covers;
       running = record {
         searches = searches_plainly after asked (start_of old) gave.whole.start c.requires.none goes.stands goes.admitted (below_front asked.variables (entered new) (entered old) gave.labels fits.below);
         memo = subst (Remembers c.note_failures.new.self new) same c.note_failures.ensures.remembers;
@@ -122,3 +125,58 @@ returns-in-Nothing-clause-took g c =
       held = t.held;
     })
     (subst (λ s. IfOk c.take_up-in-Nothing.result (TookTurn (added_by c.args.remembers) (g.T.Tests.always s) (g.T.Tests.always s) after taken (g.T.Tests.asked s))) c.cut_back.ensures.subject c.take_up-in-Nothing.ensures.took)
+
+pub take_up-requires : goal.take_up-requires
+take_up-requires g c = omega (arith, c.known.ensures, g.met.T.Tests.few c.args.tests.now)
+
+pub returns-in_err-take_up-clause-same : goal.returns-in_err-take_up-clause-same
+returns-in_err-take_up-clause-same g c = same_search c.args.self.now _ (same_itself c.args.self.now.choices)
+
+pub returns-in_err-take_up-clause-subject : goal.returns-in_err-take_up-clause-subject
+returns-in_err-take_up-clause-subject g c = refl
+
+pub returns-in_err-take_up-clause-entries : goal.returns-in_err-take_up-clause-entries
+returns-in_err-take_up-clause-entries g c = (omega arith, omega arith)
+
+pub returns-in_err-take_up-clause-running : goal.returns-in_err-take_up-clause-running
+returns-in_err-take_up-clause-running g c = IfOk-from_err c.from_residual.result _ c.from_residual.ensures.0
+
+pub returns-in_err-take_up-clause-took : goal.returns-in_err-take_up-clause-took
+returns-in_err-take_up-clause-took g c = IfOk-from_err c.from_residual.result _ c.from_residual.ensures.0
+
+pub take_up-requires-in-Nothing-clause-none : goal.take_up-requires-in-Nothing-clause-none
+take_up-requires-in-Nothing-clause-none g c = c.requires.none
+
+pub returns-in-Further-clause-same : goal.returns-in-Further-clause-same
+returns-in-Further-clause-same g c = same_search c.args.self.now _ (same_itself c.args.self.now.choices)
+
+pub returns-in-Further-clause-subject : goal.returns-in-Further-clause-subject
+returns-in-Further-clause-subject g c = refl
+
+pub returns-in-Further-clause-entries : goal.returns-in-Further-clause-entries
+returns-in-Further-clause-entries g c = (omega arith, omega arith)
+
+pub returns-in-Word-clause-same : goal.returns-in-Word-clause-same
+returns-in-Word-clause-same g c = same_search c.args.self.now _ (same_itself c.args.self.now.choices)
+
+pub returns-in-Word-clause-subject : goal.returns-in-Word-clause-subject
+returns-in-Word-clause-subject g c = refl
+
+pub returns-in-Word-clause-entries : goal.returns-in-Word-clause-entries
+returns-in-Word-clause-entries g c = (omega arith, omega arith)
+
+pub returns-in-Nothing-clause-same : goal.returns-in-Nothing-clause-same
+returns-in-Nothing-clause-same g c =
+    same_then c.args.self.now (record c.args.self.now { choices = c.give_up.new.self; memo = c.note_failures.new.self }) c.take_up-in-Nothing.new.self
+    (same_search c.args.self.now _ c.give_up.ensures.whole) c.take_up-in-Nothing.ensures.same
+
+pub returns-in-Nothing-clause-subject : goal.returns-in-Nothing-clause-subject
+returns-in-Nothing-clause-subject g c = c.take_up-in-Nothing.ensures.subject ∙ c.cut_back.ensures.subject
+
+pub returns-in-Nothing-clause-entries : goal.returns-in-Nothing-clause-entries
+returns-in-Nothing-clause-entries g c = (omega (arith, c.take_up-in-Nothing.ensures.entries.0, c.cut_back.ensures.entries), omega (arith, c.take_up-in-Nothing.ensures.entries.1, c.cut_back.ensures.entries))
+
+pub returns-in-Nothing-clause-running : goal.returns-in-Nothing-clause-running
+returns-in-Nothing-clause-running g c =
+    subst (λ s. OnOk c.take_up-in-Nothing.result (IsRunning c.take_up-in-Nothing.new.self (g.T.Tests.asked s) (g.T.Tests.entered c.take_up-in-Nothing.new.tests)))
+    c.cut_back.ensures.subject c.take_up-in-Nothing.ensures.running

@@ -1,15 +1,18 @@
-use Rattle.std.proofs.Common.{◌≡◌, true, false, take, refl, ap, subst, sym, rules, arith, ◌∙◌}
+use Rattle.std.proofs.Common.{◌≡◌, ◌<◌, take, refl, ap, inr, subst, sym, arith, ◌∙◌}
+use Rattle.std.proofs.lemmas.Result.{IfOk-from_err}
+use Rattle.rp_words.specs.Numbers.{most_u64}
 use Rattle.rp_words.specs.declared.word.Seen.TheVariants.{Open as OpenTest}
-use Rattle.rp_pattern.specs.Choices.{start_of, entered, height, kept, whole, whole_from}
+use Rattle.rp_pattern.specs.Choices.{start_of, entered, height, kept, whole, whole_from, AtRow}
 use Rattle.rp_search.specs.Asked.{Asked, AreBelow}
 use Rattle.rp_search.specs.Search.{start_of_search, labels_of_search, words_from}
 use Rattle.rp_search.specs.Fits.{StandsBy, StandsAtRowBy, left_by, test_from, ChoicesStand, LabelsStand, LabelsBelow, MarksStand, MemoStands}
 use Rattle.rp_search.specs.Memo.{Above, Remembers, RemembersUpTo, AreOfPattern}
 use Rattle.rp_search.specs.Turned.{AreCutBack, CanAsk, Goes, Settled}
-use Rattle.rp_search.proofs.ChoiceSteps.{goes_wordless}
+use Rattle.rp_search.proofs.ChoiceSteps.{goes_wordless, now_later}
 use Rattle.rp_search.proofs.Marks.{nothing_remembers, of_pattern, remembers_same, remembers_settled, up_to_any, wordless_passes}
-use Rattle.rp_search.proofs.TurnEnds.{below_added, below_cut, cut_added, none_untested, searches_exploring, searches_plainly, searches_settled, untested_none, yes_tested}
-use Rattle.rp_search.proofs.Spending.{gave_sinks, noted_less, notes_equal, notes_spends, notes_then, remembered_high, row_fewer, settled_cost, sinks_asked}
+use Rattle.rp_search.proofs.TurnEnds.{below_added, below_cut, cut_added, explored_lowers, left_lowered, none_untested, same_itself}
+use Rattle.rp_search.proofs.TurnEnds.{same_search, searches_exploring, searches_plainly, searches_settled, settled_lowers, some_label, untested_none, yes_tested}
+use Rattle.rp_search.proofs.Spending.{gave_sinks, noted_less, notes_equal, notes_spends, notes_then, remembered_high, row_fewer, settled_cost, settled_ever, sinks_asked}
 use Rattle.rp_search.proofs.search.Search.map_row.Goals as goal
 
 pub returns-then-not-is_tested-clause-running : goal.returns-then-not-is_tested-clause-running
@@ -19,9 +22,8 @@ returns-then-not-is_tested-clause-running g c =
     let old = c.args.self.now.choices in
     let gave = c.give_up.ensures in
     let row = c.requires.maps.row in
-    let untested : c.is_tested.result ≡ false = search rules in
     let none = untested_none old _ _ _ asked.variables c.requires.maps.stands row (λ n e. c.requires.covers.variables n e (start_of old))
-    (none_untested asked.variables row.before row.last (entered old) c.is_tested.result row.labels (c.is_tested.ensures row.before row.last row.labels) untested) in
+    (none_untested asked.variables row.before row.last (entered old) c.is_tested.result row.labels (c.is_tested.ensures row.before row.last row.labels) c.if-not-is_tested.true) in
     let goes : Goes old c.give_up.new.self asked.known asked.end (asked.outcome (start_of old)) =
     goes_wordless old c.give_up.new.self _ _ _ c.requires.maps.stands row none gave.whole (record { cut = gave.labels; cut_off = gave.cut_off; words = gave.remaining; turns = gave.left; fall = gave.height; over = gave.rest }) in
     let new = c.give_up.new.self in
@@ -49,9 +51,8 @@ unfolding labels_of_search
 enter_row-requires-clause-below g c =
     let asked : Asked = g.T.Tests.asked (g.T.Tests.subject c.args.tests.now) in
     let below = c.requires.maps.below in
-    let is_tested : c.is_tested.result ≡ true = search rules in
     below_added asked.variables (entered c.args.self.now.choices) below
-    (yes_tested _ c.is_tested.result (c.is_tested.ensures (take below.depth below.before) below.label below.added) is_tested)
+    (yes_tested _ c.is_tested.result (c.is_tested.ensures (take below.depth below.before) below.label below.added) c.if-not-is_tested.false)
 
 pub settle-requires-clause-can_ask : goal.settle-requires-clause-can_ask
 unfolding start_of_search labels_of_search
@@ -59,14 +60,13 @@ settle-requires-clause-can_ask g c =
     let asked : Asked = g.T.Tests.asked (g.T.Tests.subject c.args.tests.now) in
     let maps = c.requires.maps in
     let below = maps.below in
-    let is_tested : c.is_tested.result ≡ true = search rules in
     subst (λ s. CanAsk c.args.self.now.choices (g.T.Tests.asked s) (g.T.Tests.entered c.enter_row.new.tests)) (sym c.in_ok-enter_row.ensures.subject)
     (record {
       known = c.requires.covers.known;
       stands = maps.stands;
       row = maps.row;
       below = below_added asked.variables (entered c.args.self.now.choices) below
-          (yes_tested _ c.is_tested.result (c.is_tested.ensures (take below.depth below.before) below.label below.added) is_tested);
+          (yes_tested _ c.is_tested.result (c.is_tested.ensures (take below.depth below.before) below.label below.added) c.if-not-is_tested.false);
       labels = c.in_ok-enter_row.ensures.entered;
     })
 
@@ -77,11 +77,10 @@ returns-in_ok-after_row-in-Open-clause-running g c =
     let old = c.args.self.now.choices in
     let new = c.settle.new.choices in
     let below = c.requires.maps.below in
-    let is_tested : c.is_tested.result ≡ true = search rules in
     let settled : Settled old new (g.T.Tests.asked (g.T.Tests.subject c.enter_row.new.tests)) OpenTest = rw c.in-Open.is at c.in_ok-settle.ensures.settled in
     let same : old ≡ new = sym settled.0 in
     let seen : test_from old asked (entered old) ≡ OpenTest = subst (λ s. test_from old (g.T.Tests.asked s) (entered old) ≡ OpenTest) c.in_ok-enter_row.ensures.subject settled.1 in
-    let labels = below_added asked.variables (entered old) below (yes_tested _ c.is_tested.result (c.is_tested.ensures (take below.depth below.before) below.label below.added) is_tested) in
+    let labels = below_added asked.variables (entered old) below (yes_tested _ c.is_tested.result (c.is_tested.ensures (take below.depth below.before) below.label below.added) c.if-not-is_tested.false) in
     let next = c.in_ok-after_row-in-Open.ensures in
     let entered_is = ap g.T.Tests.asked c.in_ok-enter_row.ensures.subject in
     record {
@@ -91,11 +90,12 @@ returns-in_ok-after_row-in-Open-clause-running g c =
           (subst (λ ch. AreBelow asked.variables (entered ch)) same labels)
           next.words next.turns
           (subst (λ ch. test_from ch asked (entered ch) ≡ OpenTest) same seen);
-      memo = search rules;
+      memo = subst (λ ch. Remembers c.looks-until.new.self ch asked) same
+          (remembers_same c.args.self.now.memo c.looks-until.new.self old asked c.looks-until.ensures.marks c.looks-until.ensures.failed c.requires.memo);
       marks = noted_less old new asked asked c.args.self.now.memo.marks c.looks-until.new.self.marks c.looks-until.new.self.marks refl c.looks-until.ensures.marks
           (sinks_asked old new asked _ entered_is c.in_ok-settle.ensures.sinks)
           (remembered_high (height old) (Above old) c.args.self.now.memo old asked c.requires.memo) (λ h. h) c.requires.marks;
-      entered = search rules;
+      entered = c.in_ok-settle.ensures.entered;
     }
 
 pub settle-requires-clause-pattern : goal.settle-requires-clause-pattern
@@ -112,9 +112,8 @@ note_failures-requires g c =
     let new = c.give_up.new.self in
     let gave = c.give_up.ensures in
     let row = c.requires.maps.row in
-    let untested : c.is_tested.result ≡ false = search rules in
     let none = untested_none old _ _ _ asked.variables c.requires.maps.stands row (λ n e. c.requires.covers.variables n e (start_of old))
-    (none_untested asked.variables row.before row.last (entered old) c.is_tested.result row.labels (c.is_tested.ensures row.before row.last row.labels) untested) in
+    (none_untested asked.variables row.before row.last (entered old) c.is_tested.result row.labels (c.is_tested.ensures row.before row.last row.labels) c.if-not-is_tested.true) in
     subst (λ s. RemembersUpTo 18446744073709551615 c.args.self.now.memo new (g.T.Tests.asked s)) (sym c.cut_back.ensures.subject)
     (up_to_any 18446744073709551615 c.args.self.now.memo new asked
     (nothing_remembers old new asked gave.whole c.args.self.now.memo (λ h lt. omega (arith, lt, gave.height))
@@ -174,3 +173,151 @@ returns-in_ok-after_row-in-Open-clause-spent g c = λ none.
     let old = c.args.self.now.choices in
     let settled : Settled old c.settle.new.choices (g.T.Tests.asked (g.T.Tests.subject c.enter_row.new.tests)) OpenTest = rw c.in-Open.is at c.in_ok-settle.ensures.settled in
     absurd (none (start_of old) (entered old) (omega (arith, c.requires.maps.stands.known, c.requires.covers.known)) (subst (λ s. test_from old (g.T.Tests.asked s) (entered old) ≡ OpenTest) c.in_ok-enter_row.ensures.subject settled.1))
+
+pub is_tested-requires : goal.is_tested-requires
+is_tested-requires g c = some_label (entered c.args.self.now.choices) _ _ c.requires.maps.row.labels
+
+pub give_up-requires : goal.give_up-requires
+give_up-requires g c = c.requires.maps.row.has_top
+
+pub returns-then-not-is_tested-clause-same : goal.returns-then-not-is_tested-clause-same
+returns-then-not-is_tested-clause-same g c = same_search c.args.self.now _ c.give_up.ensures.whole
+
+pub returns-then-not-is_tested-clause-subject : goal.returns-then-not-is_tested-clause-subject
+returns-then-not-is_tested-clause-subject g c = c.cut_back.ensures.subject
+
+pub returns-then-not-is_tested-clause-entries : goal.returns-then-not-is_tested-clause-entries
+returns-then-not-is_tested-clause-entries g c = (omega (arith, c.cut_back.ensures.entries), omega (arith, c.cut_back.ensures.entries))
+
+pub returns-then-not-is_tested-clause-left : goal.returns-then-not-is_tested-clause-left
+returns-then-not-is_tested-clause-left g c =
+    let asked : Asked = g.T.Tests.asked (g.T.Tests.subject c.args.tests.now) in
+    let row = c.requires.maps.row.divides.turns asked.known asked.end (now_later asked.known asked.end) in
+    left_lowered c.args.self.now _ asked c.requires.none c.requires.none (omega (arith, row, c.give_up.ensures.left asked.known asked.end))
+
+pub returns-then-not-is_tested-clause-lasts : goal.returns-then-not-is_tested-clause-lasts
+unfolding start_of_search
+returns-then-not-is_tested-clause-lasts g c =
+    let low : start_of c.give_up.new.self < most_u64 = omega (arith, c.give_up.ensures.whole.start, c.requires.covers.known, g.met.T.Tests.few c.args.tests.now) in
+    λ always all. c.note_failures.ensures.lasts low (inr (omega arith)) all
+
+pub enter_row-requires-clause-from_one : goal.enter_row-requires-clause-from_one
+enter_row-requires-clause-from_one g c = c.requires.maps.stands.from_one
+
+pub enter_row-requires-clause-known : goal.enter_row-requires-clause-known
+unfolding start_of_search
+enter_row-requires-clause-known g c = omega (arith, c.requires.maps.stands.known, c.requires.covers.known)
+
+pub enter_row-requires-clause-new : goal.enter_row-requires-clause-new
+enter_row-requires-clause-new g c = c.requires.maps.labels
+
+pub returns-in_err-enter_row-clause-subject : goal.returns-in_err-enter_row-clause-subject
+returns-in_err-enter_row-clause-subject g c = c.enter_row.ensures.subject
+
+pub returns-in_err-enter_row-clause-entries : goal.returns-in_err-enter_row-clause-entries
+returns-in_err-enter_row-clause-entries g c = c.enter_row.ensures.entries
+
+pub returns-in_err-enter_row-clause-running : goal.returns-in_err-enter_row-clause-running
+returns-in_err-enter_row-clause-running g c = IfOk-from_err c.from_residual.result _ c.from_residual.ensures.0
+
+pub returns-in_err-enter_row-clause-left : goal.returns-in_err-enter_row-clause-left
+returns-in_err-enter_row-clause-left g c = IfOk-from_err c.from_residual.result _ c.from_residual.ensures.0
+
+pub returns-in_err-enter_row-clause-spent : goal.returns-in_err-enter_row-clause-spent
+returns-in_err-enter_row-clause-spent g c = IfOk-from_err c.from_residual.result _ c.from_residual.ensures.0
+
+pub returns-in_err-enter_row-clause-lasts : goal.returns-in_err-enter_row-clause-lasts
+returns-in_err-enter_row-clause-lasts g c = IfOk-from_err c.from_residual.result _ c.from_residual.ensures.0
+
+pub returns-in_err-settle-clause-same : goal.returns-in_err-settle-clause-same
+returns-in_err-settle-clause-same g c = same_search c.args.self.now _ c.settle.ensures.same
+
+pub returns-in_err-settle-clause-subject : goal.returns-in_err-settle-clause-subject
+returns-in_err-settle-clause-subject g c = c.settle.ensures.subject ∙ c.enter_row.ensures.subject
+
+pub returns-in_err-settle-clause-entries : goal.returns-in_err-settle-clause-entries
+returns-in_err-settle-clause-entries g c = (omega (arith, c.enter_row.ensures.entries.0, c.settle.ensures.entries), omega (arith, c.enter_row.ensures.entries.1, c.settle.ensures.entries))
+
+pub returns-in_err-settle-clause-running : goal.returns-in_err-settle-clause-running
+returns-in_err-settle-clause-running g c = IfOk-from_err c.from_residual-in_err-settle.result _ c.from_residual-in_err-settle.ensures.0
+
+pub returns-in_err-settle-clause-left : goal.returns-in_err-settle-clause-left
+returns-in_err-settle-clause-left g c = IfOk-from_err c.from_residual-in_err-settle.result _ c.from_residual-in_err-settle.ensures.0
+
+pub returns-in_err-settle-clause-spent : goal.returns-in_err-settle-clause-spent
+returns-in_err-settle-clause-spent g c = IfOk-from_err c.from_residual-in_err-settle.result _ c.from_residual-in_err-settle.ensures.0
+
+pub returns-in_err-settle-clause-lasts : goal.returns-in_err-settle-clause-lasts
+returns-in_err-settle-clause-lasts g c = IfOk-from_err c.from_residual-in_err-settle.result _ c.from_residual-in_err-settle.ensures.0
+
+pub returns-in_err-after_row-in-Open-clause-same : goal.returns-in_err-after_row-in-Open-clause-same
+returns-in_err-after_row-in-Open-clause-same g c = same_search c.args.self.now _ c.settle.ensures.same
+
+pub returns-in_err-after_row-in-Open-clause-subject : goal.returns-in_err-after_row-in-Open-clause-subject
+returns-in_err-after_row-in-Open-clause-subject g c = c.settle.ensures.subject ∙ c.enter_row.ensures.subject
+
+pub returns-in_err-after_row-in-Open-clause-entries : goal.returns-in_err-after_row-in-Open-clause-entries
+returns-in_err-after_row-in-Open-clause-entries g c = (omega (arith, c.enter_row.ensures.entries.0, c.settle.ensures.entries), omega (arith, c.enter_row.ensures.entries.1, c.settle.ensures.entries))
+
+pub returns-in_err-after_row-in-Open-clause-running : goal.returns-in_err-after_row-in-Open-clause-running
+returns-in_err-after_row-in-Open-clause-running g c = IfOk-from_err c.from_residual-in_err-after_row-in-Open.result _ c.from_residual-in_err-after_row-in-Open.ensures.0
+
+pub returns-in_err-after_row-in-Open-clause-left : goal.returns-in_err-after_row-in-Open-clause-left
+returns-in_err-after_row-in-Open-clause-left g c = IfOk-from_err c.from_residual-in_err-after_row-in-Open.result _ c.from_residual-in_err-after_row-in-Open.ensures.0
+
+pub returns-in_err-after_row-in-Open-clause-spent : goal.returns-in_err-after_row-in-Open-clause-spent
+returns-in_err-after_row-in-Open-clause-spent g c = IfOk-from_err c.from_residual-in_err-after_row-in-Open.result _ c.from_residual-in_err-after_row-in-Open.ensures.0
+
+pub returns-in_err-after_row-in-Open-clause-lasts : goal.returns-in_err-after_row-in-Open-clause-lasts
+returns-in_err-after_row-in-Open-clause-lasts g c = IfOk-from_err c.from_residual-in_err-after_row-in-Open.result _ c.from_residual-in_err-after_row-in-Open.ensures.0
+
+pub returns-in_ok-after_row-in-Open-clause-same : goal.returns-in_ok-after_row-in-Open-clause-same
+returns-in_ok-after_row-in-Open-clause-same g c = same_search c.args.self.now _ c.settle.ensures.same
+
+pub returns-in_ok-after_row-in-Open-clause-subject : goal.returns-in_ok-after_row-in-Open-clause-subject
+returns-in_ok-after_row-in-Open-clause-subject g c = c.settle.ensures.subject ∙ c.enter_row.ensures.subject
+
+pub returns-in_ok-after_row-in-Open-clause-entries : goal.returns-in_ok-after_row-in-Open-clause-entries
+returns-in_ok-after_row-in-Open-clause-entries g c = (omega (arith, c.enter_row.ensures.entries.0, c.settle.ensures.entries), omega (arith, c.enter_row.ensures.entries.1, c.settle.ensures.entries))
+
+pub returns-in-True-clause-same : goal.returns-in-True-clause-same
+returns-in-True-clause-same g c = same_search c.args.self.now _ c.settle.ensures.same
+
+pub returns-in-True-clause-subject : goal.returns-in-True-clause-subject
+returns-in-True-clause-subject g c = c.settle.ensures.subject ∙ c.enter_row.ensures.subject
+
+pub returns-in-True-clause-entries : goal.returns-in-True-clause-entries
+returns-in-True-clause-entries g c = (omega (arith, c.enter_row.ensures.entries.0, c.settle.ensures.entries), omega (arith, c.enter_row.ensures.entries.1, c.settle.ensures.entries))
+
+pub after_row-requires : goal.after_row-requires
+after_row-requires g c =
+    let settled : Settled c.args.self.now.choices c.settle.new.choices (g.T.Tests.asked (g.T.Tests.subject c.enter_row.new.tests)) OpenTest = rw c.in-Open.is at c.in_ok-settle.ensures.settled in
+    subst AtRow (sym settled.0) c.requires.maps.row.at_row
+
+pub returns-in_ok-after_row-in-Open-clause-left : goal.returns-in_ok-after_row-in-Open-clause-left
+returns-in_ok-after_row-in-Open-clause-left g c =
+    let asked : Asked = g.T.Tests.asked (g.T.Tests.subject c.args.tests.now) in
+    let old = c.args.self.now.choices in
+    let settled : Settled old c.settle.new.choices (g.T.Tests.asked (g.T.Tests.subject c.enter_row.new.tests)) OpenTest = rw c.in-Open.is at c.in_ok-settle.ensures.settled in
+    let seen : test_from old asked (entered old) ≡ OpenTest = subst (λ s. test_from old (g.T.Tests.asked s) (entered old) ≡ OpenTest) c.in_ok-enter_row.ensures.subject settled.1 in
+    explored_lowers c.args.self.now _ c.in_ok-after_row-in-Open.field-0 asked c.requires.none refl settled.0 c.requires.maps.row (c.in_ok-after_row-in-Open.ensures.turns asked.known asked.end) seen
+
+pub returns-in_ok-after_row-in-Open-clause-lasts : goal.returns-in_ok-after_row-in-Open-clause-lasts
+returns-in_ok-after_row-in-Open-clause-lasts g c = λ always all. c.looks-until.ensures.lasts all
+
+pub returns-in-True-clause-left : goal.returns-in-True-clause-left
+returns-in-True-clause-left g c =
+    let settled = settled_lowers c.args.self.now.choices c.settle.new.choices _ _ _ (ap g.T.Tests.asked c.in_ok-enter_row.ensures.subject) c.in-True.is c.in_ok-settle.ensures.settled in
+    left_lowered c.args.self.now _ _ c.requires.none c.requires.none settled
+
+pub returns-in-True-clause-lasts : goal.returns-in-True-clause-lasts
+unfolding start_of_search
+returns-in-True-clause-lasts g c =
+    let settled = c.in_ok-settle.ensures in
+    let low : start_of c.settle.new.choices < most_u64 = omega (arith, settled.same.start, c.requires.covers.known, g.met.T.Tests.few c.args.tests.now) in
+    λ always all. c.note_failures-in-True.ensures.lasts low
+    (settled_ever _ _ _ _ _ c.spend.ensures.marks c.in-True.is (c.looks-until.ensures.asks all) (settled.ever (subst (λ s. g.T.Tests.always s) (sym c.in_ok-enter_row.ensures.subject) always)))
+    (c.spend.ensures.lasts (c.looks-until.ensures.lasts all))
+
+pub returns-in_err-enter_row-clause-same : goal.returns-in_err-enter_row-clause-same
+returns-in_err-enter_row-clause-same g c = same_search c.args.self.now _ (same_itself c.args.self.now.choices)
