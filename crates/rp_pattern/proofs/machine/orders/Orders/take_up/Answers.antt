@@ -1,4 +1,5 @@
-use Rattle.std.proofs.Common.{◌≡◌, ◌∷◌, ◌++◌, ◌+◌, length, sym, ap, ◌∙◌, subst}
+use Rattle.std.proofs.Common.{◌≡◌, ◌<◌, ◌∷◌, ◌++◌, ◌+◌, length, sym, ap, ◌∙◌, subst}
+use Rattle.std.specs.List.{AllByRecursion}
 use Rattle.std.proofs.lemmas.List.{length-map}
 use Rattle.rp_pattern.specs.PermutedParts.{permuted_parts}
 use Rattle.rp_words.specs.Turns.{orders_from}
@@ -8,6 +9,9 @@ use Rattle.rp_pattern.specs.Splits.{StandsFor}
 use Rattle.rp_pattern.proofs.Steps.{two_splits, replaces}
 use Rattle.rp_pattern.proofs.OrderRests.{order_leaves}
 use Rattle.rp_pattern.proofs.machine.orders.Orders.take_up.Goals as goal
+
+pub in_order-requires : goal.in_order-requires
+in_order-requires c = subst (AllByRecursion (λ k. k < length (permuted_parts c.args.self.now.permute.form.value))) (sym c.deref.ensures.value) c.in_ok-order.ensures.within
 
 pub returns : goal.returns
 returns c = λ n e.
