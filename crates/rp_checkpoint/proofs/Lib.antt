@@ -1,3 +1,5 @@
 mod NodeObjects
 mod NodeTexts
 mod Opening
+mod ReadLists
+mod ReadBack
