@@ -1,5 +1,5 @@
 -- Partitions that go on, one after another.
-use Rattle.std.proofs.Common.{◌≡◌, Bool, true, false, cond, ◌&&◌, not, List, [], ◌∷◌, Some, refl, sym, ap, ◌∙◌, subst}
+use Rattle.std.proofs.Common.{◌≡◌, Bool, true, false, cond, ◌&&◌, not, List, [], ◌∷◌, Some, None, refl, sym, ap, ◌∙◌, subst}
 use Rattle.std.specs.Prelude.{is_some}
 use Rattle.std.specs.Map.{lookup}
 use Rattle.std.specs.declared.vec.Vec.{Vec}
@@ -13,9 +13,9 @@ use Rattle.rp_schedules.specs.Records.{Held}
 use Rattle.rp_partition.specs.declared.partition.Partition.{Partition}
 use Rattle.rp_partition.specs.Joined.{held_of}
 use Rattle.rp_node.specs.Keyed.{IsPartition}
-use Rattle.rp_node.specs.NodeSeen.{Map, MapOf, AllJoined, entries_by, entry_at, with_entry}
-use Rattle.rp_node.specs.Resuming.{is_restorable, Resumed}
-use Rattle.rp_node.specs.Restarting.{is_next, RestoredOne}
+use Rattle.rp_node.specs.NodeSeen.{Entries, Map, MapOf, AllJoined, entries_by, entry_at, with_entry}
+use Rattle.rp_node.specs.Resuming.{held_in, is_restorable, Resumed}
+use Rattle.rp_node.specs.Restarting.{is_next, records_from, RestoredOne}
 use Rattle.rp_node.proofs.Entries.{insert_is}
 use Rattle.rp_node.proofs.Nodes.{joined_insert}
 
@@ -46,3 +46,12 @@ one_restored q es new p sought key part e h k r all now = (
   subst (AllJoined q) (sym now)
       (joined_insert q key part es all (subst (λ (z : List Value). is_some (lookup (λ j. same_key z j.items) es) ≡ false) (e ∙ sym k) h) (subst (λ (z : List Value). IsPartition q z part) (sym k) r.2)),
 )
+
+pub goes_on : (q : QueryData) (es new : Map) (p : PartitionData) (ps : List PartitionData) → RestoredOne q es p new true
+    → records_from q (entries_by held_of es) (p ∷ ps) ≡ records_from q (entries_by held_of new) ps
+goes_on q es new p ps r =
+    ap (λ (b : Bool). cond b (records_from q (with_entry p.key (held_in p) (entries_by held_of es)) ps) None) r.0
+    ∙ ap (λ (e : Entries Held). records_from q e ps) (sym r.1)
+
+pub stops_at : (q : QueryData) (es new : Map) (p : PartitionData) (ps : List PartitionData) → RestoredOne q es p new false → records_from q (entries_by held_of es) (p ∷ ps) ≡ None
+stops_at q es new p ps r = ap (λ (b : Bool). cond b (records_from q (with_entry p.key (held_in p) (entries_by held_of es)) ps) None) r
