@@ -98,3 +98,7 @@ on_err_map P Q (Err e) h k = h k
 pub on_err_of : {A E : Type 0} (P : Type 0) (r : Result A E) → P → OnErr r P
 on_err_of P (Ok x) h = tt
 on_err_of P (Err e) h = h
+
+pub on_err_from : {A E P : Type 0} (r : Result A E) → P → OnErr r P
+on_err_from (Ok x) p = tt
+on_err_from (Err e) p = p

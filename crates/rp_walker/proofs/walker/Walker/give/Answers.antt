@@ -30,3 +30,51 @@ returns-then-ahead-self-clause-works g c =
     let p = known_in g.R.Rows.known g.R.Rows.ending c.args.rows.now in
     pass_spends q p c.args.self.now c.pass-then-ahead-self.new.self c.args.found c.args.ahead _ c.pass-then-ahead-self.result c.requires.going.going (omega (arith, c.requires.gives.ordered, c.if-ahead.false))
     c.pass-then-ahead-self.ensures.went c.pass-then-ahead-self.ensures.now
+
+pub end_row-requires-clause-going : goal.end_row-requires-clause-going
+end_row-requires-clause-going g c = c.requires.going
+
+pub end_row-requires-clause-gives : goal.end_row-requires-clause-gives
+end_row-requires-clause-gives g c = c.requires.gives
+
+pub end_row-requires-clause-serves : goal.end_row-requires-clause-serves
+end_row-requires-clause-serves g c = c.requires.serves
+
+pub end_row-requires-clause-few : goal.end_row-requires-clause-few
+end_row-requires-clause-few g c = c.requires.few
+
+pub give_item-requires-clause-going : goal.give_item-requires-clause-going
+give_item-requires-clause-going g c = c.requires.going
+
+pub give_item-requires-clause-gives : goal.give_item-requires-clause-gives
+give_item-requires-clause-gives g c = c.requires.gives
+
+pub give_item-requires-clause-serves : goal.give_item-requires-clause-serves
+give_item-requires-clause-serves g c = c.requires.serves
+
+pub give_item-requires-clause-few : goal.give_item-requires-clause-few
+give_item-requires-clause-few g c = c.requires.few
+
+pub end_row-requires-clause-not_past : goal.end_row-requires-clause-not_past
+end_row-requires-clause-not_past g c = c.requires.not_past
+
+pub give_item-requires-clause-totals : goal.give_item-requires-clause-totals
+give_item-requires-clause-totals g c = c.requires.totals
+
+pub returns-clause-kept : goal.returns-clause-kept
+returns-clause-kept g c = c.give_item.ensures.kept
+
+pub returns-clause-keeps : goal.returns-clause-keeps
+returns-clause-keeps g c = c.give_item.ensures.keeps
+
+pub returns-clause-works : goal.returns-clause-works
+returns-clause-works g c = c.give_item.ensures.works
+
+pub returns-clause-steps : goal.returns-clause-steps
+returns-clause-steps g c = c.tick.ensures
+
+pub returns-then-ahead-clause-keeps : goal.returns-then-ahead-clause-keeps
+returns-then-ahead-clause-keeps g c = c.end_row.ensures.keeps
+
+pub returns-then-ahead-clause-works : goal.returns-then-ahead-clause-works
+returns-then-ahead-clause-works g c = c.end_row.ensures.works
