@@ -10,19 +10,17 @@ use std::io;
 use std::process::ExitCode;
 
 fn main(rt: HostRuntime) -> io::Result<ExitCode> {
-    let status = match named_job(&rt) {
-        Ok(job) => status_of(&rt, job.as_ref()),
-        Err(status) => status,
+    let status = match run(&rt) {
+        Ok(verdict) => verdict.status(),
+        Err(fault) => end_with(&rt, &fault),
     };
     Ok(ExitCode::from(status))
 }
 
-/// Does a job, and gives the exit status: of its verdict, or of its fault, which is told.
-fn status_of(rt: &HostRuntime, job: &Job) -> u8 {
-    match run_job(rt, job) {
-        Ok(verdict) => verdict.status(),
-        Err(fault) => end_with(rt, &fault),
-    }
+/// Does the job that the command line names.
+fn run(rt: &HostRuntime) -> Result<Verdict, ProgramFault> {
+    let job = named_job(rt)?;
+    run_job(rt, job.as_ref())
 }
 
 /// Does a job. Only `check`, `whole` and `why` have a verdict.

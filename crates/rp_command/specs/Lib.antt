@@ -3,4 +3,3 @@ pub mod Values
 pub mod Commands
 pub mod Jobs
 pub mod Listed
-pub mod Statuses

@@ -63,8 +63,9 @@ fn command_named(name: &str) -> Option<CommandName>
     }
 }
 
-/// The fault of a command line with an argument that isn't UTF-8: a mistake in the line, unless memory was refused.
-pub(crate) fn not_utf8(alloc: Global) -> JobFault
+/// The fault of a command line with an argument that isn't UTF-8, for whoever reads the words: a mistake in the line, unless memory was
+/// refused.
+pub fn not_utf8(alloc: Global) -> JobFault
     ensures { (error : Error) → result ≡ JobFault.Line error → kind_of error ≡ ValueValidation }
 {
     match line_of_no_text(alloc) {

@@ -12,8 +12,7 @@
 //!     [--table TEXT] [--columns TEXT] [--delimiter CHARACTER] [--null WORD].. [--no-header] [--from FORMAT]
 //!
 //! clap reads the words, once the texts that come from files are among them. What each job's command takes is said in
-//! `specs/Commands`, which values a job has in `specs/Jobs`, by the words of `specs/Values`, and with which status the program ends where
-//! the words name no job in `specs/Statuses`.
+//! `specs/Commands`, and which values a job has in `specs/Jobs`, by the words of `specs/Values`.
 #![tactic(auto)]
 
 mod argument;
@@ -36,7 +35,7 @@ mod trace;
 mod whole;
 mod why;
 
-pub use command::read_command;
+pub use command::{not_utf8, read_command};
 pub use fault::CommandLineFault;
 pub use job::{
     AnswerFormat, CheckJob, InputFormat, InputOptions, Job, JobFault, NodeJob, ReportFormat,

@@ -1,25 +1,15 @@
 //! The words of the program, and the job that they name.
 use crate::command::{not_utf8, read_command};
-use crate::fault::{CommandLineFault, end_with};
+use crate::fault::CommandLineFault;
 use crate::job::{Job, JobFault};
 use crate::texts::with_texts;
 use std::{env, io};
 
-/// The job that the program's words name, of which those that are texts may come from files.
+/// The job that the program's words name, of which those that are texts may come from files. Of the words `whole --clause-file F` the
+/// job is `whole`, and its clause is what F holds; where F can't be read or isn't UTF-8 the fault is `TextFile`.
 ///
-/// Where they name none, that is told, and the exit status comes in place of the job: 0 where help or the version was asked for,
-/// which is written on standard output; 2 for a mistake in the words; 3 where a file with a text can't be read, where help can't be
-/// written, and where memory is refused. Of the words `whole --clause-file F` the job is `whole`, its clause is what F holds, and
-/// where there is no F the status is 3.
-pub fn named_job(rt: &HostRuntime) -> Result<Box<Job>, u8> {
-    match job_in(rt) {
-        Ok(job) => Ok(job),
-        Err(fault) => Err(end_with(rt, &fault)),
-    }
-}
-
-/// The job that the command line names.
-fn job_in(rt: &HostRuntime) -> Result<Box<Job>, CommandLineFault> {
+/// Help and the version, where they are asked for, are a fault too, as is an argument that isn't UTF-8: clap has the words for each.
+pub fn named_job(rt: &HostRuntime) -> Result<Box<Job>, CommandLineFault> {
     let words = with_texts(rt, words_of(rt)?.as_slice())?;
     let job = read_command(rt.alloc(), words.as_slice())?;
     Ok(Box::new(rt.alloc(), job)?)
