@@ -1,6 +1,7 @@
-//! Jobs of nodes and sources, whose values no output shows. The other jobs and all texts are in cases/command.cases.
+//! Jobs of nodes and sources, whose values no output shows, and the fault of a word that is no UTF-8. The other jobs and all texts
+//! are in cases/command.cases.
 use crate::support::same;
-use rp_command::{InputOptions, Job, JobFault, NodeJob, SourceJob, read_command};
+use rp_command::{InputOptions, Job, JobFault, NodeJob, SourceJob, not_utf8, read_command};
 use std::alloc::{AllocError, Global};
 use std::process::Abort;
 use std::test::Fail;
@@ -103,4 +104,20 @@ fn check_jobs(rt: &impl Abort, alloc: Global, jobs: &[(&str, &str)]) -> Result<(
 #[test]
 fn jobs_of_nodes_and_sources(rt: HostRuntime) -> Result<(), Fail> {
     Ok(check_jobs(&rt, rt.alloc(), JOBS)?)
+}
+
+/// The first line that is written of a fault of the words.
+fn first_line(alloc: Global, fault: JobFault) -> Result<String, AllocError> {
+    let JobFault::Line(error) = fault else {
+        return Err(AllocError);
+    };
+    let text = format!(in alloc; "{error}")?;
+    String::from_str(alloc, text.lines().next().unwrap_or(""))
+}
+
+#[test]
+fn an_argument_that_is_no_utf8(rt: HostRuntime) -> Result<(), Fail> {
+    let line = first_line(rt.alloc(), not_utf8(rt.alloc()))?;
+    same(&rt, line.as_str(), "error: an argument isn't UTF-8");
+    Ok(())
 }
