@@ -148,10 +148,15 @@ def test_a_question_that_takes_too_long(stand_in):
     assert time.monotonic() - begin < 30
 
 
+def hear_interrupts():
+    """A shell's job in the background ignores interrupts, and so does all that it starts."""
+    signal.signal(signal.SIGINT, signal.SIG_DFL)
+
+
 def test_an_interrupt_ends_the_program(stand_in, tmp_path):
     stand_in(f"echo $$ >{tmp_path}/pid.new; mv {tmp_path}/pid.new {tmp_path}/pid; exec sleep 60")
     script = f"import pandas, rowmatch; rowmatch.match(pandas.DataFrame({{'p': [1]}}), {CLAUSE!r})"
-    with subprocess.Popen([sys.executable, "-c", script], stderr=subprocess.PIPE) as process:
+    with subprocess.Popen([sys.executable, "-c", script], stderr=subprocess.PIPE, preexec_fn=hear_interrupts) as process:
         until = time.monotonic() + 60
         while not (tmp_path / "pid").exists() and time.monotonic() < until:
             time.sleep(0.01)
