@@ -167,6 +167,29 @@ def test_an_interrupt_ends_the_program(stand_in, tmp_path):
         os.kill(int((tmp_path / "pid").read_text()), 0)
 
 
+def test_an_interrupt_while_the_program_is_started(stand_in, monkeypatch):
+    stand_in("exec sleep 60")
+    started = []
+
+    class Interrupted(subprocess.Popen):
+        def __init__(self, words, **options):
+            super().__init__(words, **options)
+            if "check" not in words:
+                started.append(self.pid)
+                os.kill(os.getpid(), signal.SIGINT)
+                time.sleep(0.2)
+
+    before = signal.signal(signal.SIGINT, signal.default_int_handler)
+    monkeypatch.setattr(subprocess, "Popen", Interrupted)
+    try:
+        with pytest.raises(KeyboardInterrupt):
+            rowmatch.match(pd.DataFrame({"p": [1]}), CLAUSE)
+    finally:
+        signal.signal(signal.SIGINT, before)
+    with pytest.raises(ProcessLookupError):
+        os.kill(started[0], 0)
+
+
 def test_a_program_that_is_named_from_here(monkeypatch, tmp_path):
     shutil.copy(program(), tmp_path / "own")
     monkeypatch.chdir(tmp_path)

@@ -7,7 +7,7 @@ import os
 import signal
 import subprocess
 import threading
-from collections.abc import Iterable, Iterator, Sequence
+from collections.abc import Callable, Iterable, Iterator, Sequence
 from dataclasses import dataclass
 from pathlib import Path
 from typing import IO
@@ -108,19 +108,63 @@ def run(
 
     Chunks are made while the program reads. An exception of theirs ends the program and is raised.
     """
-    with _file(table) as table_file, _file(clause) as clause_file:
-        words = [*arguments, "--table-file", f"/dev/fd/{table_file}"]
-        words += ["--clause-file", f"/dev/fd/{clause_file}"]
-        child = subprocess.Popen(
-            command(words),
-            env=environment(arguments),
-            bufsize=0,
-            stdin=subprocess.DEVNULL if chunks is None else subprocess.PIPE,
-            stdout=subprocess.PIPE,
-            stderr=subprocess.PIPE,
-            pass_fds=(table_file, clause_file),
-        )
-    return _Run(child, timeout).to_end(chunks or ())
+    starting = _Starting()
+    try:
+        with _file(table) as table_file, _file(clause) as clause_file:
+            words = [*arguments, "--table-file", f"/dev/fd/{table_file}"]
+            words += ["--clause-file", f"/dev/fd/{clause_file}"]
+            child = starting.child(
+                lambda: subprocess.Popen(
+                    command(words),
+                    env=environment(arguments),
+                    bufsize=0,
+                    stdin=subprocess.DEVNULL if chunks is None else subprocess.PIPE,
+                    stdout=subprocess.PIPE,
+                    stderr=subprocess.PIPE,
+                    pass_fds=(table_file, clause_file),
+                )
+            )
+        return _Run(child, timeout).to_end(chunks or ())
+    finally:
+        starting.leave_nothing()
+
+
+class _Starting:
+    """A program that is started in a thread of its own. An interrupt is raised in the main thread
+    alone, and so never where the program runs already and nobody knows of it yet."""
+
+    def __init__(self) -> None:
+        self._child: subprocess.Popen[bytes] | None = None
+        self._failed: BaseException | None = None
+        self._thread: threading.Thread | None = None
+        # Set by the thread: where a wait for its end is interrupted, Python 3.11 takes it as ended.
+        self._is_done = threading.Event()
+
+    def child(self, start: Callable[[], subprocess.Popen[bytes]]) -> subprocess.Popen[bytes]:
+        self._thread = threading.Thread(target=self._begin, args=(start,), daemon=True)
+        self._thread.start()
+        self._is_done.wait()
+        if self._failed:
+            raise self._failed
+        assert self._child
+        return self._child
+
+    def leave_nothing(self) -> None:
+        """Ends the program where it still runs."""
+        if self._thread:
+            # A thread whose start was interrupted may run all the same, and is done in a moment.
+            self._is_done.wait(1 if self._thread.ident is None else None)
+        if self._child and self._child.poll() is None:
+            self._child.kill()
+            self._child.wait()
+
+    def _begin(self, start: Callable[[], subprocess.Popen[bytes]]) -> None:
+        try:
+            self._child = start()
+        except BaseException as error:
+            self._failed = error
+        finally:
+            self._is_done.set()
 
 
 class _Run:
@@ -133,7 +177,7 @@ class _Run:
         self._late = threading.Event()
 
     def to_end(self, chunks: Iterable[bytes]) -> Ran:
-        """Feeds it and reads it until it ends, and never leaves it behind."""
+        """Feeds it and reads it until it ends, or ends it."""
         child = self._child
         assert child.stdout and child.stderr
         threads = [threading.Thread(target=self._listen, args=(child.stderr,), daemon=True)]
