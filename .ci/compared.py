@@ -42,13 +42,17 @@ class Partition:
         self.clause, self.key, self.rows = clause, key, rows
         self.numbers, self.is_closed, self.given = set(), False, 0
 
-    def take(self, number):
-        """A packet's line: a row, or the close where there is no number."""
+    def deliver(self, ask, number):
+        """Hands over a row, or the close where there is no number, and holds the reply to whether the node had it before."""
+        is_known = self.is_closed if number is None else number in self.numbers
         if number is None:
-            self.is_closed = True
-            return {"close": len(self.rows), "key": list(self.key)}
-        self.numbers.add(number)
-        return {"row": number, "cells": [*self.rows[number - 1].values()]}
+            self.is_closed, line = True, {"close": len(self.rows), "key": list(self.key)}
+        else:
+            self.numbers.add(number)
+            line = {"row": number, "cells": [*self.rows[number - 1].values()]}
+        reply = ask(line)
+        if reply not in ([{"taken": "repeat"}, {"taken": "old"}] if is_known else [{"taken": "new"}]):
+            raise Wrong(f"{line} is answered {reply}, and the node had it before: {is_known}")
 
     def due(self):
         """The lines that the rows up to the first missing one decide, but for those that were given."""
@@ -68,10 +72,7 @@ class Partition:
 
 def deliver(ask, case, parts, packets):
     for key, number in packets:
-        line = parts[key].take(number)
-        reply = ask(line)
-        if reply.get("taken") not in ("new", "repeat", "old"):
-            raise Wrong(f"{line} is answered {reply}")
+        parts[key].deliver(ask, number)
         if case.polls_behind(key, number):
             parts[key].drain(ask, case.dice.choice([1, 7, 1000, 100_000]))
 
