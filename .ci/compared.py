@@ -1,11 +1,15 @@
 """Holds the program to the plain evaluation of plain.py over random cases, for `.ci/random` and `.ci/answers`. A case has a clause, its
-table, its rows, the lives of a node with the packets that come in each, and says behind which of them the node is polled."""
+table, its rows, the lives of a node, and says behind which packets the node is polled."""
+import csv
 import json
 import os
+import pathlib
+import signal
 import subprocess
 import sys
 import tempfile
 from concurrent.futures import ThreadPoolExecutor
+from typing import NamedTuple
 
 import plain
 
@@ -16,23 +20,74 @@ class Wrong(Exception):
     """What came isn't what had to come."""
 
 
+class Case:
+    """What a case is where it says nothing else: lines of JSON over a CSV, of all rows, by the clause as it is."""
+
+    format, source, where = "lines", "csv", None
+
+    def text(self):
+        return self.clause.text()
+
+
 def field(value):
     text = "" if value is None else str(value)
     return '"' + text.replace('"', '""') + '"' if any(mark in text for mark in ',"\r\n') else text
 
 
+def records(columns, rows):
+    return "".join(",".join(map(field, record)) + "\n" for record in [columns, *(row.values() for row in rows)])
+
+
+def objects(rows):
+    return "".join(json.dumps(row, ensure_ascii=False) + "\n" for row in rows)
+
+
+def has_match(clause, rows):
+    return any(line.get("number") for key, part in clause.partitions(rows).items() for line in clause.lines(key, part))
+
+
+def looked_at(case):
+    """The rows that meet the condition of --where, each by itself."""
+    if case.where is None:
+        return case.rows
+    return [row for row in case.rows if case.where.value(plain.Look([row], 1, ("",), 1)) is True]
+
+
+def printed(case):
+    """What `whole` prints: the lines of each partition, in the order of their first rows, or a table of what is in the matches. And the
+    status that it ends with."""
+    clause = case.clause
+    lines = [line for key, rows in clause.partitions(looked_at(case)).items() for line in clause.lines(key, rows)]
+    if case.format == "lines":
+        return lines, 0
+    cells = [line["cells"] for line in lines if "cells" in line]
+    status = int(any("fault" in line for line in lines))
+    if case.format == "objects":
+        return [list(zip(clause.output_columns(), row)) for row in cells], status
+    fields = [clause.output_columns(), *(["" if cell is None else str(cell) for cell in row] for row in cells)]
+    return [record or [""] for record in fields], status
+
+
+def read_back(case, text):
+    """What was printed, as `printed` gives it. A field of CSV with a line end in it doesn't come in these cases."""
+    if case.format == "csv":
+        return list(csv.reader(text.split("\n")[:-1]))
+    return [json.loads(line, object_pairs_hook=list if case.format == "objects" else dict) for line in text.split("\n")[:-1]]
+
+
 def by_whole(program, case):
-    """`whole` prints the lines of each partition, in the order of their first rows."""
-    wanted = [line for key, rows in case.clause.partitions(case.rows).items() for line in case.clause.lines(key, rows)]
-    header = dict(zip(case.clause.columns, case.clause.columns))
-    rows = "".join(",".join(map(field, row.values())) + "\n" for row in [header, *case.rows])
-    words = [program, "whole", "--table", case.table, "--clause", case.clause.text()]
+    """Holds what `whole` prints, and its status, to what it has to print."""
+    words = [program, "whole", "--table", case.table, "--clause", case.text(), "--format", case.format, "--from", case.source]
+    words += [] if case.where is None else ["--where", case.where.text]
+    rows = objects(case.rows) if case.source == "jsonl" else records(case.clause.columns, case.rows)
     ran = subprocess.run(words, input=rows.encode(), capture_output=True, timeout=60)
-    if ran.returncode:
+    wanted, status = printed(case)
+    if ran.returncode != status:
         raise Wrong(f"status {ran.returncode}: {ran.stderr.decode().strip()}")
-    found = [json.loads(line) for line in ran.stdout.decode().splitlines()]
+    found = read_back(case, ran.stdout.decode())
     if found != wanted:
         raise Wrong(f"wanted {wanted}\n  found  {found}")
+    return has_match(case.clause, looked_at(case))
 
 
 class Partition:
@@ -41,6 +96,11 @@ class Partition:
     def __init__(self, clause, key, rows):
         self.clause, self.key, self.rows = clause, key, rows
         self.numbers, self.is_closed, self.given = set(), False, 0
+
+    def copy(self):
+        part = Partition(self.clause, self.key, self.rows)
+        part.numbers, part.is_closed, part.given = set(self.numbers), self.is_closed, self.given
+        return part
 
     def deliver(self, ask, number):
         """Hands over a row, or the close where there is no number, and holds the reply to whether the node had it before."""
@@ -77,42 +137,80 @@ def deliver(ask, case, parts, packets):
             parts[key].drain(ask, case.dice.choice([1, 7, 1000, 100_000]))
 
 
+class Life(NamedTuple):
+    """What comes to a node while it runs: which of the files that were saved it begins from, the last one where nothing is said, the
+    packets, and whether it is killed behind them in place of saving."""
+
+    packets: list
+    begins_at: int = -1
+    is_killed: bool = False
+
+
+class Saves:
+    """The file of a node, as each life that wasn't killed left it, with what the node has by it. Before the first life there is none."""
+
+    def __init__(self, folder, parts):
+        self.file, self.saves = pathlib.Path(folder, "state"), [(None, parts)]
+
+    def go_back(self, at):
+        """Puts a file in its place, and gives what a node has that begins from it."""
+        content, parts = self.saves[at]
+        self.file.unlink(missing_ok=True)
+        if content is not None:
+            self.file.write_bytes(content)
+        return {key: part.copy() for key, part in parts.items()}
+
+    def keep(self, parts):
+        self.saves.append((self.file.read_bytes() if self.file.exists() else None, parts))
+
+
+def live(node, case, parts, life):
+    """One connection to a node, which is killed while it is open, or saves at its end."""
+    from sockets import Conversation
+
+    try:
+        with Conversation(node) as wire:
+            deliver(lambda line: json.loads(wire.ask(json.dumps(line, separators=(",", ":")) + "\n")), case, parts, life.packets)
+            if life.is_killed:
+                node.kill()
+        status, told = node.ended()
+    finally:
+        node.kill()
+    if status != (-signal.SIGKILL if life.is_killed else 0):
+        raise Wrong(f"the node ended with status {status}: {told}")
+
+
 def by_node(program, case):
     """A node gives what the rows decide that it has, no line less and none more, over all its lives: each is a process of its own, which
-    begins from the file that the one before left."""
+    begins from a file that one before it saved."""
     sys.argv[1:] = [program]  # of which the edges of a node read the program
-    from sockets import Conversation, Node
+    from sockets import Node
 
     parts = {key: Partition(case.clause, key, rows) for key, rows in case.clause.partitions(case.rows).items()}
     with tempfile.TemporaryDirectory(dir="/dev/shm" if os.path.isdir("/dev/shm") else None) as folder:
-        for packets in case.lives(parts):
-            node = Node(os.path.join(folder, "state"), clause=case.clause.text(), table=case.table)
-            try:
-                with Conversation(node) as wire:
-                    deliver(lambda line: json.loads(wire.ask(json.dumps(line, separators=(",", ":")) + "\n")), case, parts, packets)
-                status, told = node.ended()
-            finally:
-                node.kill()
-            if status:
-                raise Wrong(f"the node ended with status {status}: {told}")
+        saves = Saves(folder, parts)
+        for life in case.lives(parts):
+            parts = saves.go_back(life.begins_at)
+            live(Node(str(saves.file), clause=case.text(), table=case.table), case, parts, life)
+            if not life.is_killed:
+                saves.keep(parts)
+    return has_match(case.clause, case.rows)
 
 
 def play(case, ask, program):
     """Whether a case has a match, None where it takes too long, or what is wrong."""
     try:
-        ask(program, case)
-        answers = [case.clause.lines(key, rows) for key, rows in case.clause.partitions(case.rows).items()]
+        return ask(program, case)
     except (plain.TooLong, RecursionError):
         return None
     except Wrong as wrong:
-        return f"{case.clause.text()}\n  rows {[tuple(row.values()) for row in case.rows[-20:]]}\n  {wrong}"
-    return any(line.get("number") for answer in answers for line in answer)
+        return f"{case.text()}\n  rows {[tuple(row.values()) for row in case.rows[-20:]]}\n  {wrong}"
 
 
-def main(case_of, words):
+def main(case_of, words, ask=by_whole):
     """Plays the cases of some seeds, and ends with status 1 where one is wrong or none has a match."""
     name = os.path.basename(words[0])
-    ask = by_node if "--node" in words else by_whole
+    ask = by_node if "--node" in words else ask
     words = [word for word in words[1:] if word != "--node"]
     program = os.path.realpath(words[0]) if words else os.path.join(TOP, "crates/rowmatch/out/rowmatch")
     count, seed = int(words[1]) if len(words) > 1 else 300, int(words[2]) if len(words) > 2 else 1

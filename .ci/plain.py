@@ -395,6 +395,13 @@ class Clause(NamedTuple):
             if label.is_shown:
                 yield self.row_item(key, rows[start - 1 + place], number, measured(place + 1))
 
+    def output_columns(self):
+        """The names of the cells of a line, in their order."""
+        sorted_by, measures = [column for column, _ in self.order_by], [name for name, _ in self.measures]
+        others = [column for column in self.columns if column not in [*self.partition_by, *sorted_by]]
+        named = [*self.partition_by, *sorted_by, *measures, *others] if "ALL" in self.rows else [*self.partition_by, *measures]
+        return [name.upper() for name in named]
+
     def row_item(self, key, row, number, values):
         sorted_by = [column for column, _ in self.order_by]
         others = [row[column] for column in self.columns if column not in [*self.partition_by, *sorted_by]]
