@@ -111,13 +111,14 @@ fn number_of(case: &Case<'_>, query: &Query, place: &Place) -> Result<Option<usi
     Ok(variables.position(|one| one.as_str() == name.as_str()))
 }
 
-/// The greatest lower bound by which there is a match, and which rows that has. If there is none by 0, or searches are given up, that.
+/// The greatest lower bound by which there is a match, and which rows that has. If there is none by the least, or searches are given up,
+/// that.
 pub(crate) fn greatest_lower(
     case: &Case<'_>,
     bound: LowerBound,
 ) -> Result<(u64, Extent), AllocError> {
     let mut none_from = bound.lower;
-    let mut best = (0, extent_by(case, bound, 0)?);
+    let mut best = least_lower(case, bound)?;
     for _ in 1..64 {
         let room = none_from.saturating_sub(best.0);
         if room <= 1 || !matches!(best.1, Extent::Rows(_)) {
@@ -130,6 +131,15 @@ pub(crate) fn greatest_lower(
         }
     }
     Ok(best)
+}
+
+/// The least lower bound by which there may be a match, and which rows that has: 0, or 1 where there is none by 0. With 0 a reluctant
+/// quantifier prefers to take no row.
+fn least_lower(case: &Case<'_>, bound: LowerBound) -> Result<(u64, Extent), AllocError> {
+    match extent_by(case, bound, 0)? {
+        Extent::Nothing if bound.lower > 1 => Ok((1, extent_by(case, bound, 1)?)),
+        extent => Ok((0, extent)),
+    }
 }
 
 /// The demand that a lower bound is, of which this one would do.
