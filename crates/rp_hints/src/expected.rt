@@ -4,7 +4,7 @@ use crate::behind::behind_values;
 use crate::brackets::{never_closed, unclosed};
 use crate::columns::near_line;
 use crate::instead::instead;
-use crate::parts::{of_parts, of_structure};
+use crate::parts::{before_parts, of_parts, of_structure};
 use crate::pattern_hints::of_pattern;
 use crate::rewriting::rewritten;
 use crate::words::{KNOWN, misplaced_behind, misplaced_word, missing_function};
@@ -64,6 +64,7 @@ fn otherwise(alloc: Global, reading: &Reading<'_>) -> Result<Advice, AllocError>
 /// What the words and signs tell by themselves.
 fn plainly(reading: &Reading<'_>) -> Option<Hint> {
     of_words(reading)
+        .or(before_parts(reading))
         .or(of_pattern(reading))
         .or(behind_values(reading))
         .or(of_parts(reading))

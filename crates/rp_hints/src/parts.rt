@@ -52,6 +52,58 @@ const SKIP: [Pair; 3] = [
     ),
 ];
 
+/// A comma before the word with which a part begins, and a list of columns that has none.
+pub(crate) fn before_parts(reading: &Reading<'_>) -> Option<Hint> {
+    if reading.is_in_brackets() {
+        return None;
+    }
+    match reading.part() {
+        Part::Partition | Part::Order => behind_columns(reading),
+        Part::Subset if reading.back(1) == "," && begins_part(reading) => comma_before_part(),
+        Part::Rows | Part::Skip | Part::Pattern
+            if reading.here() == "," && begins_part(&at_next(reading)) => { comma_before_part() }
+        _ => None,
+    }
+}
+
+/// The same behind PARTITION BY and ORDER BY.
+fn behind_columns(reading: &Reading<'_>) -> Option<Hint> {
+    if !begins_part(reading) || is_listed(reading) {
+        return None;
+    }
+    if is_one_of(reading.back(1), "BY") {
+        return said(
+            "a column is missing behind BY",
+            "write PARTITION BY sym ORDER BY t, or leave the part without a column out",
+        );
+    }
+    if reading.back(1) == "," {
+        return comma_before_part();
+    }
+    None
+}
+
+/// The reading at the token behind the place.
+fn at_next<'a>(reading: &Reading<'a>) -> Reading<'a> {
+    Reading {
+        at: reading.at.saturating_add(1),
+        ..*reading
+    }
+}
+
+/// Whether a list goes on behind the word at the place, or the next part begins there: then the word is meant as a column.
+fn is_listed(reading: &Reading<'_>) -> bool {
+    is_one_of(reading.next(1), ", ASC DESC ORDER MEASURES PATTERN")
+}
+
+/// A comma where none comes.
+fn comma_before_part() -> Option<Hint> {
+    said(
+        "no comma comes between the parts of a clause",
+        "leave it out: PARTITION BY sym ORDER BY t PATTERN (A B+) DEFINE B AS p > 5",
+    )
+}
+
 /// What is missing where a part begins, and parts in another order.
 pub(crate) fn of_parts(reading: &Reading<'_>) -> Option<Hint> {
     if reading.is_in_brackets() || !begins_part(reading) {
@@ -75,10 +127,7 @@ fn of_order(reading: &Reading<'_>) -> Option<Hint> {
             "leave this one out: definitions have commas between, DEFINE A AS p > 5, B AS p < 3",
         );
     }
-    if is_one_of(
-        reading.back(1),
-        "AS . = < > <= >= <> + - , ( BY DEFINE SUBSET MEASURES SKIP TO",
-    ) {
+    if is_unfinished(reading) {
         return None;
     }
     if is_one_of(reading.here(), "DEFINE") && !has_pattern(reading) {
@@ -91,6 +140,17 @@ fn of_order(reading: &Reading<'_>) -> Option<Hint> {
         );
     }
     said("this part comes further to the front", ORDER)
+}
+
+/// Whether the token before the place asks for one more in its part. Behind a comma a definition has AS behind its variable.
+fn is_unfinished(reading: &Reading<'_>) -> bool {
+    if reading.part() == Part::Define && reading.back(1) == "," {
+        return is_one_of(reading.next(1), "AS");
+    }
+    is_one_of(
+        reading.back(1),
+        "AS . = < > <= >= <> + - , ( BY DEFINE SUBSET MEASURES SKIP TO",
+    )
 }
 
 /// Whether a definition begins behind a comma and the word at the place.
@@ -217,7 +277,10 @@ fn of_measures(reading: &Reading<'_>) -> Option<Hint> {
         return nameless();
     }
     if !has_as(reading) && is_name(reading.kind_here()) && ends_value(reading) {
-        return said("AS is missing before the name", "write LAST(p) AS ended");
+        return said(
+            "AS is missing before the name",
+            "write AS before it, as in LAST(p) AS ended",
+        );
     }
     if has_as(reading) && is_name(reading.kind_back(1)) {
         return said(
@@ -290,7 +353,7 @@ fn of_define(reading: &Reading<'_>) -> Option<Hint> {
     if !has_as(reading) && !is_one_of(reading.here(), "AS") {
         return said(
             "AS is missing behind the variable",
-            "write DEFINE A AS p > 5",
+            "write AS behind it, as in DEFINE A AS p > 5",
         );
     }
     if is_one_of(reading.back(1), "AS") {
