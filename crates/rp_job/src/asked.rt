@@ -2,6 +2,7 @@
 use crate::fault::ProgramFault;
 use crate::input::{InputForm, InputShape, bytes_of, columns_of, rows_of_files};
 use crate::progress::Progress;
+use crate::telling::tell;
 use rp_columns::Columns;
 use rp_command::{InputFormat, InputOptions};
 use rp_compile::compile;
@@ -9,8 +10,13 @@ use rp_filter::{Filter, read_filter};
 use rp_proposal::propose_columns;
 use rp_query::Query;
 use rp_value::{Row, Table};
-use rp_wording::shown_text;
+use rp_wording::{Pieces, shown_line};
 use std::alloc::{AllocError, Global};
+
+/// Why nothing can be said of lines of JSON without columns.
+pub fn no_columns() -> ProgramFault {
+    ProgramFault::Usage("--from jsonl says nothing of columns: give --columns or --table")
+}
 
 /// What is asked, and of which rows.
 #[derive(Clone, Copy)]
@@ -85,9 +91,7 @@ impl<'a> Asked<'a> {
         progress: &mut Option<Progress<'_>>,
     ) -> Result<(Query, Vec<Row>), ProgramFault> {
         if self.input.from == InputFormat::JsonLines {
-            return Err(ProgramFault::Usage(
-                "--from jsonl says nothing of columns: give --columns or --table",
-            ));
+            return Err(no_columns());
         }
         let inputs = self.inputs_of(rt, progress)?;
         let shape = InputShape::Columns(proposed(rt, inputs.as_slice(), form)?);
@@ -156,7 +160,7 @@ fn proposed(
     if text.is_empty() {
         return Err(ProgramFault::CsvHeader);
     }
-    tell_proposed(rt, text.as_str())?;
+    tell_columns(rt, None, text.as_str())?;
     columns_of(rt.alloc(), text.as_str())
 }
 
@@ -171,8 +175,8 @@ fn proposed_text(
     for input in inputs {
         let here = text_for(rt.alloc(), input, form)?;
         if before.is_some() && here.as_str() != text.as_str() {
-            tell_columns(rt, before, text.as_str());
-            tell_columns(rt, input.name, here.as_str());
+            tell_columns(rt, before, text.as_str())?;
+            tell_columns(rt, input.name, here.as_str())?;
             return Err(ProgramFault::Usage(
                 "the files have other columns, or other kinds of them: give --columns",
             ));
@@ -189,17 +193,16 @@ fn text_for(alloc: Global, input: &Input<'_>, form: &InputForm) -> Result<String
     Ok(propose_columns(alloc, input.bytes.as_slice(), delimiter, nulls)?.columns)
 }
 
-/// Reports the columns of a file.
-fn tell_columns(rt: &HostRuntime, name: Option<&str>, columns: &str) {
+/// Reports the columns of an input, as a shell takes them, behind the name of its file where it has one.
+fn tell_columns(rt: &HostRuntime, name: Option<&str>, columns: &str) -> Result<(), AllocError> {
+    let mut line = Pieces::new(rt.alloc());
     if let Some(name) = name {
-        let _ = eprintln!(rt; "rowmatch: {name}: --columns '{columns}'");
+        line.push(name);
+        line.push(": ");
     }
-}
-
-/// Reports the columns that are proposed.
-fn tell_proposed(rt: &HostRuntime, text: &str) -> Result<(), AllocError> {
-    let shown = shown_text(rt.alloc(), text)?;
-    let _ = eprintln!(rt; "rowmatch: --columns '{shown}'");
+    line.push("--columns ");
+    line.push_shell_word(columns);
+    tell(rt, &shown_line(rt.alloc(), line.text()?)?);
     Ok(())
 }
 

@@ -12,7 +12,7 @@ use rp_objects::{ObjectsFault, rows_by_objects};
 use rp_proposal::{csv_fault_line, objects_fault_line};
 use rp_syntax::read_table;
 use rp_value::{Row, Table, Text};
-use rp_wording::Pieces;
+use rp_wording::{Pieces, shown_line};
 use std::alloc::{AllocError, Global};
 use std::fs::File;
 use std::io::{self, Read};
@@ -338,9 +338,9 @@ fn unread(alloc: Global, name: &str, error: &io::Error) -> ProgramFault {
     unreadable(alloc, name)
 }
 
-/// The fault of a file that can't be read.
+/// The fault of a file that can't be read, with its name as it is shown.
 fn unreadable(alloc: Global, name: &str) -> ProgramFault {
-    match String::from_str(alloc, name) {
+    match shown_line(alloc, name) {
         Ok(name) => ProgramFault::InputFile(name),
         Err(_) => ProgramFault::OutOfMemory,
     }
@@ -364,9 +364,15 @@ fn in_file(alloc: Global, name: Option<&str>, fault: ProgramFault) -> ProgramFau
         ProgramFault::CsvHeader
         | ProgramFault::CsvRecord(_)
         | ProgramFault::CsvField(_)
-        | ProgramFault::Input(_) => told_so(format!(in alloc; "{name}: {fault}")),
+        | ProgramFault::Input(_) => told_so(line_in_file(alloc, name, &fault)),
         _ => fault,
     }
+}
+
+/// The line of a fault behind the name of a file as it is shown.
+fn line_in_file(alloc: Global, name: &str, fault: &ProgramFault) -> Result<String, AllocError> {
+    let shown = shown_line(alloc, name)?;
+    format!(in alloc; "{shown}: {fault}")
 }
 
 /// The fault of an input by columns, as `csv: Form at record 3, column cents`.

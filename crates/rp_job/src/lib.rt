@@ -16,7 +16,7 @@ mod telling;
 mod verdict;
 mod zones;
 
-pub use asked::Asked;
+pub use asked::{Asked, no_columns};
 pub use fault::ProgramFault;
 pub use input::{InputForm, InputShape, bytes_of, columns_of, rows_of_input, table_of};
 pub use progress::Progress;

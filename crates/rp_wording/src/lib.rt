@@ -33,5 +33,5 @@ pub use operands::{
 };
 pub use pieces::Pieces;
 pub use reading::{Part, Reading, part_of, tokens_of};
-pub use report::{Mark, Report, shown_text};
+pub use report::{Mark, Report, shown_line, shown_text};
 pub use text_report::{Source, TextReport};

@@ -73,6 +73,18 @@ impl Pieces {
         self.push_made(typed);
     }
 
+    /// Adds a text as one word of a shell: in single quotes, of which it may have some itself.
+    pub fn push_shell_word(&mut self, text: &str) {
+        self.push("'");
+        for (index, part) in text.split('\'').enumerate() {
+            if index > 0 {
+                self.push("'\\''");
+            }
+            self.push(part);
+        }
+        self.push("'");
+    }
+
     /// Adds names with commas between, as they may be typed; of a long list the first ones.
     pub fn push_names(&mut self, names: &[String]) {
         for (index, name) in names.iter().enumerate().take(TOLD) {

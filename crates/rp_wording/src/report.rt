@@ -144,6 +144,15 @@ fn push_lines(out: &mut String, lines: &str) -> Result<(), AllocError> {
     Ok(())
 }
 
+/// A text as it is shown in one line of a terminal: `?` for each character that would control it, a line end too, and a blank for a tab.
+pub fn shown_line(alloc: Global, text: &str) -> Result<String, AllocError> {
+    let mut shown = String::new(alloc);
+    for character in text.chars() {
+        shown.push(shown_character(character))?;
+    }
+    Ok(shown)
+}
+
 /// A text as it is shown on a terminal: `?` for each character that would control it, other than a line end, and a blank for a tab.
 pub fn shown_text(alloc: Global, text: &str) -> Result<String, AllocError> {
     let mut shown = String::new(alloc);
