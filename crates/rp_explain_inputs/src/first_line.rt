@@ -183,18 +183,20 @@ fn of_list(alloc: Global, columns: &[Column], fields: &ByteRecord) -> Result<Pie
     if places.all(|(index, _name)| is_named(names.as_slice(), index)) {
         let mut help = Pieces::of(
             alloc,
-            "the table lists the file's columns, all of them and in its order: --table '",
+            "the table lists the file's columns, all of them and in its order: --table ",
         );
-        push_table(alloc, &mut help, fields, columns)?;
-        help.push("'");
+        let mut table = Pieces::new(alloc);
+        push_table(alloc, &mut table, fields, columns)?;
+        help.push_shell_word(table.text()?);
         return Ok(help);
     }
     let mut help = Pieces::of(
         alloc,
-        "a field of the header has no name, or one that another has too: those that are named once are read by --columns '",
+        "a field of the header has no name, or one that another has too: those that are named once are read by --columns ",
     );
-    push_typed_columns(&mut help, columns);
-    help.push("'");
+    let mut typed = Pieces::new(alloc);
+    push_typed_columns(&mut typed, columns);
+    help.push_shell_word(typed.text()?);
     Ok(help)
 }
 
