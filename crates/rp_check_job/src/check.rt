@@ -11,7 +11,7 @@ use rp_explain_inputs::{
 use rp_explain_queries::describe_input;
 use rp_input::{ColumnsCsvFault, CsvFault, rows_by, rows_of};
 use rp_io::{CountedDevice, write_all};
-use rp_job::{InputForm, InputShape, ProgramFault, Verdict, bytes_of, columns_of};
+use rp_job::{InputForm, InputShape, ProgramFault, Verdict, bytes_of, columns_of, no_columns};
 use rp_objects::{ObjectsFault, rows_by_objects};
 use rp_proposal::{Proposal, propose_columns};
 use rp_value::{Row, Table};
@@ -166,12 +166,12 @@ fn propose(
     bytes: Option<&[u8]>,
     found: &mut Found,
 ) -> Result<(), ProgramFault> {
+    if job.input.from == InputFormat::JsonLines {
+        return Err(no_columns());
+    }
     let Some(bytes) = bytes else {
         return Err(ProgramFault::NothingToCheck);
     };
-    if job.input.from == InputFormat::JsonLines {
-        return Err(ProgramFault::NothingToCheck);
-    }
     let delimiter = form.layout.delimiter;
     let proposal = propose_columns(alloc, bytes, delimiter, form.nulls.as_slice())?;
     if proposal.columns.is_empty() {
