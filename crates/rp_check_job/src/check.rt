@@ -5,8 +5,8 @@ use rp_command::{CheckJob, InputFormat, ReportFormat};
 use rp_compile::{CompileFault, compile};
 use rp_explain_clauses::{explain_table, explain_text};
 use rp_explain_inputs::{
-    describe_zeros, explain_columns, explain_csv, explain_csv_by, explain_no_header,
-    explain_objects, explain_proposal, explain_zone,
+    describe_open_quote, describe_zeros, explain_columns, explain_csv, explain_csv_by,
+    explain_no_header, explain_objects, explain_proposal, explain_zone,
 };
 use rp_explain_queries::describe_input;
 use rp_input::{ColumnsCsvFault, CsvFault, rows_by, rows_of};
@@ -230,23 +230,33 @@ fn look_at_rows(alloc: Global, form: &InputForm, bytes: &[u8], found: &mut Found
         Some(InputShape::Objects(columns)) => rows_of_objects(alloc, columns, form, bytes),
     };
     match looked {
-        Ok(rows) => tell_rows(input_name(form), bytes, rows.as_slice(), found),
+        Ok(rows) => tell_rows(form, bytes, rows.as_slice(), found),
         Err(report) => found.blame(input_name(form), report),
     }
 }
 
-/// Writes how many rows an input has, which is called so, and what is to be known of them.
-fn tell_rows(name: &str, bytes: &[u8], rows: &[Row], found: &mut Found) {
+/// Writes how many rows an input of this form has, and what is to be known of them.
+fn tell_rows(form: &InputForm, bytes: &[u8], rows: &[Row], found: &mut Found) {
     let count = rows.len() as u64;
-    found.text.push(name);
+    found.text.push(input_name(form));
     found.text.push(": ");
     found.text.push_number(count);
     found.text.push(" rows, which fit the table\n");
     found.rows = Some(count);
+    let quote = quote_told(found.alloc, form, bytes);
+    found.text.push_made(quote);
     let zeros = zeros_told(found, bytes);
     found.text.push_made(zeros);
     let told = rows_told(found, rows);
     found.text.push_made(told);
+}
+
+/// What is said of a quote of CSV that never closes.
+fn quote_told(alloc: Global, form: &InputForm, bytes: &[u8]) -> Result<String, AllocError> {
+    match form.from {
+        InputFormat::Csv => describe_open_quote(alloc, bytes, form.layout.delimiter),
+        InputFormat::JsonLines => Ok(String::new(alloc)),
+    }
 }
 
 /// What is said of zeros before numbers, where a table alone says how the bytes are read.
