@@ -1,0 +1,3 @@
+mod Marks
+mod Steps
+mod Seen

@@ -1,0 +1,153 @@
+-- What a watch has of a text, with one byte more.
+use Rattle.std.proofs.Common.{◌≡◌, ℕ, Bool, true, false, ◌||◌, ◌==◌, if◌then◌else◌, List, [], ◌∷◌, ◌++◌, Option, Some, None, refl, ap, ◌∙◌, sym, subst}
+use Rattle.std.specs.Option.{is_some}
+use Rattle.csv.specs.Machine.{step}
+use Rattle.csv.specs.Reading.{strip_bom}
+use Rattle.csv.specs.declared.parser.State.{State}
+use Rattle.csv.specs.declared.parser.State.TheVariants as st
+use Rattle.rp_input.specs.Layouts.{config_with}
+use Rattle.rp_quotes.specs.Quotes.{IsAt, quoting_of, goes_on, goes_on_behind_quote, goes_on_within, state_behind, state_of}
+use Rattle.rp_quotes.specs.Watching.{HasMark, HasSeen, LeadsTo, is_stray, stray_behind}
+use Rattle.rp_quotes.specs.declared.mark.Mark.{Mark}
+use Rattle.rp_quotes.specs.declared.mark.Mark.TheVariants as mark
+use Rattle.rp_quotes.specs.declared.quoting.Quoting.{Quoting}
+use Rattle.rp_quotes.specs.declared.quoting.Quoting.TheVariants as quoting
+use Rattle.rp_quotes.specs.declared.watch.QuoteWatch.{QuoteWatch}
+use Rattle.rp_quotes.specs.declared.watch.Stray.{Stray}
+use Rattle.rp_quotes.proofs.Marks.{stripped_last}
+use Rattle.rp_quotes.proofs.Steps.{behind_last, or_false, within_last}
+
+pub at_start : (d : ℕ) → IsAt quoting.Begin (state_of d [])
+unfolding state_behind strip_bom
+at_start d = refl
+
+pub stray_at_start : (d : ℕ) → is_some {T = Stray} None ≡ goes_on_behind_quote d []
+unfolding goes_on_within strip_bom
+stray_at_start d = refl
+
+-- a step of csv goes on behind a quote where that of the watch does
+stray_of : Option Quoting → Option Quoting → Bool
+stray_of (Some old) (Some new) = is_stray old new
+stray_of _ _ = false
+
+states_stray : (s t : State) → goes_on s t ≡ stray_of (quoting_of s) (quoting_of t)
+unfolding stray_of
+states_stray st.StartRecord st.StartRecord = refl
+states_stray st.StartRecord st.StartField = refl
+states_stray st.StartRecord st.InField = refl
+states_stray st.StartRecord st.InQuoted = refl
+states_stray st.StartRecord st.AfterQuote = refl
+states_stray st.StartRecord st.InEscape = refl
+states_stray st.StartRecord st.InComment = refl
+states_stray st.StartRecord st.AfterCr = refl
+states_stray st.StartField st.StartRecord = refl
+states_stray st.StartField st.StartField = refl
+states_stray st.StartField st.InField = refl
+states_stray st.StartField st.InQuoted = refl
+states_stray st.StartField st.AfterQuote = refl
+states_stray st.StartField st.InEscape = refl
+states_stray st.StartField st.InComment = refl
+states_stray st.StartField st.AfterCr = refl
+states_stray st.InField st.StartRecord = refl
+states_stray st.InField st.StartField = refl
+states_stray st.InField st.InField = refl
+states_stray st.InField st.InQuoted = refl
+states_stray st.InField st.AfterQuote = refl
+states_stray st.InField st.InEscape = refl
+states_stray st.InField st.InComment = refl
+states_stray st.InField st.AfterCr = refl
+states_stray st.InQuoted st.StartRecord = refl
+states_stray st.InQuoted st.StartField = refl
+states_stray st.InQuoted st.InField = refl
+states_stray st.InQuoted st.InQuoted = refl
+states_stray st.InQuoted st.AfterQuote = refl
+states_stray st.InQuoted st.InEscape = refl
+states_stray st.InQuoted st.InComment = refl
+states_stray st.InQuoted st.AfterCr = refl
+states_stray st.AfterQuote st.StartRecord = refl
+states_stray st.AfterQuote st.StartField = refl
+states_stray st.AfterQuote st.InField = refl
+states_stray st.AfterQuote st.InQuoted = refl
+states_stray st.AfterQuote st.AfterQuote = refl
+states_stray st.AfterQuote st.InEscape = refl
+states_stray st.AfterQuote st.InComment = refl
+states_stray st.AfterQuote st.AfterCr = refl
+states_stray st.InEscape st.StartRecord = refl
+states_stray st.InEscape st.StartField = refl
+states_stray st.InEscape st.InField = refl
+states_stray st.InEscape st.InQuoted = refl
+states_stray st.InEscape st.AfterQuote = refl
+states_stray st.InEscape st.InEscape = refl
+states_stray st.InEscape st.InComment = refl
+states_stray st.InEscape st.AfterCr = refl
+states_stray st.InComment st.StartRecord = refl
+states_stray st.InComment st.StartField = refl
+states_stray st.InComment st.InField = refl
+states_stray st.InComment st.InQuoted = refl
+states_stray st.InComment st.AfterQuote = refl
+states_stray st.InComment st.InEscape = refl
+states_stray st.InComment st.InComment = refl
+states_stray st.InComment st.AfterCr = refl
+states_stray st.AfterCr st.StartRecord = refl
+states_stray st.AfterCr st.StartField = refl
+states_stray st.AfterCr st.InField = refl
+states_stray st.AfterCr st.InQuoted = refl
+states_stray st.AfterCr st.AfterQuote = refl
+states_stray st.AfterCr st.InEscape = refl
+states_stray st.AfterCr st.InComment = refl
+states_stray st.AfterCr st.AfterCr = refl
+
+same_stray : (old new : Quoting) (s t : State) → IsAt old s → IsAt new t → goes_on s t ≡ is_stray old new
+unfolding stray_of
+same_stray old new s t at to = states_stray s t ∙ ap (λ q. stray_of q (quoting_of t)) at ∙ ap (stray_of (Some old)) to
+
+-- behind the mark
+at_mark : (d : ℕ) → IsAt quoting.Begin (state_of d (0xEF ∷ 0xBB ∷ 0xBF ∷ []))
+unfolding state_behind strip_bom
+at_mark d = refl
+
+stray_of_mark : (d : ℕ) (is : Bool) → (0xEF == d) ≡ is → goes_on_behind_quote d (0xEF ∷ 0xBB ∷ []) ≡ false
+unfolding goes_on_within strip_bom
+stray_of_mark d true is = rw is refl
+stray_of_mark d false is = rw is refl
+
+stray_of_whole : (d : ℕ) → goes_on_behind_quote d (0xEF ∷ 0xBB ∷ 0xBF ∷ []) ≡ false
+unfolding goes_on_within strip_bom
+stray_of_whole d = refl
+
+never_to_begin : (old : Quoting) → is_stray old quoting.Begin ≡ false
+never_to_begin quoting.Begin = refl
+never_to_begin quoting.Plain = refl
+never_to_begin quoting.Inside = refl
+never_to_begin quoting.AtQuote = refl
+
+pub mark_ends : (d : ℕ) (text : List ℕ) (b : ℕ) (w : QuoteWatch) → w.mark ≡ mark.Second → b ≡ 0xBF → HasSeen d text w → LeadsTo d text b w.quoting quoting.Begin
+mark_ends d text b w is last seen =
+    let two : text ≡ 0xEF ∷ 0xBB ∷ [] = subst (λ n. HasMark n text) is seen.mark in
+    let whole : text ++ b ∷ [] ≡ 0xEF ∷ 0xBB ∷ 0xBF ∷ [] = ap (λ t. t ++ b ∷ []) two ∙ ap (λ x. 0xEF ∷ 0xBB ∷ x ∷ []) last in
+    let none : goes_on_behind_quote d text ≡ false = ap (goes_on_behind_quote d) two ∙ stray_of_mark d (0xEF == d) refl in
+    record {
+      at = subst (λ t. IsAt quoting.Begin (state_of d t)) (sym whole) (at_mark d);
+      stray = ap (goes_on_behind_quote d) whole ∙ stray_of_whole d ∙ sym (ap (λ x. x || is_stray w.quoting quoting.Begin) none ∙ never_to_begin w.quoting);
+    }
+
+-- anywhere else
+pub goes_further : (d : ℕ) (text : List ℕ) (b : ℕ) (w : QuoteWatch) (new : Quoting) → (w.mark ≡ mark.Second → b ≡ 0xBF → ⊥) →
+    ((s : State) → IsAt w.quoting s → IsAt new (step (config_with w.delimiter) s b).0) → HasSeen d text w → LeadsTo d text b w.quoting new
+goes_further d text b w new other leads seen =
+    let front : List ℕ = strip_bom text in
+    let stripped : strip_bom (text ++ b ∷ []) ≡ front ++ b ∷ [] = stripped_last w.mark text b seen.mark other in
+    let state : state_of d (text ++ b ∷ []) ≡ (step (config_with d) (state_of d text) b).0 = ap (state_behind (config_with d) st.StartRecord) stripped ∙ behind_last (config_with d) st.StartRecord front b in
+    let to : IsAt new (step (config_with d) (state_of d text) b).0 = subst (λ e. IsAt new (step (config_with e) (state_of d text) b).0) seen.same (leads (state_of d text) seen.at) in
+    record {
+      at = subst (IsAt new) (sym state) to;
+      stray = ap (goes_on_within (config_with d) st.StartRecord) stripped ∙ within_last (config_with d) st.StartRecord front b ∙ ap (λ x. goes_on_behind_quote d text || x) (same_stray w.quoting new (state_of d text) (step (config_with d) (state_of d text) b).0 seen.at to);
+    }
+
+-- a field is noted where one has gone on
+pub stray_is : (old new : Quoting) (before : Option Stray) (here : Stray) → is_some (stray_behind old new before here) ≡ is_some before || is_stray old new
+stray_is old new (Some first) here = refl
+stray_is old new None here = noted (is_stray old new) refl where
+  noted : (stray : Bool) → is_stray old new ≡ stray → is_some (if is_stray old new then Some here else None) ≡ is_stray old new
+  noted true is = rw is refl
+  noted false is = rw is refl
