@@ -5,7 +5,7 @@ use rp_command::{CheckJob, InputFormat, ReportFormat};
 use rp_compile::{CompileFault, compile};
 use rp_explain_clauses::{explain_table, explain_text};
 use rp_explain_inputs::{
-    describe_open_quote, describe_zeros, explain_columns, explain_csv, explain_csv_by,
+    describe_quotes, describe_zeros, explain_columns, explain_csv, explain_csv_by,
     explain_no_header, explain_objects, explain_proposal, explain_zone,
 };
 use rp_explain_queries::describe_input;
@@ -243,18 +243,18 @@ fn tell_rows(form: &InputForm, bytes: &[u8], rows: &[Row], found: &mut Found) {
     found.text.push_number(count);
     found.text.push(" rows, which fit the table\n");
     found.rows = Some(count);
-    let quote = quote_told(found.alloc, form, bytes);
-    found.text.push_made(quote);
+    let quotes = quotes_told(found.alloc, form, bytes);
+    found.text.push_made(quotes);
     let zeros = zeros_told(found, bytes);
     found.text.push_made(zeros);
     let told = rows_told(found, rows);
     found.text.push_made(told);
 }
 
-/// What is said of a quote of CSV that never closes.
-fn quote_told(alloc: Global, form: &InputForm, bytes: &[u8]) -> Result<String, AllocError> {
+/// What is said of quotes of CSV.
+fn quotes_told(alloc: Global, form: &InputForm, bytes: &[u8]) -> Result<String, AllocError> {
     match form.from {
-        InputFormat::Csv => describe_open_quote(alloc, bytes, form.layout.delimiter),
+        InputFormat::Csv => describe_quotes(alloc, bytes, form.layout.delimiter),
         InputFormat::JsonLines => Ok(String::new(alloc)),
     }
 }

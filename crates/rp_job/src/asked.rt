@@ -1,6 +1,6 @@
 //! A clause and the rows that it is asked of, by the options that name them.
 use crate::fault::ProgramFault;
-use crate::input::{InputForm, InputShape, bytes_of, columns_of, rows_of_files};
+use crate::input::{InputForm, InputShape, bytes_of, columns_of, rows_of_bytes, rows_of_files};
 use crate::progress::Progress;
 use crate::telling::tell;
 use rp_columns::Columns;
@@ -77,7 +77,7 @@ impl<'a> Asked<'a> {
     ) -> Result<Vec<Row>, ProgramFault> {
         let filter = self.filter_of(rt.alloc(), shape.table())?;
         let rows = match inputs {
-            Some(inputs) => rows_of_inputs(rt.alloc(), inputs, shape, form)?,
+            Some(inputs) => rows_of_inputs(rt, inputs, shape, form)?,
             None => rows_of_files(rt, self.files, shape, form, progress)?,
         };
         Ok(kept(rt.alloc(), filter, rows)?)
@@ -138,14 +138,14 @@ fn read_input<'a>(
 
 /// The rows of all inputs, one after another.
 fn rows_of_inputs(
-    alloc: Global,
+    rt: &HostRuntime,
     inputs: &[Input<'_>],
     shape: &InputShape,
     form: &InputForm,
 ) -> Result<Vec<Row>, ProgramFault> {
-    let mut all = Vec::new(alloc);
+    let mut all = Vec::new(rt.alloc());
     for input in inputs {
-        all.append(&mut shape.rows(alloc, input.bytes.as_slice(), form, input.name)?)?;
+        all.append(&mut rows_of_bytes(rt, input.bytes.as_slice(), shape, form, input.name)?)?;
     }
     Ok(all)
 }

@@ -1,6 +1,7 @@
 //! The rows of an input, by the options that say how it is read.
 use crate::fault::ProgramFault;
 use crate::progress::Progress;
+use crate::quotes::{tell_quotes, tell_quotes_of};
 use crate::zones::with_zones;
 use rp_columns::{Columns, InputColumn, read_columns};
 use rp_command::{InputFormat, InputOptions};
@@ -10,6 +11,7 @@ use rp_input::{
 use rp_io::{CountedDevice, Intake, READS};
 use rp_objects::{ObjectsFault, rows_by_objects};
 use rp_proposal::{csv_fault_line, objects_fault_line};
+use rp_quotes::{QuoteWatch, Watched};
 use rp_syntax::read_table;
 use rp_value::{Row, Table, Text};
 use rp_wording::{Pieces, shown_line};
@@ -250,12 +252,25 @@ pub fn rows_of_files(
     let mut all = Vec::new(rt.alloc());
     for name in files {
         let bytes = bytes_of(rt, Some(name.as_str()), progress)?;
-        all.append(&mut shape.rows(rt.alloc(), bytes.as_slice(), form, Some(name.as_str()))?)?;
+        all.append(&mut rows_of_bytes(rt, bytes.as_slice(), shape, form, Some(name.as_str()))?)?;
     }
     Ok(all)
 }
 
-/// The rows of standard input.
+/// The rows of the bytes of an input, whose quotes are reported. The name is that of its file.
+pub(crate) fn rows_of_bytes(
+    rt: &HostRuntime,
+    bytes: &[u8],
+    shape: &InputShape,
+    form: &InputForm,
+    name: Option<&str>,
+) -> Result<Vec<Row>, ProgramFault> {
+    let rows = shape.rows(rt.alloc(), bytes, form, name)?;
+    tell_quotes_of(rt, form, bytes, name)?;
+    Ok(rows)
+}
+
+/// The rows of standard input, whose quotes are reported.
 pub fn rows_of_input(
     rt: &HostRuntime,
     shape: &InputShape,
@@ -265,7 +280,13 @@ pub fn rows_of_input(
         let bytes = bytes_of_input(rt)?;
         return shape.rows(rt.alloc(), bytes.as_slice(), form, None);
     }
-    shape.read(rt.alloc(), &mut CountedDevice::new(rt.stdin()), form)
+    let mut input = Watched {
+        device: CountedDevice::new(rt.stdin()),
+        quotes: QuoteWatch::new(form.layout.delimiter),
+    };
+    let rows = shape.read(rt.alloc(), &mut input, form)?;
+    tell_quotes(rt, &input.quotes, None)?;
+    Ok(rows)
 }
 
 /// All bytes of a file; of standard input where there is none.

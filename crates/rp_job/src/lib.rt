@@ -10,6 +10,7 @@ mod asked;
 mod fault;
 mod input;
 mod progress;
+mod quotes;
 mod seed;
 mod shown;
 mod telling;
