@@ -11,11 +11,14 @@ use rp_explain_inputs::{
 use rp_explain_queries::describe_input;
 use rp_input::{ColumnsCsvFault, CsvFault, rows_by, rows_of};
 use rp_io::{CountedDevice, write_all};
-use rp_job::{InputForm, InputShape, ProgramFault, Verdict, bytes_of, columns_of, no_columns};
+use rp_job::{
+    InputForm, InputShape, ProgramFault, Verdict, bytes_of, columns_never_found, columns_of,
+    no_columns,
+};
 use rp_objects::{ObjectsFault, rows_by_objects};
 use rp_proposal::{Proposal, propose_columns};
 use rp_value::{Row, Table};
-use rp_wording::{Report, shown_text};
+use rp_wording::{Pieces, Report, shown_text};
 use std::alloc::{AllocError, Global};
 use std::fs::{self, FileType};
 use std::io::IsTerminal;
@@ -247,6 +250,8 @@ fn tell_rows(form: &InputForm, bytes: &[u8], rows: &[Row], found: &mut Found) {
     found.text.push_made(quotes);
     let zeros = zeros_told(found, bytes);
     found.text.push_made(zeros);
+    let never_found = never_found_told(found, rows);
+    found.text.push_made(never_found);
     let told = rows_told(found, rows);
     found.text.push_made(told);
 }
@@ -265,6 +270,18 @@ fn zeros_told(found: &Found, bytes: &[u8]) -> Result<String, AllocError> {
         Some(InputShape::Table(table)) => describe_zeros(found.alloc, table, bytes),
         _ => Ok(String::new(found.alloc)),
     }
+}
+
+/// What is said of columns for which no line of JSON has a value.
+fn never_found_told(found: &Found, rows: &[Row]) -> Result<String, AllocError> {
+    let mut lines = Pieces::new(found.alloc);
+    if let Some(shape) = &found.shape {
+        for remark in columns_never_found(found.alloc, shape, rows)? {
+            lines.push(remark.as_str());
+            lines.push("\n");
+        }
+    }
+    lines.finish()
 }
 
 /// What is said of rows over which the clause has no fault.

@@ -1,7 +1,7 @@
 //! The rows of an input, by the options that say how it is read.
 use crate::fault::ProgramFault;
 use crate::progress::Progress;
-use crate::quotes::{tell_quotes, tell_quotes_of};
+use crate::remarks::{tell_never_found, tell_quotes, tell_quotes_of};
 use crate::zones::with_zones;
 use rp_columns::{Columns, InputColumn, read_columns};
 use rp_command::{InputFormat, InputOptions};
@@ -257,7 +257,7 @@ pub fn rows_of_files(
     Ok(all)
 }
 
-/// The rows of the bytes of an input, whose quotes are reported. The name is that of its file.
+/// The rows of the bytes of an input, of which is reported what may not be meant so. The name is that of its file.
 pub(crate) fn rows_of_bytes(
     rt: &HostRuntime,
     bytes: &[u8],
@@ -267,10 +267,11 @@ pub(crate) fn rows_of_bytes(
 ) -> Result<Vec<Row>, ProgramFault> {
     let rows = shape.rows(rt.alloc(), bytes, form, name)?;
     tell_quotes_of(rt, form, bytes, name)?;
+    tell_never_found(rt, shape, rows.as_slice(), name)?;
     Ok(rows)
 }
 
-/// The rows of standard input, whose quotes are reported.
+/// The rows of standard input, of which is reported what may not be meant so.
 pub fn rows_of_input(
     rt: &HostRuntime,
     shape: &InputShape,
@@ -278,7 +279,7 @@ pub fn rows_of_input(
 ) -> Result<Vec<Row>, ProgramFault> {
     if form.from == InputFormat::JsonLines {
         let bytes = bytes_of_input(rt)?;
-        return shape.rows(rt.alloc(), bytes.as_slice(), form, None);
+        return rows_of_bytes(rt, bytes.as_slice(), shape, form, None);
     }
     let mut input = Watched {
         device: CountedDevice::new(rt.stdin()),

@@ -9,8 +9,9 @@
 mod asked;
 mod fault;
 mod input;
+mod never_found;
 mod progress;
-mod quotes;
+mod remarks;
 mod seed;
 mod shown;
 mod telling;
@@ -20,6 +21,7 @@ mod zones;
 pub use asked::{Asked, no_columns};
 pub use fault::ProgramFault;
 pub use input::{InputForm, InputShape, bytes_of, columns_of, rows_of_input, table_of};
+pub use never_found::columns_never_found;
 pub use progress::Progress;
 pub use seed::seeded_hasher;
 pub use shown::shown_key;

@@ -1,8 +1,11 @@
-//! What is reported of the quotes of a CSV input: csv takes some otherwise than is meant, most likely, and finds no fault in that.
-use crate::input::InputForm;
+//! What is reported of an input that has rows, though they aren't what is meant, most likely: quotes that csv takes otherwise, and paths
+//! that no line of JSON has.
+use crate::input::{InputForm, InputShape};
+use crate::never_found::columns_never_found;
 use crate::telling::tell;
 use rp_command::InputFormat;
 use rp_quotes::{QuoteWatch, remarks_on};
+use rp_value::Row;
 use rp_wording::{Pieces, shown_line};
 use std::alloc::AllocError;
 
@@ -28,18 +31,37 @@ pub(crate) fn tell_quotes(
     name: Option<&str>,
 ) -> Result<(), AllocError> {
     for remark in remarks_on(rt.alloc(), quotes)? {
-        tell_remark(rt, remark.as_str(), name)?;
+        tell_remark(rt, "csv: ", remark.as_str(), name)?;
     }
     Ok(())
 }
 
-fn tell_remark(rt: &HostRuntime, remark: &str, name: Option<&str>) -> Result<(), AllocError> {
+/// Reports the columns for which no line of an input of objects has a value.
+pub(crate) fn tell_never_found(
+    rt: &HostRuntime,
+    shape: &InputShape,
+    rows: &[Row],
+    name: Option<&str>,
+) -> Result<(), AllocError> {
+    for remark in columns_never_found(rt.alloc(), shape, rows)? {
+        tell_remark(rt, "json: ", remark.as_str(), name)?;
+    }
+    Ok(())
+}
+
+/// Reports a remark, behind the word for what the input is.
+fn tell_remark(
+    rt: &HostRuntime,
+    word: &str,
+    remark: &str,
+    name: Option<&str>,
+) -> Result<(), AllocError> {
     let mut line = Pieces::new(rt.alloc());
     if let Some(name) = name {
         line.push(name);
         line.push(": ");
     }
-    line.push("csv: ");
+    line.push(word);
     line.push(remark);
     tell(rt, &shown_line(rt.alloc(), line.text()?)?);
     Ok(())
