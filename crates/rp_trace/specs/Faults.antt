@@ -1,5 +1,6 @@
 -- Which fault of a run comes of which fault of a line, and what a run tells of its reads.
-use Rattle.std.specs.Prelude.{Result, Ok, Err}
+use Rattle.std.specs.Prelude.{◌≡◌, ℕ, Result, Ok, Err}
+use Rattle.rp_io.specs.Counts.{raised}
 use Rattle.rp_io.specs.Reading.{Told}
 use Rattle.rp_io.specs.Reading.Told.{Ended, NoReadsLeft, Other, ReadFailed}
 use Rattle.rp_io.specs.declared.lines.LineFault.{LineFault}
@@ -24,3 +25,8 @@ fault_told OutOfMemory = Other
 abbrev pub run_told : {X : Type 0} → Result X TraceFault → Told
 run_told (Ok done) = Ended
 run_told (Err fault) = fault_told fault
+
+-- how many writes have failed, before and after a run: one more where the fault is Write, and else as many
+abbrev pub TellsWrite : {X : Type 0} → Result X TraceFault → ℕ → ℕ → Type 0
+TellsWrite (Err Write) old new = new ≡ raised old
+TellsWrite _ old new = new ≡ old

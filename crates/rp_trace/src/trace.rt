@@ -3,9 +3,8 @@ ghost use Rattle.std.specs.Prelude.{◌≡◌, ℕ, ◌<◌, ◌≤◌, ◌++◌
 ghost use Rattle.rp_words.specs.PatternForm.{form_of};
 ghost use Rattle.rp_words.specs.Variables.{are_below};
 ghost use Rattle.rp_search.specs.Search.{IsSearchFor};
-ghost use Rattle.rp_io.specs.Counts.{raised};
 ghost use Rattle.rp_io.specs.Reading.{ReadsWithin};
-ghost use Rattle.rp_trace.specs.Faults.{run_told, trace_fault};
+ghost use Rattle.rp_trace.specs.Faults.{TellsWrite, run_told, trace_fault};
 ghost use Rattle.rp_trace.specs.Limits.{letter_count, longest_line};
 ghost use Rattle.rp_trace.specs.Replies.{WritesFront, WritesReplies, is_letter, is_looked_at, last_reply, match_text, reply_text, reply_to, search_text};
 ghost use Rattle.rp_trace.specs.declared.trace.TraceFault.TheVariants.{OutOfMemory, Write};
@@ -57,8 +56,7 @@ pub fn run_trace<R: Intake, W: Outlet>(
     ensures front { OnErr result (WritesFront
         (form_of pattern.now) (R.seen reader.old).remaining (W.contents writer.old) (W.contents writer.new)) }
     ensures reads { ReadsWithin reads (run_told result) (R.seen reader.old) (R.seen reader.new) }
-    ensures no_failure { OnOk result (W.failures writer.new ≡ W.failures writer.old) }
-    ensures write { result ≡ Err TraceFault.Write → W.failures writer.new ≡ raised (W.failures writer.old) }
+    ensures write { TellsWrite result (W.failures writer.old) (W.failures writer.new) }
 {
     let mut lines = Lines::new(alloc, reads, MAX_LINE + 1);
     let mut line = Vec::new(alloc);
