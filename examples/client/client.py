@@ -1,38 +1,70 @@
 #!/usr/bin/env python3
 """Brings a log of numbered rows to a node, whatever is killed meanwhile. Usage: client.py PROGRAM TABLE CLAUSE LOG KEPT
 A line of LOG is an event: {"key":["x"],"line":{"cells":["x",1,10],"row":1}}, or with {"close":1,"key":["x"]} as its line."""
-import json, os, socket, subprocess, sys, tempfile
+import json, os, pathlib, socket, subprocess, sys, tempfile, time
 
 program, table, clause, log, kept = sys.argv[1:]
 node_words = [program, "node", "--table", table, "--clause", clause, "--listen", "127.0.0.1:0"]
 node_words += ["--connections", "1", "--idle", "60", "--acknowledge", "--verbose", "--state"]
 
+def port_of(node):
+    """Where the node listens. A mistake, or a checkpoint that it refuses, would be the same with the next node: it ends the client."""
+    told = []
+    for line in node.stderr:
+        if line.startswith("rowmatch: listening at "):
+            if any(line.startswith("rowmatch: checkpoint refused") for line in told):
+                node.kill()
+                told.append(f"client: the node doesn't go on from {kept}; with another KEPT the log is sent from its beginning")
+                sys.exit("".join(told))
+            return int(line.rsplit(":", 1)[1])
+        told.append(line)
+    sys.stderr.writelines(told)
+    if node.wait() in (1, 2):
+        sys.exit(node.returncode)
+    raise OSError(f"the node ended with status {node.returncode}")
+
+def reply_of(replies):
+    """The next reply. A line without its end is what a node left that was killed while it wrote."""
+    line = replies.readline()
+    if not line.endswith(b"\n"):
+        raise OSError("the node is gone")
+    return json.loads(line)
+
 def items_of(node, batch):
     """The items that the node gives for these events, once it has said that it saved."""
-    port = int(next(line for line in node.stderr if "listening at" in line).rsplit(":", 1)[1])
     items, asked = {}, 0
-    with socket.create_connection(("127.0.0.1", port), timeout=60) as connection, connection.makefile("rw") as lines:
+    with socket.create_connection(("127.0.0.1", port_of(node)), timeout=60) as connection, connection.makefile("rb") as replies:
         polls = {json.dumps(event["key"]): {"budget": 100000, "poll": event["key"]} for event in batch}
         due = [event["line"] for event in batch] + list(polls.values())
         while due:
-            lines.write(json.dumps(due[0]) + "\n")
-            lines.flush()
-            reply = json.loads(lines.readline() or "null")
+            connection.sendall(json.dumps(due[0]).encode() + b"\n")
+            reply = reply_of(replies)
             asked += 1
-            if not reply or "refused" in reply:
-                raise OSError("the node is gone") if not reply else SystemExit(f"{reply} to {due[0]}")
+            if "refused" in reply:
+                sys.exit(f"{reply} to {due[0]}")
             if "place" in reply:
                 items[json.dumps([reply["key"], reply["place"]])] = reply
             elif "paused" not in reply:
                 due.pop(0)
         connection.shutdown(socket.SHUT_WR)
-        if json.loads(lines.readline() or "null") != {"saved": asked}:
+        if reply_of(replies) != {"saved": asked}:
             raise OSError("not saved")
     return items
 
+def keep(state):
+    """Writes the three that belong together as one file, beside KEPT and renamed. It has the rows, so it is for its owner alone."""
+    pathlib.Path(f"{kept}.new").unlink(missing_ok=True)
+    with open(f"{kept}.new", "x", encoding="utf-8", opener=lambda path, flags: os.open(path, flags, 0o600)) as file:
+        json.dump(state, file)
+        file.flush()
+        os.fsync(file.fileno())
+    os.replace(f"{kept}.new", kept)
+
 events = [json.loads(line) for line in open(log, encoding="utf-8")]
 state = json.load(open(kept, encoding="utf-8")) if os.path.exists(kept) else {"position": 0, "items": {}, "checkpoint": ""}
-while batch := events[state["position"]:state["position"] + 500]:
+is_done = False
+while not is_done:  # once also where nothing is to be sent: a node says whether KEPT is of this clause and table
+    batch = events[state["position"]:state["position"] + 500]
     with tempfile.TemporaryDirectory() as folder:
         if state["checkpoint"]:  # the node begins where our position is, whatever one before it has done since
             with open(f"{folder}/node", "w", encoding="utf-8") as file:
@@ -40,15 +72,12 @@ while batch := events[state["position"]:state["position"] + 500]:
         with subprocess.Popen([*node_words, f"{folder}/node"], stderr=subprocess.PIPE, text=True) as node:
             try:
                 items = items_of(node, batch)
-            except (OSError, StopIteration):
+            except OSError as fault:
                 node.kill()
-                if node.wait() == 2:
-                    raise SystemExit("the node doesn't take these options")
+                print(f"{node.stderr.read()}client: {fault}: the batch is sent again", file=sys.stderr)
+                time.sleep(0.1)
                 continue
         checkpoint = open(f"{folder}/node", encoding="utf-8").read()
     state = {"position": state["position"] + len(batch), "items": {**state["items"], **items}, "checkpoint": checkpoint}
-    with open(f"{kept}.new", "w", encoding="utf-8") as file:  # the three belong together: one file, written beside and renamed
-        json.dump(state, file)
-        file.flush()
-        os.fsync(file.fileno())
-    os.replace(f"{kept}.new", kept)
+    keep(state)
+    is_done = state["position"] >= len(events)
