@@ -6,6 +6,7 @@ Usage: bridge.py PORT SHARD REPLICA FOLDER PROGRAM"""
 import ctypes
 import json
 import os
+import re
 import signal
 import socket
 import subprocess
@@ -39,14 +40,21 @@ class Node:
         self.told = f"{folder}/told"
 
     def listen(self):
-        while self.process.poll() is None:
-            with open(self.told, encoding="utf-8") as file:
-                told = [line for line in file if line.startswith("rowmatch: listening at ") and line.endswith("\n")]
+        """Waits until the node listens. A mistake, or a checkpoint that it refuses, would be the same with the next node: it ends the
+        bridge, and the node with it."""
+        place = None
+        while not place:
             time.sleep(0.01)
-            if told:
-                self.port = int(told[0].rsplit(":", 1)[1])
-                return
-        raise Lost("the node ended")
+            status = self.process.poll()  # first: what the node told is all there, if it has ended
+            told = read(self.told).decode(errors="replace")
+            place = re.search(r"^rowmatch: listening at .*:(\d+)\n", told, re.M)
+            if status is not None and not place:
+                sys.stderr.write(told)
+                raise SystemExit(status) if status in (1, 2) else Lost("the node ended")
+        if "rowmatch: checkpoint refused" in told:
+            told = told[:place.start()]
+            raise SystemExit(f"{told}bridge: the node doesn't go on from what is kept; in another FOLDER it reads the log from its beginning")
+        self.port = int(place[1])
 
     def batch(self, lines, keys):
         """Hands over the lines, polls the keys until all are idle, and gives the item lines. The node has said then that it has saved."""

@@ -2,6 +2,7 @@
 are written whole."""
 import json
 import os
+import pathlib
 import time
 import zlib
 
@@ -54,8 +55,9 @@ def text(value):
 
 
 def replace(path, data):
-    """Writes a file beside this one, flushed, which then takes its place."""
-    with open(path + ".beside", "wb") as file:
+    """Writes a file beside this one, flushed, which then takes its place. It may have rows, so it is for its owner alone."""
+    pathlib.Path(path + ".beside").unlink(missing_ok=True)
+    with open(path + ".beside", "xb", opener=lambda name, flags: os.open(name, flags, 0o600)) as file:
         file.write(data)
         file.flush()
         os.fsync(file.fileno())
