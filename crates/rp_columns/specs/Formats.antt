@@ -75,10 +75,12 @@ parts_by format bytes = do
   read ← read_by format (without_blanks bytes)
   if are_blanks read.1 then Ok read.0 else Err Form
 
--- the day of a year, a month and a day
+-- The day of a year, a month and a day. A year has four digits, the first no 0: `1/14/24` is of another form than `%m/%d/%Y`.
 abbrev pub day_in : Option ℤ → Option ℕ → Option ℕ → Result ℤ ReadingFault
-day_in (Some (pos y)) (Some m) (Some d) = if nat_lt y 10000 && nat_lt m 100 && nat_lt d 100 then day_number y m d else Err NoSuchTime
-day_in _ _ _ = Err NoSuchTime
+day_in (Some (pos y)) (Some m) (Some d) =
+    if nat_lt y 1000 then Err Form
+    else (if nat_lt y 10000 && nat_lt m 100 && nat_lt d 100 then day_number y m d else Err NoSuchTime)
+day_in _ _ _ = Err Form
 
 -- the time of a day and the first digits of a fraction; what a format doesn't have is 0
 abbrev pub clock_in : Precision → Option ℕ → Option ℕ → Option ℕ → Option ℕ → Result (ℕ × ℕ) ReadingFault

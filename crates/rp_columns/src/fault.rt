@@ -9,7 +9,8 @@ use thiserror::Error;
 /// Why a field is no value of its column.
 #[derive(Clone, Copy, Debug, PartialEq, Eq, Error)]
 pub enum ReadingFault {
-    /// It hasn't the form of the reading: a letter in a number, signs between other digits than thousands, a date without its zeros.
+    /// It hasn't the form of the reading: a letter in a number, signs between other digits than thousands, a date without its zeros, a
+    /// year below 1000 in a format.
     #[error("Form")]
     Form,
     /// It has the form of a date or a time that the calendar or the clock doesn't have, as 2023-02-29, 24:00 or a second 60, or a number

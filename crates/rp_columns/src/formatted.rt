@@ -87,14 +87,14 @@ fn instant_in(
     Ok(in_units(unit, day, time, ahead))
 }
 
-/// The number of the day of a year, a month and a day.
+/// The number of the day of a year of four digits, a month and a day.
 fn day_in(year: Option<i16>, month: Option<u8>, day: Option<u8>) -> Result<i32, ReadingFault>
     ensures value { result ≡ spec.day_in year month day }
     ensures bound { IfOk result IsEpochDay }
 {
     match (year, month, day) {
         (Some(year), Some(month), Some(day)) => day_of(year, month, day),
-        _ => Err(ReadingFault::NoSuchTime),
+        _ => Err(ReadingFault::Form),
     }
 }
 
@@ -103,8 +103,11 @@ fn day_of(year: i16, month: u8, day: u8) -> Result<i32, ReadingFault>
     ensures bound { IfOk result IsEpochDay }
 {
     let Ok(year) = u32::try_from(year) else {
-        return Err(ReadingFault::NoSuchTime);
+        return Err(ReadingFault::Form);
     };
+    if year < 1000 {
+        return Err(ReadingFault::Form);
+    }
     if year < 10000 && month < 100 && day < 100 {
         return day_number(year, month as u32, day as u32);
     }
