@@ -12,9 +12,9 @@ use Rattle.rp_query.specs.declared.plan.Condition.{Condition}
 use Rattle.rp_query.specs.declared.query.QueryData.{QueryData}
 use Rattle.rp_eval.specs.ValueOf.{Setting, judged, seen_as}
 
--- the clause that a condition is read as
+-- the clause that a condition is read as: nothing stands behind the condition, so no text can leave its place there
 abbrev pub clause_of : List ℕ → List ℕ
-clause_of text = codes "PATTERN (R) DEFINE R AS (" ++ (text ++ codes ")")
+clause_of text = codes "PATTERN (R) DEFINE R AS " ++ text
 
 -- the label of the only row of a match
 abbrev pub only_label : Label

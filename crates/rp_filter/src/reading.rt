@@ -15,8 +15,8 @@ use rp_resolution::Fault;
 use rp_value::Table;
 use std::alloc::{AllocError, Global};
 
-/// What stands before a condition in the clause that it is read as.
-const FRONT: &str = "PATTERN (R) DEFINE R AS (";
+/// What stands before a condition in the clause that it is read as. Nothing stands behind it.
+const FRONT: &str = "PATTERN (R) DEFINE R AS ";
 
 /// The filter of a condition over a table. A fault's offset is that in the condition; where the condition ends too early, its length.
 pub fn read_filter(alloc: Global, text: &str, table: &Table) -> Result<Filter, FilterFault>
@@ -35,7 +35,7 @@ pub fn read_filter(alloc: Global, text: &str, table: &Table) -> Result<Filter, F
             }
         }
         Err(CompileFault::OutOfMemory) => Err(FilterFault::OutOfMemory),
-        Err(fault) => Err(FilterFault::Condition(in_condition(fault, text.len()))),
+        Err(fault) => Err(FilterFault::Condition(in_condition(fault))),
     }
 }
 
@@ -45,39 +45,38 @@ fn clause_text(alloc: Global, text: &str) -> Result<String, AllocError>
 {
     let mut clause = String::from_str(alloc, FRONT)?;
     clause.push_str(text)?;
-    clause.push_str(")")?;
     Ok(clause)
 }
 
-/// The offset in a condition of so many bytes, by that in its clause.
-fn offset_in(at: usize, length: usize) -> usize {
-    at.saturating_sub(FRONT.len()).min(length)
+/// The offset in a condition, by that in its clause.
+fn offset_in(at: usize) -> usize {
+    at.saturating_sub(FRONT.len())
 }
 
 /// The fault with its offset in the condition.
-fn in_condition(fault: CompileFault, length: usize) -> CompileFault {
+fn in_condition(fault: CompileFault) -> CompileFault {
     match fault {
-        CompileFault::Lex(why) => CompileFault::Lex(lex_in_condition(why, length)),
+        CompileFault::Lex(why) => CompileFault::Lex(lex_in_condition(why)),
         CompileFault::Parse(ParseFault::Expected(at)) => {
-            CompileFault::Parse(ParseFault::Expected(offset_in(at, length)))
+            CompileFault::Parse(ParseFault::Expected(offset_in(at)))
         }
         CompileFault::Parse(ParseFault::Deep(at)) => {
-            CompileFault::Parse(ParseFault::Deep(offset_in(at, length)))
+            CompileFault::Parse(ParseFault::Deep(offset_in(at)))
         }
         CompileFault::Check(why) => CompileFault::Check(Fault {
             kind: why.kind,
-            offset: offset_in(why.offset, length),
+            offset: offset_in(why.offset),
         }),
         fault => fault,
     }
 }
 
-fn lex_in_condition(fault: LexFault, length: usize) -> LexFault {
+fn lex_in_condition(fault: LexFault) -> LexFault {
     match fault {
-        LexFault::BadChar(at) => LexFault::BadChar(offset_in(at, length)),
-        LexFault::OpenText(at) => LexFault::OpenText(offset_in(at, length)),
-        LexFault::OpenName(at) => LexFault::OpenName(offset_in(at, length)),
-        LexFault::NumberRange(at) => LexFault::NumberRange(offset_in(at, length)),
+        LexFault::BadChar(at) => LexFault::BadChar(offset_in(at)),
+        LexFault::OpenText(at) => LexFault::OpenText(offset_in(at)),
+        LexFault::OpenName(at) => LexFault::OpenName(offset_in(at)),
+        LexFault::NumberRange(at) => LexFault::NumberRange(offset_in(at)),
         LexFault::OutOfMemory => LexFault::OutOfMemory,
     }
 }
