@@ -2,7 +2,8 @@
 
 use crate::csv_text::write_at;
 use crate::field::{Wanted, at_record, place_told, record_at};
-use crate::first_line::{BLANKS, empty_input, header_of, push_fields};
+use crate::first_line::{BLANKS, NO_TEXT, header_of, push_fields};
+use crate::no_header::of_no_header;
 use crate::null_words::of_null_word;
 use crate::number_cells::{of_known_fraction, of_number, of_sign};
 use crate::proposal_notes::words_in;
@@ -10,10 +11,30 @@ use crate::scan::field_span;
 use csv::ByteRecord;
 use rp_columns::{Columns, InputColumn, Reading, ReadingFault};
 use rp_input::{ColumnsCsvFault, CsvLayout};
-use rp_proposal::{csv_fault_line, meanings, name_of, of_above, source_of};
+use rp_proposal::{are_text, csv_fault_line, meanings, name_of, of_above, source_of};
 use rp_value::upper_case_name;
 use rp_wording::{Advice, Pieces, Report, nearest, noun};
 use std::alloc::{AllocError, Global};
+
+/// What may be between fields, and what to write where it is.
+const DELIMITERS: [(u8, &str); 4] = [
+    (
+        b';',
+        "the fields have semicolons between them: give --delimiter ';'",
+    ),
+    (
+        b'\t',
+        "the fields have tabs between them: give --delimiter '\\t'",
+    ),
+    (
+        b'|',
+        "the fields have bars between them: give --delimiter '|'",
+    ),
+    (
+        b',',
+        "the fields have commas between them: leave --delimiter out",
+    ),
+];
 
 /// An input by columns.
 #[derive(Clone, Copy)]
@@ -66,35 +87,6 @@ fn explain(
     }
 }
 
-/// Explains why no columns can be proposed for the bytes of a CSV text, in which this byte is between fields: it is empty or no CSV,
-/// there is something above its header, or that has no name.
-pub fn explain_no_header(alloc: Global, bytes: &[u8], delimiter: u8) -> Result<Report, AllocError> {
-    let mut report = Report::new(alloc, "csv", &ColumnsCsvFault::Header)?;
-    of_no_header(alloc, &mut report, bytes, delimiter)?;
-    Ok(report)
-}
-
-/// Explains an input that has no header.
-fn of_no_header(
-    alloc: Global,
-    report: &mut Report,
-    bytes: &[u8],
-    delimiter: u8,
-) -> Result<(), AllocError> {
-    if let Some(found) = of_above(alloc, bytes, delimiter)? {
-        return report.advise("csv", &found);
-    }
-    if bytes.is_empty() {
-        return report.advise("csv", &empty_input(alloc));
-    }
-    let advice = Advice::new(
-        alloc,
-        "no field of the header has a name of its own",
-        "the first line names the columns, each once",
-    );
-    report.advise("csv", &advice)
-}
-
 /// Explains a column that no field of the header names.
 fn of_missing(
     alloc: Global,
@@ -112,7 +104,7 @@ fn of_missing(
         "no field of the header is {}, from which the column {} comes",
         &[source, name_of(input.columns, index)],
     );
-    let help = help_for_missing(alloc, &header, source)?;
+    let help = help_for_missing(alloc, &header, source, input.layout.delimiter)?;
     tell(alloc, report, &header, &Advice::of_pieces(what, help))
 }
 
@@ -130,13 +122,17 @@ fn tell(
     report.help(advice.help()?)
 }
 
-/// What to do about a column that no field of a header names.
+/// What to do about a column that no field of a header names, in which this byte is between fields.
 fn help_for_missing(
     alloc: Global,
     header: &ByteRecord,
     source: &str,
+    delimiter: u8,
 ) -> Result<Pieces, AllocError> {
-    if let Some(help) = of_delimiter(header) {
+    if !are_text(header) {
+        return Ok(Pieces::of(alloc, NO_TEXT));
+    }
+    if let Some(help) = of_delimiter(header, delimiter) {
         return Ok(Pieces::of(alloc, help));
     }
     if has_word(alloc, header, source)? {
@@ -176,23 +172,16 @@ fn has_word(alloc: Global, header: &ByteRecord, name: &str) -> Result<bool, Allo
     Ok(found)
 }
 
-/// What to write where the header is one field that holds another delimiter.
-pub(crate) fn of_delimiter(header: &ByteRecord) -> Option<&'static str> {
+/// What to write where the header is one field that holds another delimiter than this byte.
+pub(crate) fn of_delimiter(header: &ByteRecord, delimiter: u8) -> Option<&'static str> {
     let first = header.get(0)?;
     if header.len() > 1 {
         return None;
     }
-    if first.contains(&b';') {
-        return Some("the fields have semicolons between them: give --delimiter ';'");
-    }
-    if first.contains(&b'\t') {
-        return Some("the fields have tabs between them: give --delimiter '\\t'");
-    }
-    if first.contains(&b'|') {
-        return Some("the fields have bars between them: give --delimiter '|'");
-    }
-    if first.contains(&b',') {
-        return Some("the fields have commas between them: leave --delimiter out");
+    for (other, help) in &DELIMITERS {
+        if *other != delimiter && first.contains(other) {
+            return Some(*help);
+        }
     }
     None
 }

@@ -5,7 +5,10 @@ use crate::proposal_notes::words_in;
 use crate::scan::field_span;
 use csv::ByteRecord;
 use rp_input::names_column;
-use rp_proposal::{Records, is_named, is_whole, meanings, of_above, push_table, record_start};
+use rp_proposal::{
+    Records, are_text, has_mark, is_named, is_shown, is_whole, meanings, of_above, push_table,
+    record_start,
+};
 use rp_value::{Column, Kind, Table};
 use rp_wording::{Advice, Pieces, Report, column_names, kind_word};
 use std::alloc::{AllocError, Global};
@@ -13,6 +16,10 @@ use std::alloc::{AllocError, Global};
 /// What to do where blanks seem to be between fields.
 pub(crate) const BLANKS: &str =
     "if blanks are between the fields, give --delimiter ' '; if there are several: tr -s ' ' ',' < FILE | rowmatch ..";
+
+/// What to do where a header isn't UTF-8.
+pub(crate) const NO_TEXT: &str =
+    "the header isn't UTF-8, which is read: iconv -f WINDOWS-1252 -t UTF-8 FILE | rowmatch ..";
 
 /// Explains a header that isn't the table's.
 pub(crate) fn of_header(
@@ -65,7 +72,7 @@ fn of_names(
     let span = field_span(bytes, record_start(bytes, 0), place, b',');
     write_at(alloc, report, bytes, span, &advice)?;
     push_both(alloc, report, table, fields)?;
-    push_hint(alloc, report, columns, fields)
+    push_hint(alloc, report, columns, fields, has_mark(bytes))
 }
 
 /// The index of the first field that doesn't name its column; of the first one that is too many or missing where all do.
@@ -138,13 +145,17 @@ pub(crate) fn push_fields(list: &mut Pieces, fields: &ByteRecord) {
     }
 }
 
-/// Writes what to do about a header.
+/// Writes what to do about a header, before which there is a byte order mark or none.
 fn push_hint(
     alloc: Global,
     report: &mut Report,
     columns: &[Column],
     fields: &ByteRecord,
+    is_marked: bool,
 ) -> Result<(), AllocError> {
+    if !are_text(fields) {
+        return report.help(NO_TEXT);
+    }
     let first = String::from_utf8_lossy(alloc, fields.get(0).unwrap_or(b""))?;
     if let Some(help) = of_separator(first.as_str(), fields.len()) {
         return report.help(help);
@@ -157,12 +168,17 @@ fn push_hint(
             "a blank behind a comma belongs to the name, and is to be taken out of the file",
         );
     }
-    let help = hint_of(alloc, columns, fields)?;
+    let help = hint_of(alloc, columns, fields, is_marked)?;
     report.help(help.text()?)
 }
 
 /// What to do about a header whose fields are separated as they should be.
-fn hint_of(alloc: Global, columns: &[Column], fields: &ByteRecord) -> Result<Pieces, AllocError> {
+fn hint_of(
+    alloc: Global,
+    columns: &[Column],
+    fields: &ByteRecord,
+    is_marked: bool,
+) -> Result<Pieces, AllocError> {
     if !looks_like_values(columns, fields) {
         return of_list(alloc, columns, fields);
     }
@@ -171,12 +187,16 @@ fn hint_of(alloc: Global, columns: &[Column], fields: &ByteRecord) -> Result<Pie
         "these look like values: the first line names the columns\n(echo '",
     );
     help.push_made(plain_header(alloc, columns));
-    help.push("'; cat FILE) | rowmatch ..");
+    help.push(if is_marked {
+        "'; tail -c +4 FILE) | rowmatch .."
+    } else {
+        "'; cat FILE) | rowmatch .."
+    });
     Ok(help)
 }
 
-/// What to do about a header that is of other columns than the table's: a table lists all of them, unless two have one name or one
-/// has none.
+/// What to do about a header that is of other columns than the table's: a table lists all of them, unless two have one name, or one has
+/// none or one that can't be typed.
 fn of_list(alloc: Global, columns: &[Column], fields: &ByteRecord) -> Result<Pieces, AllocError> {
     let names = meanings(alloc, fields)?;
     let mut places = names.iter().enumerate();
@@ -190,14 +210,19 @@ fn of_list(alloc: Global, columns: &[Column], fields: &ByteRecord) -> Result<Pie
         help.push_shell_word(table.text()?);
         return Ok(help);
     }
-    let mut help = Pieces::of(
-        alloc,
-        "a field of the header has no name, or one that another has too: those that are named once are read by --columns ",
-    );
+    let mut help = Pieces::of(alloc, of_untyped(names.as_slice()));
     let mut typed = Pieces::new(alloc);
     push_typed_columns(&mut typed, columns);
     help.push_shell_word(typed.text()?);
     Ok(help)
+}
+
+/// What is said of a header of these names, of which a table can't be typed.
+fn of_untyped(names: &[String]) -> &'static str {
+    if names.iter().any(|name| !is_shown(name.as_str())) {
+        return "a name in the header has a line end or another control character, so the table can be written only in a file, for --table-file: others are read by --columns ";
+    }
+    "a field of the header has no name, or one that another has too: those that are named once are read by --columns "
 }
 
 /// Adds the columns of a table with their kinds, as they may be typed.

@@ -1,7 +1,7 @@
 //! Zeros before a number, which are lost.
 
 use csv::ByteRecord;
-use rp_proposal::{Records, is_plain_number, is_whole};
+use rp_proposal::{Records, has_zeros, is_whole};
 use rp_value::{Column, Kind, Table};
 use rp_wording::{Pieces, shown_text};
 use std::alloc::{AllocError, Global};
@@ -23,7 +23,7 @@ pub fn describe_zeros(alloc: Global, table: &Table, bytes: &[u8]) -> Result<Stri
 fn zeros_at(columns: &[Column], fields: &ByteRecord) -> Option<usize> {
     for (index, column) in columns.iter().enumerate() {
         let field = fields.get(index).unwrap_or(b"");
-        if column.kind == Kind::Int && is_whole(field) && !is_plain_number(field) {
+        if column.kind == Kind::Int && is_whole(field) && has_zeros(field) {
             return Some(index);
         }
     }

@@ -3,12 +3,13 @@
 use crate::null_words::of_null_word;
 use rp_input::CsvLayout;
 use rp_place::push_help;
-use rp_proposal::{Records, is_null_word, meaning, seen_in};
+use rp_proposal::{Records, Seen, is_named, is_null_word, meanings, seen_in};
 use rp_value::Text;
 use rp_wording::Pieces;
 use std::alloc::{AllocError, Global};
 
-/// Writes of each column of a CSV text that has whole numbers and words for null alone that it is text, and what to do.
+/// Writes of each column that is proposed for a CSV text, and has whole numbers and words for null alone, that it is text, and what to
+/// do.
 pub(crate) fn push_mixed(
     alloc: Global,
     out: &mut Pieces,
@@ -19,13 +20,21 @@ pub(crate) fn push_mixed(
     let mut records = Records::of(alloc, bytes, layout.delimiter);
     let header = records.take();
     let seen = seen_in(alloc, &mut records, header.len(), nulls)?;
-    for (index, one) in seen.iter().enumerate() {
-        if one.number && one.word && !one.other {
-            let name = meaning(alloc, header.get(index).unwrap_or(b""))?;
+    let names = meanings(alloc, &header)?;
+    for (index, name) in names.iter().enumerate() {
+        if is_named(names.as_slice(), index) && is_mixed(seen.as_slice(), index) {
             push_column(alloc, out, bytes, layout, index, name.as_str())?;
         }
     }
     Ok(())
+}
+
+/// Whether whole numbers and words for null alone were seen in a column.
+fn is_mixed(seen: &[Seen], index: usize) -> bool {
+    match seen.get(index) {
+        Some(one) => one.number && one.word && !one.other,
+        None => false,
+    }
 }
 
 /// Writes that a column is text because of a word, and what to do.

@@ -108,6 +108,11 @@ pub(crate) fn of_front(bytes: &[u8]) -> Option<Hint> {
     if let Some(found) = known_front(without_mark(bytes)) {
         return Some(found);
     }
+    of_zero(bytes)
+}
+
+/// What the bytes are, where one of them is 0.
+fn of_zero(bytes: &[u8]) -> Option<Hint> {
     if bytes.contains(&0) {
         return said(
             "it has a byte 0, so this is no text in UTF-8",
@@ -115,6 +120,14 @@ pub(crate) fn of_front(bytes: &[u8]) -> Option<Hint> {
         );
     }
     None
+}
+
+/// What the bytes are, where they are no text, or that of a file of another kind than JSON.
+pub fn of_no_json(bytes: &[u8]) -> Option<Hint> {
+    if bytes.starts_with(b"{") || bytes.starts_with(b"[") {
+        return of_zero(bytes);
+    }
+    of_front(bytes)
 }
 
 /// Whether the bytes begin as those of a file do that is no CSV. A header may begin with a bracket, and a text have a byte 0.

@@ -1,7 +1,7 @@
 //! Lines above the header of a CSV text.
 
 use crate::fronts::of_front;
-use crate::records::{Records, start_of};
+use crate::records::{Records, has_mark, start_of};
 use csv::ByteRecord;
 use rp_place::line_number;
 use rp_wording::{Advice, Pieces};
@@ -36,7 +36,7 @@ fn of_first(alloc: Global, records: &mut Records<'_>, bytes: &[u8]) -> Option<Ad
     }
     if is_remark(records.fields()) {
         let count = records.fields().len();
-        return of_remarks(alloc, records, count);
+        return of_remarks(alloc, records, count, has_mark(bytes));
     }
     if is_title(records.fields()) {
         return of_title(alloc, records, bytes);
@@ -60,20 +60,34 @@ fn is_title(fields: &ByteRecord) -> bool {
 
 /// What is said of a first record that begins with #, and has so many fields: it is a remark where the first record that doesn't
 /// begin so has another number of them.
-fn of_remarks(alloc: Global, records: &mut Records<'_>, count: usize) -> Option<Advice> {
+fn of_remarks(
+    alloc: Global,
+    records: &mut Records<'_>,
+    count: usize,
+    is_marked: bool,
+) -> Option<Advice> {
     let is_found = records.find(|fields| !is_remark(fields));
-    remarks(alloc, is_found && records.fields().len() != count)
+    remarks(
+        alloc,
+        is_found && records.fields().len() != count,
+        is_marked,
+    )
 }
 
-/// What is said of remarks, if there are some.
-fn remarks(alloc: Global, are_there: bool) -> Option<Advice> {
+/// What is said of remarks, if there are some. A byte order mark before them is taken out first: behind it no line begins with #.
+fn remarks(alloc: Global, are_there: bool, is_marked: bool) -> Option<Advice> {
     if !are_there {
         return None;
     }
+    let help = if is_marked {
+        "tail -c +4 FILE | grep -v '^#' | rowmatch .."
+    } else {
+        "grep -v '^#' FILE | rowmatch .."
+    };
     Some(Advice::new(
         alloc,
         "the first line is a remark, and the names of the columns are wanted there",
-        "grep -v '^#' FILE | rowmatch ..",
+        help,
     ))
 }
 

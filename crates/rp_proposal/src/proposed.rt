@@ -5,6 +5,7 @@ use crate::heading::of_heading;
 use crate::records::Records;
 use crate::seen::{Seen, seen_in};
 use csv::ByteRecord;
+use rp_place::shown_character;
 use rp_value::{Column, Kind, Text, upper_case_name};
 use rp_wording::{Pieces, column_names, index_of, is_plain, quoted, shown, upper_case};
 use std::alloc::{AllocError, Global};
@@ -12,18 +13,19 @@ use std::alloc::{AllocError, Global};
 /// Columns that are proposed for an input.
 #[derive(Drop)]
 pub struct Proposal {
-    /// Their text, as `sym text, t int`. It is empty where there is no header, there is something above it, or no field of it has a name
-    /// of its own.
+    /// Their text, as `sym text, t int`. It is empty where there is no header, there is something above it, it isn't UTF-8, or no field
+    /// of it has a name of its own that can be typed.
     pub columns: String,
     /// Whether each field of the header has a column, so that the text is that of a table too.
     pub is_table: bool,
 }
 
 /// Columns that fit the header and all records of a CSV text, in which this byte is between fields. A column is `int` where it has a
-/// value and every one is a whole number of 64 bits, else `text`. A number with a zero in front is a text, since that zero would be
-/// lost: a card number or a postal code. So of `sym,t` and `x,1` it is `sym text, t int`.
+/// value and every one is a whole number of 64 bits, else `text`. A number with a zero or a plus sign in front is a text, since these
+/// would be lost: a card number, a postal code or a telephone number. So of `sym,t` and `x,1` it is `sym text, t int`.
 ///
-/// A field of the header that is empty, or has the name of another one, has no column.
+/// A field of the header that is empty, has the name of another one, or a line end or another character in its name that can't be shown,
+/// has no column.
 pub fn propose_columns(
     alloc: Global,
     bytes: &[u8],
@@ -63,6 +65,9 @@ fn propose_kinds(
     header: &ByteRecord,
     seen: &[Seen],
 ) -> Result<Proposal, AllocError> {
+    if !are_text(header) {
+        return Ok(no_columns(alloc));
+    }
     let names = meanings(alloc, header)?;
     let mut columns = Pieces::new(alloc);
     let mut is_table = true;
@@ -87,6 +92,17 @@ fn propose_kinds(
     })
 }
 
+/// Whether all fields of a record are UTF-8.
+pub fn are_text(fields: &ByteRecord) -> bool {
+    for index in 0..fields.len() {
+        let field = fields.get(index).unwrap_or(b"");
+        if std::str::from_utf8(field).is_err() {
+            return false;
+        }
+    }
+    true
+}
+
 /// The names that the fields of a header mean.
 pub fn meanings(alloc: Global, header: &ByteRecord) -> Result<Vec<String>, AllocError> {
     let mut names = Vec::new(alloc);
@@ -105,14 +121,21 @@ pub fn meaning(alloc: Global, field: &[u8]) -> Result<String, AllocError> {
     }
 }
 
-/// Whether a field of a header has a name, and no other one has it.
+/// Whether a field of a header has a name that can be typed, and no other one has it.
 pub fn is_named(names: &[String], index: usize) -> bool {
     let name = match names.get(index) {
         Some(name) => name.as_str(),
         None => "",
     };
     let count = names.iter().filter(|other| other.as_str() == name).count();
-    !name.is_empty() && count == 1
+    !name.is_empty() && is_shown(name) && count == 1
+}
+
+/// Whether a name is shown on a terminal as it is, so that it can be typed: it has no line end, no tab and no other character that
+/// controls a terminal.
+pub fn is_shown(name: &str) -> bool {
+    name.chars()
+        .all(|character| shown_character(character) == character)
 }
 
 /// The kind of a column by what was seen of it.

@@ -111,7 +111,7 @@ pub fn start_of(fields: &ByteRecord, bytes: &[u8]) -> usize {
 
 /// The first offset from this one on at which no line end and no byte order mark stands.
 pub fn record_start(bytes: &[u8], from: usize) -> usize {
-    let from = if from == 0 && bytes.starts_with(b"\xef\xbb\xbf") {
+    let from = if from == 0 && has_mark(bytes) {
         3
     } else {
         from
@@ -122,6 +122,11 @@ pub fn record_start(bytes: &[u8], from: usize) -> usize {
         }
     }
     bytes.len()
+}
+
+/// Whether the bytes begin with a byte order mark, as spreadsheets write one.
+pub fn has_mark(bytes: &[u8]) -> bool {
+    bytes.starts_with(b"\xef\xbb\xbf")
 }
 
 /// The bytes without a byte order mark in front.

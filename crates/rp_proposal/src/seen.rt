@@ -78,13 +78,18 @@ fn is_null(field: &[u8], nulls: &[Text]) -> bool {
     field.is_empty() || nulls.iter().any(|word| word.as_str().as_bytes() == field)
 }
 
-/// Whether a field is a whole number of 64 bits without a zero in front.
-pub fn is_plain_number(field: &[u8]) -> bool {
+/// Whether a field is a whole number of 64 bits without a zero or a plus sign in front, which a whole number doesn't keep.
+fn is_plain_number(field: &[u8]) -> bool {
+    is_whole(field) && !has_zeros(field) && !field.starts_with(b"+")
+}
+
+/// Whether a zero stands in front of what follows it, behind a sign or none.
+pub fn has_zeros(field: &[u8]) -> bool {
     let digits = match field {
         [b'-' | b'+', rest @ ..] => rest,
         _ => field,
     };
-    is_whole(field) && (digits.len() == 1 || digits.first() != Some(&b'0'))
+    digits.len() > 1 && digits.first() == Some(&b'0')
 }
 
 /// Whether it is a whole number of 64 bits.
