@@ -5,8 +5,8 @@ use crate::field::{Wanted, at_record, place_told, record_at};
 use crate::first_line::{BLANKS, NO_TEXT, header_of, push_fields};
 use crate::no_header::of_no_header;
 use crate::null_words::of_null_word;
-use crate::number_cells::{of_known_fraction, of_number, of_sign};
 use crate::proposal_notes::words_in;
+use crate::reading_words::{to_write, wrong};
 use crate::scan::field_span;
 use csv::ByteRecord;
 use rp_columns::{Columns, InputColumn, Reading, ReadingFault};
@@ -320,85 +320,5 @@ fn is_upper_case(alloc: Global, field: &[u8], source: &str) -> Result<bool, Allo
     match upper_case_name(alloc, text.as_str())? {
         Some(name) => Ok(name.as_str() == source),
         None => Ok(false),
-    }
-}
-
-/// What is wrong with a field, behind the field.
-fn wrong(reading: &Reading, why: ReadingFault) -> &'static str {
-    match why {
-        ReadingFault::NoSuchTime => "is a time that the calendar or the clock doesn't have",
-        ReadingFault::NoOffset => "has no offset from UTC",
-        ReadingFault::Gap => "is a time that clocks of the column's time zone skip",
-        ReadingFault::Fold => "is a time that clocks of the column's time zone show twice",
-        ReadingFault::Places => "has more digits behind the point than the column",
-        ReadingFault::Range => "is outside of 64 bits",
-        ReadingFault::NotText => "isn't UTF-8",
-        _ => match reading {
-            Reading::Int => "is no whole number",
-            Reading::Decimal(_, _) => "is no decimal number of this form",
-            Reading::Day => "is no date",
-            Reading::Instant(_, _) => "is no date with a time",
-            Reading::Formatted(_, _, _) | Reading::FormattedDay(_) => {
-                "doesn't have the column's format"
-            }
-            _ => "is no value of this column",
-        },
-    }
-}
-
-/// What to write for such a field.
-fn to_write(reading: &Reading, why: ReadingFault, field: &str) -> &'static str {
-    match why {
-        ReadingFault::NoSuchTime => "a day has the hours 0 to 23, and a minute the seconds 0 to 59",
-        ReadingFault::NoOffset => {
-            "say where clocks show the times of this column: seconds(Time, 'Europe/Berlin'), seconds(Time, '+01:00'), or 'UTC'"
-        }
-        ReadingFault::Gap | ReadingFault::Fold => {
-            "a field may have an offset of its own, as 2024-10-27T02:30:00+01:00; or give the column a fixed one, as seconds(Time, '+01:00')"
-        }
-        ReadingFault::Places =>
-            "nothing is rounded: give the column as many places, as decimal(Amount, 4)",
-        ReadingFault::Range => "read it as text, or by a smaller unit",
-        ReadingFault::NotText => "UTF-8 is read: iconv -f WINDOWS-1252 -t UTF-8 FILE | rowmatch ..",
-        _ => of_form(reading, field),
-    }
-}
-
-/// What to write for a field that hasn't the form of its reading.
-fn of_form(reading: &Reading, field: &str) -> &'static str {
-    match reading {
-        Reading::Int => of_int(field),
-        Reading::Decimal(_, _) => of_decimal(field),
-        Reading::Day => {
-            "dates as 2024-01-05 and 20240105 are read; for others give their format: date(C, '%d.%m.%Y')"
-        }
-        Reading::Instant(_, _) => {
-            "times as 2024-01-05T10:03:20+01:00, 2024-01-05 10:03:20.5 UTC and 20240105-09:30:00.123 are read; for others give their format: seconds(C, '%d/%m/%Y %H:%M:%S', 'UTC')"
-        }
-        Reading::Formatted(_, _, _) | Reading::FormattedDay(_) => {
-            "each field has the format's parts and the text between them"
-        }
-        _ => "",
-    }
-}
-
-/// What to write for a field that is no whole number.
-fn of_int(field: &str) -> &'static str {
-    if let Some(help) = of_known_fraction(field.trim()) {
-        return help;
-    }
-    if of_sign(field.trim()).is_none() && (field.contains('.') || field.contains(',')) {
-        return "read it by decimal(C, 2) where it has fractions, or by decimal(C, 0, ',') where it has signs between thousands";
-    }
-    of_number(field)
-}
-
-/// What to write for a field that is no decimal number of its column's form.
-fn of_decimal(field: &str) -> &'static str {
-    match of_sign(field.trim()) {
-        Some(help) => help,
-        None => {
-            "signs between thousands are named, and so is the point where it is no full stop: decimal(C, 2, ',') reads 1,234.56, and decimal(C, 2, '.', ',') reads 1.234,56"
-        }
     }
 }

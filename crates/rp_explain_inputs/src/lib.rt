@@ -18,6 +18,7 @@ mod number_cells;
 mod objects;
 mod proposal_notes;
 mod quote_notes;
+mod reading_words;
 mod scan;
 mod stray_lines;
 
