@@ -13,6 +13,7 @@ mod first_line;
 mod lost_zeros;
 mod mixed;
 mod no_header;
+mod no_object;
 mod null_words;
 mod number_cells;
 mod objects;

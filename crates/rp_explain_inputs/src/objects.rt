@@ -1,10 +1,11 @@
 //! Why lines of JSON are no rows of columns.
 
+use crate::no_object::{Line, no_object};
 use rp_columns::{Columns, InputColumn};
 use rp_objects::{FieldFault, ObjectsFault};
 use rp_place::Place;
 use rp_proposal::objects_fault_line;
-use rp_wording::{Advice, Pieces, Report, shown};
+use rp_wording::{Advice, Pieces, Report};
 use std::alloc::{AllocError, Global};
 
 /// Explains why `rows_by_objects` refuses the bytes of a text, by the fault that it gave.
@@ -18,10 +19,8 @@ pub fn explain_objects(
 ) -> Result<Report, AllocError> {
     match fault {
         ObjectsFault::NotObject(line) => {
-            let what = "this is no object of JSON";
-            let help =
-                "each line is an object, as {\"sym\":\"x\",\"p\":1}: jq -c '.[]' FILE makes such lines of a list";
-            at_line(alloc, fault, bytes, *line, &Advice::new(alloc, what, help))
+            let found = no_object(bytes, &line_at(bytes, *line));
+            at_line(alloc, fault, bytes, *line, &Advice::of(alloc, found))
         }
         ObjectsFault::DoubleKey(line) => {
             let what = "a key is in an object twice";
@@ -102,32 +101,38 @@ fn point_at_line(
     line: u64,
     advice: &Advice,
 ) -> Result<(), AllocError> {
-    let number = usize::try_from(line).unwrap_or(usize::MAX);
-    let mut start = 0usize;
-    for (index, text) in bytes.split(|byte| *byte == b'\n').enumerate() {
-        if index.saturating_add(1) == number {
-            return point_at_all(alloc, report, number, start, text, advice);
-        }
-        start = start.saturating_add(text.len()).saturating_add(1);
-    }
-    Ok(())
-}
-
-/// Adds a line of this number, which begins at this byte, and advice.
-fn point_at_all(
-    alloc: Global,
-    report: &mut Report,
-    line: usize,
-    start: usize,
-    text: &[u8],
-    advice: &Advice,
-) -> Result<(), AllocError> {
-    let shown = String::from_utf8_lossy(alloc, text)?;
+    let line = line_at(bytes, line);
+    let shown = String::from_utf8_lossy(alloc, line.text)?;
     let place = Place {
-        line,
+        line: line.number,
         front: "",
         part: shown.as_str(),
         behind: "",
     };
-    report.point_at("json", start, &place, advice)
+    report.point_at("json", line.start, &place, advice)
+}
+
+/// The line of this number, from 1; an empty one behind the end where there are fewer.
+fn line_at(bytes: &[u8], line: u64) -> Line<'_> {
+    let number = usize::try_from(line).unwrap_or(usize::MAX);
+    let mut start = 0usize;
+    for (index, text) in bytes.split(|byte| *byte == b'\n').enumerate() {
+        let end = start.saturating_add(text.len());
+        let next = end.saturating_add(1);
+        if index.saturating_add(1) == number {
+            return Line {
+                number,
+                start,
+                text,
+                behind: bytes.get(next..).unwrap_or(b""),
+            };
+        }
+        start = next;
+    }
+    Line {
+        number,
+        start: bytes.len(),
+        text: b"",
+        behind: b"",
+    }
 }
