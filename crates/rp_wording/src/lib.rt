@@ -18,13 +18,15 @@ mod pieces;
 mod reading;
 mod report;
 mod text_report;
+mod values;
 
 pub use advice::{Advice, Entry, Hint, is_one_of, look_up, said};
 pub use bad_places::{NO_NOT, OPPOSITE};
 pub use dates::is_date;
 pub use lexical::explain_lex;
 pub use names::{
-    column_names, index_of, inside_quotes, is_plain, meant, nearest, quoted, shown, upper_case,
+    column_names, index_of, inside_quotes, is_plain, meant, nearest, quoted, shown, text_literal,
+    upper_case,
 };
 pub use nouns::{kind_word, noun};
 pub use operands::{
@@ -35,3 +37,7 @@ pub use pieces::Pieces;
 pub use reading::{Part, Reading, part_of, tokens_of};
 pub use report::{Mark, Report, shown_line, shown_text};
 pub use text_report::{Source, TextReport};
+pub use values::{
+    begins_condition, column_end, ends_condition, is_behind_not, short_text, value_end,
+    value_start, whole_operand,
+};

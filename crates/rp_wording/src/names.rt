@@ -69,6 +69,20 @@ pub fn quoted(alloc: Global, name: &str) -> Result<String, AllocError> {
     quoted.finish()
 }
 
+/// The text literal of what stands inside of double quotes: in single ones, of which each inside is doubled.
+pub fn text_literal(alloc: Global, inside: &str) -> Result<String, AllocError> {
+    let text = undoubled(alloc, inside)?;
+    let mut literal = Pieces::of(alloc, "'");
+    for (index, piece) in text.as_str().split('\'').enumerate() {
+        if index > 0 {
+            literal.push("''");
+        }
+        literal.push(piece);
+    }
+    literal.push("'");
+    literal.finish()
+}
+
 /// Whether a lower-case letter of a to z stands in the name.
 pub(crate) fn has_lower(name: &str) -> bool {
     name.bytes().any(|byte| byte.is_ascii_lowercase())

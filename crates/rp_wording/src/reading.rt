@@ -193,7 +193,7 @@ impl<'a> Reading<'a> {
 }
 
 /// Whether this token, met going backwards behind so many closing brackets, is the open bracket; and how many there are then.
-fn open_at(kind: TokenKind, closed: usize) -> (bool, usize) {
+pub(crate) fn open_at(kind: TokenKind, closed: usize) -> (bool, usize) {
     match kind {
         TokenKind::Mark(Mark::RightParenthesis) => (false, closed.saturating_add(1)),
         TokenKind::Mark(Mark::LeftParenthesis) => (closed == 0, closed.saturating_sub(1)),
