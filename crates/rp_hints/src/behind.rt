@@ -32,7 +32,7 @@ const SIGNS: [Pair; 12] = [
         "<=",
         ">",
         "there is no <=>",
-        "write p = q OR p IS NULL AND q IS NULL",
+        "write (p = q OR p IS NULL AND q IS NULL)",
     ),
     (">", ">", "there is no >>", "multiply by a power of two"),
     ("<", "<", "there is no <<", "multiply by a power of two"),

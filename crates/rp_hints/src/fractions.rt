@@ -2,8 +2,8 @@
 
 use rp_lexer::TokenKind;
 use rp_wording::{
-    Advice, Pieces, Reading, is_arithmetic, is_comparison, is_one_of, is_short, operand_end,
-    operand_start, text_of,
+    Advice, Pieces, Reading, begins_condition, column_end, ends_condition, is_comparison,
+    is_one_of, short_text, value_start, whole_operand,
 };
 use std::alloc::Global;
 
@@ -19,24 +19,45 @@ struct Quotient {
 
 /// What a comparison with a fraction is where both sides are multiplied: p > 1.5 * AVG(q). The place is its point.
 pub(crate) fn of_fraction(alloc: Global, reading: &Reading<'_>) -> Option<Advice> {
-    let sign = reading.at.saturating_sub(2);
+    let sign = reading.at.checked_sub(2)?;
     let start = reading.at.saturating_add(3);
-    let end = operand_end(reading, start);
-    if !is_product(reading, sign) || is_arithmetic(reading.written(end)) {
+    let left = value_start(reading, sign)?;
+    if !is_product(reading, sign) || whole_operand(reading, left)? != sign {
         return None;
     }
-    let left = operand_start(reading, sign);
-    if is_arithmetic(reading.written(left.saturating_sub(1))) {
+    if !begins_condition(reading, left) {
         return None;
     }
-    let value = text_of(reading, left, sign);
-    let factor = text_of(reading, start, end);
-    if !is_short(value) || !is_short(factor) {
-        return None;
-    }
+    let value = short_text(reading, left, sign)?;
     let quotient = reduced(reading.back(1), reading.next(1));
-    let help = multiplied(alloc, reading, value, factor, quotient);
+    let help = match average(reading, start) {
+        Some(column) => over_average(alloc, reading, value, column, quotient),
+        None => multiplied(alloc, reading, value, factor(reading, start)?, quotient),
+    };
     Some(Advice::with_help(alloc, "there are no fractions", help))
+}
+
+/// The operand that begins with a token, where the condition ends behind it.
+fn factor<'a>(reading: &Reading<'a>, start: usize) -> Option<&'a str> {
+    let end = whole_operand(reading, start)?;
+    if !ends_condition(reading, end) {
+        return None;
+    }
+    short_text(reading, start, end)
+}
+
+/// The column of the average that begins with a token, where the condition ends behind it.
+fn average<'a>(reading: &Reading<'a>, start: usize) -> Option<&'a str> {
+    let first = start.saturating_add(2);
+    let close = column_end(reading, first)?;
+    if !is_one_of(reading.written(start), "AVG MEAN AVERAGE")
+        || reading.written(start.saturating_add(1)) != "("
+        || reading.written(close) != ")"
+        || !ends_condition(reading, close.saturating_add(1))
+    {
+        return None;
+    }
+    short_text(reading, first, close)
 }
 
 /// Whether a fraction is compared by this sign and multiplied by what follows it.
@@ -50,7 +71,23 @@ fn is_product(reading: &Reading<'_>, sign: usize) -> bool {
         && reading.next(2) == "*"
 }
 
-/// The comparison with both sides multiplied.
+/// The comparison of a value with an average, with both sides multiplied.
+fn over_average<'a>(
+    alloc: Global,
+    reading: &Reading<'a>,
+    value: &str,
+    column: &'a str,
+    quotient: Quotient,
+) -> Pieces {
+    let mut help = Pieces::filled(alloc, "multiply both sides: write {} * ", &[value]);
+    help.push_number(quotient.under);
+    help.push_filled(" * COUNT({}) {} ", &[column, reading.back(2)]);
+    help.push_number(quotient.over);
+    help.push_filled(" * SUM({})", &[column]);
+    help
+}
+
+/// The comparison with another operand, with both sides multiplied.
 fn multiplied(
     alloc: Global,
     reading: &Reading<'_>,
@@ -58,22 +95,10 @@ fn multiplied(
     factor: &str,
     quotient: Quotient,
 ) -> Pieces {
-    let sign = reading.back(2);
-    let start = reading.at.saturating_add(3);
-    if is_one_of(reading.written(start), "AVG MEAN AVERAGE") {
-        let first = start.saturating_add(2);
-        let inside = text_of(reading, first, operand_end(reading, first));
-        let mut help = Pieces::filled(alloc, "multiply both sides: write {} * ", &[value]);
-        help.push_number(quotient.under);
-        help.push_filled(" * COUNT({}) {} ", &[inside, sign]);
-        help.push_number(quotient.over);
-        help.push_filled(" * SUM({})", &[inside]);
-        return help;
-    }
     let form = "take a smaller unit, as cents, or multiply both sides: write {} * ";
     let mut help = Pieces::filled(alloc, form, &[value]);
     help.push_number(quotient.under);
-    help.push_filled(" {} ", &[sign]);
+    help.push_filled(" {} ", &[reading.back(2)]);
     help.push_number(quotient.over);
     help.push_filled(" * {}", &[factor]);
     help

@@ -4,8 +4,9 @@ use crate::columns::variables;
 use crate::fractions::of_fraction;
 use rp_lexer::{Keyword, TokenKind};
 use rp_wording::{
-    Advice, Part, Pieces, Reading, closing, is_arithmetic, is_comparison, is_name, is_one_of,
-    is_short, operand_end, operand_start, text_of,
+    Advice, Part, Pieces, Reading, begins_condition, ends_condition, is_behind_not, is_comparison,
+    is_name, is_one_of, is_short, operand_end, operand_start, short_text, text_of, value_end,
+    value_start, whole_operand,
 };
 use std::alloc::{AllocError, Global};
 
@@ -98,32 +99,39 @@ fn first_order_column<'a>(reading: &Reading<'a>) -> &'a str {
 
 /// ABS of a difference that is compared.
 fn absolute(alloc: Global, reading: &Reading<'_>) -> Option<Advice> {
+    let start = reading.at.checked_sub(1)?;
     let first = reading.at.saturating_add(1);
-    let minus = operand_end(reading, first);
+    let minus = whole_operand(reading, first)?;
     let second = minus.saturating_add(1);
-    let close = operand_end(reading, second);
+    let close = whole_operand(reading, second)?;
     let sign = close.saturating_add(1);
-    let end = operand_end(reading, sign.saturating_add(1));
+    let end = value_end(reading, sign.saturating_add(1))?;
     if reading.written(minus) != "-" || reading.written(close) != ")" {
         return None;
     }
-    if is_arithmetic(reading.back(2)) || is_arithmetic(reading.written(end)) {
+    if !begins_condition(reading, start) || !ends_condition(reading, end) {
         return None;
     }
-    let one = text_of(reading, first, minus);
-    let other = text_of(reading, second, close);
-    let limit = text_of(reading, sign, end);
-    let form = match reading.written(sign) {
-        ">" | ">=" => "write ({} - {} {} OR {} - {} {})",
-        "<" | "<=" => "write {} - {} {} AND {} - {} {}",
-        _ => return None,
-    };
+    let one = short_text(reading, first, minus)?;
+    let other = short_text(reading, second, close)?;
+    let limit = short_text(reading, sign, end)?;
+    let form = bounded(reading.written(sign), is_behind_not(reading, start))?;
     told(
         alloc,
         "there is no function ABS",
         form,
         &[one, other, limit, other, one, limit],
     )
+}
+
+/// How the amount of a difference is compared by a sign.
+fn bounded(sign: &str, is_behind_not: bool) -> Option<&'static str> {
+    match sign {
+        ">" | ">=" => Some("write ({} - {} {} OR {} - {} {})"),
+        "<" | "<=" if is_behind_not => Some("write ({} - {} {} AND {} - {} {})"),
+        "<" | "<=" => Some("write {} - {} {} AND {} - {} {}"),
+        _ => None,
+    }
 }
 
 /// A point behind the call of a navigation: PREV(B).p.
@@ -189,56 +197,113 @@ fn whole_argument<'a>(reading: &Reading<'a>) -> &'a str {
     "p"
 }
 
-/// Two comparisons in a chain: 5 < p < 10.
+/// A comparison of what is compared already: 5 < p < 10.
 fn chained(alloc: Global, reading: &Reading<'_>) -> Option<Advice> {
-    let middle = operand_start(reading, reading.at);
-    let sign = middle.saturating_sub(1);
-    let left = operand_start(reading, sign);
-    let end = operand_end(reading, reading.at.saturating_add(1));
-    if !is_comparison(reading.written(sign)) || is_arithmetic(reading.written(end)) {
+    let middle = value_start(reading, reading.at)?;
+    let sign = middle.checked_sub(1)?;
+    if !is_comparison(reading.written(sign)) {
         return None;
     }
-    if is_arithmetic(reading.written(left.saturating_sub(1))) {
-        return None;
+    if let Some(advice) = split(alloc, reading, middle, sign) {
+        return Some(advice);
     }
-    let one = text_of(reading, left, reading.at);
-    let other = text_of(reading, middle, end);
-    if !is_short(one) || !is_short(other) {
-        return None;
-    }
-    told(
+    Some(Advice::new(
         alloc,
         "a comparison has two sides",
-        "write {} AND {}",
-        &[one, other],
-    )
+        "write AND between two of them, as in 5 < p AND p < 10; conditions aren't compared with one another",
+    ))
+}
+
+/// Two comparisons with AND between, of a chain with this value in its middle and this sign before it.
+fn split(alloc: Global, reading: &Reading<'_>, middle: usize, sign: usize) -> Option<Advice> {
+    let left = value_start(reading, sign)?;
+    let end = value_end(reading, reading.at.saturating_add(1))?;
+    if !begins_condition(reading, left) || !ends_condition(reading, end) {
+        return None;
+    }
+    if !is_one_way(reading.written(sign), reading.here()) {
+        return None;
+    }
+    let one = short_text(reading, left, reading.at)?;
+    let other = short_text(reading, middle, end)?;
+    let form = if is_behind_not(reading, left) {
+        "write ({} AND {})"
+    } else {
+        "write {} AND {}"
+    };
+    told(alloc, "a comparison has two sides", form, &[one, other])
+}
+
+/// Whether two signs go the same way, as those of a chain that is meant as one.
+fn is_one_way(one: &str, other: &str) -> bool {
+    match one {
+        "<" | "<=" => is_one_of(other, "< <="),
+        ">" | ">=" => is_one_of(other, "> >="),
+        sign => sign == "=" && other == "=",
+    }
 }
 
 /// IS DISTINCT FROM and IS NOT DISTINCT FROM.
 fn distinct(alloc: Global, reading: &Reading<'_>) -> Option<Advice> {
-    if !is_one_of(reading.next(1), "FROM") {
+    let is_same = is_one_of(reading.back(1), "NOT");
+    let is = reading
+        .at
+        .checked_sub(1)?
+        .saturating_sub(usize::from(is_same));
+    if !is_one_of(reading.next(1), "FROM") || !is_one_of(reading.written(is), "IS") {
         return None;
     }
-    let (count, form) = if is_one_of(reading.back(1), "NOT") {
-        (2, "write ({} = {} OR {} IS NULL AND {} IS NULL)")
-    } else {
-        let form =
-            "write ({} <> {} OR {} IS NULL AND {} IS NOT NULL OR {} IS NOT NULL AND {} IS NULL)";
-        (1, form)
-    };
-    let is = reading.at.saturating_sub(count);
+    if let Some(advice) = told_apart(alloc, reading, is, is_same) {
+        return Some(advice);
+    }
+    let form = apart(is_same, has_not(reading, is));
+    let mut help = Pieces::filled(alloc, form, &["x", "y", "x", "y", "x", "y", "x", "y"]);
+    help.push(", with what is compared in place of x and y");
+    Some(Advice::with_help(alloc, "there is no DISTINCT", help))
+}
+
+/// The same with what is compared before and behind the IS at this index.
+fn told_apart(alloc: Global, reading: &Reading<'_>, is: usize, is_same: bool) -> Option<Advice> {
+    let left = value_start(reading, is)?;
     let start = reading.at.saturating_add(2);
-    let one = text_of(reading, operand_start(reading, is), is);
-    let other = text_of(reading, start, operand_end(reading, start));
-    if !is_short(one) || !is_short(other) {
+    let end = value_end(reading, start)?;
+    if !begins_condition(reading, left) || !ends_condition(reading, end) {
         return None;
     }
+    let one = short_text(reading, left, is)?;
+    let other = short_text(reading, start, end)?;
     told(
         alloc,
         "there is no DISTINCT",
-        form,
-        &[one, other, one, other, one, other],
+        apart(is_same, has_not(reading, left)),
+        &[one, other, one, other, one, other, one, other],
     )
+}
+
+/// How values are told apart, null among them. Where a NOT is before, it has to be false and not unknown where one of them is null.
+fn apart(is_same: bool, is_negated: bool) -> &'static str {
+    match (is_same, is_negated) {
+        (true, false) => "write ({} = {} OR {} IS NULL AND {} IS NULL)",
+        (true, true) =>
+            "write ({} = {} AND {} IS NOT NULL AND {} IS NOT NULL OR {} IS NULL AND {} IS NULL)",
+        (false, false) =>
+            "write ({} <> {} OR {} IS NULL AND {} IS NOT NULL OR {} IS NOT NULL AND {} IS NULL)",
+        (false, true) =>
+            "write ({} <> {} AND {} IS NOT NULL AND {} IS NOT NULL OR {} IS NULL AND {} IS NOT NULL OR {} IS NOT NULL AND {} IS NULL)",
+    }
+}
+
+/// Whether a NOT stands in the definition before a token.
+fn has_not(reading: &Reading<'_>, end: usize) -> bool {
+    let mut has = false;
+    for token in reading.tokens.iter().take(end) {
+        has = match token.kind {
+            TokenKind::Keyword(Keyword::Not) => true,
+            TokenKind::Keyword(Keyword::As) => false,
+            _ => has,
+        };
+    }
+    has
 }
 
 /// A point in a pattern that isn't one between a variable and a column: .* and ...

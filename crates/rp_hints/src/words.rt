@@ -44,8 +44,16 @@ const HERE: [Entry; 25] = [
         "there is no LIMIT",
         "cut what is printed: | head -n 10",
     ),
-    ("BETWEEN", "there is no BETWEEN", "write p >= 3 AND p <= 7"),
-    ("IN", "there is no IN", "write x = 'a' OR x = 'b'"),
+    (
+        "BETWEEN",
+        "there is no BETWEEN",
+        "write x >= 3 AND x <= 7, with what is compared in place of x",
+    ),
+    (
+        "IN",
+        "there is no IN",
+        "write (x = 'a' OR x = 'b'), with what is compared in place of x",
+    ),
     (
         "LIKE ILIKE RLIKE SIMILAR REGEXP GLOB ESCAPE",
         "there is no LIKE",
@@ -99,7 +107,11 @@ const HERE: [Entry; 25] = [
         "there is no COLLATE",
         "texts are ordered and compared by their bytes",
     ),
-    ("XOR", "there is no XOR", "write a AND NOT b OR b AND NOT a"),
+    (
+        "XOR",
+        "there is no XOR",
+        "write (a AND NOT b OR b AND NOT a)",
+    ),
     (
         "HOUR HOURS MINUTE MINUTES SECOND SECONDS DAY DAYS MILLISECOND MILLISECONDS",
         "there are no units of time",
@@ -157,7 +169,7 @@ const FUNCTIONS: [Entry; 15] = [
     (
         "ABS",
         "there is no such function",
-        "write both sides: p - q < 5 AND q - p < 5",
+        "write both sides: p - q < 5 AND q - p < 5, or (p - q > 5 OR q - p > 5)",
     ),
     (
         "LAG PREVIOUS PRIOR",
@@ -187,7 +199,7 @@ const FUNCTIONS: [Entry; 15] = [
     (
         "COALESCE NVL IFNULL NULLIF ZEROIFNULL",
         "there is no such function",
-        "in a condition write the case of its own: p > 5 OR p IS NULL",
+        "in a condition write the case of its own: (p > 5 OR p IS NULL)",
     ),
     (
         "COUNT_IF COUNTIF SUM_IF SUMIF",
