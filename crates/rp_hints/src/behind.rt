@@ -46,7 +46,7 @@ const SIGNS: [Pair; 12] = [
 ];
 
 /// What can't stand in the brackets of a function: its name, the word or sign before the place, what is wrong and what to write.
-const ARGUMENTS: [Pair; 6] = [
+const ARGUMENTS: [Pair; 8] = [
     (
         "CLASSIFIER",
         "",
@@ -66,10 +66,22 @@ const ARGUMENTS: [Pair; 6] = [
         "write COUNT(*), COUNT(A.*), COUNT(p) or COUNT(A.p)",
     ),
     (
-        "SUM MIN MAX",
+        "SUM",
         "",
         "an aggregate goes over one column",
         "write SUM(p) or SUM(A.p); for the sum of an expression let one more column of the file have it",
+    ),
+    (
+        "MIN",
+        "",
+        "an aggregate goes over one column",
+        "write MIN(p) or MIN(A.p); for the least of an expression let one more column of the file have it",
+    ),
+    (
+        "MAX",
+        "",
+        "an aggregate goes over one column",
+        "write MAX(p) or MAX(A.p); for the greatest of an expression let one more column of the file have it",
     ),
     (
         "PREV NEXT FIRST LAST",

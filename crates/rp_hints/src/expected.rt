@@ -152,12 +152,10 @@ fn listed(alloc: Global, words: &str) -> Result<Vec<String>, AllocError> {
     Ok(names)
 }
 
-/// A reserved word in the place of a name.
+/// A reserved word, perhaps in the place of a name.
 fn reserved(alloc: Global, reading: &Reading<'_>) -> Advice {
     if !is_name_due(reading) {
-        if let Some(found) = of_structure(reading) {
-            return Advice::of(alloc, found);
-        }
+        return by_structure(alloc, reading);
     }
     let mut what = Pieces::new(alloc);
     what.push_upper(reading.here());
@@ -168,11 +166,17 @@ fn reserved(alloc: Global, reading: &Reading<'_>) -> Advice {
     Advice::of_pieces(what, help)
 }
 
-/// Whether a name may stand at the place, by what stands before it.
+/// Whether a name may stand at the place, by what stands before it; words between conditions are meant as themselves.
 fn is_name_due(reading: &Reading<'_>) -> bool {
+    if is_one_of(reading.here(), "AND OR AS IS") {
+        return false;
+    }
+    if reading.part() == Part::Pattern {
+        return reading.is_in_brackets();
+    }
     is_one_of(
         reading.back(1),
-        "AS = < > <= >= <> + - * . ( | , BY AND OR NOT SUBSET TO",
+        "AS = < > <= >= <> + - * . ( | , BY AND OR NOT SUBSET DEFINE MEASURES TO",
     )
 }
 

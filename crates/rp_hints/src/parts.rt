@@ -9,7 +9,7 @@ const ORDER: &str =
     "the parts come in this order: PARTITION BY, ORDER BY, MEASURES, ONE ROW or ALL ROWS PER MATCH, AFTER MATCH SKIP, PATTERN, SUBSET, DEFINE";
 
 /// What is missing behind two words of ONE ROW and ALL ROWS PER MATCH.
-const ROWS: [Pair; 3] = [
+const ROWS: [Pair; 7] = [
     (
         "ONE",
         "ROW",
@@ -28,10 +28,52 @@ const ROWS: [Pair; 3] = [
         "the words are ONE ROW PER MATCH and ALL ROWS PER MATCH",
         "write one of the two",
     ),
+    (
+        "WITH",
+        "UNMATCHED",
+        "ROWS is missing",
+        "write ALL ROWS PER MATCH WITH UNMATCHED ROWS",
+    ),
+    (
+        "",
+        "WITH",
+        "UNMATCHED ROWS is missing",
+        "write ALL ROWS PER MATCH WITH UNMATCHED ROWS",
+    ),
+    (
+        "SHOW OMIT",
+        "EMPTY",
+        "MATCHES is missing",
+        "write SHOW EMPTY MATCHES or OMIT EMPTY MATCHES",
+    ),
+    (
+        "",
+        "SHOW OMIT",
+        "EMPTY MATCHES is missing",
+        "write SHOW EMPTY MATCHES or OMIT EMPTY MATCHES",
+    ),
 ];
 
 /// What is missing behind two words of AFTER MATCH SKIP.
-const SKIP: [Pair; 3] = [
+const SKIP: [Pair; 6] = [
+    (
+        "",
+        "AFTER",
+        "MATCH is missing",
+        "write AFTER MATCH SKIP PAST LAST ROW, SKIP TO NEXT ROW, SKIP TO FIRST A or SKIP TO LAST A",
+    ),
+    (
+        "AFTER",
+        "MATCH",
+        "SKIP is missing",
+        "write AFTER MATCH SKIP PAST LAST ROW, SKIP TO NEXT ROW, SKIP TO FIRST A or SKIP TO LAST A",
+    ),
+    (
+        "SKIP",
+        "PAST",
+        "LAST ROW comes behind PAST",
+        "write AFTER MATCH SKIP PAST LAST ROW, or SKIP TO NEXT ROW",
+    ),
     (
         "PAST",
         "LAST",
@@ -149,7 +191,7 @@ fn is_unfinished(reading: &Reading<'_>) -> bool {
     }
     is_one_of(
         reading.back(1),
-        "AS . = < > <= >= <> + - , ( BY DEFINE SUBSET MEASURES SKIP TO",
+        "AS . = < > <= >= <> + - , ( BY PARTITION ORDER DEFINE SUBSET MEASURES SKIP TO",
     )
 }
 
@@ -306,6 +348,12 @@ pub(crate) fn is_simple(kind: Option<TokenKind>) -> bool {
 
 /// ONE ROW and ALL ROWS PER MATCH.
 fn of_rows(reading: &Reading<'_>) -> Option<Hint> {
+    if is_one_of(reading.here(), "SHOW OMIT WITH") && is_one_of(reading.back(3), "ROW") {
+        return said(
+            "this comes behind ALL ROWS PER MATCH alone",
+            "write ALL ROWS PER MATCH before it, or leave it out: with ONE ROW PER MATCH an empty match has its row",
+        );
+    }
     look_up_pair(&ROWS, reading.back(2), reading.back(1))
 }
 
@@ -347,6 +395,12 @@ fn of_subset(reading: &Reading<'_>) -> Option<Hint> {
 
 /// DEFINE.
 fn of_define(reading: &Reading<'_>) -> Option<Hint> {
+    if reading.back(1) == "," && is_one_of(reading.here(), "AND OR") {
+        return said(
+            "no comma comes before AND and OR",
+            "leave it out: a comma comes between the definitions of two variables",
+        );
+    }
     if is_one_of(reading.back(1), "DEFINE ,") && !reading.is_in_brackets() {
         return of_definition_start(reading);
     }

@@ -121,10 +121,23 @@ fn of_kinds(reading: &Reading<'_>) -> Option<Hint> {
             "write A, and say in DEFINE which rows are an A",
         ),
         Some(TokenKind::Keyword(Keyword::Not)) => said(NO_NOT, OPPOSITE),
+        Some(TokenKind::Keyword(Keyword::Or)) if !is_part_due(reading) => said(
+            "in a pattern alternatives have a | between",
+            "write A | B for an A or else a B",
+        ),
+        Some(TokenKind::Keyword(Keyword::And)) if !is_part_due(reading) => said(
+            "parts of a pattern follow one another without a word between",
+            "write A B for an A and then a B; for a row that is both join the conditions in DEFINE",
+        ),
         Some(TokenKind::Number) => said(
             "a number of times is written in braces",
             "write A{3} for three As",
         ),
         _ => None,
     }
+}
+
+/// Whether no part of a pattern ends before the place.
+fn is_part_due(reading: &Reading<'_>) -> bool {
+    is_one_of(reading.back(1), "( | , {-")
 }
