@@ -5,7 +5,7 @@ use rp_lexer::{Keyword, TokenKind};
 use rp_value::Table;
 use rp_wording::{
     Advice, Pieces, Reading, column_names, index_of, inside_quotes, is_name, is_one_of, meant,
-    nearest, upper_case,
+    nearest, text_literal, upper_case,
 };
 use std::alloc::{AllocError, Global};
 
@@ -77,10 +77,10 @@ fn text_guess(alloc: Global, inside: &str, names: &[String]) -> Result<Pieces, A
         Some(name) => name_line(alloc, name),
         None => Pieces::new(alloc),
     };
-    help.push_filled(
-        "a name is written in double quotes; a text is written in single ones: '{}'\n",
-        &[inside],
-    );
+    help.push("a name is written in double quotes; a text is written in single ones: ");
+    let text = text_literal(alloc, inside);
+    help.push_made(text);
+    help.push("\n");
     Ok(help)
 }
 
