@@ -191,7 +191,7 @@ fn is_certain_value(reading: &Reading<'_>) -> bool {
     match reading.here() {
         "(" => is_function(reading),
         "." => is_fraction(reading),
-        "=" => reading.back(1) == "=" && reading.touches(),
+        "=" => reading.back(1) == "=" && reading.touches() && reading.back(2) != "=",
         _ => is_word(reading) || is_case(reading),
     }
 }

@@ -5,8 +5,8 @@ use rp_lexer::TokenKind;
 use rp_resolution::CheckKind;
 use rp_value::Table;
 use rp_wording::{
-    Advice, Entry, Hint, Part, Pieces, Reading, is_comparison, is_date, is_name, kind_word,
-    look_up, meant, operand_end, operand_start,
+    Advice, Entry, Hint, Part, Pieces, Reading, is_comparison, is_date, is_name, is_one_of,
+    kind_word, look_up, meant, operand_end, operand_start, said,
 };
 use std::alloc::{AllocError, Global};
 
@@ -20,7 +20,7 @@ const KINDS: [Entry; 4] = [
     (
         "AND OR NOT",
         "AND, OR and NOT come between conditions",
-        "write a comparison on each side: p > 5 AND q = 'a'; NOT binds closer than =",
+        "write a comparison on each side: p > 5 AND q = 'a'",
     ),
     (
         "SUM",
@@ -173,12 +173,44 @@ fn of_comparison(
     table: &Table,
     reading: &Reading<'_>,
 ) -> Result<Advice, AllocError> {
+    if let Some(found) = of_conditions(reading) {
+        return Ok(Advice::of(alloc, found));
+    }
     let what = "a whole number and a text can't be compared";
     if let Some(help) = of_text(reading) {
         return Ok(Advice::new(alloc, what, help));
     }
     let help = two_kinds(alloc, table, reading)?;
     Ok(Advice::with_help(alloc, what, help))
+}
+
+/// A comparison of which a side, or both, is a condition in brackets.
+fn of_conditions(reading: &Reading<'_>) -> Option<Hint> {
+    let behind = reading.at.saturating_add(1);
+    let left = is_condition(reading, operand_start(reading, reading.at), reading.at);
+    let right = is_condition(reading, behind, operand_end(reading, behind));
+    match (left, right) {
+        (false, false) => None,
+        (true, true) => said(
+            "both sides are conditions, and conditions aren't compared",
+            "c = d is written (c AND d OR NOT c AND NOT d), c <> d is written (c AND NOT d OR d AND NOT c)",
+        ),
+        _ => said(
+            "a side is a condition, and conditions aren't compared",
+            "write the condition alone, or NOT before its bracket",
+        ),
+    }
+}
+
+/// Whether what stands from a token on to before another is a condition.
+fn is_condition(reading: &Reading<'_>, start: usize, end: usize) -> bool {
+    for index in start..end {
+        let word = reading.written(index);
+        if is_comparison(word) || is_one_of(word, "AND OR NOT IS") {
+            return true;
+        }
+    }
+    false
 }
 
 /// What to write where the text behind the place is a date or a number.
