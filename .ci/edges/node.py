@@ -195,8 +195,12 @@ def addresses(checks, folder):
 
 def states_that_fail(checks, folder):
     os.mkdir(f"{folder}/folder")
-    for name, state in [("a folder as file", f"{folder}/folder"), ("a folder that isn't there", f"{folder}/none/state")]:
-        checks.same(name, beginning(state), (3, "rowmatch: device: state\n"))
+    cases = [
+        ("a folder as file", f"{folder}/folder", f"rowmatch: {folder}/folder is no regular file\n"),
+        ("a folder that isn't there", f"{folder}/none/state", ""),
+    ]
+    for name, state, told in cases:
+        checks.same(name, beginning(state), (3, f"{told}rowmatch: device: state\n"))
 
 
 def full_disk(checks, folder):

@@ -2,8 +2,12 @@
 #![tactic(auto)]
 
 mod accepting;
+mod aside;
+mod beside;
 mod client;
+mod folder;
 mod node;
+mod place;
 mod state;
 
 pub use node::run_node;

@@ -51,7 +51,7 @@ fn query_of(alloc: Global, job: &NodeJob) -> Result<Query, ProgramFault> {
 fn begun(
     rt: &HostRuntime,
     job: &NodeJob,
-    file: &mut StateFile<'_>,
+    file: &mut StateFile,
     query: Query,
 ) -> Result<Standing, ProgramFault>
     ensures again { IfOk result (λ s. ForSome s.saved (λ bytes. CanRestart s.node.query bytes.items)) }
@@ -89,7 +89,7 @@ fn serve_all(
     rt: &HostRuntime,
     job: &NodeJob,
     listener: &TcpListener,
-    file: &mut StateFile<'_>,
+    file: &mut StateFile,
     standing: Standing,
 ) -> Result<(), ProgramFault>
     requires again { ForSome standing.saved (λ bytes. CanRestart standing.node.query bytes.items) }
@@ -123,7 +123,7 @@ fn prepare(job: &NodeJob, stream: &TcpStream) {
 fn connection(
     rt: &HostRuntime,
     job: &NodeJob,
-    file: &mut StateFile<'_>,
+    file: &mut StateFile,
     stream: &TcpStream,
     standing: Standing,
     number: u64,
@@ -157,7 +157,7 @@ fn connection(
 /// Writes what was saved, unless the file has it.
 fn write_if_new(
     rt: &HostRuntime,
-    file: &mut StateFile<'_>,
+    file: &mut StateFile,
     end: &RoundEnd<Node>,
 ) -> Result<(), ProgramFault> {
     if end.is_new
@@ -187,7 +187,7 @@ fn went_back(fault: Option<ServeFault>) -> bool {
 fn tell_refused(
     rt: &HostRuntime,
     job: &NodeJob,
-    file: &StateFile<'_>,
+    file: &StateFile,
     why: RestartFault,
 ) -> Result<(), ProgramFault> {
     tell(rt, &ProgramFault::Checkpoint(why));
