@@ -1,9 +1,10 @@
 #!/usr/bin/env python3
 """Which file `rowmatch node` keeps, and what it does with what lies next to it. Usage: .ci/edges/files.py [PROGRAM]"""
+import errno
 import os
 import socket
 
-from sockets import CLAUSE, MANY, Node, beginning, end, main, row, talk
+from sockets import CLAUSE, MANY, Node, beginning, end, main, preloaded, row, talk
 
 NEW, REPEAT = '{"taken":"new"}\n', '{"taken":"repeat"}\n'
 ONE, TWO = row(1, ["x", 1, 10]), row(2, ["x", 2, 8])
@@ -17,6 +18,14 @@ TAKEN = "a name that ends in .new, .lock, .refused or .refused.N belongs to anot
 def read(path):
     with open(path, "rb") as file:
         return file.read()
+
+
+def kept(path):
+    """The bytes of a file that a node has kept there."""
+    node = Node(path)
+    talk(node, ONE)
+    node.ended()
+    return read(path)
 
 
 def names_of_another(checks, folder):
@@ -98,5 +107,40 @@ def locks(checks, folder):
         (os.rmdir if os.path.isdir(lock) else os.remove)(lock)
 
 
+def taken_away(checks, folder):
+    """A refused file that somebody has taken away by then needn't be kept."""
+    state = f"{folder}/state"
+    first = kept(state)
+    node = Node(state, clause=OTHER)
+    os.rename(state, f"{folder}/backup")
+    checks.same("a row", (talk(node, ONE), node.ended()), (NEW, (0, REFUSED + SAVED)))
+    checks.same("the files", sorted(os.listdir(folder)), ["backup", "state", "state.lock"])
+    checks.same("what was taken away", read(f"{folder}/backup"), first)
+
+
+def never_without(checks, folder):
+    """While a refused file is put aside it is there: a node that ends in the midst leaves it under its own name too."""
+    library, state = preloaded(folder, "flush"), f"{folder}/state"
+    first = kept(state)
+    node = Node(state, clause=OTHER, variables={"LD_PRELOAD": library, "FLUSH": str(errno.EIO)})
+    talk(node, ONE)
+    checks.same("a flush that fails behind the second name", node.ended()[0], 3)
+    checks.same("both names", (read(state), read(f"{state}.refused")), (first, first))
+    checks.same("nothing else", sorted(os.listdir(folder)), ["flush.so", "state", "state.lock", "state.refused"])
+
+
+def without_second_names(checks, folder):
+    """Where a file can have no second name, it is renamed, under a name that is free."""
+    library, state = preloaded(folder, "link"), f"{folder}/state"
+    for number, name in enumerate([f"{state}.refused", f"{state}.refused.2"]):
+        first = kept(state)
+        node = Node(state, clause=OTHER, variables={"LD_PRELOAD": library})
+        told = f"{REFUSED}rowmatch: the checkpoint that was refused is kept as {name}\n{SAVED}"
+        checks.same(f"file {number}", (talk(node, ONE), node.ended(), read(name)), (NEW, (0, told), first))
+        os.remove(state)
+
+
 if __name__ == "__main__":
-    main([names_of_another, no_name, links, many_links, no_regular_files, locks])
+    main([
+        names_of_another, no_name, links, many_links, no_regular_files, locks, taken_away, never_without, without_second_names,
+    ])
