@@ -61,6 +61,30 @@ def stopped(checks, folder):
     end(node)
 
 
+def stopped_for_long(checks, folder):
+    """With --idle the time for which a node is stopped counts where a part of a line had come, and else it doesn't."""
+    node = Node(f"{folder}/state", connections=MANY, options=["--idle", "2"])
+    for name, part, reply in [("between lines", "", NEW), ("within a line", ONE[:10], "")]:
+        with node.connect() as connection:
+            connection.sendall(part.encode())
+            time.sleep(0.3)
+            node.process.send_signal(signal.SIGSTOP)
+            time.sleep(3)
+            node.process.send_signal(signal.SIGCONT)
+            time.sleep(0.3)
+            checks.same(name, replied(connection, ONE[len(part) :]), reply)
+    end(node)
+
+
+def replied(connection, text):
+    """The reply to a line, none where the connection is over."""
+    try:
+        connection.sendall(text.encode())
+        return connection.recv(100).decode()
+    except OSError:
+        return ""
+
+
 def no_descriptors(checks, folder):
     """A node that has no descriptor for a connection reports it, and accepts once there is one."""
     node = Node(f"{folder}/state", connections=MANY)
@@ -155,4 +179,4 @@ def by_the_launcher(checks, folder):
 
 
 if __name__ == "__main__":
-    main([slow_lines, stopped, no_descriptors, errors_that_pass, web_pages, by_the_launcher])
+    main([slow_lines, stopped, stopped_for_long, no_descriptors, errors_that_pass, web_pages, by_the_launcher])

@@ -83,12 +83,17 @@ def blanks(checks, folder):
     texts = [
         ("a blank", {"clause": CLAUSE + " "}), ("line ends", {"clause": CLAUSE + "\r\n\n\t", "table": TABLE + "\n"}),
         ("a file", {"clause": None, "options": ["--clause-file", f"{folder}/clause"]}),
+        ("blanks and a comment inside a table", {"table": TABLE.replace(", ", " ,\n  ") + " -- in this order"}),
     ]
     for name, more in texts:
         node = Node(state, connections=MANY, **more)
         told = "".join(node.told)
         touch(node)
         checks.same(f"{name} more: the rows are known", (told, talk(node, ROWS)), ("", REPEAT * 6))
+        end(node)
+    for name, clause in [("a blank", CLAUSE.replace(" DEFINE", "  DEFINE")), ("a comment", CLAUSE + " -- a fall")]:
+        node = Node(state, connections=MANY, clause=clause)
+        checks.same(f"{name} inside a clause makes another one", node.told[:1], ["rowmatch: checkpoint refused: ClauseDiffers\n"])
         end(node)
 
 
