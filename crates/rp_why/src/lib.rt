@@ -19,6 +19,7 @@ mod edit;
 mod extent;
 mod lines;
 mod list;
+mod meaning;
 mod object;
 mod parts;
 mod reached;

@@ -203,7 +203,7 @@ fn push_failure(out: &mut Pieces, failure: &Failure) {
 }
 
 /// Writes a value as in a clause.
-fn push_value(out: &mut Pieces, value: &Value) {
+pub(crate) fn push_value(out: &mut Pieces, value: &Value) {
     match value {
         Value::Int(number) => push_integer(out, *number),
         Value::Null => out.push("NULL"),

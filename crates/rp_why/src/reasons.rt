@@ -162,7 +162,7 @@ fn add_ways(case: &Case<'_>, reasons: &mut Reasons) -> Result<(), AllocError> {
 
 /// Tries the clause without each term.
 fn add_terms(case: &Case<'_>, reasons: &mut Reasons) -> Result<(), AllocError> {
-    let terms = terms_of(case.alloc, &case.tokens)?;
+    let terms = terms_of(case.alloc, &case.tokens, case.query)?;
     for term in terms.as_slice() {
         add_term(case, term, reasons)?;
     }

@@ -1,14 +1,19 @@
 //! The terms that the conditions of DEFINE demand.
 
 use crate::list::List;
+use crate::meaning::meanings_of;
 use crate::tokens::{Range, Tokens};
 use rp_lexer::{Keyword, Mark, TokenKind};
+use rp_query::Query;
 use std::alloc::{AllocError, Global};
 
-/// A term of a condition: a condition between ANDs, or a whole one. One that several variables demand is one term.
+/// A term of a condition: a condition between ANDs, or a whole one. One that several variables demand is one term, also where they write it
+/// in other ways.
 pub(crate) struct Term {
-    /// The term as it is written.
+    /// The term as it is written first.
     pub(crate) written: String,
+    /// What it means.
+    meaning: String,
     /// Where it is demanded.
     pub(crate) places: Vec<Place>,
     /// Whether it is a comparison by `<`, `<=`, `>` or `>=`.
@@ -20,6 +25,7 @@ impl Drop for Term {
     fn drop(self) {
         let Term {
             written: _,
+            meaning: _,
             places: _,
             is_bound: _,
         } = self;
@@ -31,6 +37,7 @@ impl Term {
     fn new(
         alloc: Global,
         written: String,
+        meaning: &str,
         place: Place,
         is_bound: bool,
     ) -> Result<Term, AllocError> {
@@ -38,6 +45,7 @@ impl Term {
         places.push(place)?;
         Ok(Term {
             written,
+            meaning: String::from_str(alloc, meaning)?,
             places,
             is_bound,
         })
@@ -62,19 +70,24 @@ impl Place {
     }
 }
 
-/// The terms of a clause, in the order in which they are written.
-pub(crate) fn terms_of(alloc: Global, tokens: &Tokens<'_>) -> Result<Vec<Term>, AllocError> {
+/// The terms of a clause, in the order in which they are written. It has these tokens, and was compiled to this query.
+pub(crate) fn terms_of(
+    alloc: Global,
+    tokens: &Tokens<'_>,
+    query: &Query,
+) -> Result<Vec<Term>, AllocError> {
     let mut terms = Vec::new(alloc);
     if let Some(define) = tokens.word(Keyword::Define) {
-        add_definitions(alloc, tokens, define, &mut terms)?;
+        add_definitions(alloc, tokens, query, define, &mut terms)?;
     }
     Ok(terms)
 }
 
-/// Adds the terms of the definitions behind the word DEFINE.
+/// Adds the terms of the definitions behind the word DEFINE, whose conditions stand in the query's plan in the same order.
 fn add_definitions(
     alloc: Global,
     tokens: &Tokens<'_>,
+    query: &Query,
     define: usize,
     terms: &mut Vec<Term>,
 ) -> Result<(), AllocError> {
@@ -85,7 +98,7 @@ fn add_definitions(
     if let Some(end) = tokens.find(rest, TokenKind::Mark(Mark::RightParenthesis)) {
         rest.to = end;
     }
-    for _ in define..tokens.list.len() {
+    for condition in query.plan().conditions.as_slice() {
         let end = tokens
             .find(rest, TokenKind::Mark(Mark::Comma))
             .unwrap_or(rest.to);
@@ -93,25 +106,24 @@ fn add_definitions(
             from: rest.from,
             to: end,
         };
-        add_definition(alloc, tokens, definition, terms)?;
+        let meanings = meanings_of(alloc, condition, query.totals().as_slice())?;
+        add_definition(alloc, tokens, definition, meanings.as_slice(), terms)?;
         rest.from = end.saturating_add(1);
-        if rest.from >= rest.to {
-            break;
-        }
     }
     Ok(())
 }
 
-/// Adds the terms of one definition.
+/// Adds the terms of one definition, which mean this in order.
 fn add_definition(
     alloc: Global,
     tokens: &Tokens<'_>,
     definition: Range,
+    meanings: &[String],
     terms: &mut Vec<Term>,
 ) -> Result<(), AllocError> {
     let places = places_in(alloc, tokens, definition)?;
-    for place in places.as_slice() {
-        add_term(alloc, tokens, *place, terms)?;
+    for (place, meaning) in places.as_slice().iter().zip(meanings) {
+        add_term(alloc, tokens, *place, meaning.as_str(), terms)?;
     }
     Ok(())
 }
@@ -172,21 +184,22 @@ fn add_term(
     alloc: Global,
     tokens: &Tokens<'_>,
     place: Place,
+    meaning: &str,
     terms: &mut Vec<Term>,
 ) -> Result<(), AllocError> {
-    let written = tokens.written(alloc, place.term)?;
-    if add_place(terms, written.as_str(), place)? {
+    if add_place(terms, meaning, place)? {
         return Ok(());
     }
+    let written = tokens.written(alloc, place.term)?;
     let is_bound = is_bound(tokens, place.term);
-    terms.push(Term::new(alloc, written, place, is_bound)?)?;
+    terms.push(Term::new(alloc, written, meaning, place, is_bound)?)?;
     Ok(())
 }
 
-/// Adds a place to the term that is written so. Gives whether there is one.
-fn add_place(terms: &mut Vec<Term>, written: &str, place: Place) -> Result<bool, AllocError> {
+/// Adds a place to the term that means this. Gives whether there is one.
+fn add_place(terms: &mut Vec<Term>, meaning: &str, place: Place) -> Result<bool, AllocError> {
     for term in terms.iter_mut() {
-        if term.written.as_str() == written {
+        if term.meaning.as_str() == meaning {
             term.places.push(place)?;
             return Ok(true);
         }

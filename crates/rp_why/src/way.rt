@@ -39,7 +39,7 @@ impl Drop for Demand {
 
 /// A term of conditions.
 pub struct TermDemand {
-    /// The term as it is written.
+    /// The term as it is written first.
     pub written: String,
     /// The variables that demand it, as they are written, with commas between.
     pub variables: String,
