@@ -41,16 +41,25 @@ pub(crate) fn without_term<'a>(case: &Case<'a>, term: &Term) -> Edited<'a> {
     clause
 }
 
-/// The names of the variables that demand a term.
+/// The names of the variables that demand a term, each once.
 fn variables_of(case: &Case<'_>, term: &Term) -> Result<String, AllocError> {
     let mut names = Pieces::new(case.alloc);
+    let mut last = None;
     for place in term.places.as_slice() {
-        if !names.is_empty() {
-            names.push(", ");
+        if last != Some(place.variable) {
+            push_place(&mut names, case, place);
         }
-        names.push_made(case.written(place.name()));
+        last = Some(place.variable);
     }
     names.finish()
+}
+
+/// Writes the name of the variable that demands a term at a place, behind others.
+fn push_place(names: &mut Pieces, case: &Case<'_>, place: &Place) {
+    if !names.is_empty() {
+        names.push(", ");
+    }
+    names.push_made(case.written(place.name()));
 }
 
 /// Where in a match that is found a term isn't true.

@@ -41,7 +41,7 @@ impl Drop for Demand {
 pub struct TermDemand {
     /// The term as it is written first.
     pub written: String,
-    /// The variables that demand it, as they are written, with commas between.
+    /// The variables that demand it, each once, as they are written, with commas between.
     pub variables: String,
     /// Whether it is a comparison by `<`, `<=`, `>` or `>=`.
     pub is_bound: bool,
