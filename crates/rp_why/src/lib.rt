@@ -16,6 +16,7 @@ mod between;
 mod case;
 mod demands;
 mod edit;
+mod empty;
 mod extent;
 mod lines;
 mod list;

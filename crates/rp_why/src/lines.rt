@@ -1,5 +1,6 @@
 //! What is found of a partition, in lines for people.
 
+use crate::empty::may_be_empty;
 use crate::reached::Reached;
 use crate::reasons::{Finding, Reasons};
 use crate::seeking::Match;
@@ -49,7 +50,11 @@ fn push_found(out: &mut Pieces, query: &Query, finding: &Finding) {
 
 /// Writes why there is no match.
 fn push_reasons(out: &mut Pieces, query: &Query, reasons: &Reasons) {
-    out.push("no match\n");
+    out.push("no match");
+    if may_be_empty(query.pattern().form()) {
+        out.push(" with a row");
+    }
+    out.push("\n");
     if let Some(reached) = &reasons.reached {
         push_reached(out, query, reached);
     }
