@@ -21,8 +21,9 @@ pub struct Proposal {
 }
 
 /// Columns that fit the header and all records of a CSV text, in which this byte is between fields. A column is `int` where it has a
-/// value and every one is a whole number of 64 bits, else `text`. A number with a zero or a plus sign in front is a text, since these
-/// would be lost: a card number, a postal code or a telephone number. So of `sym,t` and `x,1` it is `sym text, t int`.
+/// value and every one is a whole number of 64 bits, else `text`. A number with a zero in front is a text, since that zero would be
+/// lost: a card number or a postal code. So is one with a plus sign where no other has a minus sign: a telephone number. So of `sym,t`
+/// and `x,1` it is `sym text, t int`.
 ///
 /// A field of the header that is empty, has the name of another one, or a line end or another character in its name that can't be shown,
 /// has no column.
@@ -140,11 +141,7 @@ pub fn is_shown(name: &str) -> bool {
 
 /// The kind of a column by what was seen of it.
 fn kind_seen(seen: Seen) -> &'static str {
-    if seen.number && !seen.text {
-        "int"
-    } else {
-        "text"
-    }
+    if seen.are_numbers() { "int" } else { "text" }
 }
 
 /// Adds the name of a header's field as it may be typed, and a kind.

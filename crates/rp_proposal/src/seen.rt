@@ -18,6 +18,18 @@ pub struct Seen {
     pub word: bool,
     /// Whether one was neither a number nor such a word.
     pub other: bool,
+    /// Whether one was a number behind a plus sign.
+    pub plus: bool,
+    /// Whether one was a number behind a minus sign.
+    pub minus: bool,
+}
+
+impl Seen {
+    /// Whether all were whole numbers that are the same written anew. A plus sign is lost, and that is all the same only where numbers
+    /// are signed: of telephone numbers it is a part.
+    pub fn are_numbers(&self) -> bool {
+        self.number && !self.text && (self.minus || !self.plus)
+    }
 }
 
 /// What all records that are left have in each of so many columns.
@@ -46,6 +58,8 @@ fn nothing_seen(alloc: Global, count: usize) -> Result<Vec<Seen>, AllocError> {
             text: false,
             word: false,
             other: false,
+            plus: false,
+            minus: false,
         })?;
     }
     Ok(seen)
@@ -70,6 +84,8 @@ fn with_field(seen: Seen, field: &[u8]) -> Seen {
         text: seen.text || !number,
         word: seen.word || word,
         other: seen.other || !number && !word,
+        plus: seen.plus || number && field.starts_with(b"+"),
+        minus: seen.minus || number && field.starts_with(b"-"),
     }
 }
 
@@ -78,9 +94,9 @@ fn is_null(field: &[u8], nulls: &[Text]) -> bool {
     field.is_empty() || nulls.iter().any(|word| word.as_str().as_bytes() == field)
 }
 
-/// Whether a field is a whole number of 64 bits without a zero or a plus sign in front, which a whole number doesn't keep.
+/// Whether a field is a whole number of 64 bits without a zero in front, which a whole number doesn't keep.
 fn is_plain_number(field: &[u8]) -> bool {
-    is_whole(field) && !has_zeros(field) && !field.starts_with(b"+")
+    is_whole(field) && !has_zeros(field)
 }
 
 /// Whether a zero stands in front of what follows it, behind a sign or none.
