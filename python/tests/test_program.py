@@ -2,11 +2,13 @@
 
 from __future__ import annotations
 
+import contextlib
 import os
 import shutil
 import signal
 import subprocess
 import sys
+import threading
 import time
 from concurrent.futures import ThreadPoolExecutor
 
@@ -148,6 +150,23 @@ def test_a_question_that_takes_too_long(stand_in):
     assert time.monotonic() - begin < 30
 
 
+def test_a_timeout_is_that_of_the_whole_call(stand_in):
+    stand_in("sleep 1.5; exit $([ $3 = csv ] && echo 1 || echo 0)")
+    begin = time.monotonic()
+    with pytest.raises(TimeoutError, match="within 2 seconds"):
+        rowmatch.match(pd.DataFrame({"p": [1]}), CLAUSE, timeout=2)
+    assert time.monotonic() - begin < 30
+
+
+def test_a_timeout_while_the_clause_is_looked_at(monkeypatch, tmp_path):
+    fake = tmp_path / "fake"
+    fake.write_text("#!/bin/sh\nif [ $1 = check ]; then exec sleep 20; fi\n")
+    fake.chmod(0o755)
+    monkeypatch.setenv("ROWMATCH_PROGRAM", str(fake))
+    with pytest.raises(TimeoutError, match="within 1 seconds"):
+        rowmatch.match(pd.DataFrame({"p": [1]}), CLAUSE, timeout=1)
+
+
 def hear_interrupts():
     """A shell's job in the background ignores interrupts, and so does all that it starts."""
     signal.signal(signal.SIGINT, signal.SIG_DFL)
@@ -188,6 +207,127 @@ def test_an_interrupt_while_the_program_is_started(stand_in, monkeypatch):
         signal.signal(signal.SIGINT, before)
     with pytest.raises(ProcessLookupError):
         os.kill(started[0], 0)
+
+
+def test_an_interrupt_leaves_nobody_reading_what_is_closed(stand_in, tmp_path, monkeypatch):
+    """Standard error stays open behind the program's end, by a process of its own."""
+    stand_in(f"(sleep 2; echo >&2) >/dev/null & echo $! >{tmp_path}/pid; exec sleep 60")
+    noise = []
+    monkeypatch.setattr(threading, "excepthook", lambda made: noise.append(made.exc_value))
+    threads, before = threading.enumerate(), signal.signal(signal.SIGINT, signal.default_int_handler)
+    try:
+        interrupting = threading.Thread(target=interrupt_once_there_is, args=(tmp_path / "pid",))
+        interrupting.start()
+        with pytest.raises(KeyboardInterrupt):
+            rowmatch.match(pd.DataFrame({"p": [1]}), CLAUSE)
+        for thread in {*threading.enumerate()} - {*threads}:
+            thread.join(60)
+    finally:
+        signal.signal(signal.SIGINT, before)
+    assert noise == []
+
+
+def interrupt_once_there_is(path):
+    wait_for(path)
+    time.sleep(0.2)
+    os.kill(os.getpid(), signal.SIGINT)
+
+
+def wait_for(path):
+    until = time.monotonic() + 60
+    while not path.exists() and time.monotonic() < until:
+        time.sleep(0.01)
+
+
+SKIP = "MEASURES 1 AS x AFTER MATCH SKIP TO FIRST B PATTERN (A B?) DEFINE B AS p > 5"
+
+
+def reap(*_):
+    with contextlib.suppress(ChildProcessError):
+        while os.waitpid(-1, os.WNOHANG)[0]:
+            pass
+
+
+@pytest.fixture(params=["ignored", "reaped"])
+def lost_status(request):
+    """Once it is called, the statuses of children are lost."""
+    before = signal.getsignal(signal.SIGCHLD)
+    handler = signal.SIG_IGN if request.param == "ignored" else reap
+    yield lambda: signal.signal(signal.SIGCHLD, handler)
+    signal.signal(signal.SIGCHLD, before)
+
+
+def test_a_lost_status_is_no_success(lost_status):
+    frame = pd.DataFrame({"p": [1, 2]})
+    with pytest.raises(rowmatch.SkipFault):
+        rowmatch.match(frame, SKIP)
+    lost_status()
+    for clause in (SKIP, SKIP.replace("1 AS", "2 AS")):  # looked at already, and not
+        with pytest.raises((ProgramError, rowmatch.SkipFault)) as caught:
+            rowmatch.match(frame, clause)
+        if caught.type is ProgramError:
+            assert "status was lost" in str(caught.value) and caught.value.status is None
+
+
+def test_a_part_of_an_answer_whose_status_is_lost(stand_in, lost_status):
+    stand_in('cat >/dev/null; printf "N\n1\n"; kill -KILL $$')
+    frame = pd.DataFrame({"p": [1, 2]})
+    with pytest.raises(ProgramError, match="ended by SIGKILL"):
+        rowmatch.match(frame, CLAUSE)
+    lost_status()
+    with pytest.raises(ProgramError, match="ended by SIGKILL|status was lost"):
+        rowmatch.match(frame, CLAUSE)
+
+
+def test_a_timeout_where_the_status_is_lost(stand_in, lost_status):
+    stand_in("exec sleep 60")
+    frame = pd.DataFrame({"p": [1, 2]})
+    for _ in range(2):
+        with pytest.raises(TimeoutError):
+            rowmatch.match(frame, CLAUSE, timeout=1)
+        lost_status()
+
+
+@pytest.mark.parametrize("closed", ["0", "1", "2", "01", "02", "12", "012"])
+def test_standard_streams_that_are_closed(closed, tmp_path):
+    script = f"""import pandas, pathlib, rowmatch
+n = rowmatch.match(pandas.DataFrame({{'p': [1, 2]}}), {CLAUSE!r})["n"].tolist()
+pathlib.Path({str(tmp_path / "found")!r}).write_text(str(n))"""
+    closing = " ".join(f"{stream}>&-" for stream in closed)
+    words = ["/bin/sh", "-c", f'exec "$@" {closing}', "sh", sys.executable, "-c", script]
+    subprocess.run(words, timeout=60)
+    assert (tmp_path / "found").read_text() == "[2]"
+
+
+def test_a_process_that_is_forked_meanwhile(stand_in, tmp_path):
+    """It has no part in the program's input, which ends while it lives."""
+    stand_in(f"""echo >{tmp_path}/runs; while ! [ -e {tmp_path}/read ]; do sleep 0.05; done
+        cat >/dev/null; printf "N\\n7\\n" """)
+    with ThreadPoolExecutor(1) as pool:
+        asked = pool.submit(rowmatch.match, pd.DataFrame({"p": range(300_000)}), CLAUSE)
+        wait_for(tmp_path / "runs")
+        forked = os.fork()
+        if not forked:
+            time.sleep(60)
+            os._exit(0)
+        try:
+            (tmp_path / "read").touch()
+            assert asked.result(30)["n"].tolist() == [7]
+        finally:
+            os.kill(forked, signal.SIGKILL)
+            os.waitpid(forked, 0)
+
+
+def test_a_forked_process_asks_too():
+    rowmatch.match(pd.DataFrame({"p": [1]}), CLAUSE)
+    forked = os.fork()
+    if not forked:
+        found = []
+        try:
+            found = rowmatch.match(pd.DataFrame({"p": [1, 2]}), CLAUSE)["n"].tolist()
+        finally:
+            os._exit(0 if found == [2] else 1)
+    assert os.waitpid(forked, 0)[1] == 0
 
 
 def test_a_program_that_is_named_from_here(monkeypatch, tmp_path):

@@ -8,7 +8,7 @@ from collections.abc import Mapping
 from dataclasses import dataclass
 from typing import Any
 
-from ._program import program, run
+from ._program import NO_LIMIT, Limit, program, run
 from .errors import ClauseError, Fault, ProgramError
 
 
@@ -51,7 +51,7 @@ def table_of(kinds: Mapping[str, str]) -> str:
     return ", ".join(f"{quoted(name)} {kind}" for name, kind in kinds.items())
 
 
-def read(kinds: Mapping[str, str], clause: str) -> Clause:
+def read(kinds: Mapping[str, str], clause: str, limit: Limit = NO_LIMIT) -> Clause:
     """Asks the program what a clause is over these columns; a `ClauseError` says what is wrong."""
     if not isinstance(clause, str):
         raise TypeError(f"the clause is a {type(clause).__name__} and no text")
@@ -59,7 +59,7 @@ def read(kinds: Mapping[str, str], clause: str) -> Clause:
         clause.encode()
     except UnicodeEncodeError as error:
         raise ClauseError(clause, [_half_pair(clause, error.start)]) from None
-    said = json.loads(_said(program(), table_of(kinds), clause))
+    said = json.loads(_said(program(), table_of(kinds), clause, limit))
     faults = [fault for fault in said["faults"] if fault["text"] == "clause"]
     if len(faults) < len(said["faults"]):
         raise ProgramError(f"the program refused what this package wrote: {said['faults'][0]}", 1)
@@ -69,9 +69,9 @@ def read(kinds: Mapping[str, str], clause: str) -> Clause:
 
 
 @functools.lru_cache(maxsize=64)
-def _said(path: str, table: str, clause: str) -> str:
+def _said(path: str, table: str, clause: str, limit: Limit) -> str:
     """The line that ``check --format json`` prints."""
-    ran = run(["check", "--format", "json"], table, clause)
+    ran = run(["check", "--format", "json"], table, clause, limit=limit)
     if ran.status not in (0, 1) or not ran.printed:
         raise ran.failed()
     return ran.printed.decode()

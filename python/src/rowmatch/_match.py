@@ -12,7 +12,7 @@ except ImportError as error:
     raise ImportError(need) from error
 
 from ._clause import table_of
-from ._program import run
+from ._program import Limit, run
 from ._question import Ways, understand
 from .errors import SkipFault
 
@@ -61,7 +61,8 @@ def match(
         times: the unit of times in the clause: ``seconds``, ``millis``, ``micros`` or ``nanos``.
         on_skip_fault: what happens where AFTER MATCH SKIP can't be followed: ``raise`` a
             `SkipFault`, ``warn``, ``ignore``.
-        timeout: seconds after which the program is ended.
+        timeout: seconds after which the program is ended, from the beginning of the call: all that
+            the program does is within them. What Python does isn't cut short.
 
     Returns:
         With ONE ROW PER MATCH a row for each match: the columns of PARTITION BY and the measures.
@@ -92,8 +93,9 @@ def match(
     """
     if on_skip_fault not in ("raise", "warn", "ignore"):
         raise ValueError(f"on_skip_fault={on_skip_fault!r} is none of raise, warn, ignore")
-    question = understand(pandas_frame(data), clause, columns or {}, times)
-    answer, faults = question.answer(timeout)
+    limit = Limit.of(timeout)
+    question = understand(pandas_frame(data), clause, columns or {}, times, limit)
+    answer, faults = question.answer(limit)
     if faults and on_skip_fault == "raise":
         raise SkipFault(faults, answer)
     if faults and on_skip_fault == "warn":

@@ -3,14 +3,16 @@
 from __future__ import annotations
 
 import contextlib
+import fcntl
 import os
 import signal
 import subprocess
 import threading
+import time
 from collections.abc import Callable, Iterable, Iterator, Sequence
-from dataclasses import dataclass
+from dataclasses import dataclass, field
 from pathlib import Path
-from typing import IO
+from typing import IO, Any
 
 from .errors import ProgramError
 
@@ -23,6 +25,10 @@ _LARGE_PAGES = "glibc.malloc.hugetlb=1"
 _GIVE_BACK = (
     "glibc.malloc.tcache_count=0:glibc.malloc.mxfast=0"
     ":glibc.malloc.mmap_threshold=1048576:glibc.malloc.trim_threshold=1048576"
+)
+_LOST = (
+    "the program's exit status was lost, so its answer may be a part of one: SIGCHLD is ignored in "
+    "this process, or a handler of it waits for every child"
 )
 
 
@@ -88,13 +94,39 @@ def is_progress(line: str) -> bool:
 def _file(text: str) -> Iterator[int]:
     """A text as a file without a name: it may have any length, no list of processes shows it (a
     clause may have somebody's card number in it), and nothing of it is left behind."""
-    file = os.memfd_create("rowmatch")
+    with os.fdopen(os.memfd_create("rowmatch"), "wb") as stream:
+        stream.write(text.encode())
+        stream.flush()
+        # Where a standard stream is closed the file has its number, and in the program that is the
+        # number of a stream of its own.
+        file = fcntl.fcntl(stream, fcntl.F_DUPFD_CLOEXEC, 3)
     try:
-        with os.fdopen(os.dup(file), "wb") as stream:
-            stream.write(text.encode())
         yield file
     finally:
         os.close(file)
+
+
+@dataclass(frozen=True)
+class Limit:
+    """How many seconds a call may take, and when they are over. Limits are all equal, since what
+    the program says doesn't depend on them."""
+
+    seconds: float | None = field(default=None, compare=False)
+    until: float | None = field(default=None, compare=False)
+
+    @classmethod
+    def of(cls, timeout: float | None) -> Limit:
+        """The limit of a call that begins now."""
+        return cls(timeout, None if timeout is None else time.monotonic() + timeout)
+
+    def left(self) -> float | None:
+        """The seconds that are left, as a timer takes them."""
+        if self.until is None:
+            return None
+        return min(max(0.0, self.until - time.monotonic()), threading.TIMEOUT_MAX)
+
+
+NO_LIMIT = Limit()
 
 
 def run(
@@ -102,7 +134,7 @@ def run(
     table: str,
     clause: str,
     chunks: Iterable[bytes] | None = None,
-    timeout: float | None = None,
+    limit: Limit = NO_LIMIT,
 ) -> Ran:
     """Runs the program over a table, a clause and chunks of its input, or over no input.
 
@@ -113,20 +145,88 @@ def run(
         with _file(table) as table_file, _file(clause) as clause_file:
             words = [*arguments, "--table-file", f"/dev/fd/{table_file}"]
             words += ["--clause-file", f"/dev/fd/{clause_file}"]
-            child = starting.child(
-                lambda: subprocess.Popen(
-                    command(words),
-                    env=environment(arguments),
-                    bufsize=0,
-                    stdin=subprocess.DEVNULL if chunks is None else subprocess.PIPE,
-                    stdout=subprocess.PIPE,
-                    stderr=subprocess.PIPE,
-                    pass_fds=(table_file, clause_file),
-                )
-            )
-        return _Run(child, timeout).to_end(chunks or ())
+            files = (table_file, clause_file)
+            child = starting.child(lambda: _Child(words, files, chunks is not None))
+        return _Run(child, limit).to_end(chunks or ())
     finally:
         starting.leave_nothing()
+
+
+# Held while a program gets its pipes or its input is closed, and while a process is forked.
+_forking = threading.RLock()
+_inputs: set[IO[bytes]] = set()
+
+
+def _be_forked() -> None:
+    """Lets a process that was forked go of the inputs of programs, which would wait for their end
+    for as long as it lives."""
+    for stream in _inputs:
+        stream.close()
+    _inputs.clear()
+    _forking.release()
+
+
+os.register_at_fork(
+    before=_forking.acquire, after_in_parent=_forking.release, after_in_child=_be_forked
+)
+
+
+class _Child:
+    """A program that runs. Its end is awaited here and not by Popen, which takes a status that
+    somebody else has taken for 0."""
+
+    def __init__(self, words: Sequence[str], files: Sequence[int], is_fed: bool) -> None:
+        with _forking:
+            child = subprocess.Popen(
+                command(words),
+                env=environment(words),
+                bufsize=0,
+                stdin=subprocess.PIPE if is_fed else subprocess.DEVNULL,
+                stdout=subprocess.PIPE,
+                stderr=subprocess.PIPE,
+                pass_fds=files,
+            )
+            assert child.stdout and child.stderr
+            self.stdin: IO[bytes] | None = child.stdin
+            self.stdout: IO[bytes] = child.stdout
+            self.stderr: IO[bytes] = child.stderr
+            if self.stdin:
+                _inputs.add(self.stdin)
+        self._child = child
+        # Held while it is ended or its number is given back, so that no other process is ended.
+        self._ending = threading.Lock()
+        self._status: int | None = None
+
+    def wait(self) -> int | None:
+        """Its exit status, negative for a signal; None where that was lost: where SIGCHLD is
+        ignored, or a handler of it waits for every child."""
+        if self._child.returncode is None:
+            with contextlib.suppress(ChildProcessError):
+                # Its number isn't given back yet, so an interrupt loses nothing.
+                ended = os.waitid(os.P_PID, self._child.pid, os.WEXITED | os.WNOWAIT)
+                if ended:
+                    by_itself = ended.si_code == os.CLD_EXITED
+                    self._status = ended.si_status if by_itself else -ended.si_status
+            with self._ending:
+                with contextlib.suppress(ChildProcessError):
+                    os.waitpid(self._child.pid, 0)
+                self._child.returncode = self._status or 0
+            if self.stdin:
+                _inputs.discard(self.stdin)
+        return self._status
+
+    def end_input(self) -> None:
+        """Closes its input, which only the thread does that writes there."""
+        assert self.stdin
+        with _forking:  # in the midst of it a forked process would have it open and not know it
+            self.stdin.close()
+            _inputs.discard(self.stdin)
+
+    def kill(self) -> None:
+        """Ends it where it still runs."""
+        with self._ending, contextlib.suppress(ProcessLookupError):
+            if self._child.returncode is None:
+                os.kill(self._child.pid, signal.SIGKILL)
 
 
 class _Starting:
@@ -134,13 +234,13 @@ class _Starting:
     alone, and so never where the program runs already and nobody knows of it yet."""
 
     def __init__(self) -> None:
-        self._child: subprocess.Popen[bytes] | None = None
+        self._child: _Child | None = None
         self._failed: BaseException | None = None
         self._thread: threading.Thread | None = None
         # Set by the thread: where a wait for its end is interrupted, Python 3.11 takes it as ended.
         self._is_done = threading.Event()
 
-    def child(self, start: Callable[[], subprocess.Popen[bytes]]) -> subprocess.Popen[bytes]:
+    def child(self, start: Callable[[], _Child]) -> _Child:
         self._thread = threading.Thread(target=self._begin, args=(start,), daemon=True)
         self._thread.start()
         self._is_done.wait()
@@ -154,11 +254,11 @@ class _Starting:
         if self._thread:
             # A thread whose start was interrupted may run all the same, and is done in a moment.
             self._is_done.wait(1 if self._thread.ident is None else None)
-        if self._child and self._child.poll() is None:
+        if self._child:
             self._child.kill()
             self._child.wait()
 
-    def _begin(self, start: Callable[[], subprocess.Popen[bytes]]) -> None:
+    def _begin(self, start: Callable[[], _Child]) -> None:
         try:
             self._child = start()
         except BaseException as error:
@@ -168,27 +268,27 @@ class _Starting:
 
 
 class _Run:
-    """A run that was started: what goes in and what comes out, each in a thread of its own."""
+    """A run that was started: what goes in and what comes out, each in a thread of its own, which
+    closes its stream."""
 
-    def __init__(self, child: subprocess.Popen[bytes], timeout: float | None) -> None:
-        self._child, self._timeout = child, timeout
+    def __init__(self, child: _Child, limit: Limit) -> None:
+        self._child, self._limit = child, limit
         self._reported: list[bytes] = []
         self._failed: list[BaseException] = []
         self._late = threading.Event()
 
     def to_end(self, chunks: Iterable[bytes]) -> Ran:
         """Feeds it and reads it until it ends, or ends it."""
-        child = self._child
-        assert child.stdout and child.stderr
+        child, left = self._child, self._limit.left()
         threads = [threading.Thread(target=self._listen, args=(child.stderr,), daemon=True)]
         if child.stdin:
             feeding = threading.Thread(target=self._feed, args=(child.stdin, chunks), daemon=True)
             threads.append(feeding)
-        alarm = threading.Timer(self._timeout or 0, self._end)
+        alarm = threading.Timer(left or 0, self._end)
         try:
             for thread in threads:
                 thread.start()
-            if self._timeout is not None:
+            if left is not None:
                 alarm.start()
             with child.stdout as answer:
                 printed = answer.read()
@@ -197,32 +297,34 @@ class _Run:
                 thread.join()
         finally:
             alarm.cancel()
-            if child.poll() is None:
-                child.kill()
-                child.wait()
-            child.stderr.close()
+            child.kill()
+            child.wait()
         if self._failed:
             raise self._failed[0]
         reported = b"".join(self._reported).decode(errors="replace")
         if self._late.is_set():
             raise self._timed_out(reported)
+        if status is None:
+            raise ProgramError(_LOST, reported=reported)
         return Ran(status, printed, reported)
 
     def _listen(self, stream: IO[bytes]) -> None:
-        self._reported.append(stream.read())
+        with stream:
+            self._reported.append(stream.read())
 
     def _feed(self, stream: IO[bytes], chunks: Iterable[bytes]) -> None:
         try:
-            with stream:
-                for chunk in chunks:
-                    view = memoryview(chunk)
-                    while view:
-                        view = view[stream.write(view) :]
+            for chunk in chunks:
+                view = memoryview(chunk)
+                while view:
+                    view = view[stream.write(view) :]
         except BrokenPipeError:
             pass  # it ended before its input did: its status says why
         except BaseException as error:
             self._failed.append(error)
             self._child.kill()
+        finally:
+            self._child.end_input()
 
     def _end(self) -> None:
         self._late.set()
@@ -231,4 +333,4 @@ class _Run:
     def _timed_out(self, reported: str) -> TimeoutError:
         lines = [line for line in reported.split("\n") if is_progress(line)]
         where = f"; it was at {lines[-1].split(': ', 2)[-1]}" if lines else ""
-        return TimeoutError(f"no answer within {self._timeout} seconds{where}")
+        return TimeoutError(f"no answer within {self._limit.seconds} seconds{where}")

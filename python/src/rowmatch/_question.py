@@ -12,7 +12,7 @@ import pandas as pd
 from ._cells import Read, Sheet, SkipFaults, from_csv, from_lines, kind_of_cells, row_numbers
 from ._clause import Clause, Measure, quoted, read, table_of
 from ._names import Names, Source, kinds_of, unused
-from ._program import Ran, run
+from ._program import NO_LIMIT, Limit, Ran, run
 from ._ways import Cells, Way, look_at_ways, way_of
 from .errors import ClauseError, DataError
 
@@ -24,55 +24,59 @@ Wanted = Mapping[int, Union[str, Measure]]
 Columns = list[tuple[Union[str, Measure], pd.Series]]
 
 
-def understand(frame: pd.DataFrame, text: str, ways: Ways, times: str) -> Question:
+def understand(
+    frame: pd.DataFrame, text: str, ways: Ways, times: str, limit: Limit = NO_LIMIT
+) -> Question:
     """What a clause asks of a frame. Faults of the clause and of names are raised here."""
     look_at_ways(ways, {*frame.columns, *frame.index.names}, times)
     names = Names(frame, ways)
-    sources, clause = _read(names, text) if names.sources else _read_without(text)
+    sources, clause = _read(names, text, limit) if names.sources else _read_without(text, limit)
     for name in clause.reads:
         names.look_at_double(sources[name])
         if names.others(name):
-            _look_at_plain(names, sources, text, name)
+            _look_at_plain(names, sources, text, name, limit)
     reads = {name: sources[name] for name in clause.reads}
     return Question(frame, text, clause, reads, kinds_of(sources) or _NO_COLUMN, times)
 
 
-def _read(names: Names, text: str) -> tuple[Mapping[str, Source], Clause]:
+def _read(names: Names, text: str, limit: Limit) -> tuple[Mapping[str, Source], Clause]:
     """Reads a clause over the columns as they are named plainly, and where it has a fault then,
     letter for letter too. A fault that stays is reported over the former, whose list of columns is
     the shorter.
     """
     plain, exact = names.plain(), names.exact()
     try:
-        return plain, read(kinds_of(plain), text)
+        return plain, read(kinds_of(plain), text, limit)
     except ClauseError as error:
         if len(exact) == len(plain):
             raise
         first = error
     try:
-        return exact, read(kinds_of(exact), text)
+        return exact, read(kinds_of(exact), text, limit)
     except ClauseError as error:
         if (error.kind, error.offset) != (first.kind, first.offset):
             raise
     raise first
 
 
-def _read_without(text: str) -> tuple[Mapping[str, Source], Clause]:
+def _read_without(text: str, limit: Limit) -> tuple[Mapping[str, Source], Clause]:
     """The same where the frame has no column that a clause can name."""
-    clause = read(_NO_COLUMN, text)
+    clause = read(_NO_COLUMN, text, limit)
     if clause.reads:
         raise DataError("the data have no column that a clause can name", None)
     return {}, clause
 
 
-def _look_at_plain(names: Names, sources: Mapping[str, Source], text: str, name: str) -> None:
+def _look_at_plain(
+    names: Names, sources: Mapping[str, Source], text: str, name: str, limit: Limit
+) -> None:
     """Refuses a plain name that several columns have, one of which is ``name``, in upper case.
 
     A clause that has it in quotes is as good with another name in these quotes."""
     other = unused(name, sources)
     renamed = {other if own == name else own: source for own, source in sources.items()}
     try:
-        read(kinds_of(renamed), text.replace(quoted(name), quoted(other)))
+        read(kinds_of(renamed), text.replace(quoted(name), quoted(other)), limit)
     except ClauseError:
         raise names.refuse(name) from None
 
@@ -89,7 +93,7 @@ class Question:
     kinds: Mapping[str, str]
     times: str
 
-    def answer(self, timeout: float | None) -> tuple[pd.DataFrame, SkipFaults]:
+    def answer(self, limit: Limit) -> tuple[pd.DataFrame, SkipFaults]:
         """The answer, and the skip faults in it."""
         values = {name: source.values(self.frame) for name, source in self.sources.items()}
         ways = {
@@ -105,7 +109,7 @@ class Question:
             for at, column in enumerate(self.clause.output(list(given)))
             if not self.clause.all_rows or isinstance(column, Measure) or column == hidden
         }
-        found = self._run(Sheet(given, len(self.frame)), wanted, timeout)
+        found = self._run(Sheet(given, len(self.frame)), wanted, limit)
         columns = [(wanted[at], cells) for at, cells in found.columns.items()]
         make = self._all_rows if self.clause.all_rows else self._one_row
         return make(columns, ways, found.rows), found.faults
@@ -118,7 +122,7 @@ class Question:
         measures = [measure.written for measure in self.clause.measures]
         return unused(_ROW, [*self.sources, *measures])
 
-    def _run(self, sheet: Sheet, wanted: Wanted, timeout: float | None) -> Read:
+    def _run(self, sheet: Sheet, wanted: Wanted, limit: Limit) -> Read:
         """Runs the program, and reads what is wanted of its answer: from CSV where that can be."""
         kinds = {name: kind_of_cells(cells) for name, cells in sheet.cells.items()}
         wanted_kinds = {
@@ -126,11 +130,11 @@ class Question:
             for at, column in wanted.items()
         }
         arguments = ["--null", sheet.null] if "text" in kinds.values() else []
-        arguments += [] if timeout is None else ["--progress"]
+        arguments += [] if limit.until is None else ["--progress"]
 
         def ran(kind: str) -> Ran:
             words = ["whole", "--format", kind, *arguments]
-            return run(words, table_of(kinds), self.text, sheet.csv(), timeout)
+            return run(words, table_of(kinds), self.text, sheet.csv(), limit)
 
         if wanted and all(self._fits_csv(sheet, column) for column in wanted.values()):
             answer = ran("csv")

@@ -16,6 +16,7 @@ import pandas as pd
 from . import _match
 from ._match import OnSkipFault
 from ._names import unused
+from ._program import Limit
 from ._question import Question, Ways, understand
 from ._ways import Array, Cells, Numbers, way_of
 
@@ -51,7 +52,7 @@ def match(
         npartitions: how many parts are made by the shuffle; as many as ``data`` has where nothing
             is said.
         columns, times, on_skip_fault, timeout: as in `rowmatch.match`. The time is that of one
-            part.
+            part, before the shuffle or after it.
 
     Examples:
         >>> import dask.dataframe, pandas, rowmatch.dask
@@ -66,14 +67,14 @@ def match(
     if not isinstance(data, DataFrame):
         raise TypeError("a frame that is no frame of Dask is for rowmatch.match")
     ways = dict(columns or {})
-    question = understand(data._meta, clause, ways, times)
-    answer = _match.match(
-        data._meta, clause, columns=ways, times=times, on_skip_fault=on_skip_fault
-    )
+    options: dict[str, Any] = {"on_skip_fault": on_skip_fault, "timeout": timeout}
+    question = understand(data._meta, clause, ways, times, Limit.of(timeout))
+    answer = _match.match(data._meta, clause, columns=ways, times=times, **options)
     if not question.clause.all_rows:
         data = data[_wanted(question)]
     ways = {label: way for label, way in ways.items() if label in _labels(data._meta)}
-    part = _Part(clause, ways, times, unused(_PLACE, data.columns), unused(_BUCKET, data.columns))
+    names = unused(_PLACE, data.columns), unused(_BUCKET, data.columns)
+    part = _Part(clause, ways, times, timeout, *names)
     placed = data.map_partitions(part.place_rows, meta=part.place_rows(data._meta))
     if question.clause.partition_by:
         needs_index = question.clause.all_rows or any(
@@ -86,7 +87,6 @@ def match(
         )
     else:
         shuffled = placed.repartition(npartitions=1)
-    options = {"on_skip_fault": on_skip_fault, "timeout": timeout}
     return shuffled.map_partitions(part.match, options, meta=answer).clear_divisions()
 
 
@@ -107,6 +107,7 @@ class _Part:
     clause: str
     ways: Ways
     times: str
+    timeout: float | None
     place: str
     bucket: str
 
@@ -120,7 +121,8 @@ class _Part:
             raise RuntimeError("this version of Dask doesn't say which part of the frame a part is")
         number = partition_info["number"] if partition_info else 0
         places = np.arange(number << 40, (number << 40) + len(part), dtype="int64")
-        question = understand(part, self.clause, self.ways, self.times)
+        limit = Limit.of(self.timeout)
+        question = understand(part, self.clause, self.ways, self.times, limit)
         bucket = np.zeros(len(part), dtype="uint64")
         for name in question.clause.partition_by:
             source = question.sources[name]

@@ -131,7 +131,8 @@ class ProgramError(RowmatchError):
     """The program isn't there, is out of memory, or ended in a way that it shouldn't.
 
     Attributes:
-        status: its exit status, negative for a signal; None where it could not be started.
+        status: its exit status, negative for a signal; None where it could not be started, or where
+            the status was lost: SIGCHLD is ignored, or a handler of it waits for every child.
         reported: what it wrote on standard error.
     """
 
