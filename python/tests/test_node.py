@@ -3,8 +3,11 @@
 from __future__ import annotations
 
 import json
+import pickle
 import random
+import socket
 import subprocess
+import threading
 
 import pytest
 
@@ -133,6 +136,83 @@ def test_a_node_that_does_not_acknowledge(start):
         client.rows(ROWS)
         with pytest.raises(NodeError, match="without --acknowledge"):
             client.commit()
+
+
+@pytest.fixture
+def broken():
+    """Starts what answers so many polls with an item each, and fails within the next reply: it ends
+    the connection, or resets it, as a system does where something that came wasn't read."""
+    threads = []
+
+    def serve(server, polls, reset):
+        with server, server.accept()[0] as client:
+            lines = client.makefile("rb", buffering=0 if reset else -1)
+            for place in range(1, polls + 1):
+                key = json.loads(lines.readline())["poll"]
+                item = {"cells": [place], "key": key, "number": 1, "place": str(place)}
+                client.sendall(json.dumps(item).encode() + b"\n")
+            lines.readline()
+            client.sendall(b'{"cells":[1],"ke')
+            if not reset:
+                client.shutdown(socket.SHUT_WR)
+                while lines.readline():
+                    pass
+            lines.close()
+
+    def start(polls, reset=False):
+        server = socket.create_server(("127.0.0.1", 0))
+        threads.append(threading.Thread(target=serve, args=(server, polls, reset)))
+        threads[-1].start()
+        return f"127.0.0.1:{server.getsockname()[1]}"
+
+    yield start
+    for thread in threads:
+        thread.join()
+
+
+@pytest.mark.parametrize("polls", [0, 1, 2, 999, 1000, 1700, 2000, 2500])
+def test_a_poll_whose_connection_fails_gives_what_came(broken, polls):
+    with Node(broken(polls)) as client:
+        with pytest.raises(NodeError, match="send again.*begin with a copy") as caught:
+            client.poll(*(["x", n] for n in range(2000)))
+    error = caught.value
+    assert [item.place for item in error.items] == list(range(1, polls + 1))
+    assert error.refused is None and pickle.loads(pickle.dumps(error)).items == error.items
+
+
+@pytest.mark.parametrize("polls", [0, 2])
+def test_a_poll_whose_connection_is_reset_gives_what_came(broken, polls):
+    with Node(broken(polls, reset=True)) as client:
+        with pytest.raises(NodeError, match="send again.*begin with a copy") as caught:
+            client.poll(*(["x", n] for n in range(polls + 2)))
+        assert [item.place for item in caught.value.items] == list(range(1, polls + 1))
+        with pytest.raises(NodeError, match="send again"):
+            client.commit()
+
+
+def test_numbers_of_numpy():
+    np = pytest.importorskip("numpy")
+    rows = [(np.int64(7), np.int64(time)) for time in (5, 3, 20)]
+    numbering = Numbering(key=[0], time=1, hold=10)
+    assert [numbering.add(row) for row in rows] == [[], [], [(1, (7, 3)), (2, (7, 5))]]
+    kept = json.loads(json.dumps(numbering.keep()))
+    assert Numbering(key=[0], time=1, hold=10, kept=kept).rest() == [(3, (7, 20))]
+    for time in (1.5, np.float64(2), None, "3"):
+        with pytest.raises(TypeError, match="no whole number"):
+            numbering.add((7, time))
+
+
+def test_rows_with_numbers_of_numpy(start):
+    np = pytest.importorskip("numpy")
+    _, address = start("--acknowledge")
+    with Node(address) as client:
+        assert client.rows((np.int64(number), cells) for number, cells in EVE) == 3
+        client.close(["eve"], np.int64(3))
+        for bad in (1.5, np.float64(4), "4"):
+            with pytest.raises(TypeError):
+                client.rows([(bad, ("eve", 40, "ok"))])
+        assert [item.place for item in client.poll(["eve"], budget=np.int64(100))] == [1, 2]
+        client.commit()
 
 
 def test_numbers_go_on_where_they_were():

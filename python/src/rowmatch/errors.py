@@ -150,7 +150,8 @@ class NodeError(RowmatchError):
     Attributes:
         refused: the node's reason (``Conflict``, ``BadRow kind 2``), None where it gave none.
         request: the line that was refused.
-        items: where a poll was refused, what the others of the same call gave: it counts as given.
+        items: where a poll was refused or its connection failed, the items of the same call that
+            came. They count as given once the node saves.
     """
 
     def __init__(

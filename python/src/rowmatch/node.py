@@ -8,6 +8,7 @@ import socket
 from collections.abc import Iterable, Iterator, Mapping, Sequence
 from dataclasses import dataclass
 from numbers import Integral
+from operator import index
 from types import TracebackType
 from typing import Any, Union
 
@@ -20,6 +21,7 @@ Row = Sequence[Value]
 _BYTES = 32_768
 _LINES = 1_000
 _AGAIN = "send again what was sent since the last commit"
+_LOST = "items that didn't arrive may count as given: begin with a copy of the node's file"
 
 
 @dataclass(frozen=True)
@@ -53,7 +55,8 @@ class Numbering:
 
     Attributes:
         numbers: how many rows of each key were numbered.
-        late: the rows that came too late.
+        late: the rows that came too late. It only grows until you clear it, and `keep` leaves it
+            out.
 
     Examples:
         >>> numbering = Numbering(key=[0], time=1, hold=10)
@@ -83,8 +86,8 @@ class Numbering:
     def keep(self) -> dict[str, Any]:
         """All that it knows but the late rows, for `json.dumps`: store it together with the
         position in the log behind the last row that was added, and go on from both."""
-        numbered = [[list(of), number, self._last[of]] for of, number in self.numbers.items()]
-        held = [list(row) for _, _, row in sorted(self._held, key=lambda entry: entry[:2])]
+        numbered = [[_plain(of), number, self._last[of]] for of, number in self.numbers.items()]
+        held = [_plain(row) for _, _, row in sorted(self._held, key=lambda entry: entry[:2])]
         return {"newest": self._newest, "numbered": numbered, "held": held}
 
     def add(self, row: Row) -> list[tuple[int, Row]]:
@@ -118,9 +121,9 @@ class Numbering:
 
     def _time_of(self, row: Row) -> int:
         time = row[self._time]
-        if not isinstance(time, int):
+        if not isinstance(time, Integral):
             raise TypeError(f"the time of {row} is no whole number")
-        return time
+        return int(time)
 
 
 class Node:
@@ -149,7 +152,7 @@ class Node:
     def rows(self, rows: Iterable[tuple[int, Row]]) -> int:
         """Sends rows, each with its number in its partition, from 1. Gives how many were new to the
         node: it has taken the others before."""
-        requests = ({"cells": _values(cells), "row": number} for number, cells in rows)
+        requests = ({"cells": _values(cells), "row": index(number)} for number, cells in rows)
         new = 0
         for request, reply in self._ask(requests):
             _look_at_refusal(request, reply, [])
@@ -158,25 +161,39 @@ class Node:
 
     def close(self, key: Row, count: int) -> None:
         """Says that a partition has so many rows and no more."""
-        for request, reply in self._ask([{"close": count, "key": _values(key)}]):
+        for request, reply in self._ask([{"close": index(count), "key": _values(key)}]):
             _look_at_refusal(request, reply, [])
 
     def poll(self, *keys: Row, budget: int = 1_000_000) -> list[Item]:
         """The items of partitions that are certain and were not given before.
 
-        An item counts as given once the node sent it: store it before you `commit`. Where a poll is
-        refused, the error has the items of the others."""
+        What a connection gave counts as given once the node saves at its end, whether or not it
+        arrived: store items before you `commit`. Where a poll is refused or the connection fails,
+        the error has the items that came."""
         items: list[Item] = []
         due = [_values(key) for key in keys]
         while due:
-            answered = list(self._ask({"budget": budget, "poll": key} for key in due))
-            items += [_item(reply) for _, reply in answered if "place" in reply]
+            answered = self._polled(due, index(budget), items)
             for request, reply in answered:
                 _look_at_refusal(request, reply, items)
             due = [
                 asked["poll"] for asked, reply in answered if "paused" in reply or "cells" in reply
             ]
         return items
+
+    def _polled(
+        self, keys: list[list[Value]], budget: int, items: list[Item]
+    ) -> list[tuple[Any, Any]]:
+        """Polls each partition once, and puts the items behind those that came before."""
+        answered: list[tuple[Any, Any]] = []
+        try:
+            for request, reply in self._ask({"budget": budget, "poll": key} for key in keys):
+                answered.append((request, reply))
+                if "place" in reply:
+                    items.append(_item(reply))
+        except NodeError as error:
+            raise NodeError(f"{error}; {_LOST}", items=items) from error
+        return answered
 
     def commit(self) -> None:
         """Ends the connection, and returns once the node has written that all that was sent on it
@@ -214,7 +231,7 @@ class Node:
     def _ask(self, requests: Iterable[dict[str, Any]]) -> Iterator[tuple[Any, Any]]:
         """Sends lines, as many at once as may be under way, and gives each with its reply. All
         replies to the lines of one time are read before the first is given, so none is left for the
-        next call.
+        next call. Where the connection fails, those that came are given first.
         """
         asked: list[dict[str, Any]] = []
         lines: list[bytes] = []
@@ -229,16 +246,22 @@ class Node:
             size += len(line)
         yield from zip(asked, self._exchange(lines))
 
-    def _exchange(self, lines: list[bytes]) -> list[Any]:
+    def _exchange(self, lines: list[bytes]) -> Iterator[Any]:
+        """The replies to lines; where the connection fails, those that came, and then the error."""
+        replies: list[bytes] = []
+        failed: OSError | None = None
         try:
             self._socket.sendall(b"".join(lines))
-            replies = [self._replies.readline() for _ in lines]
+            while len(replies) < len(lines) and (reply := self._replies.readline()).endswith(b"\n"):
+                replies.append(reply)
         except OSError as error:
-            raise NodeError(f"the connection to the node failed ({error}): {_AGAIN}") from error
-        if not all(reply.endswith(b"\n") for reply in replies):
+            failed = error
+        self._answered += len(replies)
+        yield from map(json.loads, replies)
+        if failed:
+            raise NodeError(f"the connection to the node failed ({failed}): {_AGAIN}") from failed
+        if len(replies) < len(lines):
             raise NodeError(f"the node ended the connection: {_AGAIN}")
-        self._answered += len(lines)
-        return [json.loads(reply) for reply in replies]
 
 
 def _line_of(request: dict[str, Any]) -> bytes:
@@ -256,6 +279,11 @@ def _values(values: Iterable[Any]) -> list[Value]:
             raise TypeError(f"{value!r} is neither a whole number, nor a text, nor None")
         made.append(value)
     return made
+
+
+def _plain(row: Iterable[Any]) -> list[Value]:
+    """A row as `json.dumps` takes it: whole numbers of numpy as Python's."""
+    return [int(value) if isinstance(value, Integral) else value for value in row]
 
 
 def _item(reply: Mapping[str, Any]) -> Item:
