@@ -123,6 +123,15 @@ def test_keys_that_are_equal_and_look_different():
         assert answer["n"].tolist() == [4]
 
 
+def test_a_plain_and_a_quoted_name_of_one_column(many):
+    clause = """PARTITION BY sym ORDER BY at MEASURES LAST("price") AS low, "venue" AS "at last"
+        PATTERN (A D{2,}) DEFINE D AS price < PREV(price) AND (venue = 'x' OR "venue" = '')"""
+    answer = rowmatch.dask.match(dd.from_pandas(many, npartitions=4), clause).compute()
+    whole = rowmatch.match(many, clause.replace('"price"', "price").replace('"venue"', "venue"))
+    assert len(whole) > 20
+    same(answer, whole, ["sym"])
+
+
 def test_a_frame_of_pandas_is_for_match(many):
     with pytest.raises(TypeError, match="rowmatch.match"):
         rowmatch.dask.match(many, FALLS.format("sym", ""))

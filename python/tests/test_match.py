@@ -120,6 +120,37 @@ def test_labels_that_differ_by_case_alone_are_written_in_quotes():
         rowmatch.match(frame, "PATTERN (A) DEFINE A AS p = 1")
 
 
+@pytest.mark.parametrize("key", [["x", "x"], [7, 7]])
+def test_a_plain_and_a_quoted_name_of_one_column(key):
+    frame = pd.DataFrame({"sym": key, "price": [1, 2], "Venue": ["a", "b"]})
+    answer = rowmatch.match(
+        frame,
+        """PARTITION BY sym MEASURES LAST("price") AS a, "Venue" AS v, LAST("sym") AS s
+        PATTERN (A B) DEFINE B AS price > PREV(Price) AND venue > 'a'""",
+    )
+    assert answer.to_dict("records") == [{"sym": key[0], "a": 2, "v": "b", "s": key[0]}]
+    every = rowmatch.match(
+        frame, 'ORDER BY "price" ALL ROWS PER MATCH PATTERN (A) DEFINE A AS price = 2'
+    )
+    assert every.to_dict("records") == [{"price": 2, "sym": key[0], "Venue": "b"}]
+
+
+def test_texts_of_columns_that_differ_by_case_alone():
+    frame = pd.DataFrame({"p": ["x", None], "P": ["", "y"], "row OF the frame": [1, 2]})
+    clause = """MEASURES "p" AS a, "P" AS b, "row OF the frame" AS c ALL ROWS PER MATCH
+        PATTERN (A) DEFINE A AS "p" = 'x' OR "P" = 'y'"""
+    answer = rowmatch.match(frame, clause)[["a", "b", "c"]].astype(object)
+    assert answer.where(answer.notna(), None).values.tolist() == [["x", "", 1], [None, "y", 2]]
+    assert len(rowmatch.match(frame.head(0), clause)) == 0
+
+
+@pytest.mark.parametrize("word", ["\ufeff", "\ufeffa", '\ufeff"a"', "\ufeff,", "a\ufeff"])
+def test_a_byte_order_mark_is_part_of_a_text(word):
+    for frame in (pd.DataFrame({"v": [word, word]}), pd.DataFrame({"v": [word], "w": [1]})):
+        clause = f"MEASURES v AS value PATTERN (A) DEFINE A AS v = '{word}'"
+        assert rowmatch.match(frame, clause)["value"].tolist() == frame["v"].tolist()
+
+
 def test_names_of_measures_are_as_they_are_written():
     answer = rowmatch.match(
         pd.DataFrame({"p": [1]}),

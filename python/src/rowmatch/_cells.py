@@ -17,7 +17,7 @@ from ._program import Ran
 from ._ways import Array, Cells, Numbers, Words
 
 _CHUNK = 65_536
-_SPECIAL = re.compile(r'[",\r\n]')
+_SPECIAL = re.compile('[",\r\n]|^\ufeff')  # a byte order mark at the input's begin is none of it
 SkipFaults = list[tuple[list[Any], str]]
 
 
@@ -58,9 +58,15 @@ class Sheet:
             return True
         return not any(word == "" or "\0" in word for word in cells.words)
 
+    def options(self) -> list[str]:
+        """What the program has to know of the CSV: with texts it has no header, since two names in
+        one may not differ by case alone."""
+        return ["--no-header", "--null", self.null] if self._has_texts() else []
+
     def csv(self) -> Iterator[bytes]:
         """The CSV, in parts."""
-        yield (",".join(_quoted(name) for name in self.cells) + "\n").encode()
+        if not self._has_texts():
+            yield (",".join(_quoted(name) for name in self.cells) + "\n").encode()
         fields = [_fields(cells, self.null) for cells in self.cells.values()]
         alone = len(fields) == 1  # an empty line is no record
         for begin in range(0, self.rows, _CHUNK):
@@ -68,6 +74,9 @@ class Sheet:
             texts = [part(begin, end) for part in fields]
             lines = (text or '""' for text in texts[0]) if alone else map(",".join, zip(*texts))
             yield ("\n".join(lines) + "\n").encode()
+
+    def _has_texts(self) -> bool:
+        return any(isinstance(cells, Words) for cells in self.cells.values())
 
 
 def kind_of_cells(cells: Cells) -> str:

@@ -129,8 +129,7 @@ class Question:
             at: column.kind if isinstance(column, Measure) else kinds[column]
             for at, column in wanted.items()
         }
-        arguments = ["--null", sheet.null] if "text" in kinds.values() else []
-        arguments += [] if limit.until is None else ["--progress"]
+        arguments = sheet.options() + ([] if limit.until is None else ["--progress"])
 
         def ran(kind: str) -> Ran:
             words = ["whole", "--format", kind, *arguments]
