@@ -132,6 +132,16 @@ def test_a_plain_and_a_quoted_name_of_one_column(many):
     same(answer, whole, ["sym"])
 
 
+def test_objects_of_decimals_come_back_as_they_were():
+    frame = pd.DataFrame({"k": pd.Series([0.29, 1, Decimal("0.5"), 0.29, None] * 4, dtype=object)})
+    clause = "PARTITION BY k MEASURES COUNT(*) AS n PATTERN (A+) DEFINE A AS k IS NOT NULL"
+    told = {"columns": {"k": "decimal(2)"}}
+    data = dd.from_pandas(frame, npartitions=3, sort=False)
+    answer = rowmatch.dask.match(data, clause, **told).compute()
+    same(answer, rowmatch.match(frame, clause, **told), ["k"])
+    assert sorted(map(str, answer["k"])) == ["0.29", "0.5", "1"] and len(answer) == 3
+
+
 def test_a_frame_of_pandas_is_for_match(many):
     with pytest.raises(TypeError, match="rowmatch.match"):
         rowmatch.dask.match(many, FALLS.format("sym", ""))

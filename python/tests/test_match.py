@@ -594,6 +594,101 @@ def test_categories_of_other_kinds():
         assert (caught.value.column, caught.value.row) == ("v", 2)
 
 
+@pytest.mark.parametrize(
+    "values",
+    [
+        [0.29, None, 10.5],
+        [3, None, -1],
+        [Decimal("0.29"), Decimal("-10.5"), Decimal("1.000")],
+        [0.25, 1, Decimal("0.5"), None, False],
+        [np.float64(0.29), np.int64(3)],
+    ],
+)
+def test_objects_of_decimals_come_back_as_they_were(values):
+    for dtype in (object, pd.CategoricalDtype([it for it in values if it is not None])):
+        series = pd.Series(values, dtype=dtype)
+        known = series.dropna()
+        back = value(series, columns={"v": "decimal(2)"}).dropna()
+        assert back.tolist() == known.tolist()
+        assert [type(it) for it in back] == [type(it) for it in known]
+
+
+def test_objects_of_decimals_find_their_rows_again():
+    frame = pd.DataFrame({"fee": pd.Series([0.29, 1.1, 0.29, None], dtype=object), "n": range(4)})
+    clause = """PARTITION BY fee MEASURES COUNT(*) AS c, LAST(fee) AS d
+        PATTERN (A+) DEFINE A AS n < 3"""
+    answer = rowmatch.match(frame, clause, columns={"fee": "decimal(2)"})
+    assert answer.values.tolist() == [[0.29, 2, 0.29], [1.1, 1, 1.1]]
+    assert frame.merge(answer, on="fee")["n"].tolist() == [0, 2, 1]
+
+
+def test_of_equal_objects_the_first_one_comes_back():
+    series = pd.Series([0.5, Decimal("0.50"), 1, 1.0], dtype=object)
+    back = value(series, columns={"v": "decimal(2)"})
+    assert back.tolist() == [0.5, 0.5, 1, 1]
+    assert [type(it) for it in back] == [float, float, int, int]
+
+
+@pytest.mark.parametrize(
+    "values",
+    [[1, pd.NaT], [pd.NaT, "a"], [datetime.date(2024, 1, 1), pd.NaT], [True, pd.NaT], [pd.NaT]]
+    + [[np.datetime64("NaT"), 7], [np.nan, pd.NaT, pd.NA, None]],
+)
+def test_every_null_among_objects(values):
+    back = value(pd.Series(values, dtype=object))
+    assert back.tolist() == [None if pd.isna(it) else it for it in values]
+    frame = pd.DataFrame({"v": pd.Series(values, dtype=object), "n": range(len(values))})
+    answer = rowmatch.match(frame, "MEASURES n AS n PATTERN (A) DEFINE A AS v IS NULL")
+    assert answer["n"].tolist() == [n for n, it in enumerate(values) if pd.isna(it)]
+
+
+@pytest.mark.parametrize("dtype", ["Float64", "Float32"])
+@pytest.mark.parametrize("columns", [None, {"v": "decimal(2)"}])
+def test_nan_among_numbers_that_have_nulls(dtype, columns):
+    series = pd.Series([0, 4, None, 9], dtype=dtype) / pd.Series([0, 2, 1, 3], dtype=dtype)
+    assert series.isna().tolist() == [False, False, True, False]  # 0/0 is no null for pandas
+    back = value(series, columns=columns)
+    assert back.isna().tolist() == [True, False, True, False] and back.dtype == dtype
+    assert back.dropna().tolist() == [2, 3]
+    frame = pd.DataFrame({"v": series, "n": range(4)})
+    for condition, rows in [("v IS NULL", [0, 2]), ("v >= 0", [1, 3]), ("v <> 7", [1, 3])]:
+        clause = f"MEASURES n AS n PATTERN (A) DEFINE A AS {condition}"
+        assert rowmatch.match(frame, clause, columns=columns)["n"].tolist() == rows, condition
+
+
+@pytest.mark.parametrize(
+    "categories, number",
+    [(["a"], "''"), ([7, 2**40], 0), ([datetime.date(2024, 1, 1)], 0), ([True], 0), ([0.5], 0)]
+    + [(pd.to_datetime(["2024-01-01"]), 0), ([1, "a"], 0), (["a", 1], "''"), ([], "''")],
+)
+@pytest.mark.parametrize("rows", [2, 0])
+def test_categories_of_which_no_row_has_any(categories, number, rows):
+    series = pd.Series([None] * rows, dtype=pd.CategoricalDtype(categories))
+    frame = pd.DataFrame({"v": series, "n": range(rows)})
+    clause = f"MEASURES v AS v, n AS n PATTERN (A) DEFINE A AS v IS NULL OR v = {number}"
+    answer = rowmatch.match(frame, clause)
+    pd.testing.assert_frame_equal(answer, frame.astype({"n": "Int64"}))
+
+
+@pytest.mark.parametrize(
+    "categories", [[1, "a"], ["a", 1], ["a", datetime.date(2024, 1, 1)], [True, "a"]]
+)
+def test_mixed_categories(categories):
+    for one in categories:
+        series = pd.Series([one, None], dtype=pd.CategoricalDtype(categories))
+        pd.testing.assert_series_equal(value(series), series, check_names=False)
+    with pytest.raises(DataError, match="values of the kind mixed"):
+        value(pd.Series(categories, dtype="category"))
+
+
+def test_a_category_is_ordered_as_its_texts():
+    sizes = pd.CategoricalDtype(["S", "M", "L"], ordered=True)
+    frame = pd.DataFrame({"size": pd.Series(["S", "L", "M"], dtype=sizes)})
+    clause = """ORDER BY size MEASURES MAX(size) AS most, FIRST(size) AS least
+        PATTERN (A B C) DEFINE B AS size > PREV(size)"""
+    assert rowmatch.match(frame, clause).values.tolist() == [["S", "L"]]
+
+
 def test_objects_come_back_as_they_were():
     assert value(pd.Series([True, None, False], dtype=object)).tolist() == [True, None, False]
     assert value(pd.Series([2**40, None, -1], dtype=object)).tolist() == [2**40, None, -1]

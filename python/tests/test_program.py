@@ -214,7 +214,8 @@ def test_an_interrupt_leaves_nobody_reading_what_is_closed(stand_in, tmp_path, m
     stand_in(f"(sleep 2; echo >&2) >/dev/null & echo $! >{tmp_path}/pid; exec sleep 60")
     noise = []
     monkeypatch.setattr(threading, "excepthook", lambda made: noise.append(made.exc_value))
-    threads, before = threading.enumerate(), signal.signal(signal.SIGINT, signal.default_int_handler)
+    threads = threading.enumerate()
+    before = signal.signal(signal.SIGINT, signal.default_int_handler)
     try:
         interrupting = threading.Thread(target=interrupt_once_there_is, args=(tmp_path / "pid",))
         interrupting.start()

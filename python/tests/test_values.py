@@ -103,6 +103,7 @@ COLUMNS = [
     series(lambda chance: small(chance) / 100, "float64", said="decimal(2)"),
     series(lambda chance: round(small(chance) / 8, 3), "float32", said="decimal(3)"),
     series(lambda chance: Decimal(small(chance)) / 100, object, said="decimal(2)"),
+    series(lambda chance: small(chance) / 100, object, said="decimal(2)"),
     series(moments, "datetime64[ns]"),
     series(lambda chance: moments(chance).tz_localize("UTC"), "datetime64[ns, Europe/Berlin]"),
     series(lambda chance: pd.Timedelta(numbers(chance) % 10**15, unit="us"), "timedelta64[ns]"),

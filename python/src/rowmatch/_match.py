@@ -43,7 +43,7 @@ def match(
     datetime64, with a zone or without   whole numbers of ``times`` since 1970 (UTC with a zone)
     timedelta64                          whole numbers of ``times``
     str, string                          texts
-    category                             as its categories
+    category                             as its categories, whose order doesn't count
     datetime.date                        days since 1970
     floats with fractions, Decimal       by ``columns={"price": "decimal(2)"}`` alone: whole
                                          numbers of hundredths

@@ -5,7 +5,7 @@ from __future__ import annotations
 import re
 from collections.abc import Hashable, Mapping
 from dataclasses import dataclass
-from typing import Union
+from typing import Any, Union
 
 import pandas as pd
 
@@ -19,7 +19,7 @@ from .errors import ClauseError, DataError
 _ROW = "row of the frame"
 _NO_COLUMN = {_ROW: "int"}
 _OF_NO_CSV = re.compile("''|\0")  # a clause in which an empty text may be, or one with NUL in it
-Ways = Mapping[Hashable, str]
+Ways = Mapping[Any, str]  # the labels of columns, each with its way
 Wanted = Mapping[int, Union[str, Measure]]
 Columns = list[tuple[Union[str, Measure], pd.Series]]
 

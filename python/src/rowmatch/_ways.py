@@ -6,7 +6,7 @@ import datetime
 import decimal
 import re
 from collections.abc import Callable, Collection, Hashable, Mapping
-from dataclasses import dataclass
+from dataclasses import dataclass, field
 from fractions import Fraction
 from typing import TYPE_CHECKING, Any, ClassVar, Union
 
@@ -72,8 +72,8 @@ class Whole(Way):
     """Whole numbers of 64 bits, bools among them as 0 and 1, and floats that are whole."""
 
     def cells(self, values: pd.Series) -> Numbers:
-        missing = values.isna().to_numpy()
         if values.dtype == object:
+            missing = values.isna().to_numpy()
             whole = [
                 0 if gone else self._whole(value, row)
                 for row, (value, gone) in enumerate(zip(values, missing))
@@ -81,7 +81,7 @@ class Whole(Way):
             return Numbers(np.array(whole, dtype="int64"), missing)
         if values.dtype.kind not in "iubf":
             raise self.fault(f"the dtype {values.dtype}", "and no whole numbers")
-        numbers = values.to_numpy(_numpy_of(values.dtype), na_value=0)
+        numbers, missing = _numbers_of(values)
         if numbers.dtype.kind in "uf":
             far = np.flatnonzero((numbers >= 2**63) | (numbers < -(2**63)))
             if len(far):
@@ -126,32 +126,35 @@ class Places(Way):
 
     A float counts as the decimal that it is written as: 0.29 as 0.29. Each decimal of as many
     digits as the dtype carries (15 of float64) has a float of its own, so none is mistaken for
-    another."""
+    another. Objects come back as what the column has: the first one of those that are equal."""
 
     places: int
+    objects: dict[int, Any] = field(default_factory=dict, compare=False, repr=False)
 
     def cells(self, values: pd.Series) -> Numbers:
-        missing = values.isna().to_numpy()
         if values.dtype == object:
-            whole = [
-                0 if gone else self._scaled(value, row)
-                for row, (value, gone) in enumerate(zip(values, missing))
-            ]
-            return Numbers(np.array(whole, dtype="int64"), missing)
+            return self._cells_of_objects(values)
         if values.dtype.kind in "iub":
             return self._times(Whole(self.label, self.dtype).cells(values))
         if values.dtype.kind != "f":
             raise self.fault(f"the dtype {values.dtype}", "and no numbers")
-        dtype = _numpy_of(values.dtype)
-        numbers = values.to_numpy(dtype, na_value=np.nan)
-        numbers = np.where(missing, dtype.type(0), numbers)
+        numbers, missing = _numbers_of(values)
         with np.errstate(over="ignore", invalid="ignore"):
             scaled = np.rint(numbers.astype("float64") * 10.0**self.places)
-            same = (scaled / 10.0**self.places).astype(dtype) == numbers
-        bad = np.flatnonzero(~same | ~(np.abs(scaled) < 10.0 ** np.finfo(dtype).precision))
+            same = (scaled / 10.0**self.places).astype(numbers.dtype) == numbers
+        bad = np.flatnonzero(~same | ~(np.abs(scaled) < 10.0 ** np.finfo(numbers.dtype).precision))
         if len(bad):
             raise self._no_decimal(repr(numbers[bad[0]].item()), int(bad[0]))
         return Numbers(scaled.astype("int64"), missing)
+
+    def _cells_of_objects(self, values: pd.Series) -> Numbers:
+        missing = values.isna().to_numpy()
+        whole = np.zeros(len(values), dtype="int64")
+        for row, value in enumerate(values):
+            if not missing[row]:
+                whole[row] = number = self._scaled(value, row)
+                self.objects.setdefault(number, value)
+        return Numbers(whole, missing)
 
     def _times(self, whole: Numbers) -> Numbers:
         most = _GREATEST // 10**self.places
@@ -176,7 +179,7 @@ class Places(Way):
 
     def back(self, answer: pd.Series) -> pd.Series:
         if self.dtype == object:
-            return _each(answer, lambda number: decimal.Decimal(f"{number}e-{self.places}"))
+            return _each(answer, self.objects.__getitem__)
         if self.dtype.kind in "iub":
             return Whole(self.label, self.dtype).back(answer // 10**self.places)
         floats = answer.to_numpy("float64", na_value=np.nan) / 10.0**self.places
@@ -290,9 +293,8 @@ class Categories(Way):
         return self.of.kind
 
     def cells(self, values: pd.Series) -> Cells:
-        codes = values.cat.codes.to_numpy()
+        codes, used = values.cat.codes.to_numpy(), _used(values)
         missing = codes < 0
-        used = np.unique(codes[~missing])
         try:
             cells = self.of.cells(pd.Series(values.cat.categories.take(used)))
         except DataError as error:
@@ -300,6 +302,7 @@ class Categories(Way):
         at = np.searchsorted(used, codes)
         if isinstance(cells, Words):
             return Words(np.where(missing, -1, np.append(cells.codes, -1)[at]), cells.words)
+        missing |= np.append(cells.missing, True)[at]
         return Numbers(np.where(missing, 0, np.append(cells.values, 0)[at]), missing)
 
     def back(self, answer: pd.Series) -> pd.Series:
@@ -323,6 +326,17 @@ def _numpy_of(dtype: Any) -> np.dtype[Any]:
     return np.dtype(getattr(dtype, "numpy_dtype", dtype))
 
 
+def _numbers_of(values: pd.Series) -> tuple[Array, Array]:
+    """The values of a dtype of numbers, 0 where they are null, and which are: NaN is, too, which
+    Float64 may have apart from its nulls."""
+    missing = values.isna().to_numpy()
+    numbers = values.to_numpy(_numpy_of(values.dtype), na_value=0)
+    if numbers.dtype.kind == "f":
+        missing = missing | np.isnan(numbers)
+        numbers = np.where(missing, numbers.dtype.type(0), numbers)
+    return numbers, missing
+
+
 def look_at_ways(ways: Mapping[Hashable, str], labels: Collection[Hashable], times: str) -> None:
     """Refuses ``columns=`` and ``times=`` that say nothing that there is."""
     if times not in UNITS:
@@ -337,11 +351,15 @@ def look_at_ways(ways: Mapping[Hashable, str], labels: Collection[Hashable], tim
 
 
 def kind_of(dtype: Any, values: Callable[[], pd.Series], said: str | None) -> str:
-    """The kind of a column's way, int or text, by its dtype and its first value that isn't null."""
+    """The kind of a column's way, int or text, by its dtype and its first value that isn't null; of
+    categories by the first that a row has, or by the first of all where none has any."""
     if said is not None:
         return "text" if said == "text" else "int"
     if isinstance(dtype, pd.CategoricalDtype):
         categories = dtype.categories
+        if categories.dtype == object and pd.api.types.infer_dtype(categories).startswith("mixed"):
+            used = _used(values())
+            categories = categories.take(used) if len(used) else categories
         return kind_of(categories.dtype, lambda: pd.Series(categories), None)
     if isinstance(dtype, pd.StringDtype):
         return "text"
@@ -359,12 +377,13 @@ def way_of(label: Hashable, values: pd.Series, said: str | None, times: str) -> 
     """The way of a column: what is said of it, or else what its dtype and its values are."""
     dtype: Any = values.dtype
     if isinstance(dtype, pd.CategoricalDtype):
-        codes = values.cat.codes.to_numpy()
-        used = np.unique(codes[codes >= 0])
+        used = _used(values)
+        if said is None and len(used) == 0 and dtype.categories.dtype == object:
+            said = kind_of(dtype, lambda: values, None)
         try:
             of = way_of(label, pd.Series(dtype.categories.take(used)), said, times)
         except DataError as error:
-            raise _of_row(error, codes, used) from None
+            raise _of_row(error, values.cat.codes.to_numpy(), used) from None
         return Categories(label, dtype, of)
     if isinstance(dtype, pd.SparseDtype):
         message = (
@@ -379,6 +398,13 @@ def way_of(label: Hashable, values: pd.Series, said: str | None, times: str) -> 
     if said in UNITS:
         return Moments(label, dtype, said)
     return {"int": Whole, "bool": Flags, "text": Texts, "date": Days}[said](label, dtype)
+
+
+def _used(values: pd.Series) -> Array:
+    """The numbers of those categories that a row has, ascending."""
+    codes = values.cat.codes.to_numpy()
+    used: Array = np.unique(codes[codes >= 0])
+    return used
 
 
 def _places(said: str) -> int | None:
@@ -398,14 +424,16 @@ def _said_by_values(label: Hashable, values: pd.Series) -> str:
         _look_at_fractions(label, values)
         return "int"
     kind = pd.api.types.infer_dtype(values, skipna=True)
+    if dtype == object and kind not in _OBJECTS:  # NaT isn't skipped
+        kind = pd.api.types.infer_dtype(values.dropna())
     if dtype == object and kind in _OBJECTS:
         return _OBJECTS[kind]
     raise DataError(f"column {label!r} {_unfit(label, values, kind)}", label)
 
 
 def _look_at_fractions(label: Hashable, values: pd.Series) -> None:
-    numbers = values.to_numpy(_numpy_of(values.dtype), na_value=np.nan)
-    fractions = np.flatnonzero(~np.isnan(numbers) & (numbers != np.floor(numbers)))
+    numbers, _ = _numbers_of(values)
+    fractions = np.flatnonzero(numbers != np.floor(numbers))
     if len(fractions):
         has = repr(numbers[fractions[0]].item())
         message = f"column {label!r} has fractions, as {has}: {_say_places(label, 2)}"
