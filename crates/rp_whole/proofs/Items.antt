@@ -1,5 +1,5 @@
 -- The items of a partition that are written one by one.
-use Rattle.std.proofs.Common.{◌≡◌, ◌∙◌, ℕ, zero, suc, ◌+◌, Bool, true, List, [], ◌∷◌, ◌++◌, length, take, drop, Option, Some, None, refl, sym, ap, subst, append_assoc, append-nil, arith}
+use Rattle.std.proofs.Common.{◌≡◌, ◌∙◌, ℕ, zero, suc, ◌+◌, List, [], ◌∷◌, ◌++◌, length, take, drop, Option, Some, None, refl, sym, ap, subst, append_assoc, append-nil, arith}
 use Rattle.std.proofs.lemmas.List.{append_cancel_right}
 use Rattle.std.specs.List.{flat_map}
 use Rattle.rp_value.specs.declared.value.Value.{Value}
@@ -13,7 +13,7 @@ use Rattle.rp_walker.specs.declared.poll.Poll.TheVariants.{Item as ItemPoll}
 use Rattle.rp_walker.specs.declared.record.MatcherState.{MatcherState}
 use Rattle.rp_walker.specs.Polls.{AnswerIs}
 use Rattle.rp_walker.specs.Records.{first_state}
-use Rattle.rp_whole.specs.Answers.{Form, bytes_from, closed, part_bytes}
+use Rattle.rp_whole.specs.Answers.{Form, IsByLimit, bytes_from, closed, part_bytes}
 use Rattle.rp_whole.specs.Writing.{WritesOn, WritesPart, bytes_to_come, stops_to_come}
 use Rattle.rp_whole.specs.declared.stopped.Stopped.{Stopped}
 use Rattle.rp_whole.proofs.AllShown.{all_is_shown, all_taken}
@@ -103,11 +103,11 @@ first_stops stops (suc n) (item ∷ items) =
 
 -- ---- a partition's answer
 
-module _ (limited : Bool) (form : Form) (q : QueryData) (part : Part) (last : MatcherState) (a b : Option (List ℕ)) (gathered rest : List ℕ) (s t : List Stopped)
+module _ (limit : Option ℕ) (form : Form) (q : QueryData) (part : Part) (last : MatcherState) (a b : Option (List ℕ)) (gathered rest : List ℕ) (s t : List Stopped)
     (wrote : WritesOn form q part first_state last a gathered b rest s t) where
   -- the answer is given up where the walk stands
-  pub part_given_up : (row : ℕ) → limited ≡ true → WritesPart limited form q part (Some row) a gathered b rest s t
-  part_given_up row is_limited =
+  pub part_given_up : (row : ℕ) → IsByLimit limit q part.1 last.given row → WritesPart limit form q part (Some row) a gathered b rest s t
+  part_given_up row by_limit =
       let shown = bytes_from form q part.0 1 (take last.given (known q (closed part.1))) in
       let place : 1 + last.given ≡ last.given + 1 = omega arith in
       let bytes : bytes_to_come form q part first_state ≡ shown ++ bytes_to_come form q part last =
@@ -119,20 +119,20 @@ module _ (limited : Bool) (form : Form) (q : QueryData) (part : Part) (last : Ma
       let same_stops : wrote.stops ≡ stops = append_cancel_right wrote.stops stops (stops_to_come form q part last) (sym wrote.tell ∙ told) in
       record {
         count = last.given;
-        is = record { all = λ none. absurd cc; by_limit = λ no. absurd cc };
+        is = record { all = λ none. absurd cc; by_limit = by_limit };
         moves = subst (λ l. Moves a (gathered ++ l) b rest) same wrote.moves;
         told = wrote.told ∙ ap (λ l. s ++ l) same_stops;
       }
 
   -- all of its items are given
-  pub part_written : bytes_to_come form q part last ≡ [] → stops_to_come form q part last ≡ [] → WritesPart limited form q part None a gathered b rest s t
+  pub part_written : bytes_to_come form q part last ≡ [] → stops_to_come form q part last ≡ [] → WritesPart limit form q part None a gathered b rest s t
   part_written none none_told =
       let items = all_taken q part in
       let all : wrote.bytes ≡ part_bytes form q part = sym (wrote.come ∙ ap (λ l. wrote.bytes ++ l) none ∙ append-nil wrote.bytes) in
       let all_told : wrote.stops ≡ flat_map (form.stops part.0) (known q (closed part.1)) = sym (wrote.tell ∙ ap (λ l. wrote.stops ++ l) none_told ∙ append-nil wrote.stops) in
       record {
         count = length (known q (closed part.1));
-        is = all_is_shown limited q part;
+        is = all_is_shown limit q part;
         moves = subst (λ l. Moves a (gathered ++ l) b rest) (all ∙ sym (ap (bytes_from form q part.0 1) items)) wrote.moves;
         told = wrote.told ∙ ap (λ l. s ++ l) (all_told ∙ sym (ap (flat_map (form.stops part.0)) items));
       }

@@ -1,5 +1,5 @@
 mod AllShown
-mod AfterPauses
+mod Counted
 mod ToCome
 mod Items
 mod InOrder

@@ -1,13 +1,19 @@
 -- What is written over rows: the answers of their partitions, in a form.
-use Rattle.std.specs.Prelude.{◌≡◌, ℕ, suc, Bool, false, List, [], ◌∷◌, ◌++◌, map, take, All, Option, None, Some, IfSome}
+use Rattle.std.specs.Prelude.{◌≡◌, ℕ, suc, ◌+◌, ◌-◌, ◌<◌, ◌≤◌, List, [], ◌∷◌, ◌++◌, length, map, take, All, Option, None, Some, IfSome, option_map}
+use Rattle.std.specs.declared.num.NonZeroU64.{NonZeroU64}
+use Rattle.std.specs.Int.NonZero.{non_zero_u64_get}
 use Rattle.std.specs.List.{flat_map}
 use Rattle.std.specs.Io.KnownBytes.{Appends}
 use Rattle.rp_value.specs.declared.value.Value.{Value}
 use Rattle.rp_words.specs.declared.word.End.TheVariants.{Closed as ClosedEnd}
+use Rattle.rp_words.specs.PatternForm.{form_of}
+use Rattle.rp_words.specs.Turns.{turns}
+use Rattle.rp_words.specs.Words.{words}
 use Rattle.rp_query.specs.declared.query.QueryData.{QueryData}
 use Rattle.rp_query.specs.declared.item.Item.{Item}
+use Rattle.rp_known.specs.declared.place.Place.{Place}
 use Rattle.rp_known.specs.Known.{Known}
-use Rattle.rp_known.specs.Walk.{known}
+use Rattle.rp_known.specs.Walk.{known, leg, leg_items, first_place, ComesTo}
 use Rattle.rp_io.specs.Devices.{AppendsFront}
 use Rattle.rp_input.specs.CsvRows.{AreRowsOf}
 use Rattle.rp_numbering.specs.Numbered.{AreOrderedParts}
@@ -74,6 +80,10 @@ WritesFrontOf form q input old new = IfSome input
 
 -- ---- within a limit
 
+-- the most turns of a start row's search, where there is a limit
+abbrev pub limit_of : Option NonZeroU64 → Option ℕ
+limit_of = option_map non_zero_u64_get
+
 -- What is shown of a partition's answer: so many first items, and, where it is given up there, the start row of the search that
 -- took too many turns.
 pub record Shown : Type 0 where
@@ -98,29 +108,51 @@ halted_at key (Some row) = record { key = key; row = row } ∷ []
 abbrev pub shown_halted : Shown → List Halted
 shown_halted s = halted_at s.part.0 s.given_up
 
+-- How many turns a start row of a partition of n rows may take: those of the pattern from there, over rows that no condition refuses,
+-- one for each of its words, one for each row behind the start row, and four in which the search ends and the walk goes on.
+abbrev pub turns_at : QueryData → ℕ → ℕ → ℕ
+turns_at q n row = turns n ClosedEnd (form_of q.pattern) row + length (words n ClosedEnd (form_of q.pattern) row) + (n - row) + 4
+
+-- The answer of a partition of these rows is given up at one of them, behind so many items: the walk comes to this start row, the
+-- items are those before it and first ones of its own, and it may take more turns than the limit.
+pub record IsGivenUp (most : ℕ) (q : QueryData) (rows : List (List Value)) (count row : ℕ) : Type 0 where
+  pub place : Place
+  pub before : ℕ
+  pub comes : ComesTo q (closed rows) first_place before place
+  pub at_row : place.start ≡ row
+  pub from : before ≤ count
+  pub to : count ≤ before + length (leg_items (leg q (closed rows) place))
+  pub in_rows : row ≤ length rows
+  pub many : most < turns_at q (length rows) row
+
+-- without a limit it isn't
+abbrev pub IsByLimit : Option ℕ → QueryData → List (List Value) → ℕ → ℕ → Type 0
+IsByLimit None q rows count row = ⊥
+IsByLimit (Some most) q rows count row = IsGivenUp most q rows count row
+
 -- All items are shown, unless the answer is given up, and that it is by a limit alone.
-pub record IsShown (limited : Bool) (q : QueryData) (s : Shown) : Type 0 where
+pub record IsShown (limit : Option ℕ) (q : QueryData) (s : Shown) : Type 0 where
   pub all : s.given_up ≡ None → items_shown q s ≡ known q (closed s.part.1)
-  pub by_limit : limited ≡ false → s.given_up ≡ None
+  pub by_limit : IfSome s.given_up (IsByLimit limit q s.part.1 s.count)
 
 -- The answers over rows where some may be given up: as `AreAnswersOver`, but that of each partition first items are shown; the
 -- partitions whose answers are given up are told, in order.
-pub record AreAnswersWithin (limited : Bool) (form : Form) (q : QueryData) (rows : List (List Value)) (bytes : List ℕ)
+pub record AreAnswersWithin (limit : Option ℕ) (form : Form) (q : QueryData) (rows : List (List Value)) (bytes : List ℕ)
     (stopped : List Stopped) (halted : List Halted) : Type 0 where
   pub shown : List Shown
   pub ordered : AreOrderedParts q.partition.items q.order.items rows (map (λ s. s.part) shown)
-  pub are_shown : All (IsShown limited q) shown
+  pub are_shown : All (IsShown limit q) shown
   pub are : bytes ≡ form.head q ++ flat_map (shown_bytes form q) shown
   pub stops : stopped ≡ flat_map (shown_stops form q) shown
   pub halts : halted ≡ flat_map shown_halted shown
 
 -- Where the bytes written are known, they grow by such answers,
-abbrev pub WritesWithin : Bool → Form → QueryData → List (List Value) → Option (List ℕ) → Option (List ℕ) → List Stopped → List Halted → Type 0
-WritesWithin limited form q rows old new stopped halted =
-    (bytes : List ℕ) × AreAnswersWithin limited form q rows bytes stopped halted × Appends old new bytes
+abbrev pub WritesWithin : Option ℕ → Form → QueryData → List (List Value) → Option (List ℕ) → Option (List ℕ) → List Stopped → List Halted → Type 0
+WritesWithin limit form q rows old new stopped halted =
+    (bytes : List ℕ) × AreAnswersWithin limit form q rows bytes stopped halted × Appends old new bytes
 
 -- or by a front of them.
-abbrev pub WritesFrontWithin : Bool → Form → QueryData → List (List Value) → Option (List ℕ) → Option (List ℕ) → Type 0
-WritesFrontWithin limited form q rows old new =
+abbrev pub WritesFrontWithin : Option ℕ → Form → QueryData → List (List Value) → Option (List ℕ) → Option (List ℕ) → Type 0
+WritesFrontWithin limit form q rows old new =
     (bytes : List ℕ) × (stopped : List Stopped) × (halted : List Halted)
-    × AreAnswersWithin limited form q rows bytes stopped halted × AppendsFront old new bytes
+    × AreAnswersWithin limit form q rows bytes stopped halted × AppendsFront old new bytes

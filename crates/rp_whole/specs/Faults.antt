@@ -1,5 +1,5 @@
 -- What a fault of a run says of the input and of the devices.
-use Rattle.std.specs.Prelude.{◌≡◌, ◌≢◌, ◌⊎◌, ⊤, ℕ, Bool, List, Option, IfSome, Result, Ok, Err}
+use Rattle.std.specs.Prelude.{◌≡◌, ◌≢◌, ◌⊎◌, ⊤, ℕ, List, Option, IfSome, Result, Ok, Err}
 use Rattle.rp_value.specs.declared.value.Value.{Value}
 use Rattle.rp_query.specs.declared.query.QueryData.{QueryData}
 use Rattle.rp_io.specs.Counts.{raised}
@@ -67,6 +67,6 @@ IsOfOutput Write = ⊤
 IsOfOutput WholeOutOfMemory = ⊤
 
 -- What writing the answers over rows comes to: all of them, and which ended early; or a front of them, and a fault of the output.
-abbrev pub WritesAnswers : Bool → Form → QueryData → List (List Value) → Option (List ℕ) → Option (List ℕ) → Result EndedEarly WholeFault → Type 0
-WritesAnswers limited form q rows old new (Ok early) = WritesWithin limited form q rows old new early.stopped.items early.halted.items
-WritesAnswers limited form q rows old new (Err why) = WritesFrontWithin limited form q rows old new × IsOfOutput why
+abbrev pub WritesAnswers : Option ℕ → Form → QueryData → List (List Value) → Option (List ℕ) → Option (List ℕ) → Result EndedEarly WholeFault → Type 0
+WritesAnswers limit form q rows old new (Ok early) = WritesWithin limit form q rows old new early.stopped.items early.halted.items
+WritesAnswers limit form q rows old new (Err why) = WritesFrontWithin limit form q rows old new × IsOfOutput why

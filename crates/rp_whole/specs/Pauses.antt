@@ -1,16 +1,54 @@
 -- Inside: how a walk goes on after a poll.
-use Rattle.std.specs.Prelude.{◌≡◌, ⊤, ℕ, Bool, true}
+use Rattle.std.specs.Prelude.{◌≡◌, ◌⊎◌, ⊤, ℕ, suc, ◌+◌, ◌<◌, ◌≤◌, false, List, Option, Some, None, slice_get}
+use Rattle.rp_value.specs.declared.value.Value.{Value}
+use Rattle.rp_query.specs.declared.query.QueryData.{QueryData}
+use Rattle.rp_query.specs.declared.item.Item.{Item}
+use Rattle.rp_known.specs.Known.{Known}
+use Rattle.rp_known.specs.Walk.{known}
+use Rattle.rp_walker.specs.declared.record.MatcherState.{MatcherState}
+use Rattle.rp_walker.specs.declared.walker.Walker.{Walker}
+use Rattle.rp_walker.specs.Polls.{left_in}
+use Rattle.rp_walker.specs.Records.{IsLast, first_state}
+use Rattle.rp_walker.specs.Stages.{left_anew}
+use Rattle.rp_whole.specs.Answers.{IsByLimit}
 use Rattle.rp_whole.specs.declared.next.Next.{Next}
 use Rattle.rp_whole.specs.declared.next.Next.TheVariants.{More, All, GivenUp}
 
--- an answer is given up by a limit alone
-abbrev pub IsByLimit : Bool → Next → Type 0
-IsByLimit limited More = ⊤
-IsByLimit limited All = ⊤
-IsByLimit limited (GivenUp row) = limited ≡ true
+-- ---- turns that are counted at a start row
+
+-- A poll that took this budget paused at a row. Where the one before it that paused did so there too, all of its turns were taken
+-- there, and they are added; else none is counted yet.
+pub record CountsPause (budget at row taken row' taken' : ℕ) : Type 0 where
+  pub is : row' ≡ at
+  pub adds : ((row ≡ at) × (taken' ≤ taken + budget)) ⊎ (taken' ≡ 0)
+
+-- as many turns are counted as the limit
+abbrev pub IsReached : Option ℕ → ℕ → Type 0
+IsReached None taken = ⊥
+IsReached (Some most) taken = (0 < most) × (most ≤ taken)
 
 -- after a pause at this row another poll follows, or the answer is given up there
-abbrev pub IsAfterPause : Bool → ℕ → Next → Type 0
-IsAfterPause limited at More = ⊤
-IsAfterPause limited at All = ⊥
-IsAfterPause limited at (GivenUp row) = (row ≡ at) × (limited ≡ true)
+abbrev pub IsAfterPause : Option ℕ → (at taken : ℕ) → Next → Type 0
+IsAfterPause limit at taken More = ⊤
+IsAfterPause limit at taken All = ⊥
+IsAfterPause limit at taken (GivenUp row) = (row ≡ at) × IsReached limit taken
+
+-- at most so many turns are left where the search from a row is to begin
+abbrev pub left_from : QueryData → Known → ℕ → ℕ
+left_from q p row = left_anew q p (record first_state { at = row })
+
+-- The turns counted at a row are off what was left where its search began.
+abbrev pub AreCounted : QueryData → Known → (row taken : ℕ) → Walker → Type 0
+AreCounted q p row taken w = taken + left_in q p w ≤ left_from q p row
+
+-- ---- where an answer is given up
+
+-- While the answer goes on, the item given before isn't the last.
+abbrev pub HasMore : QueryData → Known → MatcherState → Type 0
+HasMore q p r = r.over ≡ false → (before : ℕ) (x : Item) → r.given ≡ suc before → slice_get (known q p) before ≡ Some x → IsLast x → ⊥
+
+-- the answer is given up behind the items given, by a limit alone
+abbrev pub GivesUp : Option ℕ → QueryData → List (List Value) → MatcherState → Next → Type 0
+GivesUp limit q rows r More = ⊤
+GivesUp limit q rows r All = ⊤
+GivesUp limit q rows r (GivenUp row) = IsByLimit limit q rows r.given row

@@ -1,5 +1,5 @@
 -- Inside: how items are written: those of partitions one after another, those of a partition one at a time.
-use Rattle.std.specs.Prelude.{◌≡◌, ℕ, ◌+◌, Bool, List, [], ◌++◌, map, drop, All, Option}
+use Rattle.std.specs.Prelude.{◌≡◌, ℕ, ◌+◌, List, [], ◌++◌, map, drop, All, Option}
 use Rattle.std.specs.Io.KnownBytes.{Appends}
 use Rattle.std.specs.List.{flat_map}
 use Rattle.rp_query.specs.declared.query.QueryData.{QueryData}
@@ -15,23 +15,23 @@ use Rattle.rp_whole.specs.Answers.{Form, IsShown, Shown, bytes_from, closed, sho
 
 -- Where the bytes written are known, they grow by those gathered and those that are shown of these partitions, of which each is put
 -- in order; what is told grows by what they tell, and these are given up.
-abbrev pub WritesParts : Bool → Form → QueryData → List Part → Option (List ℕ) → List ℕ → Option (List ℕ) → List Stopped → List Stopped → List Halted → Type 0
-WritesParts limited form q parts old gathered new stopped stopped' halted =
-    (shown : List Shown) × AreOrdered q.order.items parts (map (λ s. s.part) shown) × All (IsShown limited q) shown
+abbrev pub WritesParts : Option ℕ → Form → QueryData → List Part → Option (List ℕ) → List ℕ → Option (List ℕ) → List Stopped → List Stopped → List Halted → Type 0
+WritesParts limit form q parts old gathered new stopped stopped' halted =
+    (shown : List Shown) × AreOrdered q.order.items parts (map (λ s. s.part) shown) × All (IsShown limit q) shown
     × Appends old new (gathered ++ flat_map (shown_bytes form q) shown)
     × (stopped' ≡ stopped ++ flat_map (shown_stops form q) shown) × (halted ≡ flat_map shown_halted shown)
 
 -- Where the bytes written are known, they grow by a front of these.
-abbrev pub WritesPartsFront : Bool → Form → QueryData → List Part → Option (List ℕ) → List ℕ → Option (List ℕ) → Type 0
-WritesPartsFront limited form q parts old gathered new =
-    (shown : List Shown) × AreOrdered q.order.items parts (map (λ s. s.part) shown) × All (IsShown limited q) shown
+abbrev pub WritesPartsFront : Option ℕ → Form → QueryData → List Part → Option (List ℕ) → List ℕ → Option (List ℕ) → Type 0
+WritesPartsFront limit form q parts old gathered new =
+    (shown : List Shown) × AreOrdered q.order.items parts (map (λ s. s.part) shown) × All (IsShown limit q) shown
     × AppendsFront old new (gathered ++ flat_map (shown_bytes form q) shown)
 
 -- The same by what is gathered in a form, before and after.
-abbrev pub PartsAreWritten : {G : Type 0} → Form → (G → List ℕ) → (G → List Stopped) → Bool → QueryData → List Part
+abbrev pub PartsAreWritten : {G : Type 0} → Form → (G → List ℕ) → (G → List Stopped) → Option ℕ → QueryData → List Part
     → Option (List ℕ) → G → Option (List ℕ) → G → List Halted → Type 0
-PartsAreWritten form bytes stopped limited q parts w gathered w' gathered' halted =
-    WritesParts limited form q parts w (bytes gathered) w' (stopped gathered) (stopped gathered') halted
+PartsAreWritten form bytes stopped limit q parts w gathered w' gathered' halted =
+    WritesParts limit form q parts w (bytes gathered) w' (stopped gathered) (stopped gathered') halted
 
 -- so many first items are shown of a partition's answer, which is given up at a row or isn't
 abbrev pub shown_of : Part → ℕ → Option ℕ → Shown
@@ -39,18 +39,18 @@ shown_of part count given_up = record { part = part; count = count; given_up = g
 
 -- What is shown of the answer is behind what was gathered, of which a front was written and the rest is still gathered. What is told
 -- is added likewise.
-pub record WritesPart (limited : Bool) (form : Form) (q : QueryData) (part : Part) (given_up : Option ℕ) (before : Option (List ℕ))
+pub record WritesPart (limit : Option ℕ) (form : Form) (q : QueryData) (part : Part) (given_up : Option ℕ) (before : Option (List ℕ))
     (gathered : List ℕ) (after : Option (List ℕ)) (rest : List ℕ) (stopped stopped' : List Stopped) : Type 0 where
   pub count : ℕ
-  pub is : IsShown limited q (shown_of part count given_up)
+  pub is : IsShown limit q (shown_of part count given_up)
   pub moves : Moves before (gathered ++ shown_bytes form q (shown_of part count given_up)) after rest
   pub told : stopped' ≡ stopped ++ shown_stops form q (shown_of part count given_up)
 
 -- The same by what is gathered in a form, before and after.
-abbrev pub PartIsWritten : {G : Type 0} → Form → (G → List ℕ) → (G → List Stopped) → Bool → QueryData → Part → Option ℕ
+abbrev pub PartIsWritten : {G : Type 0} → Form → (G → List ℕ) → (G → List Stopped) → Option ℕ → QueryData → Part → Option ℕ
     → Option (List ℕ) → G → Option (List ℕ) → G → Type 0
-PartIsWritten form bytes stopped limited q part given_up w gathered w' gathered' =
-    WritesPart limited form q part given_up w (bytes gathered) w' (bytes gathered') (stopped gathered) (stopped gathered')
+PartIsWritten form bytes stopped limit q part given_up w gathered w' gathered' =
+    WritesPart limit form q part given_up w (bytes gathered) w' (bytes gathered') (stopped gathered) (stopped gathered')
 
 -- the key of a partition, and its rows
 abbrev pub part_of : Closed → Part

@@ -1,6 +1,6 @@
 //! The answers over rows, written in a form.
-ghost use Rattle.std.specs.Prelude.{[], is_some, IfErr, IfOk, OnErr};
-ghost use Rattle.rp_whole.specs.Answers.{WritesFrontWithin, WritesWithin};
+ghost use Rattle.std.specs.Prelude.{[], IfErr, IfOk, OnErr};
+ghost use Rattle.rp_whole.specs.Answers.{WritesFrontWithin, WritesWithin, limit_of};
 ghost use Rattle.rp_whole.specs.AnswerLines.{line_form};
 ghost use Rattle.rp_whole.specs.AnswerObjects.{object_form};
 ghost use Rattle.rp_whole.specs.AnswerRecords.{record_form};
@@ -44,7 +44,9 @@ pub struct EndedEarly {
 /// Where there is a limit, no search takes many more turns from one start row than that: the answer of its partition is given
 /// up there, the items so far are written without an end, the other partitions are answered, and those that were given up are
 /// given back, in order. A start row of at most `limit` turns is never given up; one of more than `limit` and twice the turns
-/// of a poll (100,000, or the limit if that is less) always is. Without a limit each answer is whole (`law_limits`).
+/// of a poll (100,000, or the limit if that is less) always is. What the contract says of a row that is given up (`IsGivenUp`)
+/// goes by the turns that it may take by its pattern alone. Where none may take more than `limit`, and without a limit, each
+/// answer is whole (`law_limits`).
 ///
 /// Bytes are written in blocks, so after a fault of the writer or of memory some lines may be missing. The hasher finds the
 /// partition of a key, as in `rp_numbering::partitions`.
@@ -57,9 +59,9 @@ pub fn write_lines<W: Outlet, V: Watch>(
     watch: &mut V,
     hasher: RandomState,
 ) -> Result<Vec<Halted>, WholeFault>
-    ensures written { IfOk result (λ halted. WritesWithin (is_some limit) line_form query.now rows.items
+    ensures written { IfOk result (λ halted. WritesWithin (limit_of limit) line_form query.now rows.items
         (W.contents writer.old) (W.contents writer.new) [] halted.items) }
-    ensures front { OnErr result (WritesFrontWithin (is_some limit) line_form query.now rows.items
+    ensures front { OnErr result (WritesFrontWithin (limit_of limit) line_form query.now rows.items
         (W.contents writer.old) (W.contents writer.new)) }
     ensures fault { IfErr result IsOfOutput }
     ensures write { TellsWrite result (W.failures writer.old) (W.failures writer.new) }
@@ -86,7 +88,7 @@ pub fn write_csv<W: Outlet, V: Watch>(
     watch: &mut V,
     hasher: RandomState,
 ) -> Result<EndedEarly, WholeFault>
-    ensures answers { WritesAnswers (is_some limit) record_form query.now rows.items
+    ensures answers { WritesAnswers (limit_of limit) record_form query.now rows.items
         (W.contents writer.old) (W.contents writer.new) result }
     ensures write { TellsWrite result (W.failures writer.old) (W.failures writer.new) }
 {
@@ -112,7 +114,7 @@ pub fn write_objects<W: Outlet, V: Watch>(
     watch: &mut V,
     hasher: RandomState,
 ) -> Result<EndedEarly, WholeFault>
-    ensures answers { WritesAnswers (is_some limit) object_form query.now rows.items
+    ensures answers { WritesAnswers (limit_of limit) object_form query.now rows.items
         (W.contents writer.old) (W.contents writer.new) result }
     ensures write { TellsWrite result (W.failures writer.old) (W.failures writer.new) }
 {
@@ -129,7 +131,7 @@ pub(crate) fn write_answers<W: Outlet, G: Gathered, V: Watch>(
     writer: &mut W,
     watch: &mut V,
 ) -> Result<EndedEarly, WholeFault>
-    ensures answers { WritesAnswers (is_some limit) G.form query.now rows.items
+    ensures answers { WritesAnswers (limit_of limit) G.form query.now rows.items
         (W.contents writer.old) (W.contents writer.new) result }
     ensures write { TellsWrite result (W.failures writer.old) (W.failures writer.new) }
 {

@@ -1,7 +1,7 @@
 //! Laws of whole answers: rows fit their table, names head the cells, and limits leave answers whole.
 //! A call does nothing, and its caller may then use them.
 ghost use Rattle.rp_whole.specs.Fitting.{PartsFit, PartsFitColumns};
-ghost use Rattle.rp_whole.specs.Limits.{HaltedByLimit, WholeUnlessHalted};
+ghost use Rattle.rp_whole.specs.Limits.{HaltedByLimit, WholeUnlessHalted, WholeWithinLimit};
 ghost use Rattle.rp_whole.specs.Named.{HeaderNames, HeaderNamesOf, ObjectsName};
 
 use rp_value::law_value_order;
@@ -34,8 +34,10 @@ pub fn law_header()
     rp_protocol::law_objects();
 }
 
-/// Where no answer is told as given up, all are whole, and without a limit none is given up.
+/// Where no answer is told as given up, all are whole. None is given up without a limit, nor under one where no start row may
+/// take more turns.
 pub fn law_limits()
     ensures whole { WholeUnlessHalted }
     ensures by_limit { HaltedByLimit }
+    ensures within { WholeWithinLimit }
 {}

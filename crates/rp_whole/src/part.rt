@@ -1,12 +1,12 @@
 //! The items of one partition's answer.
-ghost use Rattle.std.specs.Prelude.{◌≡◌, ◌<◌, ◌++◌, is_some, IfErr, IfOk, OnErr, OnOk};
+ghost use Rattle.std.specs.Prelude.{◌≡◌, ◌<◌, ◌++◌, IfErr, IfOk, OnErr, OnOk};
 ghost use Rattle.rp_io.specs.Devices.{AppendsFront};
 ghost use Rattle.rp_walker.specs.Polls.{left_in};
 ghost use Rattle.rp_walker.specs.Records.{Fits};
 ghost use Rattle.rp_walker.specs.Walking.{Stands, record_of};
-ghost use Rattle.rp_whole.specs.Answers.{closed, part_bytes};
+ghost use Rattle.rp_whole.specs.Answers.{closed, limit_of, part_bytes};
 ghost use Rattle.rp_whole.specs.Faults.{IsOfOutput, TellsWrite};
-ghost use Rattle.rp_whole.specs.Pauses.{IsByLimit};
+ghost use Rattle.rp_whole.specs.Pauses.{AreCounted, GivesUp, HasMore};
 ghost use Rattle.rp_whole.specs.Writing.{NextIsWritten, NoneToCome, PartIsWritten, bytes_to_come, part_of};
 
 use crate::closed::Part;
@@ -17,7 +17,8 @@ use crate::turns::Turns;
 use crate::watch::Watch;
 use rp_io::Outlet;
 use rp_query::Query;
-use rp_walker::{Poll, Walker, law_records};
+use rp_search::law_search;
+use rp_walker::{Poll, Walker, law_left, law_records};
 use std::alloc::Global;
 use std::sync::ledger::Ledger;
 
@@ -32,7 +33,7 @@ pub(crate) fn write_part<W: Outlet, G: Gathered, V: Watch, L: Ledger>(
     watch: &mut V,
     turns: &mut Turns<L>,
 ) -> Result<Option<u64>, WholeFault>
-    ensures written { IfOk result (λ given_up. PartIsWritten G.form G.bytes G.stopped (is_some turns.old.limit)
+    ensures written { IfOk result (λ given_up. PartIsWritten G.form G.bytes G.stopped (limit_of turns.old.limit)
         query.now (part_of part.now) given_up (W.contents writer.old) gathered.old
         (W.contents writer.new) gathered.new) }
     ensures front { OnErr result (AppendsFront (W.contents writer.old) (W.contents writer.new)
@@ -41,8 +42,9 @@ pub(crate) fn write_part<W: Outlet, G: Gathered, V: Watch, L: Ledger>(
     ensures fault { IfErr result IsOfOutput }
     ensures failures { TellsWrite result (W.failures writer.old) (W.failures writer.new) }
 {
-    // A new walker's record fits each partition.
+    // A new walker's record fits each partition, and no more is left to it than all start rows take.
     law_records();
+    law_left();
     let mut walker = Walker::new(alloc);
     watch.begins(&part.key);
     turns.begin_part();
@@ -67,6 +69,9 @@ fn write_next<W: Outlet, G: Gathered, V: Watch, L: Ledger>(
 ) -> Result<Next, WholeFault>
     requires stands { Stands query.now (closed part.now.rows.items) walker.old }
     requires fits { Fits query.now (record_of walker.old) (closed part.now.rows.items) }
+    requires counted { AreCounted query.now (closed part.now.rows.items)
+        turns.old.row turns.old.taken walker.old }
+    requires has_more { HasMore query.now (closed part.now.rows.items) (record_of walker.old) }
     ensures stands { Stands query.now (closed part.now.rows.items) walker.new }
     ensures fits { OnOk result (Fits query.now (record_of walker.new) (closed part.now.rows.items)) }
     ensures written { OnOk result (NextIsWritten G.form G.bytes G.stopped query.now (part_of part.now)
@@ -78,7 +83,12 @@ fn write_next<W: Outlet, G: Gathered, V: Watch, L: Ledger>(
         < left_in query.now (closed part.now.rows.items) walker.old }
     ensures all { result ≡ Ok Next.All →
         NoneToCome G.form query.now (part_of part.now) (record_of walker.new) }
-    ensures by_limit { IfOk result (IsByLimit (is_some turns.old.limit)) }
+    ensures counted { result ≡ Ok Next.More → AreCounted query.now (closed part.now.rows.items)
+        turns.new.row turns.new.taken walker.new }
+    ensures has_more { result ≡ Ok Next.More →
+        HasMore query.now (closed part.now.rows.items) (record_of walker.new) }
+    ensures given_up { IfOk result (GivesUp (limit_of turns.old.limit)
+        query.now part.now.rows.items (record_of walker.new)) }
     ensures limit { turns.new.limit ≡ turns.old.limit }
     ensures fault { IfErr result IsOfOutput }
     ensures failures { TellsWrite result (W.failures writer.old) (W.failures writer.new) }
@@ -90,6 +100,8 @@ fn write_next<W: Outlet, G: Gathered, V: Watch, L: Ledger>(
             Ok(Next::More)
         }
         Poll::Paused => {
+            // No more is left of a start row's search than where it begins.
+            law_search();
             write_gathered(writer, gathered)?;
             let row = walker.state().at;
             watch.pauses(&part.key, row, turns.budget);

@@ -1,6 +1,7 @@
 //! The items of partitions.
-ghost use Rattle.std.specs.Prelude.{◌≡◌, ◌<◌, is_some, IfErr, IfOk, OnErr};
+ghost use Rattle.std.specs.Prelude.{◌≡◌, ◌<◌, IfErr, IfOk, OnErr};
 ghost use Rattle.rp_numbering.specs.Gathering.{parts_of};
+ghost use Rattle.rp_whole.specs.Answers.{limit_of};
 ghost use Rattle.rp_whole.specs.Faults.{IsOfOutput, TellsWrite};
 ghost use Rattle.rp_whole.specs.Writing.{PartsAreWritten, WritesPartsFront};
 
@@ -33,10 +34,10 @@ pub(crate) fn write_parts<W: Outlet, G: Gathered, V: Watch, L: Ledger>(
     requires name { counting.blank.name ≡ L.name }
     requires parts { counting.blank.parts ≡ L.parts }
     requires counts { 0 < counting.blank.parts }
-    ensures written { IfOk result (λ halted. PartsAreWritten G.form G.bytes G.stopped (is_some counting.limit)
+    ensures written { IfOk result (λ halted. PartsAreWritten G.form G.bytes G.stopped (limit_of counting.limit)
         query.now (parts_of parts.items) (W.contents writer.old) gathered.old
         (W.contents writer.new) gathered.new halted.items) }
-    ensures front { OnErr result (WritesPartsFront (is_some counting.limit) G.form query.now
+    ensures front { OnErr result (WritesPartsFront (limit_of counting.limit) G.form query.now
         (parts_of parts.items) (W.contents writer.old) (G.bytes gathered.old) (W.contents writer.new)) }
     ensures fault { IfErr result IsOfOutput }
     ensures failures { TellsWrite result (W.failures writer.old) (W.failures writer.new) }

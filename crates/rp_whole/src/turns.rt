@@ -1,6 +1,7 @@
 //! How many turns are taken, and may be.
-ghost use Rattle.std.specs.Prelude.{◌≡◌, ◌<◌, is_some};
-ghost use Rattle.rp_whole.specs.Pauses.{IsAfterPause};
+ghost use Rattle.std.specs.Prelude.{◌≡◌, ◌<◌};
+ghost use Rattle.rp_whole.specs.Answers.{limit_of};
+ghost use Rattle.rp_whole.specs.Pauses.{CountsPause, IsAfterPause};
 
 use crate::next::Next;
 use rp_search::Steps;
@@ -24,10 +25,10 @@ pub(crate) struct Turns<L: Ledger> {
     pub(crate) limit: Option<NonZeroU64>,
     /// The turns of a poll.
     pub(crate) budget: u32,
-    /// The start row at which a poll paused last.
-    row: u64,
-    /// How many further polls paused at it: in each of them all turns were taken there.
-    further: u64,
+    /// The start row at which a poll paused last, and 0 before the first pause.
+    pub(crate) row: u64,
+    /// How many turns the further polls took that paused at it: all of them were taken there.
+    pub(crate) taken: u64,
     ghost some: { 0 < budget },
 }
 
@@ -45,36 +46,50 @@ impl<L: Ledger> Turns<L> {
             limit,
             budget: budget_of(limit),
             row: 0,
-            further: 0,
+            taken: 0,
         }
     }
 
     /// Another partition begins.
     pub(crate) fn begin_part(&mut self)
-        ensures { self.new.limit ≡ self.old.limit }
+        ensures limit { self.new.limit ≡ self.old.limit }
+        ensures row { self.new.row ≡ 0 }
+        ensures taken { self.new.taken ≡ 0 }
     {
         self.row = 0;
-        self.further = 0;
+        self.taken = 0;
     }
 
     /// A poll paused at this start row: whether another one follows.
     pub(crate) fn after_pause(&mut self, row: u64) -> Next
         ensures limit { self.new.limit ≡ self.old.limit }
-        ensures next { IsAfterPause (is_some self.old.limit) row result }
+        ensures counts { CountsPause self.old.budget row
+            self.old.row self.old.taken self.new.row self.new.taken }
+        ensures next { IsAfterPause (limit_of self.old.limit) row self.new.taken result }
     {
+        self.count_pause(row);
         let Some(most) = self.limit else {
             return Next::More;
         };
-        if row != self.row {
-            self.row = row;
-            self.further = 0;
-            return Next::More;
-        }
-        self.further = self.further.saturating_add(1);
-        if self.further.saturating_mul(u64::from(self.budget)) < most.get() {
+        if self.taken < most.get() {
             return Next::More;
         }
         Next::GivenUp(row)
+    }
+
+    /// Counts the turns of a poll that paused at this start row, if the one before it that paused did so there too. Else some
+    /// of them may have been taken at earlier start rows.
+    fn count_pause(&mut self, row: u64)
+        ensures limit { self.new.limit ≡ self.old.limit }
+        ensures counts { CountsPause self.old.budget row
+            self.old.row self.old.taken self.new.row self.new.taken }
+    {
+        if row != self.row {
+            self.row = row;
+            self.taken = 0;
+            return;
+        }
+        self.taken = self.taken.saturating_add(u64::from(self.budget));
     }
 }
 

@@ -1,17 +1,16 @@
-use Rattle.std.proofs.Common.{◌≡◌, ◌++◌, subst, sym}
+use Rattle.std.proofs.Common.{◌≡◌, ◌≤◌, ◌++◌, ap, subst, sym}
 use Rattle.std.proofs.lemmas.Result.{IfOk-from_err}
-use Rattle.std.specs.Prelude.{is_some}
 use Rattle.rp_io.proofs.Cutting.{on_err_from}
 use Rattle.rp_io.proofs.Writes.{front_longer, front_none}
 use Rattle.rp_io.specs.Devices.{Moves}
 use Rattle.rp_walker.specs.declared.poll.Poll.TheVariants.{Item as ItemPoll, Idle as IdlePoll, Paused as PausedPoll}
-use Rattle.rp_walker.specs.Polls.{AnswerIs, PollLowers, left_in}
+use Rattle.rp_walker.specs.Polls.{AnswerIs, GivenBy, PollLowers, left_in}
 use Rattle.rp_walker.specs.Walking.{record_of}
-use Rattle.rp_whole.specs.Answers.{closed}
-use Rattle.rp_whole.specs.Pauses.{IsByLimit}
+use Rattle.rp_whole.specs.Answers.{closed, limit_of}
+use Rattle.rp_whole.specs.Pauses.{AreCounted, GivesUp, left_from}
 use Rattle.rp_whole.specs.Writing.{bytes_to_come, part_of}
 use Rattle.rp_whole.specs.declared.next.Next.TheVariants.{All}
-use Rattle.rp_whole.proofs.AfterPauses.{by_limit, never_all}
+use Rattle.rp_whole.proofs.Counted.{counted_item, counted_pause, gives_up, left_below, more_item, more_pause, never_all, still_going, was_going}
 use Rattle.rp_whole.proofs.Items.{item_front, item_written, moves_all, none_moved, none_written}
 use Rattle.rp_whole.proofs.Told.{not_ok}
 use Rattle.rp_whole.proofs.ToCome.{agrees, no_bytes, no_stops}
@@ -94,8 +93,15 @@ returns-in_err-place-clause-falls g c = λ is. not_ok c.from_residual.result c.f
 pub returns-in_err-place-clause-all : goal.returns-in_err-place-clause-all
 returns-in_err-place-clause-all g c = λ is. not_ok c.from_residual.result c.from_residual.ensures.0 is
 
-pub returns-in_err-place-clause-by_limit : goal.returns-in_err-place-clause-by_limit
-returns-in_err-place-clause-by_limit g c = IfOk-from_err c.from_residual.result (IsByLimit (is_some c.args.turns.now.limit)) c.from_residual.ensures.0
+pub returns-in_err-place-clause-counted : goal.returns-in_err-place-clause-counted
+returns-in_err-place-clause-counted g c = λ is. not_ok c.from_residual.result c.from_residual.ensures.0 is
+
+pub returns-in_err-place-clause-has_more : goal.returns-in_err-place-clause-has_more
+returns-in_err-place-clause-has_more g c = λ is. not_ok c.from_residual.result c.from_residual.ensures.0 is
+
+pub returns-in_err-place-clause-given_up : goal.returns-in_err-place-clause-given_up
+returns-in_err-place-clause-given_up g c =
+    IfOk-from_err c.from_residual.result (GivesUp (limit_of c.args.turns.now.limit) c.args.query.now c.args.part.now.rows.items (record_of c.poll.new.self)) c.from_residual.ensures.0
 
 pub returns-in_err-push-in-Item-clause-stands : goal.returns-in_err-push-in-Item-clause-stands
 returns-in_err-push-in-Item-clause-stands g c = c.poll.ensures.stands
@@ -112,8 +118,15 @@ returns-in_err-push-in-Item-clause-falls g c = λ is. not_ok c.from_residual-in_
 pub returns-in_err-push-in-Item-clause-all : goal.returns-in_err-push-in-Item-clause-all
 returns-in_err-push-in-Item-clause-all g c = λ is. not_ok c.from_residual-in_err-push-in-Item.result c.from_residual-in_err-push-in-Item.ensures.0 is
 
-pub returns-in_err-push-in-Item-clause-by_limit : goal.returns-in_err-push-in-Item-clause-by_limit
-returns-in_err-push-in-Item-clause-by_limit g c = IfOk-from_err c.from_residual-in_err-push-in-Item.result (IsByLimit (is_some c.args.turns.now.limit)) c.from_residual-in_err-push-in-Item.ensures.0
+pub returns-in_err-push-in-Item-clause-counted : goal.returns-in_err-push-in-Item-clause-counted
+returns-in_err-push-in-Item-clause-counted g c = λ is. not_ok c.from_residual-in_err-push-in-Item.result c.from_residual-in_err-push-in-Item.ensures.0 is
+
+pub returns-in_err-push-in-Item-clause-has_more : goal.returns-in_err-push-in-Item-clause-has_more
+returns-in_err-push-in-Item-clause-has_more g c = λ is. not_ok c.from_residual-in_err-push-in-Item.result c.from_residual-in_err-push-in-Item.ensures.0 is
+
+pub returns-in_err-push-in-Item-clause-given_up : goal.returns-in_err-push-in-Item-clause-given_up
+returns-in_err-push-in-Item-clause-given_up g c =
+    IfOk-from_err c.from_residual-in_err-push-in-Item.result (GivesUp (limit_of c.args.turns.now.limit) c.args.query.now c.args.part.now.rows.items (record_of c.poll.new.self)) c.from_residual-in_err-push-in-Item.ensures.0
 
 pub returns-in_err-write_block-in-Item-clause-stands : goal.returns-in_err-write_block-in-Item-clause-stands
 returns-in_err-write_block-in-Item-clause-stands g c = c.poll.ensures.stands
@@ -130,8 +143,15 @@ returns-in_err-write_block-in-Item-clause-falls g c = λ is. not_ok c.from_resid
 pub returns-in_err-write_block-in-Item-clause-all : goal.returns-in_err-write_block-in-Item-clause-all
 returns-in_err-write_block-in-Item-clause-all g c = λ is. not_ok c.from_residual-in_err-write_block-in-Item.result c.from_residual-in_err-write_block-in-Item.ensures.0 is
 
-pub returns-in_err-write_block-in-Item-clause-by_limit : goal.returns-in_err-write_block-in-Item-clause-by_limit
-returns-in_err-write_block-in-Item-clause-by_limit g c = IfOk-from_err c.from_residual-in_err-write_block-in-Item.result (IsByLimit (is_some c.args.turns.now.limit)) c.from_residual-in_err-write_block-in-Item.ensures.0
+pub returns-in_err-write_block-in-Item-clause-counted : goal.returns-in_err-write_block-in-Item-clause-counted
+returns-in_err-write_block-in-Item-clause-counted g c = λ is. not_ok c.from_residual-in_err-write_block-in-Item.result c.from_residual-in_err-write_block-in-Item.ensures.0 is
+
+pub returns-in_err-write_block-in-Item-clause-has_more : goal.returns-in_err-write_block-in-Item-clause-has_more
+returns-in_err-write_block-in-Item-clause-has_more g c = λ is. not_ok c.from_residual-in_err-write_block-in-Item.result c.from_residual-in_err-write_block-in-Item.ensures.0 is
+
+pub returns-in_err-write_block-in-Item-clause-given_up : goal.returns-in_err-write_block-in-Item-clause-given_up
+returns-in_err-write_block-in-Item-clause-given_up g c =
+    IfOk-from_err c.from_residual-in_err-write_block-in-Item.result (GivesUp (limit_of c.args.turns.now.limit) c.args.query.now c.args.part.now.rows.items (record_of c.poll.new.self)) c.from_residual-in_err-write_block-in-Item.ensures.0
 
 pub returns-in_err-write_gathered-in-Paused-clause-stands : goal.returns-in_err-write_gathered-in-Paused-clause-stands
 returns-in_err-write_gathered-in-Paused-clause-stands g c = c.poll.ensures.stands
@@ -148,8 +168,15 @@ returns-in_err-write_gathered-in-Paused-clause-falls g c = λ is. not_ok c.from_
 pub returns-in_err-write_gathered-in-Paused-clause-all : goal.returns-in_err-write_gathered-in-Paused-clause-all
 returns-in_err-write_gathered-in-Paused-clause-all g c = λ is. not_ok c.from_residual-in_err-write_gathered-in-Paused.result c.from_residual-in_err-write_gathered-in-Paused.ensures.0 is
 
-pub returns-in_err-write_gathered-in-Paused-clause-by_limit : goal.returns-in_err-write_gathered-in-Paused-clause-by_limit
-returns-in_err-write_gathered-in-Paused-clause-by_limit g c = IfOk-from_err c.from_residual-in_err-write_gathered-in-Paused.result (IsByLimit (is_some c.args.turns.now.limit)) c.from_residual-in_err-write_gathered-in-Paused.ensures.0
+pub returns-in_err-write_gathered-in-Paused-clause-counted : goal.returns-in_err-write_gathered-in-Paused-clause-counted
+returns-in_err-write_gathered-in-Paused-clause-counted g c = λ is. not_ok c.from_residual-in_err-write_gathered-in-Paused.result c.from_residual-in_err-write_gathered-in-Paused.ensures.0 is
+
+pub returns-in_err-write_gathered-in-Paused-clause-has_more : goal.returns-in_err-write_gathered-in-Paused-clause-has_more
+returns-in_err-write_gathered-in-Paused-clause-has_more g c = λ is. not_ok c.from_residual-in_err-write_gathered-in-Paused.result c.from_residual-in_err-write_gathered-in-Paused.ensures.0 is
+
+pub returns-in_err-write_gathered-in-Paused-clause-given_up : goal.returns-in_err-write_gathered-in-Paused-clause-given_up
+returns-in_err-write_gathered-in-Paused-clause-given_up g c =
+    IfOk-from_err c.from_residual-in_err-write_gathered-in-Paused.result (GivesUp (limit_of c.args.turns.now.limit) c.args.query.now c.args.part.now.rows.items (record_of c.poll.new.self)) c.from_residual-in_err-write_gathered-in-Paused.ensures.0
 
 -- an item
 
@@ -170,6 +197,24 @@ returns-in_ok-write_block-in-Item-clause-falls g c =
 pub returns-in_ok-write_block-in-Item-clause-all : goal.returns-in_ok-write_block-in-Item-clause-all
 returns-in_ok-write_block-in-Item-clause-all g c = λ is. cc
 
+pub returns-in_ok-write_block-in-Item-clause-counted : goal.returns-in_ok-write_block-in-Item-clause-counted
+returns-in_ok-write_block-in-Item-clause-counted g c =
+    let q = c.args.query.now in
+    let p = closed c.args.part.now.rows.items in
+    let falls = subst (PollLowers c.args.turns.now.budget (left_in q p c.args.walker.now) (left_in q p c.poll.new.self)) c.in-Item.is c.in_ok-place.ensures.lowers in
+    λ _. counted_item q p c.args.turns.now.row c.args.turns.now.taken c.args.walker.now c.poll.new.self falls c.requires.counted
+
+pub returns-in_ok-write_block-in-Item-clause-has_more : goal.returns-in_ok-write_block-in-Item-clause-has_more
+returns-in_ok-write_block-in-Item-clause-has_more g c =
+    let q = c.args.query.now in
+    let p = closed c.args.part.now.rows.items in
+    let old = record_of c.args.walker.now in
+    let new = record_of c.poll.new.self in
+    let answer = (c.in_ok-place.ensures.answers p (agrees old.first p) c.requires.fits).1 in
+    let is : AnswerIs q p old new (ItemPoll c.in-Item.place c.in-Item.item) = subst (AnswerIs q p old new) c.in-Item.is answer in
+    let given : GivenBy old new (ItemPoll c.in-Item.place c.in-Item.item) = subst (GivenBy old new) c.in-Item.is c.in_ok-place.ensures.given in
+    λ _. more_item q p old new c.in-Item.place c.in-Item.item is given.2
+
 pub returns-in_ok-write_block-in-Item-clause-failures : goal.returns-in_ok-write_block-in-Item-clause-failures
 returns-in_ok-write_block-in-Item-clause-failures g c = c.in_ok-write_block-in-Item.ensures.failures
 
@@ -187,10 +232,59 @@ pub returns-in_ok-write_gathered-in-Paused-clause-all : goal.returns-in_ok-write
 returns-in_ok-write_gathered-in-Paused-clause-all g c =
     λ is.
     let all : c.after_pause.result ≡ All = cc in
-    absurd (never_all (is_some c.args.turns.now.limit) c.state-row.result.at c.after_pause.result c.after_pause.ensures.next all)
+    absurd (never_all (limit_of c.args.turns.now.limit) c.state-row.result.at c.after_pause.new.self.taken c.after_pause.result c.after_pause.ensures.next all)
 
-pub returns-in_ok-write_gathered-in-Paused-clause-by_limit : goal.returns-in_ok-write_gathered-in-Paused-clause-by_limit
-returns-in_ok-write_gathered-in-Paused-clause-by_limit g c = by_limit (is_some c.args.turns.now.limit) c.state-row.result.at c.after_pause.result c.after_pause.ensures.next
+pub returns-in_ok-write_gathered-in-Paused-clause-counted : goal.returns-in_ok-write_gathered-in-Paused-clause-counted
+returns-in_ok-write_gathered-in-Paused-clause-counted g c =
+    let q = c.args.query.now in
+    let p = closed c.args.part.now.rows.items in
+    let old = record_of c.args.walker.now in
+    let new = record_of c.poll.new.self in
+    let budget = c.args.turns.now.budget in
+    let answers = c.in_ok-place.ensures.answers p (agrees old.first p) c.requires.fits in
+    let same : AnswerIs q p old new PausedPoll = subst (AnswerIs q p old new) c.in-Paused.is answers.1 in
+    let falls = subst (PollLowers budget (left_in q p c.args.walker.now) (left_in q p c.poll.new.self)) c.in-Paused.is c.in_ok-place.ensures.lowers in
+    let was = was_going q p budget c.args.walker.now c.poll.new.self c.args.turns.now.some falls in
+    let going = still_going q p old new was c.requires.has_more same answers.0 in
+    let at : c.state-row.result.at ≡ new.at = ap (λ r. r.at) c.state-row.ensures in
+    let below = left_below c.law_search.ensures.bounded q p c.poll.new.self going c.poll.ensures.stands in
+    let here : left_in q p c.poll.new.self ≤ left_from q p c.state-row.result.at = subst (λ i. left_in q p c.poll.new.self ≤ left_from q p i) (sym at) below in
+    let counted = counted_pause q p c.args.walker.now c.poll.new.self budget c.state-row.result.at c.args.turns.now.row c.args.turns.now.taken
+    c.after_pause.new.self.row c.after_pause.new.self.taken c.after_pause.ensures.counts falls here c.requires.counted in
+    λ _. subst (λ row. AreCounted q p row c.after_pause.new.self.taken c.poll.new.self) (sym c.after_pause.ensures.counts.is) counted
+
+pub returns-in_ok-write_gathered-in-Paused-clause-has_more : goal.returns-in_ok-write_gathered-in-Paused-clause-has_more
+returns-in_ok-write_gathered-in-Paused-clause-has_more g c =
+    let q = c.args.query.now in
+    let p = closed c.args.part.now.rows.items in
+    let old = record_of c.args.walker.now in
+    let new = record_of c.poll.new.self in
+    let budget = c.args.turns.now.budget in
+    let answers = c.in_ok-place.ensures.answers p (agrees old.first p) c.requires.fits in
+    let same : AnswerIs q p old new PausedPoll = subst (AnswerIs q p old new) c.in-Paused.is answers.1 in
+    let falls = subst (PollLowers budget (left_in q p c.args.walker.now) (left_in q p c.poll.new.self)) c.in-Paused.is c.in_ok-place.ensures.lowers in
+    let was = was_going q p budget c.args.walker.now c.poll.new.self c.args.turns.now.some falls in
+    λ _. more_pause q p old new was c.requires.has_more same
+
+pub returns-in_ok-write_gathered-in-Paused-clause-given_up : goal.returns-in_ok-write_gathered-in-Paused-clause-given_up
+returns-in_ok-write_gathered-in-Paused-clause-given_up g c =
+    let q = c.args.query.now in
+    let p = closed c.args.part.now.rows.items in
+    let old = record_of c.args.walker.now in
+    let new = record_of c.poll.new.self in
+    let budget = c.args.turns.now.budget in
+    let answers = c.in_ok-place.ensures.answers p (agrees old.first p) c.requires.fits in
+    let same : AnswerIs q p old new PausedPoll = subst (AnswerIs q p old new) c.in-Paused.is answers.1 in
+    let falls = subst (PollLowers budget (left_in q p c.args.walker.now) (left_in q p c.poll.new.self)) c.in-Paused.is c.in_ok-place.ensures.lowers in
+    let was = was_going q p budget c.args.walker.now c.poll.new.self c.args.turns.now.some falls in
+    let going = still_going q p old new was c.requires.has_more same answers.0 in
+    let at : c.state-row.result.at ≡ new.at = ap (λ r. r.at) c.state-row.ensures in
+    let below = left_below c.law_search.ensures.bounded q p c.poll.new.self going c.poll.ensures.stands in
+    let here : left_in q p c.poll.new.self ≤ left_from q p c.state-row.result.at = subst (λ i. left_in q p c.poll.new.self ≤ left_from q p i) (sym at) below in
+    let counted = counted_pause q p c.args.walker.now c.poll.new.self budget c.state-row.result.at c.args.turns.now.row c.args.turns.now.taken
+    c.after_pause.new.self.row c.after_pause.new.self.taken c.after_pause.ensures.counts falls here c.requires.counted in
+    gives_up (limit_of c.args.turns.now.limit) q c.args.part.now.rows.items c.poll.new.self c.state-row.result.at c.after_pause.new.self.taken c.after_pause.result
+    c.after_pause.ensures.next at going answers.0 counted
 
 pub returns-in_ok-write_gathered-in-Paused-clause-limit : goal.returns-in_ok-write_gathered-in-Paused-clause-limit
 returns-in_ok-write_gathered-in-Paused-clause-limit g c = c.after_pause.ensures.limit
@@ -229,3 +323,9 @@ returns-in-Idle-clause-all g c =
 
 pub returns-in-Idle-clause-falls : goal.returns-in-Idle-clause-falls
 returns-in-Idle-clause-falls g c = λ is. cc
+
+pub returns-in-Idle-clause-counted : goal.returns-in-Idle-clause-counted
+returns-in-Idle-clause-counted g c = λ is. cc
+
+pub returns-in-Idle-clause-has_more : goal.returns-in-Idle-clause-has_more
+returns-in-Idle-clause-has_more g c = λ is. cc

@@ -1,12 +1,12 @@
-use Rattle.std.proofs.Common.{rules, ◌≡◌, ◌∙◌, true, refl, sym, ap, subst}
-use Rattle.std.specs.Prelude.{is_some}
+use Rattle.std.proofs.Common.{rules, ◌≡◌, ◌∙◌, refl, sym, ap, subst}
 use Rattle.rp_io.proofs.Cutting.{on_err_from}
 use Rattle.rp_walker.specs.Records.{Fits, first_state}
 use Rattle.rp_walker.specs.Walking.{record_of}
-use Rattle.rp_whole.specs.Answers.{closed}
-use Rattle.rp_whole.specs.Pauses.{IsByLimit}
+use Rattle.rp_whole.specs.Answers.{IsByLimit, closed, limit_of}
+use Rattle.rp_whole.specs.Pauses.{GivesUp}
 use Rattle.rp_whole.specs.Writing.{part_of}
 use Rattle.rp_whole.specs.declared.next.Next.TheVariants.{GivenUp}
+use Rattle.rp_whole.proofs.Counted.{counted_first, more_first}
 use Rattle.rp_whole.proofs.Items.{none_written, part_given_up, part_written, written_front, written_more}
 use Rattle.rp_whole.proofs.part.write_part.Goals as goal
 
@@ -20,7 +20,9 @@ items-init g c =
       fits = subst (λ r. Fits q r p) (sym first) (c.law_records.ensures.first q p);
       writes = none_written g.G.Gathered.form q (part_of c.args.part.now) first_state (record_of c.new-walker.result) (g.W.Outlet.contents c.args.writer.now)
           (g.G.Gathered.bytes c.args.gathered.now) (g.G.Gathered.stopped c.args.gathered.now) (ap (λ r. r.given) first);
-      limit = c.begin_part.ensures;
+      counted = counted_first c.law_left.ensures.bounded q p c.new-walker.result c.begin_part.new.self.row c.begin_part.new.self.taken (c.new-walker.ensures.stands q p) c.begin_part.ensures.row c.begin_part.ensures.taken;
+      has_more = more_first q p (record_of c.new-walker.result) first;
+      limit = c.begin_part.ensures.limit;
       failures = refl;
     }
 
@@ -40,6 +42,8 @@ items-preserved g c = record {
       (g.G.Gathered.bytes c.args.gathered.now) (g.G.Gathered.bytes c.items.gathered) (g.G.Gathered.bytes c.write_next.new.gathered)
       (g.G.Gathered.stopped c.args.gathered.now) (g.G.Gathered.stopped c.items.gathered) (g.G.Gathered.stopped c.write_next.new.gathered)
       c.items.invariant.writes c.in_ok-write_next.ensures.written;
+  counted = c.in_ok-write_next.ensures.counted (search rules);
+  has_more = c.in_ok-write_next.ensures.has_more (search rules);
   limit = c.in_ok-write_next.ensures.limit ∙ c.items.invariant.limit;
   failures = c.in_ok-write_next.ensures.failures ∙ c.items.invariant.failures;
 }
@@ -53,7 +57,7 @@ returns-in-All-clause-written g c =
     (g.G.Gathered.bytes c.args.gathered.now) (g.G.Gathered.bytes c.items.gathered) (g.G.Gathered.bytes c.write_next.new.gathered)
     (g.G.Gathered.stopped c.args.gathered.now) (g.G.Gathered.stopped c.items.gathered) (g.G.Gathered.stopped c.write_next.new.gathered)
     c.items.invariant.writes c.in_ok-write_next.ensures.written in
-    part_written (is_some c.args.turns.now.limit) g.G.Gathered.form q (part_of c.args.part.now) last (g.W.Outlet.contents c.args.writer.now) (g.W.Outlet.contents c.write_next.new.writer)
+    part_written (limit_of c.args.turns.now.limit) g.G.Gathered.form q (part_of c.args.part.now) last (g.W.Outlet.contents c.args.writer.now) (g.W.Outlet.contents c.write_next.new.writer)
     (g.G.Gathered.bytes c.args.gathered.now) (g.G.Gathered.bytes c.write_next.new.gathered)
     (g.G.Gathered.stopped c.args.gathered.now) (g.G.Gathered.stopped c.write_next.new.gathered) all
     (c.in_ok-write_next.ensures.all (search rules)).0 (c.in_ok-write_next.ensures.all (search rules)).1
@@ -67,7 +71,9 @@ returns-in-GivenUp-clause-written g c =
     (g.G.Gathered.bytes c.args.gathered.now) (g.G.Gathered.bytes c.items.gathered) (g.G.Gathered.bytes c.write_next.new.gathered)
     (g.G.Gathered.stopped c.args.gathered.now) (g.G.Gathered.stopped c.items.gathered) (g.G.Gathered.stopped c.write_next.new.gathered)
     c.items.invariant.writes c.in_ok-write_next.ensures.written in
-    let by_limit : IsByLimit (is_some c.items.turns.limit) (GivenUp c.in-GivenUp.row) = subst (IsByLimit (is_some c.items.turns.limit)) c.in-GivenUp.is c.in_ok-write_next.ensures.by_limit in
-    part_given_up (is_some c.args.turns.now.limit) g.G.Gathered.form q (part_of c.args.part.now) last (g.W.Outlet.contents c.args.writer.now) (g.W.Outlet.contents c.write_next.new.writer)
+    let at : GivesUp (limit_of c.items.turns.limit) q c.args.part.now.rows.items last (GivenUp c.in-GivenUp.row) =
+    subst (GivesUp (limit_of c.items.turns.limit) q c.args.part.now.rows.items last) c.in-GivenUp.is c.in_ok-write_next.ensures.given_up in
+    let by_limit = subst (λ limit. IsByLimit (limit_of limit) q c.args.part.now.rows.items last.given c.in-GivenUp.row) c.items.invariant.limit at in
+    part_given_up (limit_of c.args.turns.now.limit) g.G.Gathered.form q (part_of c.args.part.now) last (g.W.Outlet.contents c.args.writer.now) (g.W.Outlet.contents c.write_next.new.writer)
     (g.G.Gathered.bytes c.args.gathered.now) (g.G.Gathered.bytes c.write_next.new.gathered)
-    (g.G.Gathered.stopped c.args.gathered.now) (g.G.Gathered.stopped c.write_next.new.gathered) all c.in-GivenUp.row (subst (λ limit. is_some limit ≡ true) c.items.invariant.limit by_limit)
+    (g.G.Gathered.stopped c.args.gathered.now) (g.G.Gathered.stopped c.write_next.new.gathered) all c.in-GivenUp.row by_limit

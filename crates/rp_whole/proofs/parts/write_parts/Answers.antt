@@ -1,9 +1,9 @@
 use Rattle.std.proofs.Common.{◌≡◌, ◌∙◌, [], refl, ap, arith}
 use Rattle.std.proofs.lemmas.Grind.{common_steps}
-use Rattle.std.specs.Prelude.{is_some}
 use Rattle.std.specs.Vec.Iter.{into_iter_items, into_iter_len}
 use Rattle.std.specs.declared.vec.IntoIter.{IntoIter}
 use Rattle.rp_io.proofs.Cutting.{on_err_from}
+use Rattle.rp_whole.specs.Answers.{limit_of}
 use Rattle.rp_whole.proofs.InOrder.{all_front, all_written, none_written, part_front, part_written, stopped_front}
 use Rattle.rp_whole.proofs.parts.write_parts.Goals as goal
 
@@ -30,12 +30,12 @@ pub returns-in_err-push_halted-clause-front : goal.returns-in_err-push_halted-cl
 returns-in_err-push_halted-clause-front g c =
     on_err_from _ (stopped_front
     (part_written (g.W.Outlet.contents c.write_part.new.writer) c.order_rows.new.rows.items c.loop-key.invariant.written c.in-Some.ensures.steps.0 c.in_ok-order_rows.ensures.ok
-    c.in_ok-given_up.ensures.written (ap is_some c.loop-key.invariant.limit) refl) c.law_orders.ensures)
+    c.in_ok-given_up.ensures.written (ap limit_of c.loop-key.invariant.limit) refl) c.law_orders.ensures)
 
 pub loop-key-preserved : goal.loop-key-preserved
 loop-key-preserved g c = record {
   written = part_written (g.W.Outlet.contents c.write_part.new.writer) c.order_rows.new.rows.items c.loop-key.invariant.written c.in-Some.ensures.steps.0 c.in_ok-order_rows.ensures.ok
-      c.in_ok-given_up.ensures.written (ap is_some c.loop-key.invariant.limit) c.in_ok-push_halted.ensures;
+      c.in_ok-given_up.ensures.written (ap limit_of c.loop-key.invariant.limit) c.in_ok-push_halted.ensures;
   limit = c.write_part.ensures.limit ∙ c.loop-key.invariant.limit;
   failures = c.in_ok-given_up.ensures.failures ∙ c.loop-key.invariant.failures;
 }
