@@ -1,0 +1,9 @@
+use Rattle.std.proofs.Common.{◌≡◌}
+use Rattle.rp_question.specs.Adding.{AreRowsOfFirst}
+use Rattle.rp_question.proofs.question.Question.rows_of_all.Given as goal
+
+abbrev pub invariant-loop-index : goal.invariant-loop-index
+invariant-loop-index g l = record {
+  texts : g.I.Inputs.texts l.inputs ≡ g.I.Inputs.texts l.fn.inputs;
+  rows : AreRowsOfFirst l.self.reading (g.I.Inputs.texts l.fn.inputs) l.index l.all.items;
+}

@@ -1,0 +1,35 @@
+-- What is asked, and of which rows. Which rows meet a condition is ISO/IEC 9075-2:2016, 7.12 <where clause>; that several inputs are
+-- asked as one that has the rows of all: own.
+use Rattle.std.specs.Prelude.{◌≡◌, ⊤, ℕ, List, Option, Some, None}
+use Rattle.std.specs.List.{filter}
+use Rattle.rp_value.specs.declared.table.Column.{Column}
+use Rattle.rp_value.specs.declared.value.Value.{Value}
+use Rattle.rp_compile.specs.Compiled.{IsCompileFault, IsCompiled}
+use Rattle.rp_filter.specs.Meets.{clause_of, meets}
+use Rattle.rp_filter.specs.declared.filter.Filter.{Filter}
+use Rattle.rp_question.specs.Read.{AreRowsOfAll}
+use Rattle.rp_question.specs.declared.fault.QuestionFault.{QuestionFault}
+use Rattle.rp_question.specs.declared.fault.QuestionFault.TheVariants.{Clause, Condition}
+use Rattle.rp_question.specs.declared.question.Question.{Question}
+
+-- the filter is that of the condition's text; there is none where there is no text
+abbrev pub IsFilterOf : Option (List ℕ) → List Column → Option Filter → Type 0
+IsFilterOf None columns None = ⊤
+IsFilterOf (Some text) columns (Some f) = IsCompiled (clause_of text) columns f.query
+IsFilterOf _ columns _ = ⊥
+
+-- the rows that meet the condition, in their order; all where there is none
+abbrev pub kept : Option Filter → List (List Value) → List (List Value)
+kept None rows = rows
+kept (Some f) rows = filter (meets f.query) rows
+
+-- the rows that are asked of, where the inputs have these texts: those of all that meet the condition
+pub record AreRowsAsked (question : Question) (texts : List (List ℕ)) (rows : List (List Value)) : Type 0 where
+  pub all : List (List Value)
+  pub read : AreRowsOfAll question.reading texts all
+  pub are : rows ≡ kept question.filter all
+
+-- why two texts make no question: the first fault of the clause; of the condition's nothing is said
+abbrev pub IsQuestionFault : List ℕ → List Column → QuestionFault → Type 0
+IsQuestionFault text columns (Clause why) = IsCompileFault text columns why
+IsQuestionFault text columns (Condition why) = ⊤
