@@ -12,11 +12,12 @@ use rp_explain_queries::describe_input;
 use rp_input::{ColumnsCsvFault, CsvFault, rows_by, rows_of};
 use rp_io::{CountedDevice, write_all};
 use rp_job::{
-    InputForm, InputShape, ProgramFault, Verdict, bytes_of, columns_never_found, columns_of,
+    InputForm, ProgramFault, Verdict, bytes_of, columns_never_found, columns_of, named_shape,
     no_columns,
 };
 use rp_objects::{ObjectsFault, rows_by_objects};
 use rp_proposal::{Proposal, propose_columns};
+use rp_question::InputShape;
 use rp_value::{Row, Table};
 use rp_wording::{Pieces, Report, shown_text};
 use std::alloc::{AllocError, Global};
@@ -128,7 +129,7 @@ fn look_at_columns(
     bytes: Option<&[u8]>,
     found: &mut Found,
 ) -> Result<(), ProgramFault> {
-    match InputShape::of(rt, &job.input, form) {
+    match named_shape(rt, &job.input, form) {
         Ok(Some(shape)) => {
             found.shape = Some(shape);
             Ok(())

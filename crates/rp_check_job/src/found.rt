@@ -2,8 +2,9 @@
 
 use rp_explain_clauses::Explained;
 use rp_explain_queries::{describe, doubt};
-use rp_job::{InputShape, Verdict};
+use rp_job::Verdict;
 use rp_query::Query;
+use rp_question::InputShape;
 use rp_report::{Findings, findings_line};
 use rp_wording::{Pieces, Report};
 use std::alloc::{AllocError, Global};

@@ -1,10 +1,11 @@
 //! `source`: hands the rows of a CSV to nodes, one node after the other, and prints the items that they give.
 use rp_command::SourceJob;
-use rp_compile::compile;
 use rp_drive::{Conversation, Counted, DriveFault, Stop, drive_within};
 use rp_feed::Packet;
 use rp_io::{CountedDevice, Lines, Outlet, READS};
-use rp_job::{InputForm, InputShape, ProgramFault, rows_of_input, seeded_hasher, shown_key};
+use rp_job::{
+    Asked, InputForm, InputLayout, JobInputs, ProgramFault, named_shape, seeded_hasher, shown_key,
+};
 use rp_numbering::number_rows;
 use rp_protocol::{MAX_LINE_LEN, Refusal, Reply, reply_line, saved_of};
 use rp_query::Query;
@@ -24,21 +25,28 @@ type Counter<'a> = Counted<CountedDevice<&'a TcpStream>>;
 /// Hands all rows of standard input to each node in turn. The first fault ends it.
 pub fn run_source(rt: &HostRuntime, job: &SourceJob) -> Result<(), ProgramFault> {
     let form = InputForm::of(rt.alloc(), &job.input)?;
-    match InputShape::of(rt, &job.input, &form)? {
-        Some(shape) => hand_over_input(rt, job, &shape, &form),
+    match named_shape(rt, &job.input, &form)? {
+        Some(shape) => hand_over_input(rt, job, &InputLayout { form, shape }),
         None => Err(ProgramFault::Usage("nodes have a table: give --table or --columns")),
     }
 }
 
-/// Hands the rows of an input of this shape and form to each node.
-fn hand_over_input(
-    rt: &HostRuntime,
+/// Hands the rows of an input that is read so to each node.
+fn hand_over_input<'a>(
+    rt: &'a HostRuntime,
     job: &SourceJob,
-    shape: &InputShape,
-    form: &InputForm,
+    layout: &'a InputLayout,
 ) -> Result<(), ProgramFault> {
-    let query = compile(rt.alloc(), job.clause.as_str(), shape.table())?;
-    hand_out(rt, job, &query, rows_of_input(rt, shape, form)?)
+    let asked = Asked {
+        input: &job.input,
+        clause: job.clause.as_str(),
+        filter: &None,
+        files: &[],
+    };
+    let question = asked.question(rt.alloc(), layout)?;
+    let ready = Vec::new(rt.alloc());
+    let rows = JobInputs::new(rt, layout, asked.files, ready, None).rows(&question)?;
+    hand_out(rt, job, &question.query, rows)
 }
 
 /// Hands the rows of a query to each node.

@@ -1,13 +1,9 @@
 //! `whole`: the answer of a clause over an input, printed as lines, as CSV or as objects.
 use rp_command::{AnswerFormat, WholeJob};
 use rp_io::CountedDevice;
-use rp_job::{Asked, ProgramFault, Progress, Verdict, seeded_hasher, shown_key};
-use rp_query::Query;
-use rp_value::Row;
-use rp_whole::{
-    EndedEarly, Halted, Stopped, Unwatched, Watch, WholeFault, write_csv, write_lines,
-    write_objects,
-};
+use rp_job::{Asked, JobInputs, ProgramFault, Progress, Verdict, seeded_hasher, shown_key};
+use rp_question::{AnswerFault, Question};
+use rp_whole::{EndedEarly, Halted, Stopped};
 use std::alloc::AllocError;
 use std::collections::hash_map::RandomState;
 use std::num::NonZeroU64;
@@ -26,59 +22,49 @@ pub fn run_answer(rt: &HostRuntime, job: &WholeJob) -> Result<Verdict, ProgramFa
         filter: &job.filter,
         files: job.files.as_slice(),
     };
-    let (query, rows) = asked.query_and_rows(rt, &mut progress)?;
-    answer(rt, job, &query, rows, progress)
+    let (layout, ready) = asked.layout(rt, &mut progress)?;
+    let question = asked.question(rt.alloc(), &layout)?;
+    let mut inputs = JobInputs::new(rt, &layout, asked.files, ready, progress);
+    print_answer(rt, job, &question, &mut inputs)
 }
 
-fn answer(
+/// Prints the answer to a question over these inputs.
+fn print_answer(
     rt: &HostRuntime,
     job: &WholeJob,
-    query: &Query,
-    rows: Vec<Row>,
-    progress: Option<Progress<'_>>,
-) -> Result<Verdict, ProgramFault> {
-    match progress {
-        Some(mut progress) => print_answer(rt, job, query, rows, &mut progress),
-        None => print_answer(rt, job, query, rows, &mut Unwatched),
-    }
-}
-
-/// Prints the answer over these rows.
-fn print_answer<V: Watch>(
-    rt: &HostRuntime,
-    job: &WholeJob,
-    query: &Query,
-    rows: Vec<Row>,
-    watch: &mut V,
+    question: &Question<'_>,
+    inputs: &mut JobInputs<'_>,
 ) -> Result<Verdict, ProgramFault> {
     let hasher = seeded_hasher(rt)?;
-    let early = write_answer(rt, job, query, rows, watch, hasher)?;
-    tell_stopped(rt, early.stopped.as_slice())?;
-    tell_halted(rt, early.halted.as_slice())?;
-    Ok(verdict_of(&early))
+    match write_answer(rt, job, question, inputs, hasher) {
+        Ok(early) => tell_early(rt, &early),
+        Err(AnswerFault::Input(fault)) => Err(inputs.program_fault(fault)),
+        Err(AnswerFault::Output(fault)) => Err(ProgramFault::from(fault)),
+    }
 }
 
 /// Prints the answer, and gives the partitions whose answers ended early.
-fn write_answer<V: Watch>(
+fn write_answer(
     rt: &HostRuntime,
     job: &WholeJob,
-    query: &Query,
-    rows: Vec<Row>,
-    watch: &mut V,
+    question: &Question<'_>,
+    inputs: &mut JobInputs<'_>,
     hasher: RandomState,
-) -> Result<EndedEarly, WholeFault> {
+) -> Result<EndedEarly, AnswerFault> {
     let (alloc, limit) = (rt.alloc(), most_turns(job));
     let mut writer = CountedDevice::new(rt.stdout());
     match job.format {
-        AnswerFormat::Lines => Ok(EndedEarly {
-            stopped: Vec::new(alloc),
-            halted: write_lines(alloc, query, rows, limit, &mut writer, watch, hasher)?,
-        }),
-        AnswerFormat::Csv => write_csv(alloc, query, rows, limit, &mut writer, watch, hasher),
-        AnswerFormat::Objects => {
-            write_objects(alloc, query, rows, limit, &mut writer, watch, hasher)
-        }
+        AnswerFormat::Lines => question.answer_lines(alloc, inputs, limit, &mut writer, hasher),
+        AnswerFormat::Csv => question.answer_csv(alloc, inputs, limit, &mut writer, hasher),
+        AnswerFormat::Objects => question.answer_objects(alloc, inputs, limit, &mut writer, hasher),
     }
+}
+
+/// Reports the partitions whose answers ended early.
+fn tell_early(rt: &HostRuntime, early: &EndedEarly) -> Result<Verdict, ProgramFault> {
+    tell_stopped(rt, early.stopped.as_slice())?;
+    tell_halted(rt, early.halted.as_slice())?;
+    Ok(verdict_of(early))
 }
 
 /// The most turns of a start row's search.

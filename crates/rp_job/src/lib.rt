@@ -8,7 +8,10 @@
 
 mod asked;
 mod fault;
+mod files;
 mod input;
+mod input_fault;
+mod job_inputs;
 mod never_found;
 mod progress;
 mod remarks;
@@ -20,7 +23,9 @@ mod zones;
 
 pub use asked::{Asked, no_columns};
 pub use fault::ProgramFault;
-pub use input::{InputForm, InputShape, bytes_of, columns_of, rows_of_input, table_of};
+pub use files::bytes_of;
+pub use input::{InputForm, InputLayout, columns_of, named_shape, table_of};
+pub use job_inputs::JobInputs;
 pub use never_found::columns_never_found;
 pub use progress::Progress;
 pub use seed::seeded_hasher;

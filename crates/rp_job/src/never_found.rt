@@ -1,6 +1,6 @@
 //! Columns of lines of JSON for which no line has a value: their paths are misspelt, most likely.
-use crate::input::InputShape;
 use rp_columns::InputColumn;
+use rp_question::InputShape;
 use rp_value::{Row, Value};
 use rp_wording::Pieces;
 use std::alloc::{AllocError, Global};

@@ -1,9 +1,10 @@
 //! What is reported of an input that has rows, though they aren't what is meant, most likely: quotes that csv takes otherwise, and paths
 //! that no line of JSON has.
-use crate::input::{InputForm, InputShape};
+use crate::input::InputForm;
 use crate::never_found::columns_never_found;
 use crate::telling::tell;
 use rp_command::InputFormat;
+use rp_question::InputShape;
 use rp_quotes::{QuoteWatch, remarks_on};
 use rp_value::Row;
 use rp_wording::{Pieces, shown_line};
@@ -21,16 +22,7 @@ pub(crate) fn tell_quotes_of(
     }
     let mut quotes = QuoteWatch::new(form.layout.delimiter);
     quotes.take(bytes);
-    tell_quotes(rt, &quotes, name)
-}
-
-/// Reports the quotes of a text that was read to its end, a line for each remark.
-pub(crate) fn tell_quotes(
-    rt: &HostRuntime,
-    quotes: &QuoteWatch,
-    name: Option<&str>,
-) -> Result<(), AllocError> {
-    for remark in remarks_on(rt.alloc(), quotes)? {
+    for remark in remarks_on(rt.alloc(), &quotes)? {
         tell_remark(rt, "csv: ", remark.as_str(), name)?;
     }
     Ok(())

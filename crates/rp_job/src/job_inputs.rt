@@ -1,0 +1,116 @@
+//! The inputs of a job, one after another.
+use crate::fault::ProgramFault;
+use crate::files::bytes_of;
+use crate::input::InputLayout;
+use crate::input_fault::input_fault;
+use crate::progress::Progress;
+use crate::remarks::{tell_never_found, tell_quotes_of};
+use rp_question::{InputFault, Inputs, Question, Unread};
+use rp_value::{Cells, Row};
+use rp_whole::Watch;
+use std::alloc::AllocError;
+use std::mem;
+
+/// The inputs of a job: its files, or standard input. What may not be meant so is reported of each, and how far a long answer over them is.
+#[derive(Drop)]
+pub struct JobInputs<'a> {
+    rt: &'a HostRuntime,
+    layout: &'a InputLayout,
+    /// The paths of the files; none where the input is standard input.
+    files: &'a [String],
+    /// The bytes of all inputs, where these were read before; else none.
+    ready: Vec<Vec<u8>>,
+    progress: Option<Progress<'a>>,
+    /// The index of the input that is at hand.
+    index: usize,
+    /// Why that can't be read.
+    fault: Option<ProgramFault>,
+}
+
+impl<'a> JobInputs<'a> {
+    /// These files, or standard input where there is none. Their bytes are `ready` where they were read before.
+    pub fn new(
+        rt: &'a HostRuntime,
+        layout: &'a InputLayout,
+        files: &'a [String],
+        ready: Vec<Vec<u8>>,
+        progress: Option<Progress<'a>>,
+    ) -> JobInputs<'a> {
+        JobInputs {
+            rt,
+            layout,
+            files,
+            ready,
+            progress,
+            index: 0,
+            fault: None,
+        }
+    }
+
+    /// The rows that a question is asked of.
+    pub fn rows(&mut self, question: &Question<'_>) -> Result<Vec<Row>, ProgramFault> {
+        match question.rows(self.rt.alloc(), self) {
+            Ok(rows) => Ok(rows),
+            Err(fault) => Err(self.program_fault(fault)),
+        }
+    }
+
+    /// Why the program ends where the input at hand has no rows.
+    pub fn program_fault(&mut self, fault: InputFault) -> ProgramFault {
+        match self.fault.take() {
+            Some(fault) => fault,
+            None => input_fault(self.rt.alloc(), self.name(), &self.layout.shape, fault),
+        }
+    }
+
+    /// The name of the file at hand.
+    fn name(&self) -> Option<&'a str> {
+        match self.files.get(self.index) {
+            Some(name) => Some(name.as_str()),
+            None => None,
+        }
+    }
+}
+
+impl Inputs for JobInputs<'_> {
+    ghost use Rattle.std.specs.Prelude.{None};
+
+    ghost texts = { λ _. None };
+
+    fn count(&self) -> usize {
+        self.files.len().max(1)
+    }
+
+    fn read(&mut self, index: usize) -> Result<Vec<u8>, Unread> {
+        self.index = index;
+        if let Some(bytes) = self.ready.get_mut(index) {
+            return Ok(mem::replace(bytes, Vec::new(self.rt.alloc())));
+        }
+        match bytes_of(self.rt, self.name(), &mut self.progress) {
+            Ok(bytes) => Ok(bytes),
+            Err(fault) => {
+                self.fault = Some(fault);
+                Err(Unread::Device)
+            }
+        }
+    }
+
+    fn has_rows(&mut self, bytes: &[u8], rows: &[Row]) -> Result<(), AllocError> {
+        tell_quotes_of(self.rt, &self.layout.form, bytes, self.name())?;
+        tell_never_found(self.rt, &self.layout.shape, rows, self.name())
+    }
+}
+
+impl Watch for JobInputs<'_> {
+    fn begins(&mut self, key: &Cells) {
+        if let Some(progress) = &mut self.progress {
+            progress.begins(key);
+        }
+    }
+
+    fn pauses(&mut self, key: &Cells, row: u64, turns: u32) {
+        if let Some(progress) = &mut self.progress {
+            progress.pauses(key, row, turns);
+        }
+    }
+}
