@@ -23,7 +23,12 @@ NODE = [
     ("rp_schedules/src/lib.rt", "fn law_schedules", ["fits"]),
 ]
 PROMISES = {
-    "whole": [*TEXTS, ("rp_whole/src/whole.rt", "fn run_whole", ["written"])],
+    "whole": [
+        *TEXTS,
+        ("rp_columns/src/columns_text.rt", "fn read_columns", ["columns"]),
+        ("rp_question/src/question.rt", "fn new", ["query", "filter", "reading"]),
+        ("rp_question/src/question.rt", "fn answer_lines", ["answer"]),
+    ],
     "node": NODE,
     "connections": [
         *NODE,
