@@ -9,7 +9,7 @@ ghost use Rattle.rp_command.specs.declared.job.CommandName.TheVariants as comman
 ghost use Rattle.rp_command.specs.Values.{HasOther, HasText, HasValue, MeetsRules};
 ghost use Rattle.rp_command.specs.declared.job.ReportFormat.{ReportFormat as Named};
 
-use crate::arguments::{Memory, given_word, text_if_any};
+use crate::arguments::{Memory, given_word, text_if_any, texts_if_any};
 use crate::choices::no_such_word;
 use crate::input::{input_of, input_options};
 use crate::job::{CheckJob, CommandName, InputFormat, Job, JobFault, ReportFormat};
@@ -47,13 +47,15 @@ fn check_job(
     ensures refused { memory.new.is_refused ≡ false → memory.old.is_refused ≡ false }
 {
     let clause = text_if_any(memory, matches, "clause");
-    let file = text_if_any(memory, matches, "FILE");
+    let filter = text_if_any(memory, matches, "where");
+    let files = texts_if_any(memory, matches, "FILE");
     let input = input_options(memory, matches, from);
     CheckJob {
         input,
         clause,
         format,
-        file,
+        filter,
+        files,
     }
 }
 

@@ -153,8 +153,10 @@ pub struct CheckJob {
     pub clause: Option<String>,
     /// How what is found is printed.
     pub format: ReportFormat,
-    /// The path of the input's file; None where it is standard input.
-    pub file: Option<String>,
+    /// The text of a condition, of which only rows that meet it are looked at; None where all are.
+    pub filter: Option<String>,
+    /// The paths of the input's files; none where it is standard input.
+    pub files: Vec<String>,
 }
 
 /// What is asked of partitions without a match.

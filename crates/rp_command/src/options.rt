@@ -160,13 +160,8 @@ pub(crate) const CHECK: &[Argument] = &[
         presence: Presence::Optional,
     },
     REPORT_FORMAT,
-    Argument {
-        name: "FILE",
-        value: "",
-        help: "The file of the input; else standard input is read",
-        form: Form::Place,
-        presence: Presence::Optional,
-    },
+    WHERE,
+    FILES,
 ];
 
 /// The arguments of `why`.
