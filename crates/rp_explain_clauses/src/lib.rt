@@ -1,4 +1,4 @@
-//! What is wrong with a clause or with the text of a table, where it stands, and what to write in its place.
+//! What is wrong with a clause, with a condition of `--where` or with the text of a table, where it is, and what to write in its place.
 //!
 //! Every text is the line that the program prints, then the place with its line and a mark under it, then what is wrong there and
 //! what to write:
@@ -15,6 +15,7 @@
 #![tactic(auto)]
 
 mod clause;
+mod condition;
 mod explained;
 mod further;
 mod meaning;
@@ -22,7 +23,9 @@ mod passed;
 mod statement;
 mod table_kinds;
 mod table_text;
+mod tried;
 
 pub use clause::explain_clause;
+pub use condition::{explain_condition, explain_other_rows};
 pub use explained::{Explained, explain_text};
 pub use table_text::explain_table;
