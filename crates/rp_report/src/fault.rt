@@ -3,20 +3,45 @@
 use rp_json_line::JsonLine;
 use rp_wording::{Mark, Report};
 
+/// What is wrong with a text.
+pub struct FoundFault {
+    /// What the text is called.
+    pub text: &'static str,
+    /// The path of the file that the text is, where there are several.
+    pub file: Option<String>,
+    /// What is said of the fault.
+    pub report: Report,
+}
+
+/// It is let go of by a call, wherever it is held.
+impl Drop for FoundFault {
+    fn drop(self) {
+        let FoundFault {
+            text: _,
+            file: _,
+            report: _,
+        } = self;
+    }
+}
+
 /// Writes faults, each with the text in which it is.
-pub(crate) fn write_faults(line: &mut JsonLine, faults: &[(&'static str, Report)]) {
+pub(crate) fn write_faults(line: &mut JsonLine, faults: &[FoundFault]) {
     line.begin_array();
-    for (text, report) in faults {
-        write_fault(line, text, report);
+    for fault in faults {
+        write_fault(line, fault);
     }
     line.end_array();
 }
 
-fn write_fault(line: &mut JsonLine, text: &str, report: &Report) {
+fn write_fault(line: &mut JsonLine, fault: &FoundFault) {
+    let report = &fault.report;
     line.begin_object();
     if let Some(mark) = report.mark {
         write_number(line, "byte", mark.byte);
         write_number(line, "column", mark.column);
+    }
+    if let Some(file) = &fault.file {
+        line.text("file", file.as_str());
     }
     line.name("help");
     write_lines(line, report.help.as_str());
@@ -25,7 +50,7 @@ fn write_fault(line: &mut JsonLine, text: &str, report: &Report) {
         write_extent(line, mark);
     }
     line.text("message", report.message.as_str());
-    line.text("text", text);
+    line.text("text", fault.text);
     line.end_object();
 }
 

@@ -2,24 +2,24 @@
 
 use crate::clause::write_clause;
 use crate::columns::write_columns;
-use crate::fault::write_faults;
+use crate::fault::{FoundFault, write_faults};
+use crate::input::{FoundInput, rows_of_all, write_inputs, write_rows};
 use rp_json_line::JsonLine;
 use rp_query::Query;
 use rp_value::Table;
-use rp_wording::Report;
 use std::alloc::{AllocError, Global};
 
-/// What was found of the texts and of an input.
+/// What was found of the texts and of the inputs.
 #[derive(Clone, Copy)]
 pub struct Findings<'a> {
     /// The columns that a clause sees, where they have no fault.
     pub table: Option<&'a Table>,
     /// The query of the clause, where that has no fault.
     pub query: Option<&'a Query>,
-    /// How many rows the input has, where it was read.
-    pub rows: Option<u64>,
-    /// What is wrong: what the text is called in which it is, and what is said of it.
-    pub faults: &'a [(&'static str, Report)],
+    /// What was found of each input, in order.
+    pub inputs: &'a [FoundInput],
+    /// What is wrong, in order.
+    pub faults: &'a [FoundFault],
 }
 
 /// The object of what was found, as a line without its line end. The only error is that memory is out.
@@ -36,9 +36,8 @@ pub fn findings_line(alloc: Global, findings: &Findings<'_>) -> Result<Vec<u8>, 
     }
     line.name("faults");
     write_faults(&mut line, findings.faults);
-    if let Some(rows) = findings.rows {
-        line.count("rows", rows);
-    }
+    write_inputs(&mut line, findings.inputs);
+    write_rows(&mut line, rows_of_all(findings.inputs));
     line.end_object();
     line.finish()
 }

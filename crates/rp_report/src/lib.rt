@@ -8,8 +8,11 @@
 //!
 //! `columns` are those that the clause sees, `reads` those of them that it names, and `rows` how many rows the input has. `written` is an
 //! output column's name as the clause has it, and `from` the column whose value it is, unchanged; null where it is none's.
-//! A fault has its text (`table`, `columns`, `clause`, `where` or `csv`), its kind, what is wrong, what to write, and its place: the offset of
-//! its first byte in the text, how many bytes are meant, its line and the number of its character in the line.
+//! A fault has its text (`table`, `columns`, `clause`, `where`, `csv` or `json`), its kind, what is wrong, what to write, and its place: the
+//! offset of its first byte in the text, how many bytes are meant, its line and the number of its character in the line.
+//!
+//! Of several files `rows` are those of all, `inputs` has each with its `file` and its rows, and a fault of one has that `file`. Where there is
+//! a condition of `--where`, `kept` is how many of the rows meet it.
 //!
 //! What isn't known isn't there: of a clause with a fault there is no `clause`, and without an input there are no `rows`.
 //! Nothing here decides: the faults are those of the crates that read, and what a query reads is looked up in it.
@@ -19,6 +22,9 @@ mod clause;
 mod columns;
 mod fault;
 mod findings;
+mod input;
 mod written;
 
+pub use fault::FoundFault;
 pub use findings::{Findings, findings_line};
+pub use input::{FoundInput, FoundRows};
