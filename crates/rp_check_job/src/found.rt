@@ -2,12 +2,35 @@
 
 use rp_explain_clauses::Explained;
 use rp_explain_queries::{describe, doubt};
+use rp_filter::Filter;
 use rp_job::Verdict;
 use rp_query::Query;
 use rp_question::InputShape;
-use rp_report::{Findings, findings_line};
-use rp_wording::{Pieces, Report};
+use rp_report::{Findings, FoundFault, FoundInput, FoundRows, findings_line};
+use rp_value::Row;
+use rp_wording::{Pieces, Report, shown_line};
 use std::alloc::{AllocError, Global};
+
+/// Which rows of the inputs a clause sees.
+pub(crate) enum RowsSeen {
+    /// All of them.
+    All,
+    /// Those that meet a condition.
+    Meeting(Filter),
+    /// It isn't known, since the condition has a fault.
+    Unknown,
+}
+
+/// It is let go of by a call, wherever it is held.
+impl Drop for RowsSeen {
+    fn drop(self) {
+        match self {
+            RowsSeen::All => {}
+            RowsSeen::Meeting(_) => {}
+            RowsSeen::Unknown => {}
+        }
+    }
+}
 
 /// What was found so far. Where memory is refused to a part of it, whoever asks for it is told.
 pub(crate) struct Found {
@@ -18,10 +41,16 @@ pub(crate) struct Found {
     pub(crate) shape: Option<InputShape>,
     /// The query of the clause, where that has no fault.
     pub(crate) query: Option<Query>,
-    /// How many rows the input has, where it was read.
-    pub(crate) rows: Option<u64>,
-    /// What is wrong, each with what its text is called.
-    faults: Vec<(&'static str, Report)>,
+    /// Which rows the clause sees.
+    pub(crate) seen: RowsSeen,
+    /// Whether there are several files, so that what is found in one is behind its name.
+    has_several: bool,
+    /// The path of the file that is looked at, where there are several.
+    file: Option<String>,
+    /// What was found of each input.
+    inputs: Vec<FoundInput>,
+    /// What is wrong.
+    faults: Vec<FoundFault>,
 }
 
 /// It is let go of by a call, wherever it is held.
@@ -32,21 +61,65 @@ impl Drop for Found {
             text: _,
             shape: _,
             query: _,
-            rows: _,
+            seen: _,
+            has_several: _,
+            file: _,
+            inputs: _,
             faults: _,
         } = self;
     }
 }
 
 impl Found {
-    pub(crate) fn new(alloc: Global) -> Found {
+    /// Nothing, of several files or not.
+    pub(crate) fn new(alloc: Global, has_several: bool) -> Found {
         Found {
             alloc,
             text: Pieces::new(alloc),
             shape: None,
             query: None,
-            rows: None,
+            seen: RowsSeen::All,
+            has_several,
+            file: None,
+            inputs: Vec::new(alloc),
             faults: Vec::new(alloc),
+        }
+    }
+
+    /// What is found from here on is in the input of this name.
+    pub(crate) fn look_in(&mut self, name: Option<&str>) -> Result<(), AllocError> {
+        self.file = match name {
+            Some(name) if self.has_several => Some(String::from_str(self.alloc, name)?),
+            _ => None,
+        };
+        Ok(())
+    }
+
+    /// What is found from here on is in no input.
+    pub(crate) fn look_in_none(&mut self) {
+        self.file = None;
+    }
+
+    /// Writes lines, each behind the name of the file that is looked at.
+    pub(crate) fn tell(&mut self, lines: Result<String, AllocError>) {
+        match lines {
+            Ok(lines) => {
+                for line in lines.as_str().lines() {
+                    self.push_file();
+                    self.text.push(line);
+                    self.text.push("\n");
+                }
+            }
+            Err(refused) => self.text.push_made(Err(refused)),
+        }
+    }
+
+    /// Writes the name of the file that is looked at, if there are several.
+    fn push_file(&mut self) {
+        if let Some(file) = &self.file {
+            let shown = shown_line(self.alloc, file.as_str());
+            self.text.push_made(shown);
+            self.text.push(": ");
         }
     }
 
@@ -59,10 +132,20 @@ impl Found {
     }
 
     fn take_report(&mut self, text: &'static str, report: Report) {
+        self.push_file();
         self.text.push(report.text.as_str());
-        if self.faults.push((text, report)).is_err() {
+        if self.keep_fault(text, report).is_err() {
             self.text.push_made(Err(AllocError));
         }
+    }
+
+    fn keep_fault(&mut self, text: &'static str, report: Report) -> Result<(), AllocError> {
+        let file = match &self.file {
+            Some(file) => Some(String::from_str(self.alloc, file.as_str())?),
+            None => None,
+        };
+        self.faults.push(FoundFault { text, file, report })?;
+        Ok(())
     }
 
     /// Says what a clause does.
@@ -89,6 +172,34 @@ impl Found {
         }
     }
 
+    /// Takes how many rows an input of this name has, where they were read.
+    pub(crate) fn take_input(
+        &mut self,
+        name: Option<&str>,
+        rows: Option<FoundRows>,
+    ) -> Result<(), AllocError> {
+        let file = match name {
+            Some(name) => Some(String::from_str(self.alloc, name)?),
+            None => None,
+        };
+        self.inputs.push(FoundInput { file, rows })?;
+        Ok(())
+    }
+
+    /// Whether there is a condition without a fault, which rows have to meet.
+    pub(crate) fn is_filtered(&self) -> bool {
+        matches!(&self.seen, RowsSeen::Meeting(_))
+    }
+
+    /// Those of the rows that the clause is known to see.
+    pub(crate) fn rows_seen(&self, rows: Vec<Row>) -> Result<Vec<Row>, AllocError> {
+        match &self.seen {
+            RowsSeen::All => Ok(rows),
+            RowsSeen::Meeting(filter) => filter.keep(self.alloc, rows),
+            RowsSeen::Unknown => Ok(Vec::new(self.alloc)),
+        }
+    }
+
     pub(crate) fn verdict(&self) -> Verdict {
         if self.faults.is_empty() {
             Verdict::Clean
@@ -105,7 +216,7 @@ impl Found {
                 None => None,
             },
             query: self.query.as_ref(),
-            rows: self.rows,
+            inputs: self.inputs.as_slice(),
             faults: self.faults.as_slice(),
         };
         let mut line = findings_line(self.alloc, &findings)?;

@@ -1,7 +1,10 @@
-//! The job `check`: what is wrong with columns, a clause or an input, or what a clause does.
+//! The job `check`: what is wrong with columns, a clause, a condition of `--where` or inputs, or what a clause does.
 #![tactic(auto)]
 
 mod check;
 mod found;
+mod inputs;
+mod proposing;
+mod rows;
 
 pub use check::run_check;
