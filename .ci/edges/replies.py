@@ -1,13 +1,14 @@
 #!/usr/bin/env python3
-"""Runs `rowmatch source` on replies of every length, behind the last one, and of nodes that are silent. Usage: .ci/edges/replies.py [PROGRAM]"""
+"""Runs `rowmatch source` on replies of every length, and of nodes that are silent or gone. Usage: .ci/edges/replies.py [PROGRAM]"""
 import os
 import pty
 import socket
+import struct
 import subprocess
 import threading
 import time
 
-from sockets import CLAUSE, PROGRAM, TABLE, Node, main, poll, row, run, talk
+from sockets import CLAUSE, PROGRAM, TABLE, Node, free_port, main, poll, row, run, talk
 
 TEXTS = ["--table", TABLE, "--clause", CLAUSE]
 ONE_ROW = "sym,t,p\nx,1,10\n"
@@ -138,12 +139,69 @@ def acknowledged(checks, folder):
     node.kill()
 
 
+def gone_peer(replies, part="", resets=False):
+    """A peer that replies to each line by the next of these, and ends its connection at the next line, perhaps behind a part of a reply,
+    and perhaps by a reset."""
+    server = socket.create_server(("127.0.0.1", 0))
+
+    def serve():
+        connection, _ = server.accept()
+        with connection, server, connection.makefile("rb") as lines:
+            for reply in [*replies, part]:
+                lines.readline()
+                connection.sendall(reply.encode())
+            if resets:
+                connection.setsockopt(socket.SOL_SOCKET, socket.SO_LINGER, struct.pack("ii", 1, 0))
+
+    threading.Thread(target=serve, daemon=True).start()
+    return f"127.0.0.1:{server.getsockname()[1]}"
+
+
+def gone(checks, folder):
+    """With --acknowledge a node whose connection ends or fails before it said that it saved hasn't saved. Without, what came is judged."""
+    read = "rowmatch: device: read\n"
+    cases = [
+        ("in place of the first reply", gone_peer, ([],), "", (1, BAD_REPLY)),
+        ("in place of a later reply", gone_peer, ([NEW, IDLE],), "", (1, BAD_REPLY)),
+        ("behind an item", gone_peer, ([NEW, IDLE, NEW, END],), PRINTED, (1, BAD_REPLY)),
+        ("within a reply", gone_peer, ([NEW], IDLE[:7]), "", (1, BAD_REPLY)),
+        ("by a reset", gone_peer, ([NEW], "", True), "", (3, read)),
+        ("by a reset within a reply", gone_peer, ([], NEW[:7], True), "", (3, read)),
+    ]
+    for name, make, given, printed, (status, told) in cases:
+        checks.same(f"gone {name}", source("--acknowledge", make(*given)), (3, printed, NOT_SAVED))
+        checks.same(f"gone {name}, without --acknowledge", source(make(*given)), (status, printed, told))
+    checks.same("a whole line that is no reply", source("--acknowledge", gone_peer([], "nope\n")), (1, "", BAD_REPLY))
+    checks.same("a refusal", source("--acknowledge", gone_peer([], '{"refused":"TooFar"}\n')), (1, "", "rowmatch: node 1: refused\n"))
+    checks.same("nobody listens", source("--acknowledge", f"127.0.0.1:{free_port()}"), (3, "", "rowmatch: device: connect\n"))
+
+
+def unconnected(checks, folder):
+    """With --idle a node that takes no connection ends the source: more wait for it already than the system keeps."""
+    with socket.socket() as server:
+        server.bind(("127.0.0.1", 0))
+        server.listen(0)
+        waiting = [socket.socket() for _ in range(4)]
+        for one in waiting:
+            one.setblocking(False)
+            one.connect_ex(server.getsockname())
+        begun = time.monotonic()
+        found = source("--idle", "1", f"127.0.0.1:{server.getsockname()[1]}")
+        checks.same("no connection is taken", found, (3, "", "rowmatch: device: connect\n"))
+        checks.true("after a second", 0.9 < time.monotonic() - begun < 20)
+        for one in waiting:
+            one.close()
+    checks.same("a connection in time", source("--idle", "20", peer(WORKED, "", "")), (0, PRINTED, ""))
+    checks.same("by a name", source("--idle", "20", peer(WORKED, "", "").replace("127.0.0.1", "localhost")), (0, PRINTED, ""))
+
+
 def silent(checks, folder):
     """With --idle a node that says nothing for a second ends the source: before a reply, before its end, and before it has saved."""
     cases = [
         ("before a reply", [], [NEW], (3, "", "rowmatch: device: read\n")),
         ("before its end", [], WORKED, (3, PRINTED, "rowmatch: device: read\n")),
         ("before it says that it saved", ["--acknowledge"], WORKED, (3, PRINTED, NOT_SAVED)),
+        ("before a reply, and so before it says that it saved", ["--acknowledge"], [NEW], (3, "", NOT_SAVED)),
     ]
     for name, words, replies, wanted in cases:
         begun = time.monotonic()
@@ -194,4 +252,4 @@ def on_terminal(address, data):
 
 
 if __name__ == "__main__":
-    main([long_items, surplus, acknowledged, silent, refused])
+    main([long_items, surplus, acknowledged, gone, unconnected, silent, refused])

@@ -13,7 +13,7 @@ use rp_value::Row;
 use rp_wording::Pieces;
 use std::alloc::{AllocError, Global};
 use std::io::{IsTerminal, Read};
-use std::net::{Shutdown, TcpStream};
+use std::net::{Shutdown, TcpStream, ToSocketAddrs};
 use std::time::Duration;
 
 /// The greatest length of a reply that is read, in bytes: 16 MiB. A node writes an item whatever its length.
@@ -88,11 +88,29 @@ fn hand_to_one<O: Outlet>(
     address: &str,
     out: &mut O,
 ) -> Result<(), ProgramFault> {
-    let Ok(stream) = TcpStream::connect(rt, address) else {
+    let Some(stream) = connected(rt, address, idle_time(node.job)) else {
         return Err(ProgramFault::Connect);
     };
     prepare(node.job, &stream);
     converse(rt, node, &stream, out)
+}
+
+/// How long the job waits for a node, where that is bounded.
+fn idle_time(job: &SourceJob) -> Option<Duration> {
+    Some(Duration::from_secs(u64::from(job.idle?)))
+}
+
+/// A connection to the node at this address, which takes it in this time where that is bounded.
+fn connected(rt: &HostRuntime, address: &str, time: Option<Duration>) -> Option<TcpStream> {
+    let Some(time) = time else {
+        return TcpStream::connect(rt, address).ok();
+    };
+    for one in address.to_socket_addrs(rt).ok()? {
+        if let Ok(stream) = TcpStream::connect_timeout(rt, &one, time) {
+            return Some(stream);
+        }
+    }
+    None
 }
 
 /// What a node is handed, and its number, from 1.
@@ -108,10 +126,9 @@ struct SourceNode<'a> {
 /// node is handed the rows all the same.
 fn prepare(job: &SourceJob, stream: &TcpStream) {
     let _ = stream.set_nodelay(true);
-    if let Some(seconds) = job.idle {
-        let idle = Duration::from_secs(u64::from(seconds));
-        let _ = stream.set_read_timeout(Some(idle));
-        let _ = stream.set_write_timeout(Some(idle));
+    if let Some(time) = idle_time(job) {
+        let _ = stream.set_read_timeout(Some(time));
+        let _ = stream.set_write_timeout(Some(time));
     }
 }
 
@@ -128,13 +145,13 @@ fn converse<O: Outlet>(
     if heard.lines > sent.lines {
         return Err(ProgramFault::BadReply(node.number));
     }
-    if stream.shutdown(Shutdown::Write).is_err() {
-        return Err(ProgramFault::Write);
-    }
+    let is_shut = stream.shutdown(Shutdown::Write).is_ok();
     if node.job.acknowledge {
         wait_for_saved(rt, stream, sent.lines, node.number)
-    } else {
+    } else if is_shut {
         wait_for_end(stream, node.number)
+    } else {
+        Err(ProgramFault::Write)
     }
 }
 
@@ -154,7 +171,20 @@ fn hand_over<O: Outlet>(
     };
     match drive_within(rt.alloc(), &conversation, MAX_REPLY_LEN, heard, sent, out) {
         Ok(()) => Ok(()),
+        Err(stop) if node.job.acknowledge && is_gone(&stop, heard, sent) => {
+            Err(ProgramFault::NotSaved(node.number))
+        }
         Err(stop) => Err(node_fault(rt, node, &stop)?),
+    }
+}
+
+/// Whether a conversation stopped since its connection ended or failed: no whole line came where a reply was due, or a line wasn't taken.
+fn is_gone(stop: &Stop, heard: &Counter<'_>, sent: &Counter<'_>) -> bool {
+    match stop.fault {
+        DriveFault::Read => true,
+        DriveFault::Write => sent.device.failures > 0,
+        DriveFault::BadReply => heard.device.ended,
+        DriveFault::Refused | DriveFault::Turns | DriveFault::OutOfMemory => false,
     }
 }
 
