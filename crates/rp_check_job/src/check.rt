@@ -33,7 +33,7 @@ fn look_at_all(rt: &HostRuntime, job: &CheckJob, found: &mut Found) -> Result<()
     if inputs.is_empty() {
         tell_no_input(rt, found);
     }
-    Ok(look_at_inputs(&form, inputs.as_slice(), found)?)
+    Ok(look_at_inputs(&form, inputs.as_slice(), &job.filter, found)?)
 }
 
 fn print_found(rt: &HostRuntime, format: ReportFormat, found: &Found) -> Result<(), ProgramFault> {

@@ -39,6 +39,8 @@ pub(crate) struct Found {
     pub(crate) text: Pieces,
     /// The columns that a clause sees, where they have no fault.
     pub(crate) shape: Option<InputShape>,
+    /// The text of these columns, where they are proposed.
+    pub(crate) proposed: Option<String>,
     /// The query of the clause, where that has no fault.
     pub(crate) query: Option<Query>,
     /// Which rows the clause sees.
@@ -60,6 +62,7 @@ impl Drop for Found {
             alloc: _,
             text: _,
             shape: _,
+            proposed: _,
             query: _,
             seen: _,
             has_several: _,
@@ -77,6 +80,7 @@ impl Found {
             alloc,
             text: Pieces::new(alloc),
             shape: None,
+            proposed: None,
             query: None,
             seen: RowsSeen::All,
             has_several,

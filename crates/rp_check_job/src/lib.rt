@@ -6,5 +6,6 @@ mod found;
 mod inputs;
 mod proposing;
 mod rows;
+mod texts;
 
 pub use check::run_check;

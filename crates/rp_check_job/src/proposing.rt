@@ -114,6 +114,7 @@ fn take_columns(
     if let Some(proposal) = proposals.first() {
         let columns = columns_of(found.alloc, proposal.columns.as_str())?;
         found.shape = Some(InputShape::Columns(columns));
+        found.proposed = Some(String::from_str(found.alloc, proposal.columns.as_str())?);
     }
     Ok(())
 }

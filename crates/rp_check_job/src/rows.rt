@@ -1,6 +1,7 @@
 //! The rows of inputs, or what is wrong with them.
 use crate::found::Found;
 use crate::inputs::Input;
+use crate::texts::texts_told;
 use rp_columns::Columns;
 use rp_command::InputFormat;
 use rp_explain_inputs::{
@@ -19,50 +20,90 @@ use std::alloc::{AllocError, Global};
 /// The rows of an input, or what is said of why they are none.
 type Looked = Result<Vec<Row>, Result<Report, AllocError>>;
 
-/// How many rows each input has, or what is wrong with it, and what is to be known of the rows that the clause sees.
+/// What was read of an input: how many rows it has, where they were read; these, and those of them that the clause sees.
+#[derive(Drop)]
+struct RowsRead {
+    counts: Option<FoundRows>,
+    all: Vec<Row>,
+    seen: Vec<Row>,
+}
+
+/// How many rows each input has, or what is wrong with it, and what is to be known of the rows that the clause sees. The condition is the
+/// text of the one that leaves rows out.
 pub(crate) fn look_at_inputs(
     form: &InputForm,
     inputs: &[Input<'_>],
+    condition: &Option<String>,
     found: &mut Found,
 ) -> Result<(), AllocError> {
-    let mut seen = Vec::new(found.alloc);
+    let (mut all, mut seen) = (Vec::new(found.alloc), Vec::new(found.alloc));
     for input in inputs {
         found.look_in(input.name)?;
-        let (rows, mut seen_here) = look_at_rows(form, input.bytes.as_slice(), found)?;
-        found.take_input(input.name, rows)?;
-        seen.append(&mut seen_here)?;
+        let mut read = look_at_rows(form, input.bytes.as_slice(), found)?;
+        found.take_input(input.name, read.counts)?;
+        all.append(&mut read.all)?;
+        seen.append(&mut read.seen)?;
     }
-    let described = rows_described(found, seen.as_slice());
+    let described = rows_described(found, condition, all.as_slice(), seen.as_slice());
     found.text.push_made(described);
     Ok(())
 }
 
-/// How many rows an input has, where they were read, and those that the clause sees.
-fn look_at_rows(
-    form: &InputForm,
-    bytes: &[u8],
-    found: &mut Found,
-) -> Result<(Option<FoundRows>, Vec<Row>), AllocError> {
+/// What there is of an input: its rows, or what is wrong with it.
+fn look_at_rows(form: &InputForm, bytes: &[u8], found: &mut Found) -> Result<RowsRead, AllocError> {
     let alloc = found.alloc;
     let looked = match &found.shape {
-        None => return Ok((None, Vec::new(alloc))),
+        None => return Ok(no_rows(alloc)),
         Some(InputShape::Table(table)) => rows_by_table(alloc, table, bytes),
         Some(InputShape::Columns(columns)) => rows_by_columns(alloc, columns, form, bytes),
         Some(InputShape::Objects(columns)) => rows_of_objects(alloc, columns, form, bytes),
     };
     match looked {
-        Ok(rows) => {
-            let all = rows.len() as u64;
-            tell_rows(form, bytes, rows.as_slice(), found);
-            let seen = found.rows_seen(rows)?;
-            let kept = tell_kept(found, seen.len());
-            Ok((Some(FoundRows { all, kept }), seen))
-        }
+        Ok(rows) => take_rows(form, bytes, rows, found),
         Err(report) => {
             found.blame(input_name(form), report);
-            Ok((None, Vec::new(alloc)))
+            Ok(no_rows(alloc))
         }
     }
+}
+
+/// No row was read.
+fn no_rows(alloc: Global) -> RowsRead {
+    RowsRead {
+        counts: None,
+        all: Vec::new(alloc),
+        seen: Vec::new(alloc),
+    }
+}
+
+/// Takes the rows of an input, of which the clause sees those that meet the condition.
+fn take_rows(
+    form: &InputForm,
+    bytes: &[u8],
+    rows: Vec<Row>,
+    found: &mut Found,
+) -> Result<RowsRead, AllocError> {
+    tell_rows(form, bytes, rows.as_slice(), found);
+    let seen = found.rows_seen(shared(found.alloc, rows.as_slice())?)?;
+    let kept = tell_kept(found, seen.len());
+    let counts = Some(FoundRows {
+        all: rows.len() as u64,
+        kept,
+    });
+    Ok(RowsRead {
+        counts,
+        all: rows,
+        seen,
+    })
+}
+
+/// The same rows, shared.
+fn shared(alloc: Global, rows: &[Row]) -> Result<Vec<Row>, AllocError> {
+    let mut list = Vec::with_capacity(alloc, rows.len())?;
+    for row in rows {
+        list.push(row.share()?)?;
+    }
+    Ok(list)
 }
 
 /// Writes how many rows an input of this form has, and what is to be known of them.
@@ -121,12 +162,20 @@ fn never_found_told(found: &Found, rows: &[Row]) -> Result<String, AllocError> {
     lines.finish()
 }
 
-/// What is said of rows over which the clause has no fault.
-fn rows_described(found: &Found, rows: &[Row]) -> Result<String, AllocError> {
-    match &found.query {
-        Some(query) => describe_input(found.alloc, query, rows),
-        None => Ok(String::new(found.alloc)),
-    }
+/// What is said of rows over which the clause has no fault: of those that it sees, and of columns that are proposed for all.
+fn rows_described(
+    found: &Found,
+    condition: &Option<String>,
+    all: &[Row],
+    seen: &[Row],
+) -> Result<String, AllocError> {
+    let Some(query) = &found.query else {
+        return Ok(String::new(found.alloc));
+    };
+    let described = describe_input(found.alloc, query, seen)?;
+    let mut told = Pieces::of(found.alloc, described.as_str());
+    told.push_made(texts_told(found, query, condition, all, described.as_str()));
+    told.finish()
 }
 
 /// What an input of this form is called.

@@ -26,7 +26,7 @@ type Counter<'a> = Counted<CountedDevice<&'a TcpStream>>;
 pub fn run_source(rt: &HostRuntime, job: &SourceJob) -> Result<(), ProgramFault> {
     let form = InputForm::of(rt.alloc(), &job.input)?;
     match named_shape(rt, &job.input, &form)? {
-        Some(shape) => hand_over_input(rt, job, &InputLayout { form, shape }),
+        Some(shape) => hand_over_input(rt, job, &InputLayout::named(form, shape)),
         None => Err(ProgramFault::Usage("nodes have a table: give --table or --columns")),
     }
 }
@@ -34,7 +34,7 @@ pub fn run_source(rt: &HostRuntime, job: &SourceJob) -> Result<(), ProgramFault>
 /// Hands the rows of an input that is read so to each node.
 fn hand_over_input<'a>(
     rt: &'a HostRuntime,
-    job: &SourceJob,
+    job: &'a SourceJob,
     layout: &'a InputLayout,
 ) -> Result<(), ProgramFault> {
     let asked = Asked {
@@ -45,7 +45,7 @@ fn hand_over_input<'a>(
     };
     let question = asked.question(rt.alloc(), layout)?;
     let ready = Vec::new(rt.alloc());
-    let rows = JobInputs::new(rt, layout, asked.files, ready, None).rows(&question)?;
+    let rows = JobInputs::new(rt, asked, layout, &question.query, ready, None).rows(&question)?;
     hand_out(rt, job, &question.query, rows)
 }
 

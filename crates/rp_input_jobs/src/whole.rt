@@ -10,7 +10,7 @@ use std::num::NonZeroU64;
 
 /// Prints the answer. What has no place in it is reported at the end: a skip fault, unless the answer is printed as lines, and a
 /// partition that was given up.
-pub fn run_answer(rt: &HostRuntime, job: &WholeJob) -> Result<Verdict, ProgramFault> {
+pub fn run_answer<'a>(rt: &'a HostRuntime, job: &'a WholeJob) -> Result<Verdict, ProgramFault> {
     let mut progress = if job.progress {
         Some(Progress::new(rt))
     } else {
@@ -24,7 +24,7 @@ pub fn run_answer(rt: &HostRuntime, job: &WholeJob) -> Result<Verdict, ProgramFa
     };
     let (layout, ready) = asked.layout(rt, &mut progress)?;
     let question = asked.question(rt.alloc(), &layout)?;
-    let mut inputs = JobInputs::new(rt, &layout, asked.files, ready, progress);
+    let mut inputs = JobInputs::new(rt, asked, &layout, &question.query, ready, progress);
     print_answer(rt, job, &question, &mut inputs)
 }
 

@@ -25,7 +25,7 @@ pub fn run_why<'a>(rt: &'a HostRuntime, job: &'a WhyJob) -> Result<Verdict, Prog
     };
     let (layout, ready) = asked.layout(rt, &mut None)?;
     let question = asked.question(rt.alloc(), &layout)?;
-    let rows = JobInputs::new(rt, &layout, asked.files, ready, None).rows(&question)?;
+    let rows = JobInputs::new(rt, asked, &layout, &question.query, ready, None).rows(&question)?;
     tell_rows(rt, job, &question.query, &key, rows)
 }
 

@@ -4,7 +4,6 @@ use crate::files::bytes_of;
 use crate::input::{InputForm, InputLayout, columns_of, named_shape};
 use crate::progress::Progress;
 use crate::telling::tell;
-use rp_columns::Columns;
 use rp_command::{InputFormat, InputOptions};
 use rp_proposal::propose_columns;
 use rp_question::{InputShape, Question, QuestionFault};
@@ -39,7 +38,7 @@ impl<'a> Asked<'a> {
     ) -> Result<(InputLayout, Vec<Vec<u8>>), ProgramFault> {
         let form = InputForm::of(rt.alloc(), self.input)?;
         match named_shape(rt, self.input, &form)? {
-            Some(shape) => Ok((InputLayout { form, shape }, Vec::new(rt.alloc()))),
+            Some(shape) => Ok((InputLayout::named(form, shape), Vec::new(rt.alloc()))),
             None => self.proposed_layout(rt, form, progress),
         }
     }
@@ -55,8 +54,13 @@ impl<'a> Asked<'a> {
             return Err(no_columns());
         }
         let inputs = self.bytes_of_inputs(rt, progress)?;
-        let shape = InputShape::Columns(self.proposed(rt, inputs.as_slice(), &form)?);
-        Ok((InputLayout { form, shape }, inputs))
+        let text = self.proposed(rt, inputs.as_slice(), &form)?;
+        let layout = InputLayout {
+            form,
+            shape: InputShape::Columns(columns_of(rt.alloc(), text.as_str())?),
+            proposed: Some(text),
+        };
+        Ok((layout, inputs))
     }
 
     /// The question of the clause and of the condition, over inputs that are read so.
@@ -77,7 +81,7 @@ impl<'a> Asked<'a> {
     }
 
     /// The name of the file with this index.
-    fn name_at(&self, index: usize) -> Option<&'a str> {
+    pub(crate) fn name_at(&self, index: usize) -> Option<&'a str> {
         match self.files.get(index) {
             Some(name) => Some(name.as_str()),
             None => None,
@@ -97,22 +101,22 @@ impl<'a> Asked<'a> {
         Ok(inputs)
     }
 
-    /// The columns that are proposed, which are the same for each input. A line reports them.
+    /// The text of the columns that are proposed, which are the same for each input. A line reports them.
     fn proposed(
         &self,
         rt: &HostRuntime,
         inputs: &[Vec<u8>],
         form: &InputForm,
-    ) -> Result<Columns, ProgramFault> {
+    ) -> Result<String, ProgramFault> {
         let text = self.proposed_text(rt, inputs, form)?;
         if text.is_empty() {
             return Err(ProgramFault::CsvHeader);
         }
         tell_columns(rt, None, text.as_str())?;
-        columns_of(rt.alloc(), text.as_str())
+        Ok(text)
     }
 
-    /// The text of these columns.
+    /// The text that is proposed for each input, where it is the same.
     fn proposed_text(
         &self,
         rt: &HostRuntime,

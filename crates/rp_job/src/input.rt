@@ -39,16 +39,31 @@ pub struct InputLayout {
     pub form: InputForm,
     /// Their columns.
     pub shape: InputShape,
+    /// The text of these columns, where they are proposed.
+    pub proposed: Option<String>,
 }
 
 /// It is let go of by a call, wherever it is held.
 impl Drop for InputLayout {
     fn drop(self) {
-        let InputLayout { form: _, shape: _ } = self;
+        let InputLayout {
+            form: _,
+            shape: _,
+            proposed: _,
+        } = self;
     }
 }
 
 impl InputLayout {
+    /// Inputs of columns that are named.
+    pub fn named(form: InputForm, shape: InputShape) -> InputLayout {
+        InputLayout {
+            form,
+            shape,
+            proposed: None,
+        }
+    }
+
     /// How the bytes of an input become rows.
     pub fn reading(&self) -> Reading<'_> {
         Reading {

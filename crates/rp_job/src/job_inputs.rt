@@ -1,23 +1,28 @@
 //! The inputs of a job, one after another.
+use crate::asked::Asked;
 use crate::fault::ProgramFault;
 use crate::files::bytes_of;
 use crate::input::InputLayout;
 use crate::input_fault::input_fault;
 use crate::progress::Progress;
 use crate::remarks::{tell_never_found, tell_quotes_of};
+use crate::texts::tell_texts;
+use rp_query::Query;
 use rp_question::{InputFault, Inputs, Question, Unread};
 use rp_value::{Cells, Row};
 use rp_whole::Watch;
 use std::alloc::AllocError;
 use std::mem;
 
-/// The inputs of a job: its files, or standard input. What may not be meant so is reported of each, and how far a long answer over them is.
+/// The inputs of a job: its files, or standard input. What may not be meant so is reported of each, and of all; and how far a long answer over
+/// them is.
 #[derive(Drop)]
 pub struct JobInputs<'a> {
     rt: &'a HostRuntime,
+    asked: Asked<'a>,
     layout: &'a InputLayout,
-    /// The paths of the files; none where the input is standard input.
-    files: &'a [String],
+    /// The query of the clause.
+    query: &'a Query,
     /// The bytes of all inputs, where these were read before; else none.
     ready: Vec<Vec<u8>>,
     progress: Option<Progress<'a>>,
@@ -28,18 +33,20 @@ pub struct JobInputs<'a> {
 }
 
 impl<'a> JobInputs<'a> {
-    /// These files, or standard input where there is none. Their bytes are `ready` where they were read before.
+    /// The inputs of which this is asked. Their bytes are `ready` where they were read before.
     pub fn new(
         rt: &'a HostRuntime,
+        asked: Asked<'a>,
         layout: &'a InputLayout,
-        files: &'a [String],
+        query: &'a Query,
         ready: Vec<Vec<u8>>,
         progress: Option<Progress<'a>>,
     ) -> JobInputs<'a> {
         JobInputs {
             rt,
+            asked,
             layout,
-            files,
+            query,
             ready,
             progress,
             index: 0,
@@ -65,10 +72,7 @@ impl<'a> JobInputs<'a> {
 
     /// The name of the file at hand.
     fn name(&self) -> Option<&'a str> {
-        match self.files.get(self.index) {
-            Some(name) => Some(name.as_str()),
-            None => None,
-        }
+        self.asked.name_at(self.index)
     }
 }
 
@@ -78,7 +82,7 @@ impl Inputs for JobInputs<'_> {
     ghost texts = { λ _. None };
 
     fn count(&self) -> usize {
-        self.files.len().max(1)
+        self.asked.files.len().max(1)
     }
 
     fn read(&mut self, index: usize) -> Result<Vec<u8>, Unread> {
@@ -98,6 +102,21 @@ impl Inputs for JobInputs<'_> {
     fn has_rows(&mut self, bytes: &[u8], rows: &[Row]) -> Result<(), AllocError> {
         tell_quotes_of(self.rt, &self.layout.form, bytes, self.name())?;
         tell_never_found(self.rt, &self.layout.shape, rows, self.name())
+    }
+
+    fn has_all(&mut self, rows: &[Row]) -> Result<(), AllocError> {
+        match &self.layout.proposed {
+            Some(columns) => {
+                tell_texts(
+                    self.rt,
+                    self.query,
+                    self.asked.filter,
+                    columns.as_str(),
+                    rows,
+                )
+            }
+            None => Ok(()),
+        }
     }
 }
 

@@ -1,6 +1,6 @@
 //! What the jobs have in common: how the program ends, by a verdict, or early by a fault, which has a line on standard error and an exit
-//! status; and what a job is asked, and of which rows, by the options that say so: the columns and the form of an input, its files, a
-//! condition, time zones by name, and how far a long answer is.
+//! status; and what a job is asked, and of which inputs, by the options that say so: the columns and the form of an input, its files,
+//! time zones by name; what is reported of them, and how far a long answer is.
 //!
 //! Which fault of the program comes of which fault of a crate below is said by `specs/Faults`, and the exit status of each by
 //! `specs/Statuses`.
@@ -18,6 +18,7 @@ mod remarks;
 mod seed;
 mod shown;
 mod telling;
+mod texts;
 mod verdict;
 mod zones;
 
@@ -31,4 +32,5 @@ pub use progress::Progress;
 pub use seed::seeded_hasher;
 pub use shown::shown_key;
 pub use telling::{end_with, tell};
+pub use texts::notes_on_columns;
 pub use verdict::Verdict;

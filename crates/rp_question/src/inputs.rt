@@ -31,6 +31,10 @@ pub trait Inputs {
     /// These are the rows of the input that was read last, which had these bytes: what is to be known of them can be reported.
     fn has_rows(&mut self, bytes: &[u8], rows: &[Row]) -> Result<(), AllocError>
         ensures { texts self.new ≡ texts self.old };
+
+    /// These are the rows of all inputs, before a condition leaves some out: so it is with what is to be known of all of them.
+    fn has_all(&mut self, rows: &[Row]) -> Result<(), AllocError>
+        ensures { texts self.new ≡ texts self.old };
 }
 
 /// Texts in memory.
@@ -64,6 +68,10 @@ impl Inputs for Texts<'_> {
     }
 
     fn has_rows(&mut self, _bytes: &[u8], _rows: &[Row]) -> Result<(), AllocError> {
+        Ok(())
+    }
+
+    fn has_all(&mut self, _rows: &[Row]) -> Result<(), AllocError> {
         Ok(())
     }
 }

@@ -72,6 +72,7 @@ impl<'a> Question<'a> {
             IsInputsFault self.now.reading texts why)) }
     {
         let rows = self.rows_of_all(alloc, inputs)?;
+        inputs.has_all(rows.as_slice())?;
         match &self.filter {
             Some(filter) => Ok(filter.keep(alloc, rows)?),
             None => Ok(rows),

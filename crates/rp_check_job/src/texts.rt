@@ -1,0 +1,41 @@
+//! What `check` says of columns that are proposed as texts, and are numbers or times that a clause compares.
+
+use crate::found::Found;
+use rp_job::notes_on_columns;
+use rp_query::Query;
+use rp_value::Row;
+use rp_wording::{Pieces, shown_text};
+use std::alloc::{AllocError, Global};
+
+/// What is said of these columns, a line for each: of all but those of whose offsets from UTC something was told. The rows are all of the
+/// inputs, and the condition is the text of the one that leaves rows out.
+pub(crate) fn texts_told(
+    found: &Found,
+    query: &Query,
+    condition: &Option<String>,
+    rows: &[Row],
+    told: &str,
+) -> Result<String, AllocError> {
+    let mut lines = Pieces::new(found.alloc);
+    if let Some(columns) = &found.proposed {
+        for note in notes_on_columns(found.alloc, query, condition, columns.as_str(), rows)? {
+            if !is_told(found.alloc, query, note.column, told)? {
+                lines.push(note.line.as_str());
+                lines.push("\n");
+            }
+        }
+    }
+    shown_text(found.alloc, lines.text()?)
+}
+
+/// Whether something was told of the offsets of a column, by its number from 1.
+fn is_told(alloc: Global, query: &Query, column: usize, told: &str) -> Result<bool, AllocError> {
+    let Some(column) = query.table().columns().get(column.saturating_sub(1)) else {
+        return Ok(false);
+    };
+    let mut start = Pieces::new(alloc);
+    start.push_name(column.name.as_str());
+    start.push(" is a text with offsets as ");
+    let start = start.text()?;
+    Ok(told.split('\n').any(|line| line.starts_with(start)))
+}

@@ -1,0 +1,58 @@
+//! What is reported of columns that are proposed as texts, and are numbers or times that a clause compares.
+use crate::telling::tell;
+use rp_compile::{CompileFault, compile};
+use rp_query::Query;
+use rp_text_notes::{Note, notes_on_texts};
+use rp_value::{Row, Table};
+use rp_wording::{Pieces, shown_line};
+use std::alloc::{AllocError, Global};
+
+/// What is before a condition of rows in the clause that it is read as.
+const FRONT: &str = "PATTERN (R) DEFINE R AS ";
+
+/// Notes on the columns of a query, proposed by this text, that are numbers or times and are compared as texts: by the query, or by a
+/// condition that leaves rows out. The rows are all of the inputs.
+pub fn notes_on_columns(
+    alloc: Global,
+    query: &Query,
+    condition: &Option<String>,
+    columns: &str,
+    rows: &[Row],
+) -> Result<Vec<Note>, AllocError> {
+    match condition_query(alloc, condition, query.table())? {
+        Some(filter) => notes_on_texts(alloc, query, Some(&filter), columns, rows),
+        None => notes_on_texts(alloc, query, None, columns, rows),
+    }
+}
+
+/// The query of a condition over a table, where there is one.
+fn condition_query(
+    alloc: Global,
+    condition: &Option<String>,
+    table: &Table,
+) -> Result<Option<Query>, AllocError> {
+    let Some(condition) = condition else {
+        return Ok(None);
+    };
+    let mut clause = Pieces::of(alloc, FRONT);
+    clause.push(condition.as_str());
+    match compile(alloc, clause.text()?, table) {
+        Ok(query) => Ok(Some(query)),
+        Err(CompileFault::OutOfMemory) => Err(AllocError),
+        Err(_) => Ok(None),
+    }
+}
+
+/// Reports these columns, a line for each.
+pub(crate) fn tell_texts(
+    rt: &HostRuntime,
+    query: &Query,
+    condition: &Option<String>,
+    columns: &str,
+    rows: &[Row],
+) -> Result<(), AllocError> {
+    for note in notes_on_columns(rt.alloc(), query, condition, columns, rows)? {
+        tell(rt, &shown_line(rt.alloc(), note.line.as_str())?);
+    }
+    Ok(())
+}

@@ -1,0 +1,146 @@
+//! Texts that are dates or times in another form than that of ISO 8601.
+
+use crate::same_form::have_one_form;
+use crate::texts::{ColumnTexts, NumberReader};
+use crate::times::{IN_UTC, IN_ZONE};
+use crate::way::Way;
+use rp_wording::Pieces;
+use std::alloc::{AllocError, Global};
+
+/// Formats of dates, each with the one that has the day before the month, if there is such a one.
+const DATES: [(&str, &str); 18] = [
+    ("%Y-%m-%d", ""),
+    ("%Y/%m/%d", ""),
+    ("%Y.%m.%d", ""),
+    ("%m/%d/%Y", "%d/%m/%Y"),
+    ("%d/%m/%Y", ""),
+    ("%m-%d-%Y", "%d-%m-%Y"),
+    ("%d-%m-%Y", ""),
+    ("%d.%m.%Y", ""),
+    ("%m/%d/%y", "%d/%m/%y"),
+    ("%d/%m/%y", ""),
+    ("%d.%m.%y", ""),
+    ("%b %d, %Y", ""),
+    ("%B %d, %Y", ""),
+    ("%b %d %Y", ""),
+    ("%d %b %Y", ""),
+    ("%d %B %Y", ""),
+    ("%d-%b-%Y", ""),
+    ("%d/%b/%Y", ""),
+];
+
+/// What may follow a date, and the reading of a time that has it.
+const CLOCKS: [(&str, &str); 10] = [
+    ("", "date"),
+    (" %H:%M:%S", "seconds"),
+    (" %H:%M", "seconds"),
+    (" %H:%M:%S.%f", "micros"),
+    (" %I:%M:%S %p", "seconds"),
+    (" %I:%M %p", "seconds"),
+    (", %H:%M:%S", "seconds"),
+    (", %I:%M:%S %p", "seconds"),
+    (" %H:%M:%S %z", "seconds"),
+    (":%H:%M:%S %z", "seconds"),
+];
+
+/// Fewer digits than a date has.
+const FEW_DIGITS: usize = 3;
+
+/// A format of dates or times.
+#[derive(Clone, Copy)]
+struct Form {
+    /// How dates are written.
+    date: &'static str,
+    /// What follows them.
+    clock: &'static str,
+    /// The word of the reading.
+    word: &'static str,
+}
+
+/// How all texts of a column are read as dates or times by a format. None where not all are, and where their order as texts is that of time.
+pub(crate) fn format_way(
+    alloc: Global,
+    reader: &mut NumberReader,
+    column: ColumnTexts<'_>,
+) -> Result<Option<Way>, AllocError> {
+    if !has_digits(column.first().unwrap_or("")) {
+        return Ok(None);
+    }
+    for (date, swapped) in DATES {
+        for (clock, word) in CLOCKS {
+            let form = Form { date, clock, word };
+            if let Some(way) = way_of(alloc, reader, column, form)? {
+                if is_ordered(form) && have_one_form(column) {
+                    return Ok(None);
+                }
+                return Ok(Some(with_other(alloc, reader, column, form, swapped, way)?));
+            }
+        }
+    }
+    Ok(None)
+}
+
+/// Whether a text has as many digits as a date.
+fn has_digits(text: &str) -> bool {
+    let digits = text.bytes().filter(|byte| byte.is_ascii_digit()).count();
+    digits >= FEW_DIGITS
+}
+
+/// Whether texts of one form are ordered as the times of a format: greater units come first.
+fn is_ordered(form: Form) -> bool {
+    form.date.starts_with("%Y") && !form.clock.contains("%p")
+}
+
+/// How all texts of a column are read by a format, in UTC where they have no offset.
+fn way_of(
+    alloc: Global,
+    reader: &mut NumberReader,
+    column: ColumnTexts<'_>,
+    form: Form,
+) -> Result<Option<Way>, AllocError> {
+    let behind = behind_source(alloc, form, "UTC")?;
+    Way::reading_all(alloc, reader, column, form.word, behind)
+}
+
+/// What is behind the source in the reading of a format, where times that have no offset are in a zone.
+fn behind_source(alloc: Global, form: Form, zone: &str) -> Result<String, AllocError> {
+    let mut behind = Pieces::filled(alloc, ", '{}{}'", &[form.date, form.clock]);
+    if is_without_offset(form) {
+        behind.push_filled(", '{}'", &[zone]);
+    }
+    behind.finish()
+}
+
+/// Whether times of a format have no offset from UTC.
+fn is_without_offset(form: Form) -> bool {
+    form.word != "date" && !form.clock.contains("%z")
+}
+
+/// The way of a format with the one that may be meant otherwise: with the day before the month, where that reads all texts too, or in a time
+/// zone.
+fn with_other(
+    alloc: Global,
+    reader: &mut NumberReader,
+    column: ColumnTexts<'_>,
+    form: Form,
+    swapped: &'static str,
+    way: Way,
+) -> Result<Way, AllocError> {
+    let other = Form {
+        date: swapped,
+        ..form
+    };
+    let is_either = !swapped.is_empty() && way_of(alloc, reader, column, other)?.is_some();
+    let other = if is_either { other } else { form };
+    let behind = behind_source(alloc, other, "Europe/Berlin")?;
+    Ok(match (is_either, is_without_offset(form)) {
+        (true, true) => way.or(
+            " if the month is first and they are in UTC",
+            "if the day is first, and in a time zone",
+            behind,
+        ),
+        (true, false) => way.or(" if the month is first", "if the day is first", behind),
+        (false, true) => way.or(IN_UTC, IN_ZONE, behind),
+        (false, false) => way,
+    })
+}

@@ -1,0 +1,19 @@
+//! Notes on columns of texts that are numbers or times, where what a clause asks of them has another answer as texts, which are compared
+//! byte by byte: each note says how the column is read as whole numbers.
+//!
+//! Nothing here decides: no value is changed, and which way of reading is meant is for people to say. A note is given only where its
+//! reading reads each field. The only error is being out of memory.
+#![tactic(auto)]
+
+mod decimals;
+mod example;
+mod formats;
+mod notes;
+mod retyped;
+mod same_form;
+mod texts;
+mod times;
+mod uses;
+mod way;
+
+pub use notes::{Note, notes_on_texts};

@@ -1,0 +1,139 @@
+//! A way to read the texts of a column as whole numbers.
+
+use crate::texts::{ColumnTexts, NumberReader};
+use rp_columns::{Columns, ColumnsFault, Reading, read_columns};
+use rp_wording::Pieces;
+use std::alloc::{AllocError, Global};
+
+/// A way to read the texts of a column as whole numbers.
+pub(crate) struct Way {
+    pub(crate) reading: Reading,
+    /// The word of the reading, as `decimal`.
+    word: &'static str,
+    /// What is behind the source in its brackets, as `, 2`.
+    behind: String,
+    /// When it is meant, where another way may be: it begins with a blank, or is empty.
+    pub(crate) condition: &'static str,
+    /// When another way is meant; it may be empty.
+    pub(crate) otherwise: &'static str,
+    /// What is behind the source then.
+    other: String,
+}
+
+/// It is let go of by a call, wherever it is held.
+impl Drop for Way {
+    fn drop(self) {
+        let Way {
+            reading: _,
+            word: _,
+            behind: _,
+            condition: _,
+            otherwise: _,
+            other: _,
+        } = self;
+    }
+}
+
+impl Way {
+    /// The way of this word with this behind the source, if it reads all texts of a column.
+    pub(crate) fn reading_all(
+        alloc: Global,
+        reader: &mut NumberReader,
+        column: ColumnTexts<'_>,
+        word: &'static str,
+        behind: String,
+    ) -> Result<Option<Way>, AllocError> {
+        let Some(reading) = reading_of(alloc, word, behind.as_str())? else {
+            return Ok(None);
+        };
+        if !reader.reads_all(&reading, column) {
+            return Ok(None);
+        }
+        Ok(Some(Way {
+            reading,
+            word,
+            behind,
+            condition: "",
+            otherwise: "",
+            other: String::new(alloc),
+        }))
+    }
+
+    /// The same, where it is meant on a condition, and another one otherwise.
+    pub(crate) fn or(self, condition: &'static str, otherwise: &'static str, other: String) -> Way {
+        let mut way = self;
+        way.condition = condition;
+        way.otherwise = otherwise;
+        way.other = other;
+        way
+    }
+
+    /// What is behind the source.
+    pub(crate) fn behind(&self) -> &str {
+        self.behind.as_str()
+    }
+
+    /// The reading of a source as it is written, as `decimal(p, 2)`.
+    pub(crate) fn written(&self, alloc: Global, source: &str) -> Result<String, AllocError> {
+        called(alloc, self.word, source, self.behind.as_str())
+    }
+
+    /// The reading of a source that is meant otherwise.
+    pub(crate) fn written_otherwise(
+        &self,
+        alloc: Global,
+        source: &str,
+    ) -> Result<String, AllocError> {
+        called(alloc, self.word, source, self.other.as_str())
+    }
+
+    /// What the texts are.
+    pub(crate) fn texts(&self) -> &'static str {
+        match self.word {
+            "decimal" => "numbers",
+            "date" => "dates",
+            _ => "times",
+        }
+    }
+
+    /// What their values are.
+    pub(crate) fn values(&self) -> &'static str {
+        match self.word {
+            "decimal" => "whole numbers",
+            "date" => "days since 1970",
+            "seconds" => "seconds since 1970",
+            "millis" => "thousandths of a second since 1970",
+            _ => "millionths of a second since 1970",
+        }
+    }
+}
+
+/// The reading of a word over a source with this behind it, as it is written.
+fn called(alloc: Global, word: &str, source: &str, behind: &str) -> Result<String, AllocError> {
+    let mut text = Pieces::of(alloc, word);
+    text.push("(");
+    text.push(source);
+    text.push(behind);
+    text.push(")");
+    text.finish()
+}
+
+/// The reading that a text of columns means by a word with this behind the source; None where it means none.
+fn reading_of(alloc: Global, word: &str, behind: &str) -> Result<Option<Reading>, AllocError> {
+    let mut text = Pieces::of(alloc, "c = ");
+    text.push_made(called(alloc, word, "c", behind));
+    let text = text.finish()?;
+    match read_columns(alloc, text.as_str()) {
+        Ok(columns) => first_reading(&columns),
+        Err(ColumnsFault::OutOfMemory) => Err(AllocError),
+        Err(_) => Ok(None),
+    }
+}
+
+/// The reading of the first column.
+fn first_reading(columns: &Columns) -> Result<Option<Reading>, AllocError> {
+    match columns.as_slice().first() {
+        Some(column) => Ok(Some(column.reading.share()?)),
+        None => Ok(None),
+    }
+}
