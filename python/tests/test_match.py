@@ -166,6 +166,37 @@ def test_a_measure_with_a_columns_name_has_its_own_kind():
     ].tolist() == [2]
 
 
+@pytest.mark.parametrize(
+    "clause",
+    [
+        'MEASURES p + 1 AS p, p AS "p" PATTERN (A) DEFINE A AS p > 0',
+        'PARTITION BY p MEASURES p + 1 AS "p" PATTERN (A) DEFINE A AS p > 0',
+        'MEASURES p AS "x" ALL ROWS PER MATCH PATTERN (A) DEFINE A AS p > 0',
+        'ORDER BY t MEASURES p AS "t" ALL ROWS PER MATCH PATTERN (A) DEFINE A AS p > 0',
+    ],
+)
+def test_no_two_columns_of_the_answer_have_one_name(clause):
+    frame = pd.DataFrame({"p": [1], "x": [2]}, index=pd.Index([1], name="t"))
+    for ask in (rowmatch.match, rowmatch.check):
+        with pytest.raises(ClauseError, match="two columns of the answer have the name") as caught:
+            ask(frame, clause)
+        assert caught.value.kind == "DoubleName"
+
+
+def test_names_of_the_answer_that_differ_by_case_alone():
+    answer = rowmatch.match(
+        pd.DataFrame({"p": [1], "P": [2]}),
+        'PARTITION BY "p" MEASURES "P" AS "P", 1 AS "x", 2 AS "X" PATTERN (A) DEFINE A AS "p" > 0',
+    )
+    assert answer.to_dict("records") == [{"p": 1, "P": 2, "x": 1, "X": 2}]
+
+
+def test_a_column_goes_before_a_level_of_its_name():
+    frame = pd.DataFrame({"t": [2, 1]}, index=pd.Index([10, 20], name="t"))
+    answer = rowmatch.match(frame, "ORDER BY t MEASURES t AS u PATTERN (A) DEFINE A AS t > 0")
+    assert answer["u"].tolist() == [1, 2]
+
+
 def test_two_columns_with_one_name():
     frame = pd.DataFrame([[1, 2, 3]], columns=["p", "p", "q"])
     for plain in ("p", '"p"'):

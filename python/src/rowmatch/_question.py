@@ -4,7 +4,7 @@ from __future__ import annotations
 
 import re
 from collections.abc import Hashable, Mapping
-from dataclasses import dataclass
+from dataclasses import dataclass, replace
 from typing import Any, Union
 
 import pandas as pd
@@ -14,7 +14,7 @@ from ._clause import Clause, Measure, quoted, read, table_of
 from ._names import Names, Source, kinds_of, unused
 from ._program import NO_LIMIT, Limit, Ran, run
 from ._ways import Cells, Way, look_at_ways, way_of
-from .errors import ClauseError, DataError
+from .errors import ClauseError, DataError, Fault
 
 _ROW = "row of the frame"
 _NO_COLUMN = {_ROW: "int"}
@@ -36,7 +36,9 @@ def understand(
         if names.others(name):
             _look_at_plain(names, sources, text, name, limit)
     reads = {name: sources[name] for name in clause.reads}
-    return Question(frame, text, clause, reads, kinds_of(sources) or _NO_COLUMN, times)
+    question = Question(frame, text, clause, reads, kinds_of(sources) or _NO_COLUMN, times)
+    question.look_at_labels()
+    return question
 
 
 def _read(names: Names, text: str, limit: Limit) -> tuple[Mapping[str, Source], Clause]:
@@ -92,6 +94,20 @@ class Question:
     sources: Mapping[str, Source]
     kinds: Mapping[str, str]
     times: str
+
+    def look_at_labels(self) -> None:
+        """Refuses a measure whose name, as it is written, another column of the answer has. In the
+        clause two names may differ by case alone, as ``P`` that is written ``p``, and ``"p"``."""
+        first = [*self.clause.partition_by, *(self.clause.order_by if self.clause.all_rows else ())]
+        taken: set[Hashable] = {self.sources[name].label for name in first}
+        if self.clause.all_rows:
+            taken.update(self.frame.columns)
+        for measure in self.clause.measures:
+            if measure.written in taken:
+                message = f"two columns of the answer have the name {measure.written!r}"
+                fault = Fault("DoubleName", message, ("write another name behind AS",))
+                raise ClauseError(self.text, [fault])
+            taken.add(measure.written)
 
     def answer(self, limit: Limit) -> tuple[pd.DataFrame, SkipFaults]:
         """The answer, and the skip faults in it."""
