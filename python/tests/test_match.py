@@ -200,7 +200,7 @@ def test_a_column_goes_before_a_level_of_its_name():
 def test_two_columns_with_one_name():
     frame = pd.DataFrame([[1, 2, 3]], columns=["p", "p", "q"])
     for plain in ("p", '"p"'):
-        with pytest.raises(DataError, match="more than one column has the name 'p'"):
+        with pytest.raises(DataError, match="more than one column has the name 'p': give each"):
             rowmatch.match(frame, f"PATTERN (A) DEFINE A AS {plain} = 1")
     assert len(rowmatch.match(frame, "PATTERN (A) DEFINE A AS q = 3")) == 1
 
@@ -217,8 +217,9 @@ def test_a_frame_without_columns():
         assert rowmatch.check(frame, "PATTERN (A B) DEFINE B AS 1 = 1")
         with pytest.raises(DataError, match="no column that a clause can name"):
             rowmatch.match(frame, 'PATTERN (A B) DEFINE B AS "row of the frame" = 1')
-        with pytest.raises(ClauseError, match="UnknownColumn"):
+        with pytest.raises(ClauseError, match="UnknownColumn") as caught:
             rowmatch.match(frame, "PATTERN (A B) DEFINE B AS p = 1")
+        assert caught.value.help == []
 
 
 def test_a_wide_frame():
@@ -403,6 +404,28 @@ def test_a_time_is_never_cut():
     assert caught.value.row == 1
 
 
+def test_the_unit_that_is_to_be_said_is_fine_enough():
+    for moments, unit in [
+        (["2024-01-05 09:30:00.5", "1969-12-31 23:59:59.999"], "millis"),
+        (["2024-01-05 09:30:00.5", "1960-01-01 00:00:00.000001"], "micros"),
+        (["2024-01-05 09:30:00.5", "2024-01-05 09:30:00.000000001", None], "nanos"),
+    ]:
+        series = pd.Series(pd.to_datetime(moments))
+        with pytest.raises(DataError, match=f"times='{unit}', .*counts in {unit} then") as caught:
+            value(series, times="seconds")
+        assert caught.value.row == 0
+        assert value(series, times=unit).dropna().tolist() == series.dropna().tolist()
+
+
+def test_dates_of_times():
+    series = pd.Series(pd.to_datetime(["2024-01-05", None]))
+    for times in (series, series.dt.tz_localize("Asia/Tokyo"), series.astype(object)):
+        with pytest.raises(DataError, match=r"pandas.to_datetime\(..\).dt.date makes dates"):
+            value(times, columns={"v": "date"})
+        days = pd.to_datetime(times).dt.date
+        assert value(days, columns={"v": "date"}).tolist()[0] == datetime.date(2024, 1, 5)
+
+
 def test_the_hour_that_comes_twice():
     berlin = pd.to_datetime(
         ["2024-10-27T02:30:00+02:00", "2024-10-27T02:30:00+01:00"], utc=True
@@ -528,6 +551,75 @@ def test_what_cannot_be_handed_over(bad):
     assert caught.value.column == "v"
 
 
+@pytest.mark.parametrize(
+    "bad, row, message",
+    [
+        (["a", None, 1], 2, "several kinds, as 'a' and 1: .map(str, na_action='ignore')"),
+        ([1, "a" * 100], 1, f"as 1 and '{'a' * 59}..: "),
+        ([{}, {}], 0, "has {}, which is neither a number, a text nor a time"),
+        ([b"x", None], 0, ": .str.decode('utf-8')"),
+        ([pd.NaT, datetime.time(1)], 1, ": pandas.to_timedelta of .map(str, na_action='ignore')"),
+        ([pd.Period("2024"), None], 0, ": .dt.to_timestamp()"),
+        (pd.Series([], dtype="period[M]"), None, "has the dtype period[M]"),
+        ([1j, 2j], 0, "has 1j, which is neither"),
+        ([0.5, np.inf], 1, "has inf, which is no number that can be handed over"),
+        ([Decimal(1), Decimal("-Infinity")], 1, "has -Infinity, which is no number that can be"),
+    ],
+)
+def test_the_first_value_that_cannot_be_handed_over_is_named(bad, row, message):
+    with pytest.raises(DataError) as caught:
+        value(pd.Series(bad))
+    assert message in str(caught.value) and caught.value.row == row
+
+
+def test_what_is_to_be_written_makes_of_values_what_can_be_handed_over():
+    mixed = pd.Series(["a", None, 1], dtype=object)
+    assert value(mixed.map(str, na_action="ignore")).tolist() == ["a", None, "1"]
+    times = pd.Series([None, datetime.time(1, 2)], dtype=object)
+    lengths = pd.to_timedelta(times.map(str, na_action="ignore"))
+    assert value(lengths).tolist()[1] == pd.Timedelta("1h2min")
+    periods = pd.Series([pd.Period("2024"), None])
+    assert value(periods.dt.to_timestamp()).tolist()[0] == pd.Timestamp("2024-01-01")
+    texts = pd.Series([b"x", None]).str.decode("utf-8")
+    assert value(texts).tolist() == ["x", None]
+
+
+@pytest.mark.parametrize(
+    "series, fault, said, write",
+    [
+        ([0.123, 0.1, None], r"fractions, as 0.123: say .*'decimal\(3\)'", "decimal(3)", None),
+        ([0.5, 1.5], r"fractions, as 0.5: say .*'decimal\(2\)'", "decimal(2)", None),
+        ([1e13, 0.5], r"fractions, as 0.5: say .*'decimal\(1\)'", "decimal(1)", None),
+        ([0.1 + 0.2, 0.1], r"round them, .round\(2\), and .*'decimal\(2\)'", "decimal(2)", "round"),
+        ([Decimal("1E+3"), Decimal(1)], r"0 places: say .*'decimal\(0\)'", "decimal(0)", None),
+        ([Decimal(1), 1.25, True], r"2 places: say .*'decimal\(2\)'", "decimal(2)", None),
+        ([2**60 + 1, 1.0], r"0 places: say .*'decimal\(0\)'", "decimal(0)", None),
+        ([Decimal("0.00"), Decimal("1.50")], r"up to 1 places: say ", "decimal(1)", None),
+        ([Decimal(1) / 3, None], r"28 places: round them, .*'decimal\(2\)'", "decimal(2)", "map"),
+    ],
+)
+def test_the_places_that_are_to_be_said_are_enough(series, fault, said, write):
+    series = pd.Series(series, dtype="float64" if isinstance(series[0], float) else object)
+    with pytest.raises(DataError, match=fault):
+        value(series)
+    if write:
+        with pytest.raises(DataError, match=r"no decimal of 2 places .*: round them first"):
+            value(series, columns={"v": said})
+        rounded = series.map(lambda it: round(it, 2), na_action="ignore")
+        series = series.round(2) if write == "round" else rounded
+    known = series.dropna().tolist()
+    assert value(series, columns={"v": said}).dropna().tolist() == known
+
+
+@pytest.mark.parametrize("kind", [float, Decimal])
+def test_more_places_are_named_where_they_are_enough(kind):
+    series = pd.Series([kind("0.5"), None, kind("1.234")])
+    with pytest.raises(DataError, match=r"has 1.234, which .*: 'decimal\(3\)' takes") as caught:
+        value(series, columns={"v": "decimal(2)"})
+    assert caught.value.row == 2
+    assert value(series, columns={"v": "decimal(3)"}).dropna().tolist() == series.dropna().tolist()
+
+
 def test_columns_says_how():
     frame = pd.DataFrame({"t": pd.to_datetime(["2024-01-05"]), "n": ["7"]})
     assert (
@@ -559,6 +651,11 @@ def test_columns_says_how():
             )
     with pytest.raises(ValueError):
         rowmatch.match(frame, "PATTERN (A) DEFINE A AS t = 1", times="fortnights")
+    for no_mapping in (["t"], "seconds"):
+        with pytest.raises(TypeError, match="is no mapping, as {'price': 'decimal\\(2\\)'} is one"):
+            rowmatch.match(frame, "PATTERN (A) DEFINE A AS t = 1", columns=no_mapping)
+    with pytest.raises(DataError, match="no such column: write 't'"):
+        rowmatch.match(frame, "PATTERN (A) DEFINE A AS t = 1", columns={"T": "seconds"})
 
 
 def test_a_way_that_the_clause_contradicts():
@@ -585,6 +682,22 @@ def test_decimals_of_whole_numbers_and_small_floats():
     assert value(series, columns={"v": "decimal(2)"}).tolist() == series.tolist()
     with pytest.raises(DataError, match="no decimal of 2 places"):
         value(pd.Series([2**63 - 1]), columns={"v": "decimal(2)"})
+
+
+def test_columns_that_are_compared_want_as_many_places():
+    frame = pd.DataFrame({"amount": [99.5, 100.5], "limit": [100, 100], "paid": [True, False]})
+    clause = "MEASURES amount AS a PATTERN (A) DEFINE A AS amount > {} AND paid = 0"
+    places = {"amount": "decimal(2)", "limit": "decimal(2)"}
+    assert rowmatch.match(frame, clause.format('"LIMIT"'), columns=places)["a"].tolist() == [100.5]
+
+
+def test_a_name_in_quotes_and_upper_case_is_a_plain_one():
+    every = "MEASURES A.{} AS v PATTERN (A) DEFINE A AS 1 = 1"
+    assert rowmatch.match(pd.DataFrame({"p": [1]}), every.format('"P"'))["v"].tolist() == [1]
+    both = pd.DataFrame({"p": [1], "P": [2]})
+    assert rowmatch.match(both, every.format('"P"'))["v"].tolist() == [2]
+    with pytest.raises(ClauseError, match="UnknownColumn"):
+        rowmatch.match(pd.DataFrame({"Price": [1]}), every.format('"price"'))
 
 
 def test_no_decimal_is_taken_for_its_neighbour():
@@ -708,8 +821,9 @@ def test_mixed_categories(categories):
     for one in categories:
         series = pd.Series([one, None], dtype=pd.CategoricalDtype(categories))
         pd.testing.assert_series_equal(value(series), series, check_names=False)
-    with pytest.raises(DataError, match="values of the kind mixed"):
+    with pytest.raises(DataError, match="values of several kinds, as .* and ") as caught:
         value(pd.Series(categories, dtype="category"))
+    assert caught.value.row in (0, 1)
 
 
 def test_a_category_is_ordered_as_its_texts():

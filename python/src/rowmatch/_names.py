@@ -68,7 +68,7 @@ class Names:
     def look_at_double(self, source: Source) -> None:
         """A column that a clause names has a label of its own."""
         if self._count[source.text] > 1:
-            message = f"more than one column has the name {source.text!r}"
+            message = f"more than one column has the name {source.text!r}: give each one of its own"
             raise DataError(message, source.label)
 
     def others(self, name: str) -> list[str]:

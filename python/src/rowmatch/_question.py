@@ -63,10 +63,18 @@ def _read(names: Names, text: str, limit: Limit) -> tuple[Mapping[str, Source], 
 
 def _read_without(text: str, limit: Limit) -> tuple[Mapping[str, Source], Clause]:
     """The same where the frame has no column that a clause can name."""
-    clause = read(_NO_COLUMN, text, limit)
+    try:
+        clause = read(_NO_COLUMN, text, limit)
+    except ClauseError as error:
+        raise ClauseError(text, [_without_columns(fault) for fault in error.faults]) from None
     if clause.reads:
         raise DataError("the data have no column that a clause can name", None)
     return {}, clause
+
+
+def _without_columns(fault: Fault) -> Fault:
+    """A fault without the help that lists the column that stands in for none."""
+    return replace(fault, help=tuple(line for line in fault.help if _ROW not in line))
 
 
 def _look_at_plain(

@@ -25,6 +25,21 @@ _LEAST, _GREATEST = -(2**63), 2**63 - 1
 _MOST_PLACES = 18  # with more of them nothing but 0 has 64 bits
 _DECIMAL = re.compile(r"decimal\(([0-9]{1,2})\)")
 _EPOCH = datetime.date(1970, 1, 1)
+_NUMBERS = (int, float, decimal.Decimal, np.integer, np.floating, np.bool_)
+_WIDEST = 60  # characters of a value in a message
+# What objects are that pandas makes a column of, and how.
+_AS_OBJECTS = {
+    "datetime": "times as objects: pandas.to_datetime makes a column of times of them",
+    "datetime64": "times as objects: pandas.to_datetime makes a column of times of them",
+    "timedelta": "times as objects: pandas.to_timedelta makes a column of times of them",
+    "floating": "floats as objects: .astype('float64') makes a column of numbers of them",
+}
+# What makes something else of values that can't be handed over.
+_MAKE = {
+    "bytes": ": .str.decode('utf-8') makes texts of them",
+    "period": ": .dt.to_timestamp() makes times of a column of periods",
+    "time": ": pandas.to_timedelta of .map(str, na_action='ignore') makes lengths of them",
+}
 # How objects are handed over of which nothing is said, by what pandas finds among them.
 _OBJECTS = {"string": "text", "empty": "text", "integer": "int", "boolean": "bool", "date": "date"}
 
@@ -139,22 +154,39 @@ class Places(Way):
         if values.dtype.kind != "f":
             raise self.fault(f"the dtype {values.dtype}", "and no numbers")
         numbers, missing = _numbers_of(values)
-        with np.errstate(over="ignore", invalid="ignore"):
-            scaled = np.rint(numbers.astype("float64") * 10.0**self.places)
-            same = (scaled / 10.0**self.places).astype(numbers.dtype) == numbers
-        bad = np.flatnonzero(~same | ~(np.abs(scaled) < 10.0 ** np.finfo(numbers.dtype).precision))
-        if len(bad):
-            raise self._no_decimal(repr(numbers[bad[0]].item()), int(bad[0]))
+        scaled, fits = _of_places(numbers, self.places)
+        if not fits.all():
+            row = int(np.flatnonzero(~fits)[0])
+            raise self._no_decimal(repr(numbers[row].item()), row, self._help(numbers))
         return Numbers(scaled.astype("int64"), missing)
+
+    def _help(self, numbers: Array) -> str:
+        """What to write for floats of which some are no decimals of these places."""
+        places = _places_that_fit(numbers)
+        if places is not None:
+            return _taken_by(places)
+        rounds = _of_places(np.round(numbers, self.places), self.places)[1].all()
+        return f": round them first, .round({self.places})" if rounds else ""
 
     def _cells_of_objects(self, values: pd.Series) -> Numbers:
         missing = values.isna().to_numpy()
         whole = np.zeros(len(values), dtype="int64")
         for row, value in enumerate(values):
             if not missing[row]:
-                whole[row] = number = self._scaled(value, row)
+                number = self._scaled(value)
+                if number is None:
+                    raise self._no_decimal(value, row, self._help_of_objects(values))
+                whole[row] = number
                 self.objects.setdefault(number, value)
         return Numbers(whole, missing)
+
+    def _help_of_objects(self, values: pd.Series) -> str:
+        places = _places_of_objects(values)
+        if places is None or places <= self.places:
+            return ""
+        if places > _MOST_PLACES:
+            return f": round them first, {_rounding(self.places)}"
+        return _taken_by(places)
 
     def _times(self, whole: Numbers) -> Numbers:
         most = _GREATEST // 10**self.places
@@ -163,19 +195,19 @@ class Places(Way):
             raise self._no_decimal(whole.values[far[0]], int(far[0]))
         return Numbers(whole.values * 10**self.places, whole.missing)
 
-    def _scaled(self, value: Any, row: int) -> int:
-        if isinstance(value, np.generic):
-            value = value.item()
-        if isinstance(value, float):
-            value = decimal.Decimal(repr(value))
-        if isinstance(value, (int, decimal.Decimal)) and decimal.Decimal(value).is_finite():
-            scaled = Fraction(value) * 10**self.places
-            if scaled.denominator == 1 and _LEAST <= scaled <= _GREATEST:
-                return int(scaled)
-        raise self._no_decimal(value, row)
+    def _scaled(self, value: Any) -> int | None:
+        """The whole number that an object is in units of the last place, where it is one."""
+        number = _decimal_of(value)
+        if number is None:
+            return None
+        scaled = Fraction(number) * 10**self.places
+        if scaled.denominator == 1 and _LEAST <= scaled <= _GREATEST:
+            return int(scaled)
+        return None
 
-    def _no_decimal(self, has: Any, row: int) -> DataError:
-        return self.fault(has, f"which is no decimal of {self.places} places and 64 bits", row)
+    def _no_decimal(self, has: Any, row: int, write: str = "") -> DataError:
+        why = f"which is no decimal of {self.places} places and 64 bits{write}"
+        return self.fault(has, why, row)
 
     def back(self, answer: pd.Series) -> pd.Series:
         if self.dtype == object:
@@ -210,13 +242,15 @@ class Moments(Way):
             return Numbers(numbers * (ticks // step), missing)
         cut = np.flatnonzero(numbers % (step // ticks))
         if len(cut):
-            raise self._too_fine(values.iloc[cut[0]], int(cut[0]))
+            fits = (unit for unit in UNITS if not (numbers % max(1, UNITS[unit] // ticks)).any())
+            raise self._too_fine(values.iloc[cut[0]], int(cut[0]), next(fits))
         return Numbers(numbers // (step // ticks), missing)
 
-    def _too_fine(self, moment: Any, row: int) -> DataError:
-        finer = list(UNITS)[list(UNITS).index(self.unit) + 1]
+    def _too_fine(self, moment: Any, row: int, finer: str) -> DataError:
+        """The error of a time that is no whole number, by the unit of which all of them are."""
         write = f"times={finer!r}, or columns={{{self.label!r}: {finer!r}}}"
-        return self.fault(moment, f"which is no whole number of {self.unit}: {write}", row)
+        why = f"which is no whole number of {self.unit}: {write}; the clause counts in {finer} then"
+        return self.fault(moment, why, row)
 
     def back(self, answer: pd.Series) -> pd.Series:
         of_numpy = isinstance(self.dtype, np.dtype)
@@ -240,12 +274,20 @@ class Days(Way):
         for row, value in enumerate(values):
             if not missing[row]:
                 if type(value) is not datetime.date:
-                    raise self.fault(repr(value), "which is no datetime.date", row)
+                    why = f"which is no datetime.date{_dates(value)}"
+                    raise self.fault(_shown(value), why, row)
                 days[row] = (value - _EPOCH).days
         return Numbers(days, missing)
 
     def back(self, answer: pd.Series) -> pd.Series:
         return _each(answer, lambda days: _EPOCH + datetime.timedelta(days=days))
+
+
+def _dates(value: Any) -> str:
+    """What makes dates of values as this one."""
+    if not isinstance(value, datetime.datetime):
+        return ""
+    return ": pandas.to_datetime(..).dt.date makes dates of times"
 
 
 class Texts(Way):
@@ -337,13 +379,33 @@ def _numbers_of(values: pd.Series) -> tuple[Array, Array]:
     return numbers, missing
 
 
+def _of_places(numbers: Array, places: int) -> tuple[Array, Array]:
+    """Floats as whole numbers of the last one of so many places, and which of them are such."""
+    with np.errstate(over="ignore", invalid="ignore"):
+        scaled = np.rint(numbers.astype("float64") * 10.0**places)
+        same = (scaled / 10.0**places).astype(numbers.dtype) == numbers
+        return scaled, same & (np.abs(scaled) < 10.0 ** np.finfo(numbers.dtype).precision)
+
+
+def _places_that_fit(numbers: Array) -> int | None:
+    """The places of which all floats are decimals: two where that is enough, as cents are."""
+    for places in (*range(2, _MOST_PLACES + 1), 1):
+        if _of_places(numbers, places)[1].all():
+            return places
+    return None
+
+
 def look_at_ways(ways: Mapping[Hashable, str], labels: Collection[Hashable], times: str) -> None:
     """Refuses ``columns=`` and ``times=`` that say nothing that there is."""
     if times not in UNITS:
         raise ValueError(f"times={times!r} is none of {', '.join(UNITS)}")
+    if not isinstance(ways, Mapping):
+        raise TypeError(f"columns={ways!r} is no mapping, as {{'price': 'decimal(2)'}} is one")
     for label, said in ways.items():
         if label not in labels:
-            message = f"columns= names {label!r}, and the data have no such column"
+            alike = [other for other in labels if str(other).lower() == str(label).lower()]
+            write = f": write {alike[0]!r}" if alike else ""
+            message = f"columns= names {label!r}, and the data have no such column{write}"
             raise DataError(message, label)
         if said not in ("int", "text", "date", *UNITS) and _places(str(said)) is None:
             there_is = f"there is int, text, decimal(PLACES), date, {', '.join(UNITS)}"
@@ -428,33 +490,110 @@ def _said_by_values(label: Hashable, values: pd.Series) -> str:
         kind = pd.api.types.infer_dtype(values.dropna())
     if dtype == object and kind in _OBJECTS:
         return _OBJECTS[kind]
-    raise DataError(f"column {label!r} {_unfit(label, values, kind)}", label)
+    raise _unfit(label, values, kind)
 
 
 def _look_at_fractions(label: Hashable, values: pd.Series) -> None:
     numbers, _ = _numbers_of(values)
     fractions = np.flatnonzero(numbers != np.floor(numbers))
-    if len(fractions):
-        has = repr(numbers[fractions[0]].item())
-        message = f"column {label!r} has fractions, as {has}: {_say_places(label, 2)}"
-        raise DataError(message, label, int(fractions[0]))
+    if not len(fractions):
+        return
+    endless = np.flatnonzero(np.isinf(numbers))
+    if len(endless):
+        raise _no_number(label, numbers[endless[0]], int(endless[0]))
+    has = repr(numbers[fractions[0]].item())
+    places = _places_that_fit(numbers)
+    rounded = places is None and bool(_of_places(np.round(numbers, 2), 2)[1].all())
+    write = _say_places(label, 2 if places is None else places, ".round(2)" if rounded else "")
+    raise DataError(f"column {label!r} has fractions, as {has}: {write}", label, int(fractions[0]))
 
 
-def _say_places(label: Hashable, places: int) -> str:
+def _no_number(label: Hashable, has: Any, row: int) -> DataError:
+    why = "which is no number that can be handed over"
+    return DataError(f"column {label!r} has {has}, {why}", label, row)
+
+
+def _say_places(label: Hashable, places: int, rounding: str) -> str:
+    """What to write for decimals of so many places, which have to be rounded to them or not."""
     write = f"columns={{{label!r}: 'decimal({places})'}}"
-    return f"say how many places count, {write}, and compare with whole numbers of that unit"
+    first = f"round them, {rounding}, and " if rounding else ""
+    return f"{first}say how many places count, {write}, and compare with whole numbers of that unit"
 
 
-def _unfit(label: Hashable, values: pd.Series, kind: str) -> str:
-    """Why a column can't be handed over, and what to do."""
-    if kind in ("datetime", "datetime64", "timedelta"):
-        make = "timedelta" if kind == "timedelta" else "datetime"
-        return f"has times as objects: pandas.to_{make} makes a column of times of them"
-    if kind in ("floating", "mixed-integer-float"):
-        return "has floats as objects: .astype('float64') makes a column of numbers of them"
-    if kind == "decimal":
-        known = [number for number in values.dropna() if number.is_finite()]
-        most = max([0, *(-number.as_tuple().exponent for number in known)])
-        return f"has decimals of up to {most} places: {_say_places(label, most)}"
-    has = f"has values of the kind {kind} ({values.dtype})"
-    return f"{has}, which are neither numbers, texts nor times"
+def _places_of_objects(values: pd.Series) -> int | None:
+    """The most places of objects, where all of them are decimals or null."""
+    most = 0
+    for value in values.dropna():
+        number = _decimal_of(value)
+        if number is None:
+            return None
+        most = max(most, _places_of(number))
+    return most
+
+
+def _places_of(number: decimal.Decimal) -> int:
+    """The places of a decimal, without zeros at its end."""
+    _, digits, exponent = number.as_tuple()
+    text = "".join(map(str, digits)).rstrip("0")
+    zeros = len(digits) - len(text)
+    return max(0, -int(exponent) - zeros) if text else 0
+
+
+def _decimal_of(value: Any) -> decimal.Decimal | None:
+    """An object that counts as a decimal; a float counts as the one that it is written as."""
+    if isinstance(value, np.generic):
+        value = value.item()
+    if isinstance(value, float):
+        value = decimal.Decimal(repr(value))
+    if not isinstance(value, (int, decimal.Decimal)):
+        return None
+    number = decimal.Decimal(value)
+    return number if number.is_finite() else None
+
+
+def _unfit(label: Hashable, values: pd.Series, kind: str) -> DataError:
+    """The error of a column of which no way is known: why, and what to do."""
+    if kind in _AS_OBJECTS:
+        return DataError(f"column {label!r} has {_AS_OBJECTS[kind]}", label)
+    rows = np.flatnonzero(values.notna().to_numpy())
+    known = list(values.iloc[rows])
+    if not known:
+        why = "which is neither of numbers, of texts nor of times"
+        return DataError(f"column {label!r} has the dtype {values.dtype}, {why}", label)
+    if all(isinstance(value, _NUMBERS) for value in known):
+        return _unfit_numbers(label, values, rows)
+    first = known[0]
+    at = next((at for at, value in enumerate(known) if type(value) is not type(first)), None)
+    if at is not None:
+        has = f"values of several kinds, as {_shown(first)} and {_shown(known[at])}"
+        make = ".map(str, na_action='ignore') makes texts of all"
+        return DataError(f"column {label!r} has {has}: {make}", label, int(rows[at]))
+    why = "which is neither a number, a text nor a time" + _MAKE.get(kind, "")
+    return DataError(f"column {label!r} has {_shown(first)}, {why}", label, int(rows[0]))
+
+
+def _unfit_numbers(label: Hashable, values: pd.Series, rows: Array) -> DataError:
+    """The error of objects that are numbers, of which nothing is said."""
+    for row in rows:
+        if _decimal_of(values.iloc[row]) is None:
+            return _no_number(label, values.iloc[row], int(row))
+    places = _places_of_objects(values) or 0
+    rounding = _rounding(2) if places > _MOST_PLACES else ""
+    write = _say_places(label, 2 if rounding else places, rounding)
+    return DataError(f"column {label!r} has decimals of up to {places} places: {write}", label)
+
+
+def _taken_by(places: int) -> str:
+    """What to write where more places are enough."""
+    return f": 'decimal({places})' takes them all; the clause counts in that unit then"
+
+
+def _rounding(places: int) -> str:
+    """What rounds objects."""
+    return f".map(lambda it: round(it, {places}), na_action='ignore')"
+
+
+def _shown(value: Any) -> str:
+    """A value as a message has it, cut where it is long."""
+    text = repr(value)
+    return text if len(text) <= _WIDEST else f"{text[:_WIDEST]}.."

@@ -66,9 +66,9 @@ def match(
     """
     if not isinstance(data, DataFrame):
         raise TypeError("a frame that is no frame of Dask is for rowmatch.match")
-    ways = dict(columns or {})
     options: dict[str, Any] = {"on_skip_fault": on_skip_fault, "timeout": timeout}
-    question = understand(data._meta, clause, ways, times, Limit.of(timeout))
+    question = understand(data._meta, clause, columns or {}, times, Limit.of(timeout))
+    ways = dict(columns or {})
     answer = _match.match(data._meta, clause, columns=ways, times=times, **options)
     if not question.clause.all_rows:
         data = data[_wanted(question)]
