@@ -117,6 +117,29 @@ def test_refusals_say_why(start):
         client.commit()
 
 
+def test_one_text_is_no_list_of_its_letters(start):
+    _, address = start("--acknowledge")
+    with Node(address) as client:
+        for ask in (
+            lambda: client.rows([(1, "efo")]),
+            lambda: client.close("x", 1),
+            lambda: client.poll("x"),
+            lambda: client.poll(["eve"], b"x"),
+        ):
+            with pytest.raises(TypeError, match="is no list of values, as .* is one"):
+                ask()
+        assert client.rows(EVE) == 3
+        client.commit()
+
+
+@pytest.mark.parametrize(
+    "address", ["localhost", "127.0.0.1", "127.0.0.1:x", ":7431", "", "127.0.0.1:70000", "[::1]:0"]
+)
+def test_an_address_has_a_host_and_a_port(address):
+    with pytest.raises(ValueError, match="is no HOST:PORT, as 127.0.0.1:7431 is one"):
+        Node(address)
+
+
 def test_a_node_that_was_killed_has_not_saved(start):
     process, address = start("--acknowledge")
     with Node(address) as client:

@@ -4,6 +4,7 @@ from __future__ import annotations
 
 import heapq
 import json
+import re
 import socket
 from collections.abc import Iterable, Iterator, Mapping, Sequence
 from dataclasses import dataclass
@@ -143,8 +144,7 @@ class Node:
         an error; it serves one connection after the other, so a second one waits for the first to
         end.
         """
-        host, _, port = address.rpartition(":")
-        self._socket = socket.create_connection((host.strip("[]"), int(port)), timeout=timeout)
+        self._socket = socket.create_connection(_place_of(address), timeout=timeout)
         self._socket.setsockopt(socket.SOL_SOCKET, socket.SO_SNDBUF, 2 * _BYTES)
         self._replies = self._socket.makefile("rb")
         self._answered = 0
@@ -264,13 +264,23 @@ class Node:
             raise NodeError(f"the node ended the connection: {_AGAIN}")
 
 
+def _place_of(address: str) -> tuple[str, int]:
+    """The host and the port of an address."""
+    host, _, port = address.rpartition(":")
+    if not host or not re.fullmatch("[0-9]{1,5}", port) or not 0 < int(port) < 65_536:
+        raise ValueError(f"{address!r} is no HOST:PORT, as 127.0.0.1:7431 is one")
+    return host.strip("[]"), int(port)
+
+
 def _line_of(request: dict[str, Any]) -> bytes:
     text = json.dumps(request, ensure_ascii=False, separators=(",", ":"), sort_keys=True)
     return text.encode() + b"\n"
 
 
 def _values(values: Iterable[Any]) -> list[Value]:
-    """Values as lines have them: whole numbers, texts, None."""
+    """Values as lines have them: whole numbers, texts, None. One text is no list of its letters."""
+    if isinstance(values, (str, bytes)):
+        raise TypeError(f"{values!r} is no list of values, as [{values!r}] is one")
     made: list[Value] = []
     for value in values:
         if isinstance(value, Integral):
