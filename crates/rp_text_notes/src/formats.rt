@@ -1,6 +1,5 @@
 //! Texts that are dates or times in another form than that of ISO 8601.
 
-use crate::same_form::have_one_form;
 use crate::texts::{ColumnTexts, NumberReader};
 use crate::times::{IN_UTC, IN_ZONE};
 use crate::way::Way;
@@ -57,7 +56,7 @@ struct Form {
     word: &'static str,
 }
 
-/// How all texts of a column are read as dates or times by a format. None where not all are, and where their order as texts is that of time.
+/// How all texts of a column are read as dates or times by a format. None where not all are.
 pub(crate) fn format_way(
     alloc: Global,
     reader: &mut NumberReader,
@@ -70,9 +69,6 @@ pub(crate) fn format_way(
         for (clock, word) in CLOCKS {
             let form = Form { date, clock, word };
             if let Some(way) = way_of(alloc, reader, column, form)? {
-                if is_ordered(form) && have_one_form(column) {
-                    return Ok(None);
-                }
                 return Ok(Some(with_other(alloc, reader, column, form, swapped, way)?));
             }
         }
@@ -84,11 +80,6 @@ pub(crate) fn format_way(
 fn has_digits(text: &str) -> bool {
     let digits = text.bytes().filter(|byte| byte.is_ascii_digit()).count();
     digits >= FEW_DIGITS
-}
-
-/// Whether texts of one form are ordered as the times of a format: greater units come first.
-fn is_ordered(form: Form) -> bool {
-    form.date.starts_with("%Y") && !form.clock.contains("%p")
 }
 
 /// How all texts of a column are read by a format, in UTC where they have no offset.

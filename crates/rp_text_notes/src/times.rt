@@ -6,6 +6,9 @@ use crate::texts::{ColumnTexts, NumberReader};
 use crate::way::Way;
 use std::alloc::{AllocError, Global};
 
+/// So many digits a year has.
+const YEAR_DIGITS: usize = 4;
+
 /// What is said where times have no offset from UTC.
 pub(crate) const IN_UTC: &str = " if they are in UTC";
 
@@ -18,11 +21,19 @@ pub(crate) fn time_way(
     reader: &mut NumberReader,
     column: ColumnTexts<'_>,
 ) -> Result<Option<Way>, AllocError> {
+    if has_year_first(column.first().unwrap_or("")) && have_one_form(column) {
+        return Ok(None);
+    }
     match iso_way(alloc, reader, column)? {
-        Some(_) if have_one_form(column) => Ok(None),
         Some(way) => Ok(Some(way)),
         None => format_way(alloc, reader, column),
     }
+}
+
+/// Whether a text begins with a year if it is a time, and smaller units come behind greater ones: it has no clock of twelve hours.
+fn has_year_first(text: &str) -> bool {
+    let year = text.trim().as_bytes().get(..YEAR_DIGITS).unwrap_or(b" ");
+    year.iter().all(|byte| byte.is_ascii_digit()) && !text.contains('m') && !text.contains('M')
 }
 
 /// How all texts of a column are read as dates or times by ISO 8601.
