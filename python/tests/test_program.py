@@ -383,7 +383,7 @@ def test_the_package_without_pandas():
         "import sys; sys.modules['pandas'] = None; import rowmatch; rowmatch.Node; rowmatch.match"
     )
     made = subprocess.run([sys.executable, "-c", script], capture_output=True, text=True)
-    assert "need pandas: pip install 'rowmatch[pandas]'" in made.stderr
+    assert "need pandas, 1.5 or later: pip install pandas" in made.stderr
 
 
 def test_the_program_is_there():

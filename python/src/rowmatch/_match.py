@@ -8,7 +8,7 @@ from typing import Any, Literal
 try:
     import pandas as pd
 except ImportError as error:
-    need = "rowmatch.match and rowmatch.check need pandas: pip install 'rowmatch[pandas]'"
+    need = "rowmatch.match and rowmatch.check need pandas, 1.5 or later: pip install pandas"
     raise ImportError(need) from error
 
 from ._clause import table_of

@@ -9,7 +9,7 @@ from typing import Any
 try:
     from dask.dataframe import DataFrame
 except ImportError as error:
-    raise ImportError("rowmatch.dask needs dask: pip install 'rowmatch[dask]'") from error
+    raise ImportError("rowmatch.dask needs dask: pip install 'dask[dataframe]'") from error
 import numpy as np
 import pandas as pd
 
