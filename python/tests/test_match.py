@@ -3,6 +3,7 @@
 from __future__ import annotations
 
 import datetime
+import io
 import pickle
 from decimal import Decimal
 
@@ -78,6 +79,21 @@ def test_what_is_taken_for_data(ticks, fall):
         pd.testing.assert_frame_equal(rowmatch.match(data, fall), answer)
     with pytest.raises(TypeError, match="rowmatch.dask.match"):
         rowmatch.match(type("Lazy", (), {"map_partitions": None})(), fall)
+    chunks = pd.read_csv(io.StringIO(ticks.to_csv(index=False)), chunksize=2)
+    with pytest.raises(TypeError, match="chunks aren't one frame: pandas.concat makes one"):
+        rowmatch.match(chunks, fall)
+    pd.testing.assert_frame_equal(rowmatch.match(pd.concat(chunks), fall), answer)
+    column = type("Column", (), {"to_pandas": lambda self: ticks["price"]})()
+    assert len(rowmatch.match(column, "PATTERN (A) DEFINE A AS price > 0")) == len(ticks)
+
+
+def test_what_is_beyond_64_bits_is_null():
+    frame = pd.DataFrame({"p": [2**62, 2**62]})
+    answer = rowmatch.match(
+        frame, "MEASURES SUM(p) AS s, p * 4 AS m, COUNT(*) AS n PATTERN (A+) DEFINE A AS p > 0"
+    )
+    assert answer.iloc[0].tolist() == [pd.NA, pd.NA, 2]
+    assert len(rowmatch.match(frame, "PATTERN (A) DEFINE A AS p * 4 > 0")) == 0
 
 
 # Names

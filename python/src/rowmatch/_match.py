@@ -136,4 +136,7 @@ def pandas_frame(data: Any) -> pd.DataFrame:
         return data
     if hasattr(data, "map_partitions"):
         raise TypeError("a frame of Dask is for rowmatch.dask.match")
-    return data.to_pandas() if hasattr(data, "to_pandas") else pd.DataFrame(data)
+    if hasattr(data, "get_chunk"):
+        raise TypeError("data in chunks aren't one frame: pandas.concat makes one of them")
+    made = data.to_pandas() if hasattr(data, "to_pandas") else data
+    return made if isinstance(made, pd.DataFrame) else pd.DataFrame(made)
