@@ -31,7 +31,7 @@ const FUNCTIONS: &str = "PREV NEXT FIRST LAST COUNT SUM MIN MAX";
 /// Words that a clause has, and a condition of a row alone hasn't.
 const OF_CLAUSES: &str =
     "PREV NEXT FIRST LAST COUNT SUM MIN MAX CLASSIFIER MATCH_NUMBER PARTITION ORDER MEASURES PATTERN SUBSET DEFINE AS clause \
-    definition definitions variable variables measure measures match";
+    definition definitions variable variables";
 
 /// What to write where nothing better is known.
 const USUAL: &str =
