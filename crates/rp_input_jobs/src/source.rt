@@ -105,7 +105,10 @@ fn connected(rt: &HostRuntime, address: &str, time: Option<Duration>) -> Option<
     let Some(time) = time else {
         return TcpStream::connect(rt, address).ok();
     };
-    for one in address.to_socket_addrs(rt).ok()? {
+    let Ok(addresses) = address.to_socket_addrs(rt) else {
+        return None;
+    };
+    for one in addresses {
         if let Ok(stream) = TcpStream::connect_timeout(rt, &one, time) {
             return Some(stream);
         }
