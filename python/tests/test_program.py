@@ -175,7 +175,9 @@ def hear_interrupts():
 def test_an_interrupt_ends_the_program(stand_in, tmp_path):
     stand_in(f"echo $$ >{tmp_path}/pid.new; mv {tmp_path}/pid.new {tmp_path}/pid; exec sleep 60")
     script = f"import pandas, rowmatch; rowmatch.match(pandas.DataFrame({{'p': [1]}}), {CLAUSE!r})"
-    with subprocess.Popen([sys.executable, "-c", script], stderr=subprocess.PIPE, preexec_fn=hear_interrupts) as process:
+    with subprocess.Popen(
+        [sys.executable, "-c", script], stderr=subprocess.PIPE, preexec_fn=hear_interrupts
+    ) as process:
         until = time.monotonic() + 60
         while not (tmp_path / "pid").exists() and time.monotonic() < until:
             time.sleep(0.01)
@@ -302,8 +304,10 @@ pathlib.Path({str(tmp_path / "found")!r}).write_text(str(n))"""
 
 def test_a_process_that_is_forked_meanwhile(stand_in, tmp_path):
     """It has no part in the program's input, which ends while it lives."""
-    stand_in(f"""echo >{tmp_path}/runs; while ! [ -e {tmp_path}/read ]; do sleep 0.05; done
-        cat >/dev/null; printf "N\\n7\\n" """)
+    stand_in(
+        f"""echo >{tmp_path}/runs; while ! [ -e {tmp_path}/read ]; do sleep 0.05; done
+        cat >/dev/null; printf "N\\n7\\n" """
+    )
     with ThreadPoolExecutor(1) as pool:
         asked = pool.submit(rowmatch.match, pd.DataFrame({"p": range(300_000)}), CLAUSE)
         wait_for(tmp_path / "runs")

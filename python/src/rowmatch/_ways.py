@@ -389,10 +389,8 @@ def _of_places(numbers: Array, places: int) -> tuple[Array, Array]:
 
 def _places_that_fit(numbers: Array) -> int | None:
     """The places of which all floats are decimals: two where that is enough, as cents are."""
-    for places in (*range(2, _MOST_PLACES + 1), 1):
-        if _of_places(numbers, places)[1].all():
-            return places
-    return None
+    tried: list[int] = [*range(2, _MOST_PLACES + 1), 1]
+    return next((places for places in tried if _of_places(numbers, places)[1].all()), None)
 
 
 def look_at_ways(ways: Mapping[Hashable, str], labels: Collection[Hashable], times: str) -> None:
