@@ -77,7 +77,8 @@ def match(
         ClauseError: the clause is wrong; its text says where, and what to write.
         DataError: a column that the clause names can't be handed over.
         SkipFault: a partition's answer ended early; see ``on_skip_fault``.
-        TimeoutError: there was no answer in time; says which partition was being searched.
+        TimeoutError: there was no answer in time; says which partition was being searched, where
+            that took five seconds.
         ProgramError: the program is missing or ended unexpectedly.
 
     Examples:
