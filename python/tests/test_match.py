@@ -189,6 +189,8 @@ def test_a_measure_with_a_columns_name_has_its_own_kind():
         'PARTITION BY p MEASURES p + 1 AS "p" PATTERN (A) DEFINE A AS p > 0',
         'MEASURES p AS "x" ALL ROWS PER MATCH PATTERN (A) DEFINE A AS p > 0',
         'ORDER BY t MEASURES p AS "t" ALL ROWS PER MATCH PATTERN (A) DEFINE A AS p > 0',
+        'PARTITION BY p, "p" PATTERN (A) DEFINE A AS x > 0',
+        'PARTITION BY p ORDER BY x, "p" ALL ROWS PER MATCH PATTERN (A) DEFINE A AS x > 0',
     ],
 )
 def test_no_two_columns_of_the_answer_have_one_name(clause):

@@ -104,18 +104,25 @@ class Question:
     times: str
 
     def look_at_labels(self) -> None:
-        """Refuses a measure whose name, as it is written, another column of the answer has. In the
-        clause two names may differ by case alone, as ``P`` that is written ``p``, and ``"p"``."""
-        first = [*self.clause.partition_by, *(self.clause.order_by if self.clause.all_rows else ())]
-        taken: set[Hashable] = {self.sources[name].label for name in first}
+        """Refuses a measure whose name, as it is written, another column of the answer has, and a
+        column that comes twice. In the clause two names may differ by case alone, as ``P`` that is
+        written ``p``, and ``"p"``."""
+        names = [*self.clause.partition_by, *(self.clause.order_by if self.clause.all_rows else ())]
+        first = [self.sources[name] for name in names]
+        for at, source in enumerate(first):
+            if source in first[:at]:
+                raise self._double(source.label, "name each column once")
+        taken: set[Hashable] = {source.label for source in first}
         if self.clause.all_rows:
             taken.update(self.frame.columns)
         for measure in self.clause.measures:
             if measure.written in taken:
-                message = f"two columns of the answer have the name {measure.written!r}"
-                fault = Fault("DoubleName", message, ("write another name behind AS",))
-                raise ClauseError(self.text, [fault])
+                raise self._double(measure.written, "write another name behind AS")
             taken.add(measure.written)
+
+    def _double(self, label: Hashable, write: str) -> ClauseError:
+        message = f"two columns of the answer have the name {label!r}"
+        return ClauseError(self.text, [Fault("DoubleName", message, (write,))])
 
     def answer(self, limit: Limit) -> tuple[pd.DataFrame, SkipFaults]:
         """The answer, and the skip faults in it."""
