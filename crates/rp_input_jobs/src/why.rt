@@ -1,7 +1,7 @@
 //! `why`: what is in the way of a match, partition by partition.
 use rp_command::{ReportFormat, WhyJob};
 use rp_io::{CountedDevice, write_all};
-use rp_job::{Asked, JobInputs, ProgramFault, Verdict, seeded_hasher, shown_key};
+use rp_job::{Asked, InputLayout, JobInputs, ProgramFault, Verdict, seeded_hasher, shown_key};
 use rp_json::cells_of;
 use rp_numbering::{Part, order_rows, partitions};
 use rp_query::Query;
@@ -15,7 +15,7 @@ use std::alloc::{AllocError, Global};
 const MOST_TURNS: u32 = 10_000_000;
 
 /// Prints for each partition, or for that of the key that is given, its first match, or what is in the way of one.
-pub fn run_why<'a>(rt: &'a HostRuntime, job: &'a WhyJob) -> Result<Verdict, ProgramFault> {
+pub fn run_why(rt: &HostRuntime, job: &WhyJob) -> Result<Verdict, ProgramFault> {
     let key = key_of(rt.alloc(), job)?;
     let asked = Asked {
         input: &job.input,
@@ -24,9 +24,21 @@ pub fn run_why<'a>(rt: &'a HostRuntime, job: &'a WhyJob) -> Result<Verdict, Prog
         files: job.files.as_slice(),
     };
     let (layout, ready) = asked.layout(rt, &mut None)?;
-    let question = asked.question(rt.alloc(), &layout)?;
-    let rows = JobInputs::new(rt, asked, &layout, &question.query, ready, None).rows(&question)?;
-    tell_rows(rt, job, &question.query, &key, rows)
+    tell_question(rt, job, asked, &layout, ready, &key)
+}
+
+/// Prints what is found of each partition that is asked about, of the rows of inputs that are read so.
+fn tell_question<'a>(
+    rt: &'a HostRuntime,
+    job: &WhyJob,
+    asked: Asked<'a>,
+    layout: &'a InputLayout,
+    ready: Vec<Vec<u8>>,
+    key: &Option<Cells>,
+) -> Result<Verdict, ProgramFault> {
+    let question = asked.question(rt.alloc(), layout)?;
+    let rows = JobInputs::new(rt, asked, layout, &question.query, ready, None).rows(&question)?;
+    tell_rows(rt, job, &question.query, key, rows)
 }
 
 /// Prints for these rows what is found of each partition that is asked about.
