@@ -1,6 +1,7 @@
 //! Answers to questions over texts in memory: several inputs, a condition, each form of an answer, inputs that are no rows, texts that make
 //! no question.
 use crate::support::{V, fixed_hasher, holds, prices, refused_twice};
+use rp_compile::CompileFault;
 use rp_input::{CsvFault, CsvLayout};
 use rp_io::MemoryOutput;
 use rp_question::{AnswerFault, InputFault, InputShape, Question, QuestionFault, Reading, Texts};
@@ -172,9 +173,9 @@ fn no_questions(rt: HostRuntime) -> Result<(), Fail> {
         matches!(no_clause, Err(QuestionFault::Clause(_))),
         "a clause of no pattern",
     )?;
-    let no_condition = Question::new(rt.alloc(), V, Some("p >"), by(&shape));
-    holds(
-        matches!(no_condition, Err(QuestionFault::Condition(_))),
-        "a condition of half a comparison",
-    )
+    match Question::new(rt.alloc(), V, Some("p >"), by(&shape)) {
+        Err(QuestionFault::Condition(_)) => Ok(()),
+        Err(QuestionFault::Clause(CompileFault::OutOfMemory)) => Err(Fail::from(AllocError)),
+        _ => Err(Fail::from("a condition of half a comparison")),
+    }
 }
