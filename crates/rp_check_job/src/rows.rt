@@ -44,7 +44,7 @@ pub(crate) fn look_at_inputs(
         all.append(&mut read.all)?;
         seen.append(&mut read.seen)?;
     }
-    let described = rows_described(found, condition, all.as_slice(), seen.as_slice());
+    let described = rows_described(found, form, condition, all.as_slice(), seen.as_slice());
     found.text.push_made(described);
     Ok(())
 }
@@ -165,6 +165,7 @@ fn never_found_told(found: &Found, rows: &[Row]) -> Result<String, AllocError> {
 /// What is said of rows over which the clause has no fault: of those that it sees, and of columns that are proposed for all.
 fn rows_described(
     found: &Found,
+    form: &InputForm,
     condition: &Option<String>,
     all: &[Row],
     seen: &[Row],
@@ -174,7 +175,7 @@ fn rows_described(
     };
     let described = describe_input(found.alloc, query, seen)?;
     let mut told = Pieces::of(found.alloc, described.as_str());
-    told.push_made(texts_told(found, query, condition, all, described.as_str()));
+    told.push_made(texts_told(found, form, query, condition, all, described.as_str()));
     told.finish()
 }
 

@@ -1,16 +1,17 @@
 //! What `check` says of columns that are proposed as texts, and are numbers or times that a clause compares.
 
 use crate::found::Found;
-use rp_job::notes_on_columns;
+use rp_job::{InputForm, notes_on_columns};
 use rp_query::Query;
 use rp_value::Row;
 use rp_wording::{Pieces, shown_text};
 use std::alloc::{AllocError, Global};
 
 /// What is said of these columns, a line for each: of all but those of whose offsets from UTC something was told. The rows are all of the
-/// inputs, and the condition is the text of the one that leaves rows out.
+/// inputs, which have this form, and the condition is the text of the one that leaves rows out.
 pub(crate) fn texts_told(
     found: &Found,
+    form: &InputForm,
     query: &Query,
     condition: &Option<String>,
     rows: &[Row],
@@ -18,7 +19,8 @@ pub(crate) fn texts_told(
 ) -> Result<String, AllocError> {
     let mut lines = Pieces::new(found.alloc);
     if let Some(columns) = &found.proposed {
-        for note in notes_on_columns(found.alloc, query, condition, columns.as_str(), rows)? {
+        let proposed = form.proposed(columns.as_str());
+        for note in notes_on_columns(found.alloc, query, condition, proposed, rows)? {
             if !is_told(found.alloc, query, note.column, told)? {
                 lines.push(note.line.as_str());
                 lines.push("\n");

@@ -6,6 +6,7 @@ use rp_command::{InputFormat, InputOptions};
 use rp_input::{CsvLayout, is_delimiter};
 use rp_question::{InputShape, Reading};
 use rp_syntax::read_table;
+use rp_text_notes::Proposed;
 use rp_value::{Table, Text};
 use std::alloc::{AllocError, Global};
 
@@ -98,6 +99,14 @@ impl InputForm {
             nulls: null_words(alloc, options.nulls.as_slice(), is_csv)?,
             is_plain,
         })
+    }
+
+    /// Columns of this text, which are proposed for inputs of this form.
+    pub fn proposed<'a>(&'a self, columns: &'a str) -> Proposed<'a> {
+        Proposed {
+            columns,
+            nulls: self.nulls.as_slice(),
+        }
     }
 }
 

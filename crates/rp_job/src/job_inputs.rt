@@ -107,13 +107,8 @@ impl Inputs for JobInputs<'_> {
     fn has_all(&mut self, rows: &[Row]) -> Result<(), AllocError> {
         match &self.layout.proposed {
             Some(columns) => {
-                tell_texts(
-                    self.rt,
-                    self.query,
-                    self.asked.filter,
-                    columns.as_str(),
-                    rows,
-                )
+                let proposed = self.layout.form.proposed(columns.as_str());
+                tell_texts(self.rt, self.query, self.asked.filter, proposed, rows)
             }
             None => Ok(()),
         }

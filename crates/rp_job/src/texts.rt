@@ -2,7 +2,7 @@
 use crate::telling::tell;
 use rp_compile::{CompileFault, compile};
 use rp_query::Query;
-use rp_text_notes::{Note, notes_on_texts};
+use rp_text_notes::{Note, Proposed, notes_on_texts};
 use rp_value::{Row, Table};
 use rp_wording::{Pieces, shown_line};
 use std::alloc::{AllocError, Global};
@@ -10,18 +10,18 @@ use std::alloc::{AllocError, Global};
 /// What is before a condition of rows in the clause that it is read as.
 const FRONT: &str = "PATTERN (R) DEFINE R AS ";
 
-/// Notes on the columns of a query, proposed by this text, that are numbers or times and are compared as texts: by the query, or by a
-/// condition that leaves rows out. The rows are all of the inputs.
+/// Notes on the columns of a query, which are proposed, that are numbers or times and are compared as texts: by the query, or by a condition
+/// that leaves rows out. The rows are all of the inputs.
 pub fn notes_on_columns(
     alloc: Global,
     query: &Query,
     condition: &Option<String>,
-    columns: &str,
+    proposed: Proposed<'_>,
     rows: &[Row],
 ) -> Result<Vec<Note>, AllocError> {
     match condition_query(alloc, condition, query.table())? {
-        Some(filter) => notes_on_texts(alloc, query, Some(&filter), columns, rows),
-        None => notes_on_texts(alloc, query, None, columns, rows),
+        Some(filter) => notes_on_texts(alloc, query, Some(&filter), proposed, rows),
+        None => notes_on_texts(alloc, query, None, proposed, rows),
     }
 }
 
@@ -48,10 +48,10 @@ pub(crate) fn tell_texts(
     rt: &HostRuntime,
     query: &Query,
     condition: &Option<String>,
-    columns: &str,
+    proposed: Proposed<'_>,
     rows: &[Row],
 ) -> Result<(), AllocError> {
-    for note in notes_on_columns(rt.alloc(), query, condition, columns, rows)? {
+    for note in notes_on_columns(rt.alloc(), query, condition, proposed, rows)? {
         tell(rt, &shown_line(rt.alloc(), note.line.as_str())?);
     }
     Ok(())

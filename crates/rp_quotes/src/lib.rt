@@ -10,9 +10,7 @@ mod mark;
 mod quoting;
 mod remarks;
 mod watch;
-mod watched;
 
 pub use quoting::Quoting;
 pub use remarks::remarks_on;
 pub use watch::{QuoteWatch, Stray};
-pub use watched::Watched;

@@ -8,12 +8,18 @@
 mod decimals;
 mod example;
 mod formats;
+mod found;
+mod lines;
 mod notes;
+mod null_words;
 mod retyped;
 mod same_form;
+mod shell;
+mod signs;
 mod texts;
 mod times;
 mod uses;
 mod way;
+mod whole;
 
-pub use notes::{Note, notes_on_texts};
+pub use notes::{Note, Proposed, notes_on_texts};

@@ -1,26 +1,51 @@
-//! The text of columns, some of which are read in another way.
+//! Options by which some columns are read in another way.
 
+use crate::found::Found;
+use crate::notes::Proposed;
+use crate::null_words::NullWords;
+use crate::shell::push_word;
 use crate::way::Way;
 use rp_lexer::Token;
+use rp_value::Text;
 use rp_wording::{Pieces, tokens_of};
 use std::alloc::{AllocError, Global};
 
-/// A column, by its number from 1, and the way in which it is to be read.
-pub(crate) struct Found {
-    pub(crate) number: usize,
-    pub(crate) way: Way,
+/// The options by which these columns are read in their ways, and all others as before. One with a sign that no reading takes stays too.
+pub(crate) fn options_for(
+    alloc: Global,
+    proposed: Proposed<'_>,
+    found: &[Found],
+) -> Result<String, AllocError> {
+    let columns = retyped(alloc, proposed.columns, found)?;
+    let mut words = NullWords::new(alloc);
+    for one in found {
+        if one.sign.is_empty() {
+            words.add_all(alloc, &one.words)?;
+        }
+    }
+    let mut options = Pieces::new(alloc);
+    words.push_options(&mut options);
+    if !words.is_empty() && is_empty_null(proposed.nulls) {
+        options.push("--null '' ");
+    }
+    options.push("--columns ");
+    push_word(&mut options, columns.as_str());
+    options.finish()
 }
 
-/// It is let go of by a call, wherever it is held.
-impl Drop for Found {
-    fn drop(self) {
-        let Found { number: _, way: _ } = self;
+/// Whether an empty text is null.
+fn is_empty_null(nulls: &[Text]) -> bool {
+    for word in nulls {
+        if word.as_str().is_empty() {
+            return true;
+        }
     }
+    false
 }
 
 /// A text of columns, each of which is a name and a kind, as `sym text, p text`, with ways to read some of them, as
 /// `sym text, p = decimal(p, 2)`.
-pub(crate) fn retyped(alloc: Global, columns: &str, found: &[Found]) -> Result<String, AllocError> {
+fn retyped(alloc: Global, columns: &str, found: &[Found]) -> Result<String, AllocError> {
     let mut text = Pieces::new(alloc);
     let tokens = tokens_of(alloc, columns)?;
     for index in 0..tokens.len().saturating_add(1) / 3 {
@@ -52,7 +77,7 @@ fn written<'a>(text: &'a str, tokens: &[Token], index: usize) -> &'a str {
 /// The way to read a column, by its number.
 fn way_of(found: &[Found], number: usize) -> Option<&Way> {
     for one in found {
-        if one.number == number {
+        if one.number == number && one.sign.is_empty() {
             return Some(&one.way);
         }
     }

@@ -1,6 +1,8 @@
 //! The texts of a column, and what readings make of them.
 
+use crate::signs::without_sign;
 use rp_columns::{Reading, ReadingFault, Texts, read};
+use rp_proposal::is_null_word;
 use rp_value::{Row, Value};
 use std::alloc::{AllocError, Global};
 
@@ -9,11 +11,28 @@ use std::alloc::{AllocError, Global};
 pub(crate) struct ColumnTexts<'a> {
     pub(crate) rows: &'a [Row],
     pub(crate) number: usize,
+    /// A sign that texts have besides their numbers; empty where they are read as they are.
+    pub(crate) sign: &'static str,
 }
 
 impl<'a> ColumnTexts<'a> {
-    /// The text that a row has in the column; None where that is null.
+    /// The text that a row has in the column, without the sign; None where that is null, or a word that another program wrote for a null.
     pub(crate) fn of_row(self, row: &'a Row) -> Option<&'a str> {
+        let text = self.written(row)?;
+        if means_null(text) {
+            return None;
+        }
+        Some(without_sign(text, self.sign))
+    }
+
+    /// The word that another program wrote for a null in a row, if there is one.
+    pub(crate) fn null_word(self, row: &'a Row) -> Option<&'a str> {
+        let text = self.written(row)?;
+        if means_null(text) { Some(text) } else { None }
+    }
+
+    /// What a row has in the column; None where that is null.
+    fn written(self, row: &'a Row) -> Option<&'a str> {
         match row.cell(self.number) {
             Some(Value::Text(text)) => Some(text.as_str()),
             _ => None,
@@ -80,6 +99,11 @@ impl NumberReader {
         }
         is_any
     }
+}
+
+/// Whether a text is a word that other programs write for a null; none of these begins with a digit, as numbers and times do.
+fn means_null(text: &str) -> bool {
+    !text.starts_with(|first: char| first.is_ascii_digit()) && is_null_word(text.as_bytes())
 }
 
 /// The number that a value is.

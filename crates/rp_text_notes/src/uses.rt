@@ -3,9 +3,46 @@
 use rp_query::{Condition, Expr, Function, Query};
 use rp_value::Comparison;
 
+/// What is asked of rows: by a query, and by a condition that leaves rows out, if there is one.
+#[derive(Clone, Copy)]
+pub(crate) struct Asked<'a> {
+    pub(crate) query: &'a Query,
+    pub(crate) filter: Option<&'a Query>,
+}
+
+impl<'a> Asked<'a> {
+    /// Whether the values of a column are asked for, or whether they are null.
+    pub(crate) fn asks_of(self, column: usize) -> bool {
+        self.asks_values(column)
+            || asks_null(self.query, column)
+            || match self.filter {
+                Some(filter) => asks_null(filter, column),
+                None => false,
+            }
+    }
+
+    /// Whether the values of a column are asked for.
+    pub(crate) fn asks_values(self, column: usize) -> bool {
+        asks_values(self.query, column)
+            || match self.filter {
+                Some(filter) => asks_values(filter, column),
+                None => false,
+            }
+    }
+
+    /// Whether their order is.
+    pub(crate) fn asks_order(self, column: usize) -> bool {
+        asks_order(self.query, column)
+            || match self.filter {
+                Some(filter) => asks_order(filter, column),
+                None => false,
+            }
+    }
+}
+
 /// Whether the answer of a query depends on the order of a column's values, by its number from 1: rows are ordered by it, it is compared
 /// by `<`, `<=`, `>` or `>=`, or its least or greatest value is asked for.
-pub(crate) fn asks_order(query: &Query, column: usize) -> bool {
+fn asks_order(query: &Query, column: usize) -> bool {
     query.order().iter().any(|order| order.column == column)
         || asks_extreme(query, column)
         || query
@@ -16,13 +53,33 @@ pub(crate) fn asks_order(query: &Query, column: usize) -> bool {
 }
 
 /// Whether the answer of a query depends on which of a column's values are equal, or on their order.
-pub(crate) fn asks_values(query: &Query, column: usize) -> bool {
+fn asks_values(query: &Query, column: usize) -> bool {
     asks_order(query, column)
         || query
             .plan()
             .conditions
             .iter()
             .any(|condition| compares(condition, column, false))
+}
+
+/// Whether a condition of a query asks whether a column is null.
+fn asks_null(query: &Query, column: usize) -> bool {
+    query
+        .plan()
+        .conditions
+        .iter()
+        .any(|condition| asks_null_in(condition, column))
+}
+
+fn asks_null_in(condition: &Condition, column: usize) -> bool {
+    match condition {
+        Condition::Compare(_, _, _) => false,
+        Condition::IsNull(operand) => names(operand, column),
+        Condition::Not(body) => asks_null_in(body, column),
+        Condition::And(left, right) | Condition::Or(left, right) => {
+            asks_null_in(left, column) || asks_null_in(right, column)
+        }
+    }
 }
 
 /// Whether the least or the greatest value of a column is asked for.

@@ -87,10 +87,15 @@ impl Way {
         called(alloc, self.word, source, self.other.as_str())
     }
 
+    /// Whether its numbers are written as the texts are.
+    pub(crate) fn is_as_written(&self) -> bool {
+        self.word == "int"
+    }
+
     /// What the texts are.
     pub(crate) fn texts(&self) -> &'static str {
         match self.word {
-            "decimal" => "numbers",
+            "decimal" | "int" => "numbers",
             "date" => "dates",
             _ => "times",
         }
@@ -99,7 +104,7 @@ impl Way {
     /// What their values are.
     pub(crate) fn values(&self) -> &'static str {
         match self.word {
-            "decimal" => "whole numbers",
+            "decimal" | "int" => "whole numbers",
             "date" => "days since 1970",
             "seconds" => "seconds since 1970",
             "millis" => "thousandths of a second since 1970",

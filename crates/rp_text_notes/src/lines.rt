@@ -1,0 +1,102 @@
+//! The line of a note.
+
+use crate::example::Example;
+use crate::found::Found;
+use crate::way::Way;
+use rp_wording::Pieces;
+use std::alloc::{AllocError, Global};
+
+/// What is to be known of a column of this name, and the options to write.
+pub(crate) fn line_of(
+    alloc: Global,
+    name: &str,
+    found: &Found,
+    example: Option<Example<'_>>,
+    options: &str,
+) -> Result<String, AllocError> {
+    let mut line = Pieces::of(alloc, name);
+    line.push(" is text, ");
+    push_reason(&mut line, found);
+    line.push("and its ");
+    line.push(found.way.texts());
+    line.push(" are compared as texts");
+    push_order(&mut line, example);
+    if found.sign.is_empty() {
+        push_reading(alloc, &mut line, name, &found.way, example, options);
+    } else {
+        line.push_filled(
+            ". No reading takes '{}': take it out of the input",
+            &[found.sign],
+        );
+    }
+    line.finish()
+}
+
+/// Adds why a column is text, where it is for words for null, or for a sign that no reading takes.
+fn push_reason(line: &mut Pieces, found: &Found) {
+    if !found.sign.is_empty() {
+        line.push_filled("since its fields have '{}', ", &[found.sign]);
+    } else if !found.words.is_empty() {
+        line.push("since ");
+        found.words.push_count(line);
+        line.push(", ");
+    }
+}
+
+/// Adds how a column of this name is read, and the options to write.
+fn push_reading(
+    alloc: Global,
+    line: &mut Pieces,
+    name: &str,
+    way: &Way,
+    example: Option<Example<'_>>,
+    options: &str,
+) {
+    line.push(". As ");
+    line.push(way.values());
+    line.push(way.condition);
+    push_value(alloc, line, way, example);
+    line.push(": ");
+    line.push(options);
+    push_otherwise(alloc, line, name, way);
+}
+
+/// Adds two texts in their order, where it isn't that of the numbers.
+fn push_order(line: &mut Pieces, example: Option<Example<'_>>) {
+    let Some(example) = example else {
+        return;
+    };
+    if let Some(before) = example.before {
+        line.push(", by which '");
+        line.push_start(example.one.text.as_bytes());
+        line.push("' comes after '");
+        line.push_start(before.as_bytes());
+        line.push("'");
+    }
+}
+
+/// Adds what a text is as a number, where that is written otherwise.
+fn push_value(alloc: Global, line: &mut Pieces, way: &Way, example: Option<Example<'_>>) {
+    if way.is_as_written() {
+        return;
+    }
+    if let Some(example) = example {
+        let number = example.one.number;
+        line.push(", ");
+        line.push_made(format!(in alloc; "{number}"));
+        line.push(" for ");
+        line.push_start(example.one.text.as_bytes());
+    }
+}
+
+/// Adds what is written in another case.
+fn push_otherwise(alloc: Global, line: &mut Pieces, name: &str, way: &Way) {
+    if !way.otherwise.is_empty() {
+        line.push("; ");
+        line.push(way.otherwise);
+        line.push(": ");
+        line.push(name);
+        line.push(" = ");
+        line.push_made(way.written_otherwise(alloc, name));
+    }
+}
