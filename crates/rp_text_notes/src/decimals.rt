@@ -8,22 +8,44 @@ use std::alloc::{AllocError, Global};
 /// So many digits in a number surely leave it within 64 bits with sign.
 const MOST_DIGITS: usize = 18;
 
-/// How decimal numbers are written: the sign before a fraction, and the one between thousands.
+/// How decimal numbers are written: the sign before a fraction, and the one between thousands, also as a text of columns has it.
 #[derive(Clone, Copy)]
 struct Style {
     point: u8,
     thousands: u8,
+    written: &'static str,
 }
 
 const BY_POINT: Style = Style {
     point: b'.',
     thousands: b',',
+    written: ", ','",
 };
 
 const BY_COMMA: Style = Style {
     point: b',',
     thousands: b'.',
+    written: ", '.', ','",
 };
+
+/// Styles that no other one can be taken for.
+const OTHERS: [Style; 3] = [
+    Style {
+        point: b',',
+        thousands: b' ',
+        written: ", ' ', ','",
+    },
+    Style {
+        point: b'.',
+        thousands: b' ',
+        written: ", ' '",
+    },
+    Style {
+        point: b'.',
+        thousands: b'\'',
+        written: ", ''''",
+    },
+];
 
 /// The digits that were seen in numbers of a style.
 #[derive(Clone, Copy)]
@@ -38,19 +60,37 @@ struct Digits {
     has_point: bool,
 }
 
-/// How all texts of a column are read as decimal numbers: None where not all are, or where none has a fraction or signs between thousands.
+/// How all texts of a column are read as decimal numbers, with at least so many places: None where not all are, or where no places are asked
+/// for and none has a fraction or signs between thousands.
 pub(crate) fn decimal_way(
     alloc: Global,
     reader: &mut NumberReader,
     column: ColumnTexts<'_>,
+    least: usize,
 ) -> Result<Option<Way>, AllocError> {
-    let by_point = way_of(alloc, reader, column, BY_POINT)?;
-    let by_comma = way_of(alloc, reader, column, BY_COMMA)?;
+    let by_point = way_of(alloc, reader, column, BY_POINT, least)?;
+    let by_comma = way_of(alloc, reader, column, BY_COMMA, least)?;
     match (by_point, by_comma) {
         (Some(way), Some(other)) => Ok(Some(either_way(alloc, way, &other)?)),
         (Some(way), None) => Ok(Some(way)),
-        (None, found) => Ok(found),
+        (None, Some(way)) => Ok(Some(way)),
+        (None, None) => other_way(alloc, reader, column, least),
     }
+}
+
+/// The same by one of the other styles.
+fn other_way(
+    alloc: Global,
+    reader: &mut NumberReader,
+    column: ColumnTexts<'_>,
+    least: usize,
+) -> Result<Option<Way>, AllocError> {
+    for style in OTHERS {
+        if let Some(way) = way_of(alloc, reader, column, style, least)? {
+            return Ok(Some(way));
+        }
+    }
+    Ok(None)
 }
 
 /// The way by a point where a way by a comma reads all texts too.
@@ -63,33 +103,42 @@ fn either_way(alloc: Global, way: Way, other: &Way) -> Result<Way, AllocError> {
     ))
 }
 
-/// How all texts of a column are read as decimal numbers of a style.
+/// How all texts of a column are read as decimal numbers of a style, with at least so many places.
 fn way_of(
     alloc: Global,
     reader: &mut NumberReader,
     column: ColumnTexts<'_>,
     style: Style,
+    least: usize,
 ) -> Result<Option<Way>, AllocError> {
     let Some(digits) = digits_seen(column, style) else {
         return Ok(None);
     };
     let is_whole = !digits.is_grouped && !digits.has_point;
-    if is_whole || digits.whole.saturating_add(digits.places) > MOST_DIGITS {
+    let places = digits.places.max(least);
+    if is_whole && least == 0 || digits.whole.saturating_add(places) > MOST_DIGITS {
         return Ok(None);
     }
-    let behind = behind_source(alloc, style, digits)?;
-    Way::reading_all(alloc, reader, column, "decimal", behind)
+    let behind = behind_source(alloc, style, places, digits.is_grouped)?;
+    match Way::reading_all(alloc, reader, column, "decimal", behind)? {
+        Some(way) => Ok(Some(way.with_places(places))),
+        None => Ok(None),
+    }
 }
 
-/// What is behind the source in the reading of numbers of a style, with such digits.
-fn behind_source(alloc: Global, style: Style, digits: Digits) -> Result<String, AllocError> {
+/// What is behind the source in the reading of numbers of a style, with so many places, and signs between thousands or none.
+fn behind_source(
+    alloc: Global,
+    style: Style,
+    places: usize,
+    is_grouped: bool,
+) -> Result<String, AllocError> {
     let mut behind = Pieces::of(alloc, ", ");
-    behind.push_count(digits.places);
-    behind.push(match (style.point, digits.is_grouped) {
-        (b'.', false) => "",
-        (b'.', true) => ", ','",
-        (_, false) => ", '', ','",
-        (_, true) => ", '.', ','",
+    behind.push_count(places);
+    behind.push(match (is_grouped, style.point) {
+        (true, _) => style.written,
+        (false, b'.') => "",
+        (false, _) => ", '', ','",
     });
     behind.finish()
 }
@@ -104,7 +153,7 @@ fn digits_seen(column: ColumnTexts<'_>, style: Style) -> Option<Digits> {
     };
     for row in column.rows {
         if let Some(text) = column.of_row(row) {
-            digits = with_text(digits, text.as_bytes(), style)?;
+            digits = with_text(digits, text.trim().as_bytes(), style)?;
         }
     }
     Some(digits)
@@ -129,7 +178,7 @@ fn with_text(digits: Digits, text: &[u8], style: Style) -> Option<Digits> {
 
 /// Whether a number may have this byte.
 fn may_be_in_number(byte: u8) -> bool {
-    byte.is_ascii_digit() || matches!(byte, b'.' | b',' | b'-' | b'+' | b' ' | b'\t')
+    byte.is_ascii_digit() || matches!(byte, b'.' | b',' | b'-' | b'+' | b' ' | b'\t' | b'\'')
 }
 
 /// How many digits there are.

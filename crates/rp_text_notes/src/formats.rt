@@ -2,34 +2,45 @@
 
 use crate::texts::{ColumnTexts, NumberReader};
 use crate::times::{IN_UTC, IN_ZONE};
-use crate::way::Way;
+use crate::way::{Way, as_fine};
 use rp_wording::Pieces;
 use std::alloc::{AllocError, Global};
 
-/// Formats of dates, each with the one that has the day before the month, if there is such a one.
-const DATES: [(&str, &str); 18] = [
+/// Formats of dates, each with the one that has its numbers in another order and may be meant as well, if there is such a one.
+const DATES: [(&str, &str); 29] = [
     ("%Y-%m-%d", ""),
     ("%Y/%m/%d", ""),
     ("%Y.%m.%d", ""),
+    ("%Y%m%d", ""),
     ("%m/%d/%Y", "%d/%m/%Y"),
     ("%d/%m/%Y", ""),
     ("%m-%d-%Y", "%d-%m-%Y"),
     ("%d-%m-%Y", ""),
     ("%d.%m.%Y", ""),
     ("%m/%d/%y", "%d/%m/%y"),
-    ("%d/%m/%y", ""),
-    ("%d.%m.%y", ""),
+    ("%d/%m/%y", "%y/%m/%d"),
+    ("%y/%m/%d", ""),
+    ("%m-%d-%y", "%d-%m-%y"),
+    ("%d-%m-%y", "%y-%m-%d"),
+    ("%y-%m-%d", ""),
+    ("%d.%m.%y", "%y.%m.%d"),
+    ("%y.%m.%d", ""),
     ("%b %d, %Y", ""),
     ("%B %d, %Y", ""),
     ("%b %d %Y", ""),
     ("%d %b %Y", ""),
     ("%d %B %Y", ""),
     ("%d-%b-%Y", ""),
+    ("%d-%b-%y", ""),
+    ("%d %b %y", ""),
     ("%d/%b/%Y", ""),
+    ("%d/%b/%y", ""),
+    ("%Y-%b-%d", ""),
+    ("%d%b%Y", ""),
 ];
 
 /// What may follow a date, and the reading of a time that has it.
-const CLOCKS: [(&str, &str); 10] = [
+const CLOCKS: [(&str, &str); 15] = [
     ("", "date"),
     (" %H:%M:%S", "seconds"),
     (" %H:%M", "seconds"),
@@ -37,7 +48,12 @@ const CLOCKS: [(&str, &str); 10] = [
     (" %I:%M:%S %p", "seconds"),
     (" %I:%M %p", "seconds"),
     (", %H:%M:%S", "seconds"),
+    (", %H:%M", "seconds"),
     (", %I:%M:%S %p", "seconds"),
+    (", %I:%M %p", "seconds"),
+    (" %I.%M.%S.%f %p", "micros"),
+    (" %H.%M.%S", "seconds"),
+    (":%H:%M:%S", "seconds"),
     (" %H:%M:%S %z", "seconds"),
     (":%H:%M:%S %z", "seconds"),
 ];
@@ -56,17 +72,19 @@ struct Form {
     word: &'static str,
 }
 
-/// How all texts of a column are read as dates or times by a format. None where not all are.
+/// How all texts of a column are read as dates or times by a format, in a unit that is at least so fine. None where not all are.
 pub(crate) fn format_way(
     alloc: Global,
     reader: &mut NumberReader,
     column: ColumnTexts<'_>,
+    least: usize,
 ) -> Result<Option<Way>, AllocError> {
     if !has_digits(column.first().unwrap_or("")) {
         return Ok(None);
     }
     for (date, swapped) in DATES {
         for (clock, word) in CLOCKS {
+            let word = as_fine(word, least);
             let form = Form { date, clock, word };
             if let Some(way) = way_of(alloc, reader, column, form)? {
                 return Ok(Some(with_other(alloc, reader, column, form, swapped, way)?));
@@ -107,8 +125,8 @@ fn is_without_offset(form: Form) -> bool {
     form.word != "date" && !form.clock.contains("%z")
 }
 
-/// The way of a format with the one that may be meant otherwise: with the day before the month, where that reads all texts too, or in a time
-/// zone.
+/// The way of a format with the one that may be meant otherwise: with its numbers in another order, where that reads all texts too, or in a
+/// time zone.
 fn with_other(
     alloc: Global,
     reader: &mut NumberReader,
@@ -125,13 +143,32 @@ fn with_other(
     let other = if is_either { other } else { form };
     let behind = behind_source(alloc, other, "Europe/Berlin")?;
     Ok(match (is_either, is_without_offset(form)) {
-        (true, true) => way.or(
-            " if the month is first and they are in UTC",
-            "if the day is first, and in a time zone",
+        (true, has_none) => way.or(
+            condition_of(form.date, has_none),
+            otherwise_of(swapped, has_none),
             behind,
         ),
-        (true, false) => way.or(" if the month is first", "if the day is first", behind),
         (false, true) => way.or(IN_UTC, IN_ZONE, behind),
         (false, false) => way,
     })
+}
+
+/// When a format of numbers is meant, by the first of them; of times without an offset also that they are in UTC.
+fn condition_of(date: &str, has_no_offset: bool) -> &'static str {
+    match (date.starts_with("%m"), has_no_offset) {
+        (true, true) => " if the month is first and they are in UTC",
+        (true, false) => " if the month is first",
+        (false, true) => " if the day is first and they are in UTC",
+        (false, false) => " if the day is first",
+    }
+}
+
+/// When another one is meant.
+fn otherwise_of(date: &str, has_no_offset: bool) -> &'static str {
+    match (date.starts_with("%d"), has_no_offset) {
+        (true, true) => "if the day is first, and in a time zone",
+        (true, false) => "if the day is first",
+        (false, true) => "if the year is first, and in a time zone",
+        (false, false) => "if the year is first",
+    }
 }

@@ -105,20 +105,19 @@ fn way_for(
     if !asked.asks_order(texts.number) {
         return Ok(None);
     }
-    time_way(alloc, reader, texts)
+    time_way(alloc, reader, texts, 0)
 }
 
-/// The way to read a column of numbers, which are whole between words for null alone.
+/// The way to read a column of numbers, which are whole between words for null or blanks alone.
 fn number_way(
     alloc: Global,
     reader: &mut NumberReader,
     texts: ColumnTexts<'_>,
     has_words: bool,
 ) -> Result<Option<Way>, AllocError> {
-    match decimal_way(alloc, reader, texts)? {
+    match decimal_way(alloc, reader, texts, 0)? {
         Some(way) => Ok(Some(way)),
-        None if has_words => whole_way(alloc, reader, texts),
-        None => Ok(None),
+        None => whole_way(alloc, reader, texts, has_words),
     }
 }
 

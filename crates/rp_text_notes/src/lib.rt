@@ -18,6 +18,7 @@ mod shell;
 mod signs;
 mod texts;
 mod times;
+mod units;
 mod uses;
 mod way;
 mod whole;

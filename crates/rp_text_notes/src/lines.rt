@@ -54,6 +54,9 @@ fn push_reading(
 ) {
     line.push(". As ");
     line.push(way.values());
+    if way.is_cut {
+        line.push(" (finer digits are cut)");
+    }
     line.push(way.condition);
     push_value(alloc, line, way, example);
     line.push(": ");

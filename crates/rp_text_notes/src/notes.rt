@@ -5,6 +5,7 @@ use crate::found::columns_found;
 use crate::lines::line_of;
 use crate::retyped::options_for;
 use crate::texts::NumberReader;
+use crate::units::share_units;
 use crate::uses::Asked;
 use rp_query::Query;
 use rp_value::{Row, Text};
@@ -40,7 +41,8 @@ pub struct Proposed<'a> {
 /// numbers may be whole. The rows are all of an input, whose columns are proposed. The filter is the query of a condition that leaves rows
 /// out.
 ///
-/// Each note has the same options, by which all these are read as numbers. It reads each field of the rows.
+/// Each note has the same options, by which all these are read as numbers, in one unit where they are compared with each other. It reads each
+/// field of the rows.
 pub fn notes_on_texts(
     alloc: Global,
     query: &Query,
@@ -49,7 +51,9 @@ pub fn notes_on_texts(
     rows: &[Row],
 ) -> Result<Vec<Note>, AllocError> {
     let mut reader = NumberReader::new(alloc)?;
-    let found = columns_found(alloc, &mut reader, Asked { query, filter }, rows)?;
+    let asked = Asked { query, filter };
+    let mut found = columns_found(alloc, &mut reader, asked, rows)?;
+    share_units(alloc, &mut reader, asked, rows, &mut found)?;
     let options = options_for(alloc, proposed, found.as_slice())?;
     let mut notes = Vec::new(alloc);
     for one in &found {

@@ -3,11 +3,14 @@
 use crate::formats::format_way;
 use crate::same_form::have_one_form;
 use crate::texts::{ColumnTexts, NumberReader};
-use crate::way::Way;
+use crate::way::{Way, as_fine};
 use std::alloc::{AllocError, Global};
 
 /// So many digits a year has.
 const YEAR_DIGITS: usize = 4;
+
+/// So many digits the fraction of a second has in millionths.
+const MICRO_PLACES: usize = 6;
 
 /// What is said where times have no offset from UTC.
 pub(crate) const IN_UTC: &str = " if they are in UTC";
@@ -15,18 +18,24 @@ pub(crate) const IN_UTC: &str = " if they are in UTC";
 /// What is said of the other case.
 pub(crate) const IN_ZONE: &str = "if they are in a time zone, name it";
 
-/// How all texts of a column are read as dates or times. None where not all are, and where their order as texts is that of time.
+/// How all texts of a column are read as dates or times, in a unit that is at least so fine. None where not all are, and where no unit is asked
+/// for and their order as texts is that of time.
 pub(crate) fn time_way(
     alloc: Global,
     reader: &mut NumberReader,
     column: ColumnTexts<'_>,
+    least: usize,
 ) -> Result<Option<Way>, AllocError> {
-    if has_year_first(column.first().unwrap_or("")) && have_one_form(column) {
+    if least == 0 && has_year_first(column.first().unwrap_or("")) && have_one_form(column) {
         return Ok(None);
     }
-    match iso_way(alloc, reader, column)? {
-        Some(way) => Ok(Some(way)),
-        None => format_way(alloc, reader, column),
+    let found = match iso_way(alloc, reader, column, least)? {
+        Some(way) => Some(way),
+        None => format_way(alloc, reader, column, least)?,
+    };
+    match found {
+        Some(way) => Ok(Some(way.cutting(most_places(column) > MICRO_PLACES))),
+        None => Ok(None),
     }
 }
 
@@ -36,17 +45,29 @@ fn has_year_first(text: &str) -> bool {
     year.iter().all(|byte| byte.is_ascii_digit()) && !text.contains('m') && !text.contains('M')
 }
 
-/// How all texts of a column are read as dates or times by ISO 8601.
+/// How all texts of a column are read as dates or times by ISO 8601, in a unit that is at least so fine.
 fn iso_way(
     alloc: Global,
     reader: &mut NumberReader,
     column: ColumnTexts<'_>,
+    least: usize,
 ) -> Result<Option<Way>, AllocError> {
-    let nothing = String::new(alloc);
-    if let Some(way) = Way::reading_all(alloc, reader, column, "date", nothing)? {
-        return Ok(Some(way));
+    if least == 0 {
+        let nothing = String::new(alloc);
+        if let Some(way) = Way::reading_all(alloc, reader, column, "date", nothing)? {
+            return Ok(Some(way));
+        }
     }
-    let word = word_for(column);
+    instant_way(alloc, reader, column, as_fine(word_for(column), least))
+}
+
+/// How all texts of a column are read as times by ISO 8601, by this word.
+fn instant_way(
+    alloc: Global,
+    reader: &mut NumberReader,
+    column: ColumnTexts<'_>,
+    word: &'static str,
+) -> Result<Option<Way>, AllocError> {
     let nothing = String::new(alloc);
     if let Some(way) = Way::reading_all(alloc, reader, column, word, nothing)? {
         return Ok(Some(way));
@@ -64,17 +85,22 @@ fn iso_way(
 
 /// The word of the unit in which times of a column are whole: of millionths at the least.
 fn word_for(column: ColumnTexts<'_>) -> &'static str {
+    match most_places(column) {
+        0 => "seconds",
+        1..=3 => "millis",
+        _ => "micros",
+    }
+}
+
+/// The most digits that the fraction of a time of a column has.
+fn most_places(column: ColumnTexts<'_>) -> usize {
     let mut places = 0usize;
     for row in column.rows {
         if let Some(text) = column.of_row(row) {
             places = places.max(fraction_places(text.as_bytes()));
         }
     }
-    match places {
-        0 => "seconds",
-        1..=3 => "millis",
-        _ => "micros",
-    }
+    places
 }
 
 /// How many digits the fraction of a time has.

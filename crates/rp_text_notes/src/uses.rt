@@ -30,6 +30,15 @@ impl<'a> Asked<'a> {
             }
     }
 
+    /// Whether two columns are compared with each other.
+    pub(crate) fn compares_both(self, one: usize, other: usize) -> bool {
+        compares_both(self.query, one, other)
+            || match self.filter {
+                Some(filter) => compares_both(filter, one, other),
+                None => false,
+            }
+    }
+
     /// Whether their order is.
     pub(crate) fn asks_order(self, column: usize) -> bool {
         asks_order(self.query, column)
@@ -88,10 +97,7 @@ fn asks_extreme(query: &Query, column: usize) -> bool {
         .plan()
         .totals
         .iter()
-        .any(|total| match total.function {
-            Function::Least(number) | Function::Greatest(number) => number == column,
-            _ => false,
-        })
+        .any(|total| is_extreme_of(&total.function, column))
 }
 
 /// Whether a condition compares a column: by its order, or in any way.
@@ -105,6 +111,48 @@ fn compares(condition: &Condition, column: usize, by_order: bool) -> bool {
         Condition::And(left, right) | Condition::Or(left, right) => {
             compares(left, column, by_order) || compares(right, column, by_order)
         }
+    }
+}
+
+/// Whether a condition of a query compares two columns with each other.
+fn compares_both(query: &Query, one: usize, other: usize) -> bool {
+    query
+        .plan()
+        .conditions
+        .iter()
+        .any(|condition| compares_both_in(query, condition, one, other))
+}
+
+fn compares_both_in(query: &Query, condition: &Condition, one: usize, other: usize) -> bool {
+    match condition {
+        Condition::Compare(_, left, right) => {
+            is_of(query, left, one) && is_of(query, right, other)
+                || is_of(query, left, other) && is_of(query, right, one)
+        }
+        Condition::IsNull(_) => false,
+        Condition::Not(body) => compares_both_in(query, body, one, other),
+        Condition::And(left, right) | Condition::Or(left, right) => {
+            compares_both_in(query, left, one, other) || compares_both_in(query, right, one, other)
+        }
+    }
+}
+
+/// Whether an expression is a cell of a column, or its least or greatest.
+fn is_of(query: &Query, expr: &Expr, column: usize) -> bool {
+    match expr {
+        Expr::Aggregate { number, .. } => match query.plan().totals.get(*number) {
+            Some(total) => is_extreme_of(&total.function, column),
+            None => false,
+        },
+        _ => names(expr, column),
+    }
+}
+
+/// Whether an aggregate is the least or the greatest value of a column.
+fn is_extreme_of(function: &Function, column: usize) -> bool {
+    match function {
+        Function::Least(number) | Function::Greatest(number) => *number == column,
+        _ => false,
     }
 }
 

@@ -12,6 +12,10 @@ pub(crate) struct Way {
     word: &'static str,
     /// What is behind the source in its brackets, as `, 2`.
     behind: String,
+    /// How many places a decimal number has.
+    places: usize,
+    /// Whether the texts have finer digits, which are cut.
+    pub(crate) is_cut: bool,
     /// When it is meant, where another way may be: it begins with a blank, or is empty.
     pub(crate) condition: &'static str,
     /// When another way is meant; it may be empty.
@@ -27,6 +31,8 @@ impl Drop for Way {
             reading: _,
             word: _,
             behind: _,
+            places: _,
+            is_cut: _,
             condition: _,
             otherwise: _,
             other: _,
@@ -53,6 +59,8 @@ impl Way {
             reading,
             word,
             behind,
+            places: 0,
+            is_cut: false,
             condition: "",
             otherwise: "",
             other: String::new(alloc),
@@ -66,6 +74,34 @@ impl Way {
         way.otherwise = otherwise;
         way.other = other;
         way
+    }
+
+    /// The same of decimal numbers with so many places.
+    pub(crate) fn with_places(self, places: usize) -> Way {
+        let mut way = self;
+        way.places = places;
+        way
+    }
+
+    /// The same of texts some of which may have finer digits.
+    pub(crate) fn cutting(self, is_cut: bool) -> Way {
+        let mut way = self;
+        way.is_cut = is_cut;
+        way
+    }
+
+    /// Whether it reads numbers, and no dates or times.
+    pub(crate) fn is_of_numbers(&self) -> bool {
+        matches!(self.word, "decimal" | "int")
+    }
+
+    /// How fine its unit is: the places of numbers, or the place of the word among those of dates and times.
+    pub(crate) fn fineness(&self) -> usize {
+        if self.is_of_numbers() {
+            self.places
+        } else {
+            fineness_of(self.word)
+        }
     }
 
     /// What is behind the source.
@@ -110,6 +146,27 @@ impl Way {
             "millis" => "thousandths of a second since 1970",
             _ => "millionths of a second since 1970",
         }
+    }
+}
+
+/// The words of readings of dates and times, the coarsest first.
+const TIME_WORDS: [&str; 4] = ["date", "seconds", "millis", "micros"];
+
+/// How fine the unit of a word of dates or times is.
+fn fineness_of(word: &str) -> usize {
+    match word {
+        "date" => 0,
+        "seconds" => 1,
+        "millis" => 2,
+        _ => 3,
+    }
+}
+
+/// The word of dates or times whose unit is at least so fine.
+pub(crate) fn as_fine(word: &'static str, least: usize) -> &'static str {
+    match TIME_WORDS.get(least) {
+        Some(finer) if least > fineness_of(word) => *finer,
+        _ => word,
     }
 }
 

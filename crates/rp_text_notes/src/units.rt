@@ -1,0 +1,155 @@
+//! One unit for columns that are compared with each other.
+
+use crate::decimals::decimal_way;
+use crate::found::Found;
+use crate::null_words::NullWords;
+use crate::texts::{ColumnTexts, NumberReader};
+use crate::times::time_way;
+use crate::uses::Asked;
+use crate::way::Way;
+use rp_value::{Kind, Row};
+use std::alloc::{AllocError, Global};
+
+/// Reads columns that are compared with each other in one unit, that of the finest: numbers with as many places, times as parts of a second
+/// that are as small. A column of times that could stay text by itself is read, too, where it is compared with one that is read.
+pub(crate) fn share_units(
+    alloc: Global,
+    reader: &mut NumberReader,
+    asked: Asked<'_>,
+    rows: &[Row],
+    found: &mut Vec<Found>,
+) -> Result<(), AllocError> {
+    for _pass in 0..found.len() {
+        for number in 1..asked.query.table().columns().len().saturating_add(1) {
+            let texts = ColumnTexts {
+                rows,
+                number,
+                sign: "",
+            };
+            refine(alloc, reader, asked, texts, found)?;
+        }
+    }
+    Ok(())
+}
+
+/// Reads a column as finely as those that it is compared with.
+fn refine(
+    alloc: Global,
+    reader: &mut NumberReader,
+    asked: Asked<'_>,
+    texts: ColumnTexts<'_>,
+    found: &mut Vec<Found>,
+) -> Result<(), AllocError> {
+    let Some(finest) = finest_beside(asked, texts.number, found.as_slice()) else {
+        return Ok(());
+    };
+    if !is_coarser(asked, texts.number, found.as_slice(), finest) {
+        return Ok(());
+    }
+    if let Some(way) = way_as_fine(alloc, reader, texts, finest)? {
+        let words = NullWords::of(alloc, texts)?;
+        put(found, texts.number, way, words)?;
+    }
+    Ok(())
+}
+
+/// What a column is to be read as, since it is compared with another.
+#[derive(Clone, Copy)]
+struct Finest {
+    is_of_numbers: bool,
+    fineness: usize,
+}
+
+/// The finest of the columns that one is compared with, if there is any.
+fn finest_beside(asked: Asked<'_>, number: usize, found: &[Found]) -> Option<Finest> {
+    let mut finest: Option<Finest> = None;
+    for one in found {
+        if one.sign.is_empty() && one.number != number && asked.compares_both(one.number, number) {
+            let fineness = one.way.fineness();
+            if fineness >= least_of(finest) {
+                finest = Some(Finest {
+                    is_of_numbers: one.way.is_of_numbers(),
+                    fineness,
+                });
+            }
+        }
+    }
+    finest
+}
+
+/// How fine a unit is; 0 where there is none.
+fn least_of(finest: Option<Finest>) -> usize {
+    match finest {
+        Some(finest) => finest.fineness,
+        None => 0,
+    }
+}
+
+/// Whether a column of texts is read in a coarser unit, or isn't read.
+fn is_coarser(asked: Asked<'_>, number: usize, found: &[Found], finest: Finest) -> bool {
+    for one in found {
+        if one.number == number {
+            return one.sign.is_empty()
+                && one.way.is_of_numbers() == finest.is_of_numbers
+                && one.way.fineness() < finest.fineness;
+        }
+    }
+    !finest.is_of_numbers && finest.fineness > 0 && is_text(asked, number)
+}
+
+/// Whether a column has texts.
+fn is_text(asked: Asked<'_>, number: usize) -> bool {
+    match asked.query.table().columns().get(number.saturating_sub(1)) {
+        Some(column) => column.kind == Kind::Text,
+        None => false,
+    }
+}
+
+/// The way to read a column in a unit that is at least so fine.
+fn way_as_fine(
+    alloc: Global,
+    reader: &mut NumberReader,
+    texts: ColumnTexts<'_>,
+    finest: Finest,
+) -> Result<Option<Way>, AllocError> {
+    if finest.is_of_numbers {
+        decimal_way(alloc, reader, texts, finest.fineness)
+    } else {
+        time_way(alloc, reader, texts, finest.fineness)
+    }
+}
+
+/// Puts a column in its place, in the order of the columns.
+fn put(
+    found: &mut Vec<Found>,
+    number: usize,
+    way: Way,
+    words: NullWords,
+) -> Result<(), AllocError> {
+    let one = Found {
+        number,
+        way,
+        words,
+        sign: "",
+    };
+    let place = place_of(found.as_slice(), number);
+    if let Some(there) = found.get_mut(place) {
+        if there.number == number {
+            *there = one;
+            return Ok(());
+        }
+    }
+    let place = place.min(found.len());
+    found.insert(place, one)?;
+    Ok(())
+}
+
+/// The place of a column among those that are found, or the place for it.
+fn place_of(found: &[Found], number: usize) -> usize {
+    for (place, one) in found.iter().enumerate() {
+        if one.number >= number {
+            return place;
+        }
+    }
+    found.len()
+}
