@@ -1,0 +1,8 @@
+mod Numbers
+mod Literals
+mod Within
+mod Fresh
+mod Apart
+mod Parts
+mod Fits
+mod Read
