@@ -22,10 +22,8 @@ use Rattle.rp_walker.specs.Polls.{AnswerIs, left_in}
 use Rattle.rp_walker.specs.Records.{Fits, IsLast, IsOnWalk, IsOver, fits_by, first_state, place_of}
 use Rattle.rp_walker.specs.Stages.{Searches, StageStands, asked_by, left_with, stage_left, starts_to}
 use Rattle.rp_walker.specs.Walking.{GoesOnWell, Stands, record_of, stands_by}
-use Rattle.rp_whole.specs.Answers.{IsGivenUp, closed, turns_at}
-use Rattle.rp_whole.specs.Pauses.{AreCounted, CountsPause, GivesUp, HasMore, IsAfterPause, left_from}
-use Rattle.rp_whole.specs.declared.next.Next.{Next}
-use Rattle.rp_whole.specs.declared.next.Next.TheVariants.{More, All, GivenUp}
+use Rattle.rp_whole.specs.Answers.{IsByLimit, IsGivenUp, closed, turns_at}
+use Rattle.rp_whole.specs.Pauses.{AreCounted, CountsPause, HasMore, IsReached, left_from}
 
 -- ---- what is left at a start row
 
@@ -173,18 +171,10 @@ given_up most q rows w taken going fits counted some reached =
       many = omega (arith, reached, many);
     }
 
--- The answer is given up at the start row of a poll that paused.
-pub gives_up : (limit : Option ℕ) (q : QueryData) (rows : List (List Value)) (w : Walker) (at taken : ℕ) (next : Next) → IsAfterPause limit at taken next → at ≡ (record_of w).at → (record_of w).over ≡ false
-    → Fits q (record_of w) (closed rows) → AreCounted q (closed rows) at taken w → GivesUp limit q rows (record_of w) next
-gives_up limit q rows w at taken More after is going fits counted = tt
-gives_up limit q rows w at taken All after is going fits counted = tt
-gives_up None q rows w at taken (GivenUp row) after is going fits counted = absurd after.1
-gives_up (Some most) q rows w at taken (GivenUp row) after is going fits counted =
+-- The answer may be given up at the start row of a poll that paused.
+pub gives_up : (limit : Option ℕ) (q : QueryData) (rows : List (List Value)) (w : Walker) (at taken : ℕ) → at ≡ (record_of w).at → (record_of w).over ≡ false
+    → Fits q (record_of w) (closed rows) → AreCounted q (closed rows) at taken w → IsReached limit taken → IsByLimit limit q rows (record_of w).given at
+gives_up None q rows w at taken is going fits counted reached = absurd reached
+gives_up (Some most) q rows w at taken is going fits counted reached =
     let here : AreCounted q (closed rows) (record_of w).at taken w = subst (λ i. AreCounted q (closed rows) i taken w) is counted in
-    subst (IsGivenUp most q rows (record_of w).given) (sym (after.0 ∙ is)) (given_up most q rows w taken going fits here after.1.0 after.1.1)
-
--- the answer doesn't end at a pause
-pub never_all : (limit : Option ℕ) (at taken : ℕ) (next : Next) → IsAfterPause limit at taken next → next ≡ All → ⊥
-never_all limit at taken More h is = cc
-never_all limit at taken All h is = h
-never_all limit at taken (GivenUp row) h is = cc
+    subst (IsGivenUp most q rows (record_of w).given) (sym is) (given_up most q rows w taken going fits here reached.0 reached.1)

@@ -14,7 +14,7 @@ use Rattle.rp_walker.specs.declared.record.MatcherState.{MatcherState}
 use Rattle.rp_walker.specs.Polls.{AnswerIs}
 use Rattle.rp_walker.specs.Records.{first_state}
 use Rattle.rp_whole.specs.Answers.{Form, IsByLimit, bytes_from, closed, part_bytes}
-use Rattle.rp_whole.specs.Writing.{WritesOn, WritesPart, bytes_to_come, stops_to_come}
+use Rattle.rp_whole.specs.Writing.{NoneToCome, WritesOn, WritesPart, bytes_to_come, stops_to_come}
 use Rattle.rp_whole.specs.declared.stopped.Stopped.{Stopped}
 use Rattle.rp_whole.proofs.AllShown.{all_is_shown, all_taken}
 use Rattle.rp_whole.proofs.ToCome.{next_bytes, next_stops, same_bytes, same_stops}
@@ -26,33 +26,32 @@ moves_all None b text wrote = tt
 moves_all (Some xs) None text wrote = absurd wrote
 moves_all (Some xs) (Some ys) text wrote = (text, sym (append-nil text), wrote)
 
-module _ (form : Form) (q : QueryData) (part : Part) (old new : MatcherState) where
-  module _ (place : ℕ) (x : Item) (is : AnswerIs q (closed part.1) old new (ItemPoll place x)) where
-    -- the bytes of the item come next
-    next : bytes_to_come form q part old ≡ form.bytes q part.0 place x ++ bytes_to_come form q part new
-    next = next_bytes form q part old new x is.1 is.2 ∙ ap (λ n. form.bytes q part.0 n x ++ bytes_to_come form q part new) (sym is.0)
+module _ (form : Form) (q : QueryData) (part : Part) (old new : MatcherState) (place : ℕ) (x : Item) (is : AnswerIs q (closed part.1) old new (ItemPoll place x)) where
+  -- the bytes of the item come next
+  next : bytes_to_come form q part old ≡ form.bytes q part.0 place x ++ bytes_to_come form q part new
+  next = next_bytes form q part old new x is.1 is.2 ∙ ap (λ n. form.bytes q part.0 n x ++ bytes_to_come form q part new) (sym is.0)
 
-    pub item_written : (a b : Option (List ℕ)) (gathered more rest : List ℕ) (s t u : List Stopped) → more ≡ gathered ++ form.bytes q part.0 place x → Moves a more b rest
-        → t ≡ s ++ form.stops part.0 x → u ≡ t → WritesOn form q part old new a gathered b rest s u
-    item_written a b gathered more rest s t u with_item moves told same = record {
-      bytes = form.bytes q part.0 place x;
-      come = next;
-      moves = subst (λ bytes. Moves a bytes b rest) with_item moves;
-      stops = form.stops part.0 x;
-      tell = next_stops form q part old new x is.1 is.2;
-      told = same ∙ told;
-    }
+  pub item_front : (a b : Option (List ℕ)) (gathered more : List ℕ) → more ≡ gathered ++ form.bytes q part.0 place x → AppendsFront a b more → AppendsFront a b (gathered ++ bytes_to_come form q part old)
+  item_front a b gathered more with_item front =
+      subst (AppendsFront a b) (append_assoc gathered (form.bytes q part.0 place x) (bytes_to_come form q part new) ∙ ap (λ t. gathered ++ t) (sym next))
+      (front_longer a b (gathered ++ form.bytes q part.0 place x) (bytes_to_come form q part new) (subst (AppendsFront a b) with_item front))
 
-    pub item_front : (a b : Option (List ℕ)) (gathered more : List ℕ) → more ≡ gathered ++ form.bytes q part.0 place x → AppendsFront a b more
-        → AppendsFront a b (gathered ++ bytes_to_come form q part old)
-    item_front a b gathered more with_item front =
-        subst (AppendsFront a b) (append_assoc gathered (form.bytes q part.0 place x) (bytes_to_come form q part new) ∙ ap (λ t. gathered ++ t) (sym next))
-        (front_longer a b (gathered ++ form.bytes q part.0 place x) (bytes_to_come form q part new) (subst (AppendsFront a b) with_item front))
+module _ {form : Form} {q : QueryData} {part : Part} {old new : MatcherState} where
+  -- the item was added to what was gathered, of which a front was written
+  pub item_written : {a b : Option (List ℕ)} {gathered more rest : List ℕ} {s t u : List Stopped} (place : ℕ) (x : Item) → AnswerIs q (closed part.1) old new (ItemPoll place x)
+      → more ≡ gathered ++ form.bytes q part.0 place x → Moves a more b rest → t ≡ s ++ form.stops part.0 x → u ≡ t → WritesOn form q part old new a gathered b rest s u
+  item_written {a = a} {b = b} {rest = rest} place x is with_item moves told same = record {
+    bytes = form.bytes q part.0 place x;
+    come = next form q part old new place x is;
+    moves = subst (λ bytes. Moves a bytes b rest) with_item moves;
+    stops = form.stops part.0 x;
+    tell = next_stops form q part old new x is.1 is.2;
+    told = same ∙ told;
+  }
 
   -- no item came: of what was gathered a front was written, perhaps none or all
-  pub none_moved : (a b : Option (List ℕ)) (gathered rest : List ℕ) (s t : List Stopped) → new.given ≡ old.given → Moves a gathered b rest → t ≡ s
-      → WritesOn form q part old new a gathered b rest s t
-  none_moved a b gathered rest s t same moves told = record {
+  pub none_moved : {a b : Option (List ℕ)} {gathered rest : List ℕ} {s t : List Stopped} → new.given ≡ old.given → Moves a gathered b rest → t ≡ s → WritesOn form q part old new a gathered b rest s t
+  none_moved {a = a} {b = b} {gathered = gathered} {rest = rest} {s = s} same moves told = record {
     bytes = [];
     come = same_bytes form q part old new same;
     moves = subst (λ bytes. Moves a bytes b rest) (sym (append-nil gathered)) moves;
@@ -61,25 +60,24 @@ module _ (form : Form) (q : QueryData) (part : Part) (old new : MatcherState) wh
     told = told ∙ sym (append-nil s);
   }
 
-  pub none_written : (a : Option (List ℕ)) (gathered : List ℕ) (s : List Stopped) → new.given ≡ old.given → WritesOn form q part old new a gathered a gathered s s
-  none_written a gathered s same = none_moved a a gathered gathered s s same (moves_none a gathered gathered refl) refl
+  pub none_written : {a : Option (List ℕ)} {gathered : List ℕ} {s : List Stopped} → new.given ≡ old.given → WritesOn form q part old new a gathered a gathered s s
+  none_written {a = a} {gathered = gathered} same = none_moved same (moves_none a gathered gathered refl) refl
 
-pub written_more : (form : Form) (q : QueryData) (part : Part) (r s t : MatcherState) (a b c : Option (List ℕ)) (first second third : List ℕ) (x y z : List Stopped)
-    → WritesOn form q part r s a first b second x y → WritesOn form q part s t b second c third y z → WritesOn form q part r t a first c third x z
-written_more form q part r s t a b c first second third x y z one two = record {
-  bytes = one.bytes ++ two.bytes;
-  come = one.come ∙ ap (λ l. one.bytes ++ l) two.come ∙ sym (append_assoc one.bytes two.bytes (bytes_to_come form q part t));
-  moves = subst (λ l. Moves a l c third) (append_assoc first one.bytes two.bytes) (moves_more a b c (first ++ one.bytes) second two.bytes third one.moves two.moves);
-  stops = one.stops ++ two.stops;
-  tell = one.tell ∙ ap (λ l. one.stops ++ l) two.tell ∙ sym (append_assoc one.stops two.stops (stops_to_come form q part t));
-  told = two.told ∙ ap (λ l. l ++ two.stops) one.told ∙ append_assoc x one.stops two.stops;
-}
+module _ {form : Form} {q : QueryData} {part : Part} {r s : MatcherState} {a b : Option (List ℕ)} {first second : List ℕ} {x y : List Stopped} (one : WritesOn form q part r s a first b second x y) where
+  pub written_more : {t : MatcherState} {c : Option (List ℕ)} {third : List ℕ} {z : List Stopped} → WritesOn form q part s t b second c third y z → WritesOn form q part r t a first c third x z
+  written_more {t = t} {c = c} {third = third} two = record {
+    bytes = one.bytes ++ two.bytes;
+    come = one.come ∙ ap (λ l. one.bytes ++ l) two.come ∙ sym (append_assoc one.bytes two.bytes (bytes_to_come form q part t));
+    moves = subst (λ l. Moves a l c third) (append_assoc first one.bytes two.bytes) (moves_more a b c (first ++ one.bytes) second two.bytes third one.moves two.moves);
+    stops = one.stops ++ two.stops;
+    tell = one.tell ∙ ap (λ l. one.stops ++ l) two.tell ∙ sym (append_assoc one.stops two.stops (stops_to_come form q part t));
+    told = two.told ∙ ap (λ l. l ++ two.stops) one.told ∙ append_assoc x one.stops two.stops;
+  }
 
-pub written_front : (form : Form) (q : QueryData) (part : Part) (r s : MatcherState) (a b c : Option (List ℕ)) (first second : List ℕ) (x y : List Stopped)
-    → WritesOn form q part r s a first b second x y → AppendsFront b c (second ++ bytes_to_come form q part s) → AppendsFront a c (first ++ bytes_to_come form q part r)
-written_front form q part r s a b c first second x y one front =
-    subst (AppendsFront a c) (append_assoc first one.bytes (bytes_to_come form q part s) ∙ ap (λ t. first ++ t) (sym one.come))
-    (moves_front a b c (first ++ one.bytes) second (bytes_to_come form q part s) one.moves front)
+  pub written_front : (c : Option (List ℕ)) → AppendsFront b c (second ++ bytes_to_come form q part s) → AppendsFront a c (first ++ bytes_to_come form q part r)
+  written_front c front =
+      subst (AppendsFront a c) (append_assoc first one.bytes (bytes_to_come form q part s) ∙ ap (λ t. first ++ t) (sym one.come))
+      (moves_front a b c (first ++ one.bytes) second (bytes_to_come form q part s) one.moves front)
 
 -- ---- first items
 
@@ -103,7 +101,7 @@ first_stops stops (suc n) (item ∷ items) =
 
 -- ---- a partition's answer
 
-module _ (limit : Option ℕ) (form : Form) (q : QueryData) (part : Part) (last : MatcherState) (a b : Option (List ℕ)) (gathered rest : List ℕ) (s t : List Stopped)
+module _ {limit : Option ℕ} {form : Form} {q : QueryData} {part : Part} {last : MatcherState} {a b : Option (List ℕ)} {gathered rest : List ℕ} {s t : List Stopped}
     (wrote : WritesOn form q part first_state last a gathered b rest s t) where
   -- the answer is given up where the walk stands
   pub part_given_up : (row : ℕ) → IsByLimit limit q part.1 last.given row → WritesPart limit form q part (Some row) a gathered b rest s t
@@ -125,11 +123,11 @@ module _ (limit : Option ℕ) (form : Form) (q : QueryData) (part : Part) (last 
       }
 
   -- all of its items are given
-  pub part_written : bytes_to_come form q part last ≡ [] → stops_to_come form q part last ≡ [] → WritesPart limit form q part None a gathered b rest s t
-  part_written none none_told =
+  pub part_written : NoneToCome form q part last → WritesPart limit form q part None a gathered b rest s t
+  part_written none =
       let items = all_taken q part in
-      let all : wrote.bytes ≡ part_bytes form q part = sym (wrote.come ∙ ap (λ l. wrote.bytes ++ l) none ∙ append-nil wrote.bytes) in
-      let all_told : wrote.stops ≡ flat_map (form.stops part.0) (known q (closed part.1)) = sym (wrote.tell ∙ ap (λ l. wrote.stops ++ l) none_told ∙ append-nil wrote.stops) in
+      let all : wrote.bytes ≡ part_bytes form q part = sym (wrote.come ∙ ap (λ l. wrote.bytes ++ l) none.0 ∙ append-nil wrote.bytes) in
+      let all_told : wrote.stops ≡ flat_map (form.stops part.0) (known q (closed part.1)) = sym (wrote.tell ∙ ap (λ l. wrote.stops ++ l) none.1 ∙ append-nil wrote.stops) in
       record {
         count = length (known q (closed part.1));
         is = all_is_shown limit q part;

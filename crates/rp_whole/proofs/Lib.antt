@@ -1,6 +1,7 @@
 mod AllShown
 mod Counted
 mod ToCome
+mod Nexts
 mod Items
 mod InOrder
 mod Told

@@ -1,5 +1,5 @@
 -- What is still to come.
-use Rattle.std.proofs.Common.{◌≡◌, ◌∙◌, ℕ, zero, suc, ◌+◌, List, [], ◌∷◌, ◌++◌, length, drop, Some, refl, sym, ap, arith, slice_get}
+use Rattle.std.proofs.Common.{◌≡◌, ◌∙◌, ℕ, zero, suc, ◌+◌, List, [], ◌∷◌, ◌++◌, drop, Some, refl, sym, ap, arith, slice_get}
 use Rattle.std.proofs.lemmas.List.{drop_all}
 use Rattle.std.specs.List.{flat_map}
 use Rattle.rp_query.specs.declared.query.QueryData.{QueryData}
@@ -9,9 +9,11 @@ use Rattle.rp_known.specs.WalkLaws.{GoesOnFrom}
 use Rattle.rp_known.specs.Walk.{known}
 use Rattle.rp_numbering.specs.Partitions.{Part}
 use Rattle.rp_walker.specs.FitLaws.{AgreesFrom}
+use Rattle.rp_walker.specs.declared.poll.Poll.TheVariants.{Idle as IdlePoll}
 use Rattle.rp_walker.specs.declared.record.MatcherState.{MatcherState}
+use Rattle.rp_walker.specs.Polls.{AnswerIs}
 use Rattle.rp_whole.specs.Answers.{Form, bytes_from, closed}
-use Rattle.rp_whole.specs.Writing.{bytes_to_come, stops_to_come}
+use Rattle.rp_whole.specs.Writing.{NoneToCome, bytes_to_come, stops_to_come}
 
 goes_on : (first : ℕ) (p : Known) → GoesOnFrom first p p
 goes_on first p = record { later = (omega arith, λ e. (refl, e)); same = λ row low high. refl }
@@ -42,15 +44,11 @@ module _ (form : Form) (q : QueryData) (part : Part) where
     pub next_stops : stops_to_come form q part old ≡ form.stops part.0 x ++ stops_to_come form q part new
     next_stops = ap (flat_map (form.stops part.0)) next_item
 
-  module _ (r : MatcherState) (given : ℕ) (same : r.given ≡ given) (all : length (known q (closed part.1)) ≡ given) where
-    no_items : drop r.given (known q (closed part.1)) ≡ []
-    no_items = drop_all r.given (known q (closed part.1)) (omega (arith, same, all))
-
-    pub no_bytes : bytes_to_come form q part r ≡ []
-    no_bytes = ap (bytes_from form q part.0 (r.given + 1)) no_items
-
-    pub no_stops : stops_to_come form q part r ≡ []
-    no_stops = ap (flat_map (form.stops part.0)) no_items
+  -- after an idle poll no item is still to be given
+  pub none_to_come : (old new : MatcherState) → AnswerIs q (closed part.1) old new IdlePoll → NoneToCome form q part new
+  none_to_come old new is =
+      let items : drop new.given (known q (closed part.1)) ≡ [] = drop_all new.given (known q (closed part.1)) (omega (arith, is.0, is.1)) in
+      (ap (bytes_from form q part.0 (new.given + 1)) items, ap (flat_map (form.stops part.0)) items)
 
   module _ (old new : MatcherState) (same : new.given ≡ old.given) where
     pub same_bytes : bytes_to_come form q part old ≡ bytes_to_come form q part new

@@ -1,7 +1,5 @@
 -- What a fault of a run says of its reads and of what it leaves.
-use Rattle.std.proofs.Common.{◌≡◌, ℕ, List, Option, Result, Ok, inr}
-use Rattle.std.proofs.lemmas.Result.{IfOk-at_ok, IfOk-from_err}
-use Rattle.std.specs.Prelude.{IsErr}
+use Rattle.std.proofs.Common.{ℕ, List, Option, inr}
 use Rattle.rp_query.specs.declared.query.QueryData.{QueryData}
 use Rattle.rp_io.specs.Reading.{ReadsWithin}
 use Rattle.rp_io.specs.Reading.Told.{Ended}
@@ -36,7 +34,3 @@ module _ (reads : ℕ) (old new : IntakeState) where
   fault_after (Csv why) of_output all = absurd of_output
   fault_after Write of_output all = reads_ended reads old new all
   fault_after WholeOutOfMemory of_output all = reads_ended reads old new all
-
--- what returns a fault returns nothing else
-pub not_ok : {T E X : Type 0} (r : Result T E) {x : T} → IsErr r → r ≡ Ok x → X
-not_ok r err ok = absurd (IfOk-at_ok (λ _. ⊥) ok (IfOk-from_err r (λ _. ⊥) err))

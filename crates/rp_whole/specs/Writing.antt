@@ -27,7 +27,7 @@ WritesPartsFront limit form q parts old gathered new =
     (shown : List Shown) × AreOrdered q.order.items parts (map (λ s. s.part) shown) × All (IsShown limit q) shown
     × AppendsFront old new (gathered ++ flat_map (shown_bytes form q) shown)
 
--- The same by what is gathered in a form, before and after.
+-- The same of what gathers in a form: `bytes` says what it has gathered, and `stopped` what it tells.
 abbrev pub PartsAreWritten : {G : Type 0} → Form → (G → List ℕ) → (G → List Stopped) → Option ℕ → QueryData → List Part
     → Option (List ℕ) → G → Option (List ℕ) → G → List Halted → Type 0
 PartsAreWritten form bytes stopped limit q parts w gathered w' gathered' halted =
@@ -46,7 +46,7 @@ pub record WritesPart (limit : Option ℕ) (form : Form) (q : QueryData) (part :
   pub moves : Moves before (gathered ++ shown_bytes form q (shown_of part count given_up)) after rest
   pub told : stopped' ≡ stopped ++ shown_stops form q (shown_of part count given_up)
 
--- The same by what is gathered in a form, before and after.
+-- The same of what gathers in a form.
 abbrev pub PartIsWritten : {G : Type 0} → Form → (G → List ℕ) → (G → List Stopped) → Option ℕ → QueryData → Part → Option ℕ
     → Option (List ℕ) → G → Option (List ℕ) → G → Type 0
 PartIsWritten form bytes stopped limit q part given_up w gathered w' gathered' =
@@ -79,7 +79,7 @@ pub record WritesOn (form : Form) (q : QueryData) (part : Part) (old new : Match
   pub tell : stops_to_come form q part old ≡ stops ++ stops_to_come form q part new
   pub told : stopped' ≡ stopped ++ stops
 
--- The same by what is gathered in a form, before and after.
+-- The same of what gathers in a form.
 abbrev pub NextIsWritten : {G : Type 0} → Form → (G → List ℕ) → (G → List Stopped) → QueryData → Part → (old new : MatcherState)
     → Option (List ℕ) → G → Option (List ℕ) → G → Type 0
 NextIsWritten form bytes stopped q part old new w gathered w' gathered' =

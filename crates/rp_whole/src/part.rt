@@ -1,13 +1,11 @@
 //! The items of one partition's answer.
-ghost use Rattle.std.specs.Prelude.{◌≡◌, ◌<◌, ◌++◌, IfErr, IfOk, OnErr, OnOk};
+ghost use Rattle.std.specs.Prelude.{◌≡◌, ◌++◌, IfErr, IfOk, OnErr, OnOk};
 ghost use Rattle.rp_io.specs.Devices.{AppendsFront};
-ghost use Rattle.rp_walker.specs.Polls.{left_in};
-ghost use Rattle.rp_walker.specs.Records.{Fits};
-ghost use Rattle.rp_walker.specs.Walking.{Stands, record_of};
-ghost use Rattle.rp_whole.specs.Answers.{closed, limit_of, part_bytes};
+ghost use Rattle.rp_walker.specs.Walking.{record_of};
+ghost use Rattle.rp_whole.specs.Answers.{limit_of, part_bytes};
 ghost use Rattle.rp_whole.specs.Faults.{IsOfOutput, TellsWrite};
-ghost use Rattle.rp_whole.specs.Pauses.{AreCounted, GivesUp, HasMore};
-ghost use Rattle.rp_whole.specs.Writing.{NextIsWritten, NoneToCome, PartIsWritten, bytes_to_come, part_of};
+ghost use Rattle.rp_whole.specs.Pauses.{CanBePolled, ComesNext, WalksOver};
+ghost use Rattle.rp_whole.specs.Writing.{NextIsWritten, PartIsWritten, bytes_to_come, part_of};
 
 use crate::closed::Part;
 use crate::fault::WholeFault;
@@ -57,7 +55,7 @@ pub(crate) fn write_part<W: Outlet, G: Gathered, V: Watch, L: Ledger>(
     }
 }
 
-/// Writes the next item, or what is gathered where none comes yet, and says what comes after it.
+/// Polls the walker once: writes the item that comes, or what is gathered where none comes yet, and says what comes next.
 fn write_next<W: Outlet, G: Gathered, V: Watch, L: Ledger>(
     query: &Query,
     part: &Part,
@@ -67,28 +65,15 @@ fn write_next<W: Outlet, G: Gathered, V: Watch, L: Ledger>(
     watch: &mut V,
     turns: &mut Turns<L>,
 ) -> Result<Next, WholeFault>
-    requires stands { Stands query.now (closed part.now.rows.items) walker.old }
-    requires fits { Fits query.now (record_of walker.old) (closed part.now.rows.items) }
-    requires counted { AreCounted query.now (closed part.now.rows.items)
-        turns.old.row turns.old.taken walker.old }
-    requires has_more { HasMore query.now (closed part.now.rows.items) (record_of walker.old) }
-    ensures stands { Stands query.now (closed part.now.rows.items) walker.new }
-    ensures fits { OnOk result (Fits query.now (record_of walker.new) (closed part.now.rows.items)) }
+    requires can_be_polled { CanBePolled query.now (part_of part.now) turns.old.row turns.old.taken walker.old }
+    ensures walks { WalksOver query.now (part_of part.now) walker.new }
     ensures written { OnOk result (NextIsWritten G.form G.bytes G.stopped query.now (part_of part.now)
         (record_of walker.old) (record_of walker.new) (W.contents writer.old) gathered.old
         (W.contents writer.new) gathered.new) }
+    ensures next { IfOk result (ComesNext (limit_of turns.old.limit) G.form query.now (part_of part.now)
+        walker.old turns.new.row turns.new.taken walker.new) }
     ensures front { OnErr result (AppendsFront (W.contents writer.old) (W.contents writer.new)
         (G.bytes gathered.old ++ bytes_to_come G.form query.now (part_of part.now) (record_of walker.old))) }
-    ensures falls { result ≡ Ok Next.More → left_in query.now (closed part.now.rows.items) walker.new
-        < left_in query.now (closed part.now.rows.items) walker.old }
-    ensures all { result ≡ Ok Next.All →
-        NoneToCome G.form query.now (part_of part.now) (record_of walker.new) }
-    ensures counted { result ≡ Ok Next.More → AreCounted query.now (closed part.now.rows.items)
-        turns.new.row turns.new.taken walker.new }
-    ensures has_more { result ≡ Ok Next.More →
-        HasMore query.now (closed part.now.rows.items) (record_of walker.new) }
-    ensures given_up { IfOk result (GivesUp (limit_of turns.old.limit)
-        query.now part.now.rows.items (record_of walker.new)) }
     ensures limit { turns.new.limit ≡ turns.old.limit }
     ensures fault { IfErr result IsOfOutput }
     ensures failures { TellsWrite result (W.failures writer.old) (W.failures writer.new) }
