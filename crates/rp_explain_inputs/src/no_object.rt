@@ -24,7 +24,7 @@ const NO_OBJECT: Hint = Hint {
 /// What is said of a list.
 const LIST: Hint = Hint {
     what: "this is no object of JSON",
-    help: "each line is an object, as {\"sym\":\"x\",\"p\":1}: jq -c '.[]' FILE makes such lines of a list",
+    help: "each line is an object, as {\"sym\":\"x\",\"p\":1}: jq -c '.[]' FILE makes such lines of a list (jq before 1.7 rounds whole numbers of more than 15 digits)",
 };
 
 /// What is said of a byte order mark.
@@ -54,7 +54,7 @@ const OPEN: Hint = Hint {
 /// What is said of an open line before one that doesn't.
 const SPREAD: Hint = Hint {
     what: "this is no object of JSON: no } ends the line",
-    help: "each line is a whole object: jq -c . FILE makes such lines of objects over several",
+    help: "each line is a whole object: jq -c . FILE makes such lines of objects over several (jq before 1.7 rounds whole numbers of more than 15 digits)",
 };
 
 /// What is said of a line that is no object, by the bytes of the text that it is of.

@@ -99,7 +99,7 @@ const FRONTS: [(&[u8], &str, &str); 22] = [
     (
         b"[",
         "this is JSON",
-        "jq -c '.[]' FILE | rowmatch .. --from jsonl",
+        "jq -c '.[]' FILE | rowmatch .. --from jsonl (jq before 1.7 rounds whole numbers of more than 15 digits)",
     ),
 ];
 
