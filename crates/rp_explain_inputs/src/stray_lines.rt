@@ -15,7 +15,9 @@ pub(crate) fn of_stray_line(fields: &ByteRecord) -> Option<&'static str> {
         return Some("leave lines of blanks out: sed '/^[[:space:]]*$/d' FILE | rowmatch ..");
     }
     if text.starts_with('#') {
-        return Some("leave remarks out: grep -v '^#' FILE | rowmatch ..");
+        return Some(
+            "leave remarks out: grep -v '^#' FILE | rowmatch .., where no row begins with #",
+        );
     }
     if is_row_count(text) {
         return Some(

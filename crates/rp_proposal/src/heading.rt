@@ -1,8 +1,9 @@
 //! Lines above the header of a CSV text.
 
 use crate::fronts::of_front;
-use crate::records::{Records, has_mark, start_of};
+use crate::records::{Records, start_of};
 use csv::ByteRecord;
+use rp_input::MAX_RECORDS;
 use rp_place::line_number;
 use rp_wording::{Advice, Pieces};
 use std::alloc::{AllocError, Global};
@@ -35,8 +36,7 @@ fn of_first(alloc: Global, records: &mut Records<'_>, bytes: &[u8]) -> Option<Ad
         return None;
     }
     if is_remark(records.fields()) {
-        let count = records.fields().len();
-        return of_remarks(alloc, records, count, has_mark(bytes));
+        return of_remarks(alloc, records, bytes);
     }
     if is_title(records.fields()) {
         return of_title(alloc, records, bytes);
@@ -58,37 +58,70 @@ fn is_title(fields: &ByteRecord) -> bool {
             .any(|byte| matches!(*byte, b';' | b'\t' | b'|' | b','))
 }
 
-/// What is said of a first record that begins with #, and has so many fields: it is a remark where the first record that doesn't
-/// begin so has another number of them.
-fn of_remarks(
-    alloc: Global,
-    records: &mut Records<'_>,
+/// Where a record is, and how many fields it has.
+#[derive(Clone, Copy)]
+struct Placed {
+    /// The offset at which it begins.
+    start: usize,
     count: usize,
-    is_marked: bool,
-) -> Option<Advice> {
-    let is_found = records.find(|fields| !is_remark(fields));
-    remarks(
-        alloc,
-        is_found && records.fields().len() != count,
-        is_marked,
-    )
 }
 
-/// What is said of remarks, if there are some. A byte order mark before them is taken out first: behind it no line begins with #.
-fn remarks(alloc: Global, are_there: bool, is_marked: bool) -> Option<Advice> {
+/// Where the record at hand is.
+fn place_of(records: &Records<'_>, bytes: &[u8]) -> Placed {
+    Placed {
+        start: start_of(records.fields(), bytes),
+        count: records.fields().len(),
+    }
+}
+
+/// What is said of a first record that begins with #: it is a remark where the first record that doesn't begin so has another number
+/// of fields.
+fn of_remarks(alloc: Global, records: &mut Records<'_>, bytes: &[u8]) -> Option<Advice> {
+    let count = records.fields().len();
+    let mut last = place_of(records, bytes);
+    for _record in 0..MAX_RECORDS {
+        if !records.next() {
+            return None;
+        }
+        if !is_remark(records.fields()) {
+            let start = header_below(records, last, bytes);
+            return remarks(alloc, records.fields().len() != count, bytes, start);
+        }
+        last = place_of(records, bytes);
+    }
+    None
+}
+
+/// Where the header begins, at the first record that doesn't begin with #: it is the one before, which begins so, where that has as
+/// many fields and these are no names.
+fn header_below(records: &Records<'_>, before: Placed, bytes: &[u8]) -> usize {
+    let here = place_of(records, bytes);
+    if before.count == here.count && !are_names(records.fields()) {
+        return before.start;
+    }
+    here.start
+}
+
+/// What is said of remarks, if there are some, above a header that begins at this offset. Their lines are counted, since rows may begin
+/// with # too.
+fn remarks(alloc: Global, are_there: bool, bytes: &[u8], start: usize) -> Option<Advice> {
     if !are_there {
         return None;
     }
-    let help = if is_marked {
-        "tail -c +4 FILE | grep -v '^#' | rowmatch .."
-    } else {
-        "grep -v '^#' FILE | rowmatch .."
-    };
-    Some(Advice::new(
+    let line = line_number(bytes.get(..start).unwrap_or(bytes));
+    Some(Advice::with_help(
         alloc,
         "the first line is a remark, and the names of the columns are wanted there",
-        help,
+        from_line(alloc, line),
     ))
+}
+
+/// What to do about lines above this one.
+fn from_line(alloc: Global, line: usize) -> Pieces {
+    let mut help = Pieces::of(alloc, "tail -n +");
+    help.push_count(line);
+    help.push(" FILE | rowmatch ..");
+    help
 }
 
 /// What is said of a first record that is one field: it is a title where the first record with more fields has names, and the next
@@ -135,8 +168,5 @@ fn title(alloc: Global, is_there: bool, line: usize) -> Option<Advice> {
         "the names of the columns are wanted in line 1, and seem to be in line ",
     );
     what.push_count(line);
-    let mut help = Pieces::of(alloc, "tail -n +");
-    help.push_count(line);
-    help.push(" FILE | rowmatch ..");
-    Some(Advice::of_pieces(what, help))
+    Some(Advice::of_pieces(what, from_line(alloc, line)))
 }
