@@ -1,5 +1,6 @@
 //! An input whose header names no column.
 
+use crate::by_columns::of_delimiter;
 use crate::first_line::{empty_input, header_of};
 use csv::ByteRecord;
 use rp_input::ColumnsCsvFault;
@@ -33,17 +34,20 @@ pub(crate) fn of_no_header(
         return report.advise("csv", &empty_input(alloc));
     }
     let header = header_of(alloc, bytes, delimiter)?;
-    report.advise("csv", &of_names(alloc, &header)?)
+    report.advise("csv", &of_names(alloc, &header, delimiter)?)
 }
 
-/// What is said of a header that names no column.
-fn of_names(alloc: Global, header: &ByteRecord) -> Result<Advice, AllocError> {
+/// What is said of a header that names no column, in which this byte is between fields.
+fn of_names(alloc: Global, header: &ByteRecord, delimiter: u8) -> Result<Advice, AllocError> {
     if !are_text(header) {
         return Ok(Advice::new(
             alloc,
             "the header isn't UTF-8",
             "UTF-8 is read: iconv -f WINDOWS-1252 -t UTF-8 FILE | rowmatch ..",
         ));
+    }
+    if let Some(help) = of_delimiter(header, delimiter) {
+        return Ok(Advice::new(alloc, "the header is one field", help));
     }
     let names = meanings(alloc, header)?;
     if names.iter().any(|name| !is_shown(name.as_str())) {
