@@ -5,6 +5,9 @@ use rp_wording::{is_date, is_one_of};
 /// What spreadsheets write where a formula failed.
 const SHEET_ERRORS: &str = "#REF! #DIV/0! #VALUE! #NAME? #NUM! #NULL!";
 
+/// What to do about a number with its unit.
+const UNIT: &str = "write the digits alone, without the sign of a unit";
+
 /// What to do about a field that should be a whole number.
 pub(crate) fn of_number(field: &str) -> &'static str {
     let inside = field.trim();
@@ -14,7 +17,7 @@ pub(crate) fn of_number(field: &str) -> &'static str {
     if inside.is_empty() {
         return "a null is an empty field, without a blank";
     }
-    if is_one_of(inside, "TRUE FALSE T F YES NO Y N") {
+    if is_one_of(inside, "TRUE FALSE YES NO") {
         return "write 1 and 0";
     }
     if is_date(inside) {
@@ -79,6 +82,21 @@ pub(crate) fn of_known_fraction(text: &str) -> Option<&'static str> {
     None
 }
 
+/// What to do about a number with one comma, behind which there are digits, and not three of them: it is the point.
+pub(crate) fn of_comma_point(text: &str) -> Option<&'static str> {
+    let (whole, rest) = text.split_once(',')?;
+    if !is_digits(unsigned(whole)) || !is_digits(rest) {
+        return None;
+    }
+    match rest.len() {
+        1 => Some("the comma seems to be its point: decimal(C, 1, '', ',') reads it"),
+        2 => Some("the comma seems to be its point: decimal(C, 2, '', ',') reads it"),
+        4 => Some("the comma seems to be its point: decimal(C, 4, '', ',') reads it"),
+        5 | 6 => Some("the comma seems to be its point: decimal(C, 6, '', ',') reads it"),
+        _ => None,
+    }
+}
+
 /// What to do about seconds with so many places behind the point.
 fn of_seconds(places: usize) -> Option<&'static str> {
     match places {
@@ -141,8 +159,11 @@ fn of_digits(text: &str) -> &'static str {
     if is_decimal(text, '.') || is_decimal(text, ',') {
         return "there are no fractions: let the file have a smaller unit, as cents";
     }
-    if text.contains('e') || text.contains('E') {
+    if has_exponent(text) {
         return "write all digits, without an exponent";
+    }
+    if has_unit(text) {
+        return UNIT;
     }
     if text.contains(',') || text.contains('_') || text.contains('\'') || text.contains(' ') {
         return "write the digits alone, without separators";
@@ -152,9 +173,43 @@ fn of_digits(text: &str) -> &'static str {
         || text.contains('\u{20ac}')
         || text.contains('\u{a3}')
     {
-        return "write the digits alone, without the sign of a unit";
+        return UNIT;
     }
     "digits alone, with - or + or nothing before them, are a whole number"
+}
+
+/// Whether it is a number with an exponent, as 1.5E+3.
+fn has_exponent(text: &str) -> bool {
+    let parts = match text.split_once('e') {
+        Some(parts) => Some(parts),
+        None => text.split_once('E'),
+    };
+    match parts {
+        Some((number, exponent)) => has_digits(unsigned(number)) && is_digits(unsigned(exponent)),
+        None => false,
+    }
+}
+
+/// Whether it is digits, and signs inside numbers.
+fn has_digits(text: &str) -> bool {
+    text.bytes().any(|byte| byte.is_ascii_digit())
+        && text.bytes().all(|byte| byte.is_ascii_digit() || matches!(byte, b'.' | b','))
+}
+
+/// Whether it is a number and a word of letters, with a blank between, as 5 EUR.
+fn has_unit(text: &str) -> bool {
+    match text.split_once(' ') {
+        Some((first, second)) => {
+            is_word(first) && has_digits(unsigned(second))
+                || has_digits(unsigned(first)) && is_word(second)
+        }
+        None => false,
+    }
+}
+
+/// Whether it is one letter of ASCII or more, and nothing else.
+fn is_word(text: &str) -> bool {
+    !text.is_empty() && text.bytes().all(|byte| byte.is_ascii_alphabetic())
 }
 
 /// Whether it is digits, one point and digits.

@@ -1,6 +1,6 @@
 //! What is wrong with a field by the reading of its column, and what to write.
 
-use crate::number_cells::{of_known_fraction, of_number, of_sign};
+use crate::number_cells::{of_comma_point, of_known_fraction, of_number, of_sign};
 use rp_columns::{Reading, ReadingFault};
 
 /// What is wrong with a field, behind the field.
@@ -115,6 +115,9 @@ fn has_pairs(field: &str) -> bool {
 /// What to write for a field that is no whole number.
 fn of_int(field: &str) -> &'static str {
     if let Some(help) = of_known_fraction(field.trim()) {
+        return help;
+    }
+    if let Some(help) = of_comma_point(field.trim()) {
         return help;
     }
     if of_sign(field.trim()).is_none() && (field.contains('.') || field.contains(',')) {
