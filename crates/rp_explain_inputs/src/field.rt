@@ -13,6 +13,35 @@ use rp_value::{Column, Table};
 use rp_wording::{Advice, Pieces, Report, noun};
 use std::alloc::{AllocError, Global};
 
+/// What may be between fields, and what to do about too many of them, and about too few.
+const COUNTS: [(u8, &str, &str); 5] = [
+    (
+        b',',
+        "a field with a comma in it is written in double quotes: \"1,5\"; a comma at a line's end begins one more field",
+        "an empty field is between its commas: x,,5",
+    ),
+    (
+        b';',
+        "a field with a semicolon in it is written in double quotes: \"a;b\"; a semicolon at a line's end begins one more field",
+        "an empty field is between its semicolons: x;;5",
+    ),
+    (
+        b'\t',
+        "a field with a tab in it is written in double quotes; a tab at a line's end begins one more field",
+        "an empty field is between its tabs",
+    ),
+    (
+        b'|',
+        "a field with a bar in it is written in double quotes: \"a|b\"; a bar at a line's end begins one more field",
+        "an empty field is between its bars: x||5",
+    ),
+    (
+        b' ',
+        "a field with a blank in it is written in double quotes: \"a b\"; each blank more begins one more field",
+        "an empty field is between its blanks",
+    ),
+];
+
 /// A record of a text.
 #[derive(Drop)]
 pub(crate) struct Found {
@@ -104,7 +133,7 @@ pub(crate) fn at_record(
         );
         return write_at(alloc, report, bytes, quote_span(at), &advice);
     }
-    let advice = of_count(alloc, wanted, &found.fields);
+    let advice = of_count(alloc, wanted, &found.fields, delimiter);
     let field = found.fields.len().min(wanted.count);
     let span = field_span(bytes, found.start, field, delimiter);
     write_at(alloc, report, bytes, span, &advice)
@@ -118,8 +147,8 @@ fn quote_span(at: usize) -> Span {
     }
 }
 
-/// What is told of a record with this many fields.
-fn of_count(alloc: Global, wanted: &Wanted, fields: &ByteRecord) -> Advice {
+/// What is told of a record with this many fields, between which this byte is.
+fn of_count(alloc: Global, wanted: &Wanted, fields: &ByteRecord, delimiter: u8) -> Advice {
     let count = fields.len();
     let mut what = Pieces::of(alloc, "this record has ");
     what.push_count(count);
@@ -131,18 +160,28 @@ fn of_count(alloc: Global, wanted: &Wanted, fields: &ByteRecord) -> Advice {
     what.push_filled(" {}", &[wanted.what]);
     let help = match of_stray_line(fields) {
         Some(help) if wanted.count > 1 => help,
-        _ => of_fields(count > wanted.count),
+        _ => of_fields(count > wanted.count, delimiter),
     };
     Advice::with_what(alloc, what, help)
 }
 
 /// What to do about a record with too many fields, or too few.
-fn of_fields(too_many: bool) -> &'static str {
-    if too_many {
-        "a field with a comma in it is written in double quotes: \"1,5\"; a comma at a line's end begins one more field"
-    } else {
-        "an empty field is between its commas: x,,5"
+fn of_fields(too_many: bool, delimiter: u8) -> &'static str {
+    let (many, few) = by_delimiter(delimiter);
+    if too_many { many } else { few }
+}
+
+/// What to do about too many fields with this byte between them, and about too few.
+fn by_delimiter(delimiter: u8) -> (&'static str, &'static str) {
+    for (known, many, few) in &COUNTS {
+        if *known == delimiter {
+            return (*many, *few);
+        }
     }
+    (
+        "a field with the delimiter in it is written in double quotes; a delimiter at a line's end begins one more field",
+        "an empty field is between two delimiters",
+    )
 }
 
 /// Explains a field that is no value of its column.
