@@ -36,6 +36,10 @@ const DELIMITERS: [(u8, &str); 4] = [
     ),
 ];
 
+/// What to do where the first line seems to be a row.
+const ROW: &str =
+    "these look like values: if the first line is a row, give --no-header, and the columns are the fields in order";
+
 /// An input by columns.
 #[derive(Clone, Copy)]
 struct Input<'a> {
@@ -104,7 +108,7 @@ fn of_missing(
         "no field of the header is {}, from which the column {} comes",
         &[source, name_of(input.columns, index)],
     );
-    let help = help_for_missing(alloc, &header, source, input.layout.delimiter)?;
+    let help = help_for_missing(alloc, input, index, &header)?;
     tell(alloc, report, &header, &Advice::of_pieces(what, help))
 }
 
@@ -122,27 +126,63 @@ fn tell(
     report.help(advice.help()?)
 }
 
-/// What to do about a column that no field of a header names, in which this byte is between fields.
+/// What to do about the column of this index, which no field of a header names.
 fn help_for_missing(
     alloc: Global,
+    input: &Input<'_>,
+    index: usize,
     header: &ByteRecord,
-    source: &str,
-    delimiter: u8,
 ) -> Result<Pieces, AllocError> {
+    let source = source_of(input.columns, index);
     if !are_text(header) {
         return Ok(Pieces::of(alloc, NO_TEXT));
     }
-    if let Some(help) = of_delimiter(header, delimiter) {
+    if let Some(help) = of_delimiter(header, input.layout.delimiter) {
         return Ok(Pieces::of(alloc, help));
     }
     if has_word(alloc, header, source)? {
         return Ok(Pieces::of(alloc, BLANKS));
+    }
+    if seems_row(input.columns, index, header) {
+        return Ok(Pieces::of(alloc, ROW));
     }
     let mut help = meant_field(alloc, header, source)?;
     help.push(
         "a name with blanks or small letters that count is in double quotes, as the header has it",
     );
     Ok(help)
+}
+
+/// Whether a header in which this column is missing seems to be a row: none before it is found, there are as many fields as are read,
+/// and numbers and times, of which there are some, begin as such.
+fn seems_row(columns: &[InputColumn], index: usize, header: &ByteRecord) -> bool {
+    let mut place = 0usize;
+    for column in columns {
+        if column.reading.reads_field() {
+            if !may_hold(&column.reading, header.get(place).unwrap_or(b"")) {
+                return false;
+            }
+            place = place.saturating_add(1);
+        }
+    }
+    place == header.len()
+        && columns.iter().any(|column| is_counted(&column.reading))
+        && fields_read(columns.get(..index).unwrap_or(&[])) == 0
+}
+
+/// Whether a column of this reading may hold a field, by how that begins.
+fn may_hold(reading: &Reading, field: &[u8]) -> bool {
+    match field.first() {
+        Some(byte) => {
+            !is_counted(reading) || byte.is_ascii_digit() || matches!(*byte, b'-' | b'+')
+        }
+        None => false,
+    }
+}
+
+/// Whether the values of a reading are numbers or times, from fields.
+fn is_counted(reading: &Reading) -> bool {
+    !matches!(reading, Reading::Text | Reading::Lower | Reading::Record)
 }
 
 /// A line that guesses which field of a header is meant; nothing where there is no guess.
