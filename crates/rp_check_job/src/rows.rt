@@ -110,8 +110,12 @@ fn shared(alloc: Global, rows: &[Row]) -> Result<Vec<Row>, AllocError> {
 fn tell_rows(form: &InputForm, bytes: &[u8], rows: &[Row], found: &mut Found) {
     let mut line = Pieces::of(found.alloc, input_name(form));
     line.push(": ");
-    line.push_number(rows.len() as u64);
-    line.push(" rows, which fit the table\n");
+    line.push_count(rows.len());
+    line.push(noun(
+        rows.len(),
+        " row, which fits the table\n",
+        " rows, which fit the table\n",
+    ));
     found.tell(line.finish());
     let quotes = quotes_told(found.alloc, form, bytes);
     found.tell(quotes);
