@@ -52,8 +52,23 @@ fn tell_rows(
     let parts = partitions(rt.alloc(), query, rows, seeded_hasher(rt)?)?;
     match (tell_parts(rt, job, query, key, parts)?, key) {
         (Some(verdict), _) => Ok(verdict),
-        (None, None) => Ok(Verdict::Clean),
+        (None, None) => tell_no_rows(rt, job),
         (None, Some(key)) => Err(no_partition(rt.alloc(), key)?),
+    }
+}
+
+/// Prints that there is no row, in which no match can be.
+fn tell_no_rows(rt: &HostRuntime, job: &WhyJob) -> Result<Verdict, ProgramFault> {
+    print(rt, no_rows_told(job).as_bytes())?;
+    Ok(Verdict::Findings)
+}
+
+/// What is said where there is no row, and so no partition.
+fn no_rows_told(job: &WhyJob) -> &'static str {
+    match (job.format, &job.filter) {
+        (ReportFormat::Json, _) => "{\"match\":null,\"rows\":0}\n",
+        (ReportFormat::Text, None) => "there are no rows\n",
+        (ReportFormat::Text, Some(_)) => "no row meets the condition of --where\n",
     }
 }
 
@@ -141,7 +156,12 @@ fn print_finding(
         ReportFormat::Text => lines_of(rt.alloc(), query, key, count, finding)?,
         ReportFormat::Json => object_of(rt.alloc(), query, key, count, finding)?,
     };
-    match write_all(&mut CountedDevice::new(rt.stdout()), bytes.as_slice()) {
+    print(rt, bytes.as_slice())
+}
+
+/// Prints the bytes whole.
+fn print(rt: &HostRuntime, bytes: &[u8]) -> Result<(), ProgramFault> {
+    match write_all(&mut CountedDevice::new(rt.stdout()), bytes) {
         Ok(()) => Ok(()),
         Err(_) => Err(ProgramFault::Write),
     }
