@@ -1,9 +1,23 @@
 //! What is said of rows without a fault: what a clause doesn't see of them as it may be meant.
 
-use rp_query::{Condition, Expr, Query};
+use rp_query::{Condition, Edge, Expr, Navigation, Query, RowsOf, Step};
 use rp_value::{Column, Comparison, Row, Value};
 use rp_wording::{Pieces, is_date, noun, shown_text};
 use std::alloc::{AllocError, Global};
+
+/// The most bytes of a text that is written again.
+const LONGEST: usize = 60;
+
+/// A comparison that is unknown where a column is null.
+#[derive(Clone, Copy)]
+struct Unequal<'a> {
+    /// What a row's own cell is compared with. None where something else is compared.
+    literal: Option<&'a Value>,
+    /// Whether it is one by `=` behind NOT.
+    is_negated: bool,
+    /// Whether there are others.
+    has_others: bool,
+}
 
 /// Says where rows that fit a query may not be read as they are meant: a column with nulls that is compared by `<>`, and a column of
 /// texts that rows are ordered by, whose times have different offsets from UTC.
@@ -22,9 +36,9 @@ pub fn describe_input(alloc: Global, query: &Query, rows: &[Row]) -> Result<Stri
 
 /// Writes that nulls of a column, by its number from 1, are neither equal nor unequal, where a condition compares it so.
 fn push_unequal(out: &mut Pieces, query: &Query, rows: &[Row], column: &Column, number: usize) {
-    if !is_asked_unequal(query, number) {
+    let Some(unequal) = asked_unequal(query, number) else {
         return;
-    }
+    };
     let count = rows
         .iter()
         .filter(|row| row.cell(number) == Some(&Value::Null))
@@ -37,31 +51,156 @@ fn push_unequal(out: &mut Pieces, query: &Query, rows: &[Row], column: &Column, 
     out.push(" is null in ");
     out.push_count(count);
     out.push_filled(
-        " {}, and null is neither equal nor unequal (<>): to take them too add OR ",
+        " {}, and null is neither equal nor unequal (<>): to take them too write ",
         &[noun(count, "row", "rows")],
     );
+    push_remedy(out, name, unequal);
+    out.push("\n");
+}
+
+/// Writes what to write in place of a comparison of a column: it stands in brackets, since an OR binds less than an AND.
+fn push_remedy(out: &mut Pieces, name: &str, unequal: Unequal<'_>) {
+    if unequal.has_others {
+        out.push("each such comparison as ");
+    } else if unequal.literal.is_none() {
+        out.push("the comparison as ");
+    }
+    match unequal.literal {
+        Some(literal) => push_with_null(out, name, literal, unequal.is_negated),
+        None => out.push(form_with_null(unequal.is_negated)),
+    }
+}
+
+/// Writes a comparison of a row's own cell that isn't unknown where it is null.
+fn push_with_null(out: &mut Pieces, name: &str, literal: &Value, is_negated: bool) {
+    out.push("(");
     out.push_name(name);
-    out.push(" IS NULL\n");
+    out.push(if is_negated { " = " } else { " <> " });
+    push_literal(out, literal);
+    out.push(if is_negated { " AND " } else { " OR " });
+    out.push_name(name);
+    out.push(if is_negated {
+        " IS NOT NULL) behind NOT"
+    } else {
+        " IS NULL)"
+    });
 }
 
-/// Whether a condition compares a column by `<>`, and doesn't ask whether it is null.
-fn is_asked_unequal(query: &Query, column: usize) -> bool {
-    query.plan().conditions.iter().any(|condition| is_unequal(condition, column, false)
-        && !asks_null(condition, column))
+/// The form of a comparison that isn't unknown where an operand is null.
+fn form_with_null(is_negated: bool) -> &'static str {
+    if is_negated {
+        "(.. AND .. IS NOT NULL) behind NOT, in brackets"
+    } else {
+        "(.. OR .. IS NULL), in brackets"
+    }
 }
 
-/// Whether a condition, or its negation, compares a column by `<>`.
-fn is_unequal(condition: &Condition, column: usize, negated: bool) -> bool {
+/// Writes a number or a text as a literal.
+fn push_literal(out: &mut Pieces, literal: &Value) {
+    match literal {
+        Value::Int(number) => out.push_number(number.unsigned_abs()),
+        Value::Text(text) => push_text(out, text.as_str()),
+        Value::Null => {}
+    }
+}
+
+/// Writes a text in single quotes, of which each inside is doubled.
+fn push_text(out: &mut Pieces, text: &str) {
+    out.push("'");
+    for (index, part) in text.split('\'').enumerate() {
+        if index > 0 {
+            out.push("''");
+        }
+        out.push(part);
+    }
+    out.push("'");
+}
+
+/// A comparison of a column by `<>` that is to be told of.
+fn asked_unequal(query: &Query, column: usize) -> Option<Unequal<'_>> {
+    let mut found = None;
+    for condition in query.plan().conditions.iter() {
+        if !asks_null(condition, column) {
+            found = plainer(found, unequal_in(condition, column, false));
+        }
+    }
+    found
+}
+
+/// A comparison of a column by `<>` in a condition, or in its negation.
+fn unequal_in(condition: &Condition, column: usize, is_negated: bool) -> Option<Unequal<'_>> {
     match condition {
         Condition::Compare(comparison, left, right) => {
-            is_kind_of_unequal(*comparison, negated)
+            if is_kind_of_unequal(*comparison, is_negated)
                 && (names(left, column) || names(right, column))
+            {
+                Some(Unequal {
+                    literal: compared(left, right, column).or(compared(right, left, column)),
+                    is_negated,
+                    has_others: false,
+                })
+            } else {
+                None
+            }
         }
-        Condition::IsNull(_) => false,
-        Condition::Not(body) => is_unequal(body, column, !negated),
+        Condition::IsNull(_) => None,
+        Condition::Not(body) => unequal_in(body, column, !is_negated),
         Condition::And(left, right) | Condition::Or(left, right) => {
-            is_unequal(left, column, negated) || is_unequal(right, column, negated)
+            plainer(
+                unequal_in(left, column, is_negated),
+                unequal_in(right, column, is_negated),
+            )
         }
+    }
+}
+
+/// Of two comparisons the one with a literal, else the first.
+fn plainer<'a>(one: Option<Unequal<'a>>, other: Option<Unequal<'a>>) -> Option<Unequal<'a>> {
+    let (Some(first), Some(second)) = (one, other) else {
+        return one.or(other);
+    };
+    let plain = if first.literal.is_none() && second.literal.is_some() {
+        second
+    } else {
+        first
+    };
+    Some(Unequal {
+        literal: plain.literal,
+        is_negated: plain.is_negated,
+        has_others: true,
+    })
+}
+
+/// The literal with which a row's own cell of a column is compared, if it is short and prints as it is.
+fn compared<'a>(cell: &Expr, literal: &'a Expr, column: usize) -> Option<&'a Value> {
+    match (cell, literal) {
+        (Expr::Navigation(navigation), Expr::Literal(value))
+            if is_own_cell(navigation, column) && prints(value) => Some(value),
+        _ => None,
+    }
+}
+
+/// Whether it is the cell of a column in the row that is looked at, by the column's name alone.
+fn is_own_cell(navigation: &Navigation, column: usize) -> bool {
+    navigation.column == column
+        && navigation.places == 0
+        && matches!(navigation.rows_of, RowsOf::Universal)
+        && matches!(navigation.edge, Edge::Last)
+        && matches!(navigation.step, Step::Ahead(0) | Step::Back(0))
+}
+
+/// Whether a value is short, and no line end or the like is in it.
+fn prints(value: &Value) -> bool {
+    match value {
+        Value::Int(number) => *number >= 0,
+        Value::Text(text) => {
+            text.as_str().len() <= LONGEST
+                && text
+                    .as_str()
+                    .bytes()
+                    .all(|byte| byte >= b' ' && byte != 127)
+        }
+        Value::Null => false,
     }
 }
 
