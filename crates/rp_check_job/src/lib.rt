@@ -2,6 +2,7 @@
 #![tactic(auto)]
 
 mod check;
+mod condition;
 mod found;
 mod inputs;
 mod proposing;

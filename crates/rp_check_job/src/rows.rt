@@ -1,4 +1,5 @@
 //! The rows of inputs, or what is wrong with them.
+use crate::condition::condition_described;
 use crate::found::Found;
 use crate::inputs::Input;
 use crate::texts::texts_told;
@@ -44,6 +45,8 @@ pub(crate) fn look_at_inputs(
         all.append(&mut read.all)?;
         seen.append(&mut read.seen)?;
     }
+    let told = condition_described(found, condition, all.as_slice());
+    found.text.push_made(told);
     let described = rows_described(found, form, condition, all.as_slice(), seen.as_slice());
     found.text.push_made(described);
     Ok(())
