@@ -159,7 +159,7 @@ const BEHIND: [Entry; 7] = [
 ];
 
 /// Functions that there aren't, and what to write in place of each.
-const FUNCTIONS: [Entry; 15] = [
+const FUNCTIONS: [Entry; 16] = [
     (
         "AVG MEAN AVERAGE",
         "there is no such function",
@@ -197,9 +197,14 @@ const FUNCTIONS: [Entry; 15] = [
         "COUNT(*) counts the rows of the match so far, MATCH_NUMBER() the matches",
     ),
     (
-        "COALESCE NVL IFNULL NULLIF ZEROIFNULL",
+        "COALESCE NVL IFNULL ZEROIFNULL",
         "there is no such function",
-        "in a condition write the case of its own: (p > 5 OR p IS NULL)",
+        "COALESCE(p, 0) > 5 is p > 5, for 0 doesn't meet it; COALESCE(p, 0) < 5 is (p < 5 OR p IS NULL), for 0 does",
+    ),
+    (
+        "NULLIF",
+        "there is no such function",
+        "NULLIF(p, 0) > 5 is (p > 5 AND p <> 0)",
     ),
     (
         "COUNT_IF COUNTIF SUM_IF SUMIF",
