@@ -172,16 +172,33 @@ fn of_order(reading: &Reading<'_>) -> Option<Hint> {
     if is_unfinished(reading) {
         return None;
     }
+    if is_one_of(reading.here(), "SUBSET") {
+        return of_unions(reading);
+    }
     if is_one_of(reading.here(), "DEFINE") && !has_pattern(reading) {
         return said("PATTERN comes before DEFINE", ORDER);
     }
-    if is_one_of(reading.here(), "DEFINE SUBSET") && reading.part() == Part::Define {
+    if is_one_of(reading.here(), "DEFINE") && reading.part() == Part::Define {
         return said(
             "there is one DEFINE, behind SUBSET",
             "write the definitions with commas between: DEFINE A AS p > 5, B AS p < 3",
         );
     }
     said("this part comes further to the front", ORDER)
+}
+
+/// SUBSET where it can't stand.
+fn of_unions(reading: &Reading<'_>) -> Option<Hint> {
+    if reading.part() == Part::Subset {
+        return said(
+            "SUBSET comes once",
+            "write the unions with commas between: SUBSET U = (A, B), V = (B, C)",
+        );
+    }
+    said(
+        "SUBSET comes behind PATTERN and before DEFINE",
+        "write PATTERN (A B) SUBSET U = (A, B) DEFINE A AS p > 5",
+    )
 }
 
 /// Whether the token before the place asks for one more in its part. Behind a comma a definition has AS behind its variable.
