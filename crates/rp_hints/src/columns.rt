@@ -167,8 +167,7 @@ pub fn unknown_variable(
 ) -> Result<Advice, AllocError> {
     let variables = variables(alloc, reading)?;
     let mut help = variable_guess(alloc, table, reading, variables.as_slice())?;
-    help.push("the variables are ");
-    push_variables(&mut help, variables.as_slice());
+    push_variables(&mut help, reading, variables.as_slice());
     let what = Pieces::filled(alloc, "the pattern has no variable {}", &[reading.here()]);
     Ok(Advice::of_pieces(what, help))
 }
@@ -227,8 +226,19 @@ fn has_column(table: &Table, name: &str) -> bool {
     false
 }
 
+/// Adds which variables there are; where there is none, what to write with the name at the place.
+fn push_variables(help: &mut Pieces, reading: &Reading<'_>, names: &[String]) {
+    if names.is_empty() {
+        let form = "a pattern without variables can't stand alone: write (() | {})";
+        help.push_filled(form, &[reading.here()]);
+        return;
+    }
+    help.push("the variables are ");
+    push_listed(help, names);
+}
+
 /// Adds variables with commas between.
-fn push_variables(help: &mut Pieces, names: &[String]) {
+fn push_listed(help: &mut Pieces, names: &[String]) {
     for (index, name) in names.iter().enumerate() {
         if index > 0 {
             help.push(", ");

@@ -43,7 +43,7 @@ const SIGNS: [Pair; 9] = [
         "(",
         ")",
         "the pattern is empty",
-        "write (()) for a pattern that takes no row",
+        "a pattern without variables can't stand alone: write (() | A) for one that takes no row",
     ),
     (
         "|",
