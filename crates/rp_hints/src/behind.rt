@@ -99,7 +99,7 @@ const ARGUMENTS: [Pair; 8] = [
 
 /// Functions without their brackets, a point behind a bracket, and marks that mean nothing in an expression, or mean something in
 /// PATTERN alone.
-const MARKS: [Pair; 12] = [
+const MARKS: [Pair; 13] = [
     (
         "CLASSIFIER MATCH_NUMBER",
         "",
@@ -111,6 +111,12 @@ const MARKS: [Pair; 12] = [
         "",
         "a reserved word is before this, without its brackets",
         "as a function write FIRST(p); as a name in quotes and in upper case, \"FIRST\"",
+    ),
+    (
+        "FINAL",
+        "PREV NEXT",
+        "RUNNING and FINAL come before FIRST, LAST, COUNT, SUM, MIN and MAX alone",
+        "write PREV(FINAL LAST(A.p)) in place of FINAL PREV(A.p)",
     ),
     (
         "RUNNING FINAL",
@@ -211,7 +217,32 @@ fn of_null(reading: &Reading<'_>) -> Option<Hint> {
 
 /// What stands in the brackets of a function.
 fn of_arguments(reading: &Reading<'_>) -> Option<Hint> {
-    look_up_pair(&ARGUMENTS, reading.function(), reading.back(1))
+    of_classifier(reading).or(look_up_pair(&ARGUMENTS, reading.function(), reading.back(1)))
+}
+
+/// CLASSIFIER in the brackets of a navigation, in place of its column.
+fn of_classifier(reading: &Reading<'_>) -> Option<Hint> {
+    let is_navigated = is_one_of(reading.back(2), "PREV NEXT FIRST LAST");
+    if !is_navigated || reading.back(1) != "(" || !is_one_of(reading.here(), "CLASSIFIER") {
+        return None;
+    }
+    let what = "a navigation takes a column alone";
+    if is_last_classifier(reading) {
+        return said(what, "write CLASSIFIER() in place of LAST(CLASSIFIER())");
+    }
+    said(
+        what,
+        "in the condition of A write PREV(t) = LAST(B.t) for PREV(CLASSIFIER()) = 'B', where no two rows have the same t",
+    )
+}
+
+/// Whether the CLASSIFIER at the place is in a LAST(CLASSIFIER()) that is the variable of the row itself.
+fn is_last_classifier(reading: &Reading<'_>) -> bool {
+    reading.part() == Part::Measures
+        && is_one_of(reading.back(2), "LAST")
+        && !is_one_of(reading.back(3), "FINAL")
+        && reading.next(2) == ")"
+        && reading.next(3) == ")"
 }
 
 /// Words and marks by the one before. A bracket behind the name of a function is where it has to be.
