@@ -11,7 +11,7 @@ use rp_wording::{
 use std::alloc::{AllocError, Global};
 
 /// What is wrong with signs and words over values of another kind.
-const KINDS: [Entry; 4] = [
+const KINDS: [Entry; 3] = [
     (
         "+ - *",
         "only whole numbers are added, subtracted and multiplied",
@@ -23,16 +23,15 @@ const KINDS: [Entry; 4] = [
         "write a comparison on each side: p > 5 AND q = 'a'",
     ),
     (
-        "SUM",
-        "SUM goes over a column of whole numbers",
-        "this one is text: COUNT, MIN and MAX take it, or its kind in the table is int",
-    ),
-    (
         "IS",
         "IS NULL asks of a value",
         "a condition is before it: leave IS NULL out, or ask a column",
     ),
 ];
+
+/// How a column of texts is read as whole numbers.
+const READ: &str =
+    "let --columns read it: {} = decimal({}, 2) for amounts, {} = seconds({}) for times";
 
 /// How texts and numbers are told apart.
 const QUOTES: &str =
@@ -125,6 +124,9 @@ fn mismatch(alloc: Global, table: &Table, reading: &Reading<'_>) -> Result<Advic
             return Ok(advice);
         }
     }
+    if is_one_of(here, "SUM") {
+        return Ok(text_sum(alloc, reading));
+    }
     let found = look_up(&KINDS, here).unwrap_or(of_whole(reading));
     Ok(Advice::of(alloc, found))
 }
@@ -141,19 +143,28 @@ fn text_difference(
     for index in &[left, right] {
         if kind_at(alloc, table, reading, *index)? == "text" {
             let what = "only whole numbers are added, subtracted and multiplied";
-            return Ok(Some(Advice::with_help(
-                alloc,
-                what,
-                Pieces::filled(
-                    alloc,
-                    "{} is text: a date as text can't be subtracted\n\
-            let --columns read it as seconds: docs/RECIPES.md, Dates and times",
-                    &[reading.written(*index)],
-                ),
-            )));
+            let form = "{} is text, and texts can't be subtracted\n";
+            let help = read_as_numbers(alloc, form, reading.written(*index));
+            return Ok(Some(Advice::with_help(alloc, what, help)));
         }
     }
     Ok(None)
+}
+
+/// A sum of a column of texts.
+fn text_sum(alloc: Global, reading: &Reading<'_>) -> Advice {
+    let end = operand_end(reading, reading.at);
+    let column = last_name(reading, reading.at.saturating_add(1), end);
+    let form = "{} is text: COUNT, MIN and MAX take it\n";
+    let help = read_as_numbers(alloc, form, reading.written(column));
+    Advice::with_help(alloc, "SUM goes over a column of whole numbers", help)
+}
+
+/// A line about a column of texts, and how it is read as whole numbers.
+fn read_as_numbers(alloc: Global, form: &str, column: &str) -> Pieces {
+    let mut help = Pieces::filled(alloc, form, &[column]);
+    help.push_filled(READ, &[column, column, column, column]);
+    help
 }
 
 /// The index of the last name from a token on to before another; the first index where there is none.
