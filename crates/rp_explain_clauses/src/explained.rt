@@ -141,6 +141,7 @@ fn front_report(
     let mut help = statement.help(alloc, text);
     help.push("\n");
     help.push(around.help);
+    statement.push_filter(&mut help, text);
     let advice = Advice::with_help(alloc, around.what, help);
     let start = match fault {
         CompileFault::Parse(ParseFault::Expected(at)) => at,

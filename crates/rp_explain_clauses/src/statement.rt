@@ -5,11 +5,15 @@ use rp_compile::CompileFault;
 use rp_grammar::ParseFault;
 use rp_lexer::{Keyword, LexFault, TokenKind};
 use rp_place::{Place, Span};
-use rp_wording::{Pieces, Reading, closing, tokens_of};
+use rp_wording::{Pieces, Reading, closing, depth_behind, is_one_of, is_short, tokens_of};
 use std::alloc::{AllocError, Global};
 
 /// So many faults round a clause are passed over, at most.
 const MOST: u32 = 64;
+
+/// Words with which a statement goes on behind the condition of a WHERE.
+const BEHIND_WHERE: &str =
+    "GROUP ORDER HAVING LIMIT OFFSET FETCH WINDOW QUALIFY UNION EXCEPT INTERSECT";
 
 /// What stands in MATCH_RECOGNIZE ( .. ), and that something stands before or behind it.
 pub(crate) struct Statement {
@@ -23,6 +27,8 @@ pub(crate) struct Statement {
     pub(crate) front: Option<CompileFault>,
     /// What is wrong behind its closing bracket, likewise.
     pub(crate) behind: Option<CompileFault>,
+    /// Where the condition of a WHERE before MATCH_RECOGNIZE is, if one stands there.
+    filter: Option<Span>,
 }
 
 /// It is let go of by a call, wherever it is held.
@@ -34,6 +40,7 @@ impl Drop for Statement {
             read: _,
             front: _,
             behind: _,
+            filter: _,
         } = self;
     }
 }
@@ -47,6 +54,8 @@ struct Outside {
     front: Option<CompileFault>,
     /// What is wrong behind its closing bracket, likewise.
     behind: Option<CompileFault>,
+    /// Where the condition of a WHERE before MATCH_RECOGNIZE is, if one stands there.
+    filter: Option<Span>,
 }
 
 /// The indices of the tokens round what stands inside.
@@ -70,6 +79,7 @@ pub(crate) fn statement_of(alloc: Global, text: &str) -> Result<Option<Statement
         read: passed.read,
         front: outside.front,
         behind: outside.behind,
+        filter: outside.filter,
     }))
 }
 
@@ -126,13 +136,54 @@ fn outside_brackets(
         span,
         front,
         behind,
+        filter: filter_before(reading, brackets.word),
     })
+}
+
+/// The condition of the last WHERE before a token.
+fn filter_before(reading: &Reading<'_>, end: usize) -> Option<Span> {
+    let mut found = None;
+    for index in 0..end {
+        if is_one_of(reading.written(index), "WHERE") {
+            found = Some(index.saturating_add(1));
+        }
+    }
+    let first = found?;
+    let last = condition_end(reading, first, end).saturating_sub(1);
+    Some(Span {
+        start: start_of(reading, first),
+        end: end_of(reading, last),
+    })
+}
+
+/// The index behind the condition that begins with a token, and ends before another one.
+fn condition_end(reading: &Reading<'_>, start: usize, end: usize) -> usize {
+    let mut depth = 0usize;
+    for index in start..end {
+        let word = reading.written(index);
+        if depth == 0 && (word == ")" || is_one_of(word, BEHIND_WHERE)) {
+            return index;
+        }
+        depth = match reading.kind(index) {
+            Some(kind) => depth_behind(kind, depth),
+            None => depth,
+        };
+    }
+    end
 }
 
 /// Where a token begins; the text's end where there is none.
 fn start_of(reading: &Reading<'_>, index: usize) -> usize {
     match reading.tokens.get(index) {
         Some(token) => token.start,
+        None => reading.text.len(),
+    }
+}
+
+/// Where a token ends; the text's end where there is none.
+fn end_of(reading: &Reading<'_>, index: usize) -> usize {
+    match reading.tokens.get(index) {
+        Some(token) => token.end,
         None => reading.text.len(),
     }
 }
@@ -220,6 +271,38 @@ impl Statement {
         help.push_place(last.line, last.column().saturating_sub(1));
         help
     }
+
+    /// Adds a line of what leaves out the rows that a WHERE before MATCH_RECOGNIZE leaves out; nothing where there is none.
+    pub(crate) fn push_filter(&self, help: &mut Pieces, text: &str) {
+        let Some(filter) = self.filter else {
+            return;
+        };
+        help.push("\nrows that a WHERE leaves out are left out by --where");
+        let condition = text.get(filter.start..filter.end).unwrap_or("");
+        if is_short(condition) {
+            help.push(" ");
+            push_shell_word(help, condition);
+        }
+    }
+}
+
+/// Adds a condition as one word of a shell: in double quotes, where no character of it means more in them.
+fn push_shell_word(help: &mut Pieces, condition: &str) {
+    if is_plain(condition) {
+        help.push_filled("\"{}\"", &[condition]);
+    } else {
+        help.push_shell_word(condition);
+    }
+}
+
+/// Whether a shell takes no character of a text for more in double quotes.
+fn is_plain(text: &str) -> bool {
+    for byte in text.bytes() {
+        if matches!(byte, b'"' | b'$' | b'`' | b'\\' | b'!') {
+            return false;
+        }
+    }
+    true
 }
 
 /// The place before a byte.
