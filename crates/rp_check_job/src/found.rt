@@ -6,7 +6,7 @@ use rp_filter::Filter;
 use rp_job::Verdict;
 use rp_query::Query;
 use rp_question::InputShape;
-use rp_report::{Findings, FoundFault, FoundInput, FoundRows, findings_line};
+use rp_report::{Findings, FoundFault, FoundInput, FoundNote, FoundRows, findings_line};
 use rp_value::Row;
 use rp_wording::{Pieces, Report, shown_line};
 use std::alloc::{AllocError, Global};
@@ -51,6 +51,8 @@ pub(crate) struct Found {
     file: Option<String>,
     /// What was found of each input.
     inputs: Vec<FoundInput>,
+    /// What is to be known of inputs that have no fault.
+    notes: Vec<FoundNote>,
     /// What is wrong.
     faults: Vec<FoundFault>,
 }
@@ -68,6 +70,7 @@ impl Drop for Found {
             has_several: _,
             file: _,
             inputs: _,
+            notes: _,
             faults: _,
         } = self;
     }
@@ -86,6 +89,7 @@ impl Found {
             has_several,
             file: None,
             inputs: Vec::new(alloc),
+            notes: Vec::new(alloc),
             faults: Vec::new(alloc),
         }
     }
@@ -118,6 +122,35 @@ impl Found {
         }
     }
 
+    /// Writes lines as `tell` does, and keeps each as a note.
+    pub(crate) fn note(&mut self, lines: Result<String, AllocError>) {
+        if let Ok(lines) = &lines {
+            for line in lines.as_str().lines() {
+                if self.keep_note(line).is_err() {
+                    self.text.push_made(Err(AllocError));
+                }
+            }
+        }
+        self.tell(lines);
+    }
+
+    fn keep_note(&mut self, line: &str) -> Result<(), AllocError> {
+        let note = FoundNote {
+            file: self.file_name()?,
+            message: String::from_str(self.alloc, line)?,
+        };
+        self.notes.push(note)?;
+        Ok(())
+    }
+
+    /// The name of the file that is looked at, if there are several.
+    fn file_name(&self) -> Result<Option<String>, AllocError> {
+        match &self.file {
+            Some(file) => Ok(Some(String::from_str(self.alloc, file.as_str())?)),
+            None => Ok(None),
+        }
+    }
+
     /// Writes the name of the file that is looked at, if there are several.
     fn push_file(&mut self) {
         if let Some(file) = &self.file {
@@ -144,10 +177,7 @@ impl Found {
     }
 
     fn keep_fault(&mut self, text: &'static str, report: Report) -> Result<(), AllocError> {
-        let file = match &self.file {
-            Some(file) => Some(String::from_str(self.alloc, file.as_str())?),
-            None => None,
-        };
+        let file = self.file_name()?;
         self.faults.push(FoundFault { text, file, report })?;
         Ok(())
     }
@@ -221,6 +251,7 @@ impl Found {
             },
             query: self.query.as_ref(),
             inputs: self.inputs.as_slice(),
+            notes: self.notes.as_slice(),
             faults: self.faults.as_slice(),
         };
         let mut line = findings_line(self.alloc, &findings)?;

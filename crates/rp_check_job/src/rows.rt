@@ -45,10 +45,11 @@ pub(crate) fn look_at_inputs(
         all.append(&mut read.all)?;
         seen.append(&mut read.seen)?;
     }
+    found.look_in_none();
     let told = condition_described(found, condition, all.as_slice());
-    found.text.push_made(told);
+    found.note(told);
     let described = rows_described(found, form, condition, all.as_slice(), seen.as_slice());
-    found.text.push_made(described);
+    found.note(described);
     Ok(())
 }
 
@@ -121,11 +122,11 @@ fn tell_rows(form: &InputForm, bytes: &[u8], rows: &[Row], found: &mut Found) {
     ));
     found.tell(line.finish());
     let quotes = quotes_told(found.alloc, form, bytes);
-    found.tell(quotes);
+    found.note(quotes);
     let zeros = zeros_told(found, bytes);
-    found.tell(zeros);
+    found.note(zeros);
     let never_found = never_found_told(found, rows);
-    found.tell(never_found);
+    found.note(never_found);
 }
 
 /// Writes how many rows meet the condition, and gives it, where there is a condition without a fault.

@@ -25,8 +25,8 @@ pub fn notes_on_columns(
     }
 }
 
-/// The query of a condition over a table, where there is one.
-fn condition_query(
+/// The query of the clause that a condition of rows is read as, over a table; None where there is no condition, or it has a fault.
+pub fn condition_query(
     alloc: Global,
     condition: &Option<String>,
     table: &Table,

@@ -3,7 +3,8 @@
 use crate::clause::write_clause;
 use crate::columns::write_columns;
 use crate::fault::{FoundFault, write_faults};
-use crate::input::{FoundInput, rows_of_all, write_inputs, write_rows};
+use crate::input::{FoundInput, rows_of_all, write_inputs, write_kept, write_rows};
+use crate::note::{FoundNote, write_notes};
 use rp_json_line::JsonLine;
 use rp_query::Query;
 use rp_value::Table;
@@ -18,6 +19,8 @@ pub struct Findings<'a> {
     pub query: Option<&'a Query>,
     /// What was found of each input, in order.
     pub inputs: &'a [FoundInput],
+    /// What is to be known of inputs that have no fault, in order.
+    pub notes: &'a [FoundNote],
     /// What is wrong, in order.
     pub faults: &'a [FoundFault],
 }
@@ -37,7 +40,10 @@ pub fn findings_line(alloc: Global, findings: &Findings<'_>) -> Result<Vec<u8>, 
     line.name("faults");
     write_faults(&mut line, findings.faults);
     write_inputs(&mut line, findings.inputs);
-    write_rows(&mut line, rows_of_all(findings.inputs));
+    let rows = rows_of_all(findings.inputs);
+    write_kept(&mut line, rows);
+    write_notes(&mut line, findings.notes);
+    write_rows(&mut line, rows);
     line.end_object();
     line.finish()
 }

@@ -61,17 +61,25 @@ fn write_input(line: &mut JsonLine, input: &FoundInput) {
     if let Some(file) = &input.file {
         line.text("file", file.as_str());
     }
+    write_kept(line, input.rows);
     write_rows(line, input.rows);
     line.end_object();
 }
 
-/// Writes how many rows there are, where that is known.
-pub(crate) fn write_rows(line: &mut JsonLine, rows: Option<FoundRows>) {
-    let Some(rows) = rows else {
-        return;
-    };
-    if let Some(kept) = rows.kept {
+/// Writes how many rows meet the condition, where that is known.
+pub(crate) fn write_kept(line: &mut JsonLine, rows: Option<FoundRows>) {
+    if let Some(kept) = kept_of(rows) {
         line.count("kept", kept);
     }
-    line.count("rows", rows.all);
+}
+
+fn kept_of(rows: Option<FoundRows>) -> Option<u64> {
+    rows?.kept
+}
+
+/// Writes how many rows there are, where that is known.
+pub(crate) fn write_rows(line: &mut JsonLine, rows: Option<FoundRows>) {
+    if let Some(rows) = rows {
+        line.count("rows", rows.all);
+    }
 }

@@ -14,6 +14,9 @@
 //! Of several files `rows` are those of all, `inputs` has each with its `file` and its rows, and a fault of one has that `file`. Where there is
 //! a condition of `--where`, `kept` is how many of the rows meet it.
 //!
+//! Rows that have no fault and may not be read as they are meant have `notes`, each with a `message`, and of several files with the `file` that
+//! it is about, unless it is about all.
+//!
 //! What isn't known isn't there: of a clause with a fault there is no `clause`, and without an input there are no `rows`.
 //! Nothing here decides: the faults are those of the crates that read, and what a query reads is looked up in it.
 #![tactic(auto)]
@@ -23,8 +26,10 @@ mod columns;
 mod fault;
 mod findings;
 mod input;
+mod note;
 mod written;
 
 pub use fault::FoundFault;
 pub use findings::{Findings, findings_line};
 pub use input::{FoundInput, FoundRows};
+pub use note::FoundNote;
