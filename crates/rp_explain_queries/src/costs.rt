@@ -1,15 +1,30 @@
 //! What a search costs that finds nothing, by which rows the conditions look at, and which variables may take any number of rows.
 
 use rp_describe::{Looks, has_variable};
+use rp_program::Program;
 use rp_wording::Pieces;
-use rp_words::Form;
+use rp_words::{Form, Pattern};
+use std::alloc::{AllocError, Global};
 
-/// Writes what rows cost that are read without a match, by which rows all conditions look at.
-pub(crate) fn push_cost(out: &mut Pieces, all: Looks) {
-    if all.elsewhere {
-        return out.push(
+/// The most places of a pattern for which searches remember where they failed: `MOST_PLACES` of rp_pattern.
+const MOST_PLACES: u32 = 4096;
+
+/// Whether a pattern is too large for searches to remember where they failed.
+pub(crate) fn is_too_large(alloc: Global, pattern: &Pattern) -> Result<bool, AllocError> {
+    match Program::compile(alloc, pattern, MOST_PLACES)? {
+        Some(_) => Ok(false),
+        None => Ok(true),
+    }
+}
+
+/// Writes what rows cost that are read without a match, by which rows all conditions look at, and whether the pattern is too large to
+/// remember where a search failed.
+pub(crate) fn push_cost(out: &mut Pieces, all: Looks, is_large: bool) {
+    if all.elsewhere || is_large {
+        out.push(
             "where no match comes, each way to take the rows is tried: one row more may double the time\n",
         );
+        return push_size(out, all, is_large);
     }
     if all.first {
         return out.push(
@@ -17,6 +32,15 @@ pub(crate) fn push_cost(out: &mut Pieces, all: Looks) {
         );
     }
     out.push("where no match comes, the time grows in step with the rows\n");
+}
+
+/// Writes that the time is so because of the pattern's size, where no condition would do the same.
+fn push_size(out: &mut Pieces, all: Looks, is_large: bool) {
+    if is_large && !all.elsewhere {
+        out.push(
+            "the pattern is too large to remember where a search failed: it has more than 4,096 places, each part counted as often as a bound or PERMUTE repeats it\n",
+        );
+    }
 }
 
 /// Whether nothing bounds how many rows a variable takes: a quantifier without an upper bound goes over it, and no condition of what

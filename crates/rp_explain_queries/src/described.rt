@@ -1,6 +1,6 @@
 //! What a clause without a fault does.
 
-use crate::costs::{is_boundless, push_boundless, push_cost};
+use crate::costs::{is_boundless, is_too_large, push_boundless, push_cost};
 use rp_describe::{Looks, OWN_ROW, all_looks, looks_at, missing_variable};
 use rp_query::Query;
 use rp_value::Text;
@@ -19,7 +19,7 @@ pub fn describe(alloc: Global, query: &Query) -> Result<String, AllocError> {
     push_reach(&mut out, query.reach());
     let all = all_looks(query);
     push_locality(&mut out, all);
-    push_cost(&mut out, all);
+    push_cost(&mut out, all, is_too_large(alloc, query.pattern())?);
     push_boundless(&mut out, boundless(alloc, query)?.text()?, all);
     push_waiting(&mut out, all);
     shown_text(alloc, out.text()?)
