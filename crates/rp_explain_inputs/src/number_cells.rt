@@ -32,7 +32,8 @@ pub(crate) fn of_number(field: &str) -> &'static str {
     of_digits(inside)
 }
 
-/// What to do about a number that has its sign in another way, or is none because of a formula.
+/// What to do about a number that has its sign in another way or a blank that can't be told from others, or is none because of a
+/// formula.
 pub(crate) fn of_sign(text: &str) -> Option<&'static str> {
     if is_one_of(text, SHEET_ERRORS) {
         return Some(
@@ -49,7 +50,33 @@ pub(crate) fn of_sign(text: &str) -> Option<&'static str> {
             "accountants write -10 as (10): write the minus sign, and leave the brackets out",
         );
     }
+    of_no_break(text)
+}
+
+/// What to do about a number with a blank between its digits that looks as others do.
+fn of_no_break(text: &str) -> Option<&'static str> {
+    if !text
+        .bytes()
+        .all(|byte| !byte.is_ascii() || is_of_number(byte))
+    {
+        return None;
+    }
+    if text.contains('\u{a0}') {
+        return Some(
+            "the blank in it is U+00A0, a no-break space: sed 's/\\xc2\\xa0//g' FILE | rowmatch .., where no text has one",
+        );
+    }
+    if text.contains('\u{202f}') {
+        return Some(
+            "the blank in it is U+202F, a narrow no-break space: sed 's/\\xe2\\x80\\xaf//g' FILE | rowmatch .., where no text has one",
+        );
+    }
     None
+}
+
+/// Whether it is a digit, or a sign that numbers have.
+fn is_of_number(byte: u8) -> bool {
+    byte.is_ascii_digit() || matches!(byte, b'.' | b',' | b'-' | b'+')
 }
 
 /// Whether it is a number in brackets.
