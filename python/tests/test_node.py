@@ -8,6 +8,7 @@ import random
 import socket
 import subprocess
 import threading
+import time
 
 import pytest
 
@@ -158,6 +159,84 @@ def test_a_node_that_does_not_acknowledge(start):
     with Node(address) as client:
         client.rows(ROWS)
         with pytest.raises(NodeError, match="without --acknowledge"):
+            client.commit()
+
+
+def test_a_node_that_ended_an_idle_connection(start):
+    _, address = start("--acknowledge", "--idle", "1")
+    for ask in (
+        lambda client: client.rows(EVE),
+        lambda client: client.close(["eve"], 1),
+        lambda client: client.poll(["eve"]),
+    ):
+        with Node(address) as client:
+            client.rows(EVE[:1])
+            time.sleep(1.5)
+            with pytest.raises(NodeError, match="ended the connection before.*--idle: send again"):
+                ask(client)
+            with pytest.raises(NodeError, match="send again"):
+                client.commit()
+
+
+@pytest.fixture
+def saying():
+    """Starts what answers the first line by this text, and writes that behind the end."""
+    threads = []
+
+    def serve(server, text, last):
+        with server, server.accept()[0] as client, client.makefile("rb") as lines:
+            lines.readline()
+            client.sendall(text)
+            lines.read()
+            client.sendall(last)
+
+    def start(text, last=b""):
+        server = socket.create_server(("127.0.0.1", 0))
+        threads.append(threading.Thread(target=serve, args=(server, text, last)))
+        threads[-1].start()
+        return f"127.0.0.1:{server.getsockname()[1]}"
+
+    yield start
+    for thread in threads:
+        thread.join()
+
+
+@pytest.mark.parametrize(
+    "text", [b"nope\n", b"[1]\n", b"1\n", b"{}\n", b'{"place":\n', b"\xff\xfe\n"]
+)
+def test_a_line_that_is_no_reply(saying, text):
+    for ask in (lambda client: client.rows(EVE[:1]), lambda client: client.poll(["x"])):
+        with Node(saying(text)) as client:
+            with pytest.raises(NodeError, match="send again"):
+                ask(client)
+
+
+def test_a_reply_to_something_else(saying):
+    for text, ask in (
+        (b'{"idle":["x"]}\n', lambda client: client.rows(EVE[:1])),
+        (b'{"idle":["x"]}\n', lambda client: client.close(["x"], 1)),
+        (b'{"taken":"new"}\n', lambda client: client.poll(["x"])),
+    ):
+        with Node(saying(text)) as client:
+            with pytest.raises(NodeError, match="no reply to.*send again"):
+                ask(client)
+
+
+@pytest.mark.parametrize(
+    "last",
+    [
+        b'{"sav',
+        b"nope\n",
+        b"\xff\xfe\n",
+        b'{"saved":2}\n',
+        b'{"idle":["x"]}\n{"saved":1}\n',
+        b"[1]\n",
+    ],
+)
+def test_what_does_not_say_that_it_saved(saying, last):
+    with Node(saying(b'{"taken":"new"}\n', last)) as client:
+        client.rows(EVE[:1])
+        with pytest.raises(NodeError, match="the node wrote.*1 lines were answered: send again"):
             client.commit()
 
 

@@ -209,7 +209,7 @@ class Node:
         if not line:
             message = "the node hasn't written that it saved, or runs without --acknowledge"
             raise NodeError(f"{message}: {_AGAIN}")
-        if json.loads(line) != {"saved": self._answered}:
+        if _parsed(line) != {"saved": self._answered}:
             message = f"the node wrote {line[:100]!r}, and {self._answered} lines were answered"
             raise NodeError(f"{message}: {_AGAIN}")
 
@@ -239,15 +239,18 @@ class Node:
         for request in requests:
             line = _line_of(request)
             if lines and (len(lines) == _LINES or size + len(line) > _BYTES):
-                yield from zip(asked, self._exchange(lines))
+                yield from self._exchange(asked, lines)
                 asked, lines, size = [], [], 0
             asked.append(request)
             lines.append(line)
             size += len(line)
-        yield from zip(asked, self._exchange(lines))
+        yield from self._exchange(asked, lines)
 
-    def _exchange(self, lines: list[bytes]) -> Iterator[Any]:
-        """The replies to lines; where the connection fails, those that came, and then the error."""
+    def _exchange(
+        self, requests: list[dict[str, Any]], lines: list[bytes]
+    ) -> Iterator[tuple[Any, Any]]:
+        """Requests, whose lines are sent, each with its reply; where the connection fails, those
+        whose replies came, and then the error."""
         replies: list[bytes] = []
         failed: OSError | None = None
         try:
@@ -257,7 +260,8 @@ class Node:
         except OSError as error:
             failed = error
         self._answered += len(replies)
-        yield from map(json.loads, replies)
+        for request, reply in zip(requests, replies):
+            yield request, _reply_to(request, reply)
         if failed:
             raise NodeError(f"the connection to the node failed ({failed}): {_AGAIN}") from failed
         if len(replies) < len(lines):
@@ -275,6 +279,26 @@ def _place_of(address: str) -> tuple[str, int]:
 def _line_of(request: dict[str, Any]) -> bytes:
     text = json.dumps(request, ensure_ascii=False, separators=(",", ":"), sort_keys=True)
     return text.encode() + b"\n"
+
+
+def _parsed(line: bytes) -> Any:
+    """What a line of JSON says; None where it is none."""
+    try:
+        return json.loads(line)
+    except ValueError:
+        return None
+
+
+def _reply_to(request: dict[str, Any], line: bytes) -> dict[str, Any]:
+    """The reply that a line is to a request. Where it is none, the one to the request is missing."""
+    reply = _parsed(line)
+    kinds = ("place", "idle", "paused", "refused") if "poll" in request else ("taken", "refused")
+    if isinstance(reply, dict) and any(kind in reply for kind in kinds):
+        return reply
+    if isinstance(reply, dict) and "saved" in reply:
+        message = "the node ended the connection before, as it does with --idle"
+        raise NodeError(f"{message}: {_AGAIN}")
+    raise NodeError(f"the node wrote {line[:100]!r}, which is no reply to {request}: {_AGAIN}")
 
 
 def _values(values: Iterable[Any]) -> list[Value]:
