@@ -3,8 +3,10 @@
 from __future__ import annotations
 
 import json
+import os
 import pickle
 import random
+import signal
 import socket
 import subprocess
 import threading
@@ -176,6 +178,42 @@ def test_a_node_that_ended_an_idle_connection(start):
                 ask(client)
             with pytest.raises(NodeError, match="send again"):
                 client.commit()
+
+
+def test_after_a_call_that_was_interrupted(start):
+    process, address = start("--acknowledge")
+    with Node(address) as client:
+        client.rows(EVE[:2])
+        process.send_signal(signal.SIGSTOP)
+        threading.Timer(0.3, os.kill, (os.getpid(), signal.SIGINT)).start()
+        with pytest.raises(KeyboardInterrupt):
+            client.rows(EVE[2:])
+        process.send_signal(signal.SIGCONT)
+        for ask in (
+            lambda: client.poll(["eve"]),
+            lambda: client.rows(EVE),
+            lambda: client.close(["eve"], 3),
+            client.commit,
+        ):
+            with pytest.raises(NodeError, match="an earlier call .* was interrupted.*send again"):
+                ask()
+    with Node(address) as client:
+        client.rows(EVE)
+        assert [item.cells for item in client.poll(["eve"])] == [("eve", 10, 2)]
+        client.commit()
+
+
+def test_after_a_poll_whose_items_are_lost(start):
+    """A key that can't be sent ends a poll. What it had given by then isn't to be kept as given."""
+    _, address = start("--acknowledge")
+    with Node(address) as client:
+        client.rows(EVE)
+        with pytest.raises(UnicodeEncodeError):
+            client.poll(["\ud800"])
+        with pytest.raises(UnicodeEncodeError):
+            client.poll(*[["eve"]] * 1001, ["\ud800"])
+        with pytest.raises(NodeError, match="an earlier call failed.*send again"):
+            client.commit()
 
 
 @pytest.fixture

@@ -148,6 +148,7 @@ class Node:
         self._socket.setsockopt(socket.SOL_SOCKET, socket.SO_SNDBUF, 2 * _BYTES)
         self._replies = self._socket.makefile("rb")
         self._answered = 0
+        self._is_missing = False  # whether lines were sent whose replies weren't read
 
     def rows(self, rows: Iterable[tuple[int, Row]]) -> int:
         """Sends rows, each with its number in its partition, from 1. Gives how many were new to the
@@ -169,22 +170,24 @@ class Node:
 
         What a connection gave counts as given once the node saves at its end, whether or not it
         arrived: store items before you `commit`. Where a poll is refused or the connection fails,
-        the error has the items that came."""
+        the error has the items that came. After a call that was interrupted, as by Ctrl-C, each
+        further one is a `NodeError`, `commit` too."""
         items: list[Item] = []
-        due = [_values(key) for key in keys]
-        while due:
-            answered = self._polled(due, index(budget), items)
-            for request, reply in answered:
-                _look_at_refusal(request, reply, items)
-            due = [
-                asked["poll"] for asked, reply in answered if "paused" in reply or "cells" in reply
-            ]
+        due, turns = [_values(key) for key in keys], index(budget)
+        try:
+            while due:
+                due = self._polled(due, turns, items)
+        except NodeError:
+            raise
+        except BaseException as error:
+            # The items that came are lost with this call; where it was interrupted some may have.
+            self._is_missing |= bool(items) or not isinstance(error, Exception)
+            raise
         return items
 
-    def _polled(
-        self, keys: list[list[Value]], budget: int, items: list[Item]
-    ) -> list[tuple[Any, Any]]:
-        """Polls each partition once, and puts the items behind those that came before."""
+    def _polled(self, keys: list[list[Value]], budget: int, items: list[Item]) -> list[list[Value]]:
+        """Polls each partition once, puts the items behind those that came before, and gives the
+        keys of those that aren't idle."""
         answered: list[tuple[Any, Any]] = []
         try:
             for request, reply in self._ask({"budget": budget, "poll": key} for key in keys):
@@ -193,13 +196,16 @@ class Node:
                     items.append(_item(reply))
         except NodeError as error:
             raise NodeError(f"{error}; {_LOST}", items=items) from error
-        return answered
+        for request, reply in answered:
+            _look_at_refusal(request, reply, items)
+        return [asked["poll"] for asked, reply in answered if "paused" in reply or "cells" in reply]
 
     def commit(self) -> None:
         """Ends the connection, and returns once the node has written that all that was sent on it
         is saved. Where it doesn't write that, it was killed, its disk is full, or it runs without
         ``--acknowledge``: a `NodeError`, and nothing can be relied on that was sent."""
         try:
+            self._look_at_missing()
             self._socket.shutdown(socket.SHUT_WR)
             line = self._replies.read()
         except OSError as error:
@@ -251,21 +257,35 @@ class Node:
     ) -> Iterator[tuple[Any, Any]]:
         """Requests, whose lines are sent, each with its reply; where the connection fails, those
         whose replies came, and then the error."""
-        replies: list[bytes] = []
-        failed: OSError | None = None
-        try:
-            self._socket.sendall(b"".join(lines))
-            while len(replies) < len(lines) and (reply := self._replies.readline()).endswith(b"\n"):
-                replies.append(reply)
-        except OSError as error:
-            failed = error
-        self._answered += len(replies)
+        replies, failed = self._replies_to(lines)
         for request, reply in zip(requests, replies):
             yield request, _reply_to(request, reply)
         if failed:
             raise NodeError(f"the connection to the node failed ({failed}): {_AGAIN}") from failed
         if len(replies) < len(lines):
             raise NodeError(f"the node ended the connection: {_AGAIN}")
+
+    def _replies_to(self, lines: list[bytes]) -> tuple[list[bytes], OSError | None]:
+        """Sends lines, and gives what came back, and the error with which that ended."""
+        replies: list[bytes] = []
+        self._look_at_missing()
+        self._is_missing = True
+        try:
+            self._socket.sendall(b"".join(lines))
+            while len(replies) < len(lines) and (reply := self._replies.readline()).endswith(b"\n"):
+                replies.append(reply)
+        except OSError as error:
+            return replies, error
+        finally:
+            self._answered += len(replies)
+        self._is_missing = len(replies) < len(lines)
+        return replies, None
+
+    def _look_at_missing(self) -> None:
+        """Replies that are still to come would be taken for those of a later call."""
+        if self._is_missing:
+            message = "an earlier call failed or was interrupted, and replies to it are missing"
+            raise NodeError(f"{message}: {_AGAIN}; {_LOST}")
 
 
 def _place_of(address: str) -> tuple[str, int]:
