@@ -21,6 +21,7 @@ TABLE = "who text, t int, outcome text"
 CLAUSE = """PARTITION BY who ORDER BY t MEASURES FIRST(F.t) AS a, COUNT(F.*) AS n PATTERN (F{2,} G)
     DEFINE F AS outcome = 'fail', G AS outcome = 'ok'"""
 EVE = [(1, ("eve", 10, "fail")), (2, ("eve", 20, "fail")), (3, ("eve", 30, "ok"))]
+OUTCOMES = ["fail", "fail", "ok"]
 ROWS = [*EVE, (1, ("bob", 5, "ok"))]
 
 
@@ -178,6 +179,31 @@ def test_a_node_that_ended_an_idle_connection(start):
                 ask(client)
             with pytest.raises(NodeError, match="send again"):
                 client.commit()
+
+
+def test_threads_share_a_node(start):
+    _, address = start("--acknowledge")
+    found, counts = {}, {}
+
+    def bring(client, key):
+        counts[key], found[key] = 0, []
+        for n in range(1, 301, 3):
+            rows = [(n + at, (key, n + at, outcome)) for at, outcome in enumerate(OUTCOMES)]
+            counts[key] += client.rows(rows)
+            found[key] += client.poll([key])
+
+    with Node(address, timeout=10) as client:
+        threads = [threading.Thread(target=bring, args=(client, key)) for key in "abc"]
+        for thread in threads:
+            thread.start()
+        for thread in threads:
+            thread.join()
+        client.commit()
+    assert counts == dict.fromkeys("abc", 300)
+    for key in "abc":
+        assert [(item.key, item.place) for item in found[key]] == [
+            ((key,), place) for place in range(1, 101)
+        ]
 
 
 def test_after_a_call_that_was_interrupted(start):

@@ -6,6 +6,7 @@ import heapq
 import json
 import re
 import socket
+import threading
 from collections.abc import Iterable, Iterator, Mapping, Sequence
 from dataclasses import dataclass
 from numbers import Integral
@@ -129,7 +130,8 @@ class Numbering:
 
 class Node:
     """A connection to a node that runs with ``--acknowledge``. What was sent is kept by the node
-    once `commit` returned, and may be lost before.
+    once `commit` returned, and may be lost before. Threads may share one: each call gets the
+    replies to its own lines.
 
     Examples:
         >>> with rowmatch.Node("127.0.0.1:7431") as node:               # doctest: +SKIP
@@ -149,6 +151,9 @@ class Node:
         self._replies = self._socket.makefile("rb")
         self._answered = 0
         self._is_missing = False  # whether lines were sent whose replies weren't read
+        # Held from lines to their replies, of which each thread gets its own. A handler of a signal
+        # may come in between, in the same thread.
+        self._turn = threading.RLock()
 
     def rows(self, rows: Iterable[tuple[int, Row]]) -> int:
         """Sends rows, each with its number in its partition, from 1. Gives how many were new to the
@@ -181,7 +186,8 @@ class Node:
             raise
         except BaseException as error:
             # The items that came are lost with this call; where it was interrupted some may have.
-            self._is_missing |= bool(items) or not isinstance(error, Exception)
+            with self._turn:
+                self._is_missing |= bool(items) or not isinstance(error, Exception)
             raise
         return items
 
@@ -205,9 +211,10 @@ class Node:
         is saved. Where it doesn't write that, it was killed, its disk is full, or it runs without
         ``--acknowledge``: a `NodeError`, and nothing can be relied on that was sent."""
         try:
-            self._look_at_missing()
-            self._socket.shutdown(socket.SHUT_WR)
-            line = self._replies.read()
+            with self._turn:
+                self._look_at_missing()
+                self._socket.shutdown(socket.SHUT_WR)
+                line = self._replies.read()
         except OSError as error:
             raise NodeError(f"the connection to the node failed ({error}): {_AGAIN}") from error
         finally:
@@ -268,17 +275,21 @@ class Node:
     def _replies_to(self, lines: list[bytes]) -> tuple[list[bytes], OSError | None]:
         """Sends lines, and gives what came back, and the error with which that ended."""
         replies: list[bytes] = []
-        self._look_at_missing()
-        self._is_missing = True
-        try:
-            self._socket.sendall(b"".join(lines))
-            while len(replies) < len(lines) and (reply := self._replies.readline()).endswith(b"\n"):
-                replies.append(reply)
-        except OSError as error:
-            return replies, error
-        finally:
-            self._answered += len(replies)
-        self._is_missing = len(replies) < len(lines)
+        with self._turn:
+            self._look_at_missing()
+            self._is_missing = True
+            try:
+                self._socket.sendall(b"".join(lines))
+                while len(replies) < len(lines):
+                    reply = self._replies.readline()
+                    if not reply.endswith(b"\n"):
+                        return replies, None
+                    replies.append(reply)
+            except OSError as error:
+                return replies, error
+            finally:
+                self._answered += len(replies)
+            self._is_missing = False
         return replies, None
 
     def _look_at_missing(self) -> None:
