@@ -206,6 +206,33 @@ def test_threads_share_a_node(start):
         ]
 
 
+def test_a_forked_process_holds_no_node(start):
+    """A connection that is given up ends, whoever was forked meanwhile; and such a process that
+    gives it up ends nothing."""
+    _, address = start("--acknowledge")
+    ours, theirs = os.pipe()
+    with Node(address) as client:
+        client.rows(EVE)
+        if os.fork() == 0:
+            os.close(theirs)
+            os.read(ours, 1)
+            os._exit(0)
+    try:
+        with Node(address, timeout=10) as client:
+            assert client.rows(EVE) == 0
+            child = os.fork()
+            if child == 0:
+                client.__exit__(None, None, None)
+                os._exit(0)
+            os.waitpid(child, 0)
+            assert [item.cells for item in client.poll(["eve"])] == [("eve", 10, 2)]
+            client.commit()
+    finally:
+        os.close(theirs)
+        os.close(ours)
+        os.wait()
+
+
 def test_after_a_call_that_was_interrupted(start):
     process, address = start("--acknowledge")
     with Node(address) as client:

@@ -2,8 +2,10 @@
 
 from __future__ import annotations
 
+import contextlib
 import heapq
 import json
+import os
 import re
 import socket
 import threading
@@ -149,6 +151,7 @@ class Node:
         self._socket = socket.create_connection(_place_of(address), timeout=timeout)
         self._socket.setsockopt(socket.SOL_SOCKET, socket.SO_SNDBUF, 2 * _BYTES)
         self._replies = self._socket.makefile("rb")
+        self._process = os.getpid()
         self._answered = 0
         self._is_missing = False  # whether lines were sent whose replies weren't read
         # Held from lines to their replies, of which each thread gets its own. A handler of a signal
@@ -238,6 +241,11 @@ class Node:
         self._end()
 
     def _end(self) -> None:
+        """Ends the connection, also where a process that was forked meanwhile has it open too. There
+        it only goes."""
+        if os.getpid() == self._process:
+            with contextlib.suppress(OSError):
+                self._socket.shutdown(socket.SHUT_RDWR)
         self._replies.close()
         self._socket.close()
 
