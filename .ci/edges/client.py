@@ -138,6 +138,43 @@ def bring(folder, table=TABLE, clause=CLAUSE, kept="kept", program=PROGRAM):
     return done.returncode, done.stderr.decode()
 
 
+def leaves_nothing(checks, folder):
+    """A client that is ended as soon as its node is there: the node, which has no connection yet, ends with it. By SIGTERM its folder goes
+    too; what a kill leaves of that, the pages say."""
+    for by, name in [(signal.SIGTERM, "ended"), (signal.SIGKILL, "killed")]:
+        os.mkdir(f"{folder}/{name}")
+        write_prices(folder, 9)
+        for _ in range(6):
+            words = [sys.executable, CLIENT, PROGRAM, TABLE, CLAUSE, f"{folder}/log", f"{folder}/kept"]
+            client = subprocess.Popen(words, stderr=subprocess.DEVNULL, env={**os.environ, "TMPDIR": f"{folder}/{name}"})
+            while not children(client.pid) and client.poll() is None:
+                pass
+            client.send_signal(by)
+            client.wait(timeout=60)
+        until = time.monotonic() + 10
+        while nodes_below(f"{folder}/{name}") and time.monotonic() < until:
+            time.sleep(0.1)
+        nodes = nodes_below(f"{folder}/{name}")
+        checks.same(f"{name}: no node is left", nodes, [])
+        for node in nodes:
+            kill(node)
+        if by == signal.SIGTERM:
+            checks.same(f"{name}: no folder is left", os.listdir(f"{folder}/{name}"), [])
+
+
+def nodes_below(path):
+    """The processes whose command line has a file in this folder."""
+    found = []
+    for process in filter(str.isdigit, os.listdir("/proc")):
+        try:
+            with open(f"/proc/{process}/cmdline", "rb") as file:
+                if f"\0{path}/".encode() in file.read():
+                    found.append(int(process))
+        except OSError:  # it has ended
+            pass
+    return found
+
+
 def bytes_of(path):
     with open(path, "rb") as file:
         return file.read()
@@ -217,4 +254,4 @@ def mode_of(path):
 
 
 if __name__ == "__main__":
-    main([under_kills, other_questions, mistakes, lost_nodes, owner_alone])
+    main([under_kills, other_questions, mistakes, lost_nodes, owner_alone, leaves_nothing])

@@ -1,11 +1,17 @@
 #!/usr/bin/env python3
 """Brings a log of numbered rows to a node, whatever is killed meanwhile. Usage: client.py PROGRAM TABLE CLAUSE LOG KEPT
 A line of LOG is an event: {"key":["x"],"line":{"cells":["x",1,10],"row":1}}, or with {"close":1,"key":["x"]} as its line."""
-import json, os, pathlib, socket, subprocess, sys, tempfile, time
+import ctypes, json, os, pathlib, signal, socket, subprocess, sys, tempfile, time
 
 program, table, clause, log, kept = sys.argv[1:]
 node_words = [program, "node", "--table", table, "--clause", clause, "--listen", "127.0.0.1:0"]
 node_words += ["--connections", "1", "--idle", "60", "--acknowledge", "--verbose", "--state"]
+
+def end_with_client(client=os.getpid()):
+    """A node ends with the client, also where that is killed before the node has a connection to wait for the end of."""
+    ctypes.CDLL(None).prctl(1, signal.SIGKILL)
+    if os.getppid() != client:
+        os._exit(1)
 
 def port_of(node):
     """Where the node listens. A mistake, or a checkpoint that it refuses, would be the same with the next node: it ends the client."""
@@ -60,6 +66,7 @@ def keep(state):
         os.fsync(file.fileno())
     os.replace(f"{kept}.new", kept)
 
+signal.signal(signal.SIGTERM, lambda *_: sys.exit(128 + signal.SIGTERM))  # so that the folder of a node goes
 events = [json.loads(line) for line in open(log, encoding="utf-8")]
 state = json.load(open(kept, encoding="utf-8")) if os.path.exists(kept) else {"position": 0, "items": {}, "checkpoint": ""}
 is_done = False
@@ -69,7 +76,8 @@ while not is_done:  # once also where nothing is to be sent: a node says whether
         if state["checkpoint"]:  # the node begins where our position is, whatever one before it has done since
             with open(f"{folder}/node", "w", encoding="utf-8") as file:
                 file.write(state["checkpoint"])
-        with subprocess.Popen([*node_words, f"{folder}/node"], stderr=subprocess.PIPE, text=True) as node:
+        words = [*node_words, f"{folder}/node"]
+        with subprocess.Popen(words, stderr=subprocess.PIPE, text=True, preexec_fn=end_with_client) as node:
             try:
                 items = items_of(node, batch)
             except OSError as fault:
@@ -77,6 +85,9 @@ while not is_done:  # once also where nothing is to be sent: a node says whether
                 print(f"{node.stderr.read()}client: {fault}: the batch is sent again", file=sys.stderr)
                 time.sleep(0.1)
                 continue
+            except BaseException:
+                node.kill()
+                raise
         checkpoint = open(f"{folder}/node", encoding="utf-8").read()
     state = {"position": state["position"] + len(batch), "items": {**state["items"], **items}, "checkpoint": checkpoint}
     keep(state)
