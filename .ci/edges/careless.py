@@ -4,6 +4,7 @@ for these: the page of the checkout in which this runs has to say them. Usage: .
 import functools
 import random
 import resource
+import select
 import shutil
 import socket
 import struct
@@ -182,6 +183,27 @@ def crashes(checks, folder):
     end(node)
 
 
+@says("an item whose reply was lost on its way doesn't come again")
+def lost_replies(checks, folder):
+    """Nor does a node that lives on give again what was lost with a connection that failed: who goes back and sends again is told that all
+    is saved, and has one item less than `whole`. A node that is started from the file of the client's last position gives it."""
+    state, kept = f"{folder}/state", f"{folder}/kept"
+    node = Node(state, connections=MANY, options=ACKNOWLEDGE)
+    checks.same("a batch that is stored", talk(node, "".join(ROWS[:3]) + poll(["x"])), NEW * 3 + IDLE + last(4))
+    shutil.copy(state, kept)
+    with Conversation(node) as conversation:
+        checks.same("a batch", [conversation.ask(line) for line in ROWS[3:]], [NEW] * 3)
+        conversation.connection.sendall(poll(["x"]).encode())
+        while not select.select([conversation.connection], [], [], 1)[0]:  # the reply is there, and is lost
+            pass
+        conversation.reset()
+    checks.same("sent again", talk(node, "".join(ROWS[3:]) + poll(["x"])), REPEAT * 3 + IDLE + last(4))
+    end(node)
+    node = Node(kept, connections=MANY, options=ACKNOWLEDGE)
+    checks.same("from what was kept", talk(node, "".join(ROWS[3:]) + poll(["x"])), NEW * 3 + ITEM + last(4))
+    end(node)
+
+
 @says("None of that can be undone but by an older FILE")
 def spoiled(checks, folder):
     """One line closes a partition for good. The file of before has it open."""
@@ -288,5 +310,5 @@ def late_row(checks, folder):
 
 if __name__ == "__main__":
     main([
-        went_back, without_memory, second_client, reads_too_late, never_polls, crashes, spoiled, order_of_events, late_row,
+        went_back, without_memory, second_client, reads_too_late, never_polls, crashes, lost_replies, spoiled, order_of_events, late_row,
     ])
