@@ -204,6 +204,21 @@ def lost_replies(checks, folder):
     end(node)
 
 
+@says("takes the rows, saves them, and gives no item, since it waits for those before")
+def no_file(checks, folder):
+    """A node that finds no file goes on with rows whose first ones it never had. The row before them tells whether it has them."""
+    state = f"{folder}/state"
+    node = Node(state, connections=MANY, options=ACKNOWLEDGE)
+    checks.same("a batch", talk(node, "".join(ROWS[:3]) + poll(["x"])), NEW * 3 + IDLE + last(4))
+    end(node)
+    for name, told in [("state", REPEAT), ("elsewhere", NEW)]:
+        node = Node(f"{folder}/{name}", connections=MANY, options=ACKNOWLEDGE)
+        checks.same(f"{name}: nothing is told", node.told, [])
+        item = ITEM if told == REPEAT else IDLE
+        checks.same(f"{name}: the row before, and on", talk(node, "".join(ROWS[2:]) + poll(["x"])), told + NEW * 3 + item + last(5))
+        end(node)
+
+
 @says("None of that can be undone but by an older FILE")
 def spoiled(checks, folder):
     """One line closes a partition for good. The file of before has it open."""
@@ -310,5 +325,6 @@ def late_row(checks, folder):
 
 if __name__ == "__main__":
     main([
-        went_back, without_memory, second_client, reads_too_late, never_polls, crashes, lost_replies, spoiled, order_of_events, late_row,
+        went_back, without_memory, second_client, reads_too_late, never_polls, crashes, lost_replies, no_file, spoiled, order_of_events,
+        late_row,
     ])
