@@ -1,17 +1,20 @@
 #!/usr/bin/env python3
 """What it costs a client not to have read docs/NODES.md, and that who does as the page says pays nothing. The program was never changed
 for these: the page of the checkout in which this runs has to say them. Usage: .ci/edges/careless.py [PROGRAM]"""
+import fcntl
 import functools
+import os
 import random
 import resource
 import select
 import shutil
 import socket
 import struct
+import subprocess
 import time
 from collections import Counter
 
-from sockets import CLAUSE, MANY, TABLE, Conversation, Node, acknowledging, close, end, main, poll, row, run, saved, send_all, talk
+from sockets import CLAUSE, MANY, PROGRAM, TABLE, Conversation, Node, acknowledging, close, end, main, poll, row, run, saved, send_all, talk
 
 NEW, REPEAT, IDLE = '{"taken":"new"}\n', '{"taken":"repeat"}\n', '{"idle":["x"]}\n'
 ROWS = [row(number, ["x", number, price]) for number, price in enumerate([10, 8, 6, 7, 9, 9], 1)]
@@ -183,6 +186,37 @@ def crashes(checks, folder):
     end(node)
 
 
+@says("a node whose standard error is a pipe that nobody reads waits for ever once that is full")
+def unread_reports(checks, folder):
+    """Who starts a node with a pipe for what it reports, and reads no further than the address, has a node that stops after some
+    connections. It goes on once somebody reads."""
+    ours, theirs = os.pipe()
+    fcntl.fcntl(theirs, fcntl.F_SETPIPE_SZ, 4096)
+    words = ["--listen", "127.0.0.1:0", "--state", f"{folder}/state", "--connections", str(MANY), "--verbose"]
+    process = subprocess.Popen([PROGRAM, "node", "--table", TABLE, "--clause", CLAUSE, *words], stderr=theirs, stdin=subprocess.DEVNULL)
+    os.close(theirs)
+    with open(ours, "rb", buffering=0) as reports:
+        port = int(reports.read(100).rsplit(b":", 1)[1])
+        served = 0
+        while served < 1000 and answers(port):
+            served += 1
+        checks.true("it stops", 20 < served < 1000, served)
+        reports.read(4096)
+        checks.true("and goes on", answers(port))
+        process.kill()
+        process.wait()
+
+
+def answers(port):
+    """Whether a node answers a line within some seconds."""
+    with socket.create_connection(("127.0.0.1", port), timeout=3) as connection:
+        connection.sendall(ROWS[0].encode())
+        try:
+            return bool(connection.recv(100))
+        except TimeoutError:
+            return False
+
+
 @says("an item whose reply was lost on its way doesn't come again")
 def lost_replies(checks, folder):
     """Nor does a node that lives on give again what was lost with a connection that failed: who goes back and sends again is told that all
@@ -325,6 +359,6 @@ def late_row(checks, folder):
 
 if __name__ == "__main__":
     main([
-        went_back, without_memory, second_client, reads_too_late, never_polls, crashes, lost_replies, no_file, spoiled, order_of_events,
-        late_row,
+        went_back, without_memory, second_client, reads_too_late, never_polls, crashes, unread_reports, lost_replies, no_file, spoiled,
+        order_of_events, late_row,
     ])
