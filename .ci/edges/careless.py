@@ -53,8 +53,8 @@ def went_back(checks, folder):
         node = Node(f"{folder}/{name}", connections=MANY, options=[*ACKNOWLEDGE, "--idle", "1"])
         checks.same("replies to three rows", flood(node, ROWS[:3]), NEW * 3)
         checks.same(f"{name} is sent again", talk(node, "".join(again) + poll(["x"])), told + last(len(again) + 1))
-        checks.true("it went back", "went back" in "".join(node.told), node.told)
         end(node)
+        checks.true("it went back", "went back" in "".join(node.told), node.told)
 
 
 def flood(node, lines):
