@@ -148,7 +148,7 @@ def leaves_nothing(checks, folder):
             words = [sys.executable, CLIENT, PROGRAM, TABLE, CLAUSE, f"{folder}/log", f"{folder}/kept"]
             client = subprocess.Popen(words, stderr=subprocess.DEVNULL, env={**os.environ, "TMPDIR": f"{folder}/{name}"})
             while not children(client.pid) and client.poll() is None:
-                pass
+                time.sleep(0.001)
             client.send_signal(by)
             client.wait(timeout=60)
         until = time.monotonic() + 10
