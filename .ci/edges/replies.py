@@ -2,6 +2,7 @@
 """Runs `rowmatch source` on replies of every length, and of nodes that are silent or gone. Usage: .ci/edges/replies.py [PROGRAM]"""
 import os
 import pty
+import signal
 import socket
 import struct
 import subprocess
@@ -17,6 +18,7 @@ NEW, IDLE, END = '{"taken":"new"}\n', '{"idle":["x"]}\n', '{"end":true,"key":["x
 WORKED = [NEW, IDLE, NEW, END, IDLE]
 PRINTED = "1 " + END
 BAD_REPLY = "rowmatch: node 1: bad reply\n"
+ACKNOWLEDGES = "rowmatch: the node runs with --acknowledge: give source --acknowledge, too\n"
 NOT_SAVED = "rowmatch: node 1: not saved\n"
 LONGEST = 16_777_216
 
@@ -85,7 +87,7 @@ def surplus(checks, folder):
         ("a part of one", NEW[:5], "", (1, PRINTED, BAD_REPLY)),
         ("an empty line", "\n", "", (1, PRINTED, BAD_REPLY)),
         ("after the end", "", IDLE, (1, PRINTED, BAD_REPLY)),
-        ("what was saved, unasked for", "", '{"saved":5}\n', (1, PRINTED, BAD_REPLY)),
+        ("what was saved, unasked for", "", '{"saved":5}\n', (1, PRINTED, ACKNOWLEDGES + BAD_REPLY)),
     ]
     for name, behind, after, wanted in cases:
         checks.same(f"surplus: {name}", source(peer(WORKED, behind, after)), wanted)
@@ -211,6 +213,49 @@ def silent(checks, folder):
         checks.same(f"--idle {seconds}", source("--idle", seconds, "127.0.0.1:1")[:2], (2, ""))
 
 
+def stopped(checks, folder):
+    """A source that is stopped goes on where it was, with --idle too: while it waits for a reply, and for its node's end."""
+    for name, replies, after in [("before a reply", [NEW], None), ("before the end", WORKED, "")]:
+        reached, goes_on = threading.Event(), threading.Event()
+        address = waiting_peer(replies, after, reached, goes_on)
+        words = [PROGRAM, "source", *TEXTS, "--idle", "30", address]
+        with subprocess.Popen(words, stdin=subprocess.PIPE, stdout=subprocess.PIPE, stderr=subprocess.PIPE, text=True) as program:
+            program.stdin.write(ONE_ROW)
+            program.stdin.close()
+            program.stdin = None
+            reached.wait(30)
+            time.sleep(0.3)  # the source waits in its call by then, most likely
+            program.send_signal(signal.SIGSTOP)
+            time.sleep(0.1)
+            program.send_signal(signal.SIGCONT)
+            time.sleep(0.3)
+            goes_on.set()
+            out, told = program.communicate(timeout=30)
+        checks.same(f"stopped {name}", (program.returncode, out, told), (0, PRINTED, ""))
+
+
+def waiting_peer(replies, after, reached, goes_on):
+    """A peer that replies by these, waits at the last of them or, where it has an end, there, and goes on when it is told."""
+    server = socket.create_server(("127.0.0.1", 0))
+
+    def serve():
+        connection, _ = server.accept()
+        with connection, server, connection.makefile("rb") as lines:
+            for place in range(len(WORKED)):
+                lines.readline()
+                if after is None and place == len(replies) - 1:
+                    reached.set()
+                    goes_on.wait(30)
+                connection.sendall(WORKED[place].encode())
+            lines.read()
+            if after is not None:
+                reached.set()
+                goes_on.wait(30)
+
+    threading.Thread(target=serve, daemon=True).start()
+    return f"127.0.0.1:{server.getsockname()[1]}"
+
+
 def refused(checks, folder):
     """What was refused is told behind the line that says so: with --verbose, and where standard error is a terminal."""
     data = 'sym,t,p\nx,1,10\n"y ""z""",1,10\nx,2,8\n'
@@ -252,4 +297,4 @@ def on_terminal(address, data):
 
 
 if __name__ == "__main__":
-    main([long_items, surplus, acknowledged, gone, unconnected, silent, refused])
+    main([long_items, surplus, acknowledged, gone, unconnected, silent, stopped, refused])

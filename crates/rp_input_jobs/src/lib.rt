@@ -2,6 +2,7 @@
 #![tactic(auto)]
 
 mod source;
+mod stream;
 mod trace;
 mod whole;
 mod why;

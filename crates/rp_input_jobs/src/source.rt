@@ -1,10 +1,12 @@
 //! `source`: hands the rows of a CSV to nodes, one node after the other, and prints the items that they give.
+use crate::stream::NodeStream;
 use rp_command::SourceJob;
 use rp_drive::{Conversation, Counted, DriveFault, Stop, drive_within};
 use rp_feed::Packet;
 use rp_io::{CountedDevice, Lines, Outlet, READS};
 use rp_job::{
     Asked, InputForm, InputLayout, JobInputs, ProgramFault, named_shape, seeded_hasher, shown_key,
+    tell,
 };
 use rp_numbering::number_rows;
 use rp_protocol::{MAX_LINE_LEN, Refusal, Reply, reply_line, saved_of};
@@ -19,8 +21,11 @@ use std::time::Duration;
 /// The greatest length of a reply that is read, in bytes: 16 MiB. A node writes an item whatever its length.
 const MAX_REPLY_LEN: usize = 16_777_216;
 
+/// How the line begins by which a node says what it saved.
+const SAVED: &[u8] = b"{\"saved\":";
+
 /// A stream to a node, with the count of the lines that went through it.
-type Counter<'a> = Counted<CountedDevice<&'a TcpStream>>;
+type Counter<'a> = Counted<CountedDevice<NodeStream<'a>>>;
 
 /// Hands all rows of standard input to each node in turn. The first fault ends it.
 pub fn run_source(rt: &HostRuntime, job: &SourceJob) -> Result<(), ProgramFault> {
@@ -142,8 +147,8 @@ fn converse<O: Outlet>(
     stream: &TcpStream,
     out: &mut O,
 ) -> Result<(), ProgramFault> {
-    let mut heard = Counted::new(CountedDevice::new(stream));
-    let mut sent = Counted::new(CountedDevice::new(stream));
+    let mut heard = Counted::new(CountedDevice::new(NodeStream::new(stream)));
+    let mut sent = Counted::new(CountedDevice::new(NodeStream::new(stream)));
     hand_over(rt, node, &mut heard, &mut sent, out)?;
     if heard.lines > sent.lines {
         return Err(ProgramFault::BadReply(node.number));
@@ -152,7 +157,7 @@ fn converse<O: Outlet>(
     if node.job.acknowledge {
         wait_for_saved(rt, stream, sent.lines, node.number)
     } else if is_shut {
-        wait_for_end(stream, node.number)
+        wait_for_end(rt, stream, node.number)
     } else {
         Err(ProgramFault::Write)
     }
@@ -192,13 +197,25 @@ fn is_gone(stop: &Stop, heard: &Counter<'_>, sent: &Counter<'_>) -> bool {
 }
 
 /// Waits until the node ends its side: it has saved all that it took by then, or has failed to.
-fn wait_for_end(stream: &TcpStream, number: u64) -> Result<(), ProgramFault> {
-    let mut rest = [0u8; 1];
-    let mut stream = stream;
-    match stream.read(&mut rest) {
+fn wait_for_end(rt: &HostRuntime, stream: &TcpStream, number: u64) -> Result<(), ProgramFault> {
+    let mut rest = [0u8; 9];
+    match NodeStream::new(stream).read(&mut rest) {
         Ok(0) => Ok(()),
-        Ok(_) => Err(ProgramFault::BadReply(number)),
+        Ok(_) => {
+            tell_acknowledged(rt, &rest);
+            Err(ProgramFault::BadReply(number))
+        }
         Err(_) => Err(ProgramFault::Read),
+    }
+}
+
+/// Reports that a node says what it saved, where these bytes behind its replies begin so: it expects a source that waits for that.
+fn tell_acknowledged(rt: &HostRuntime, rest: &[u8]) {
+    if rest == SAVED {
+        tell(
+            rt,
+            &"the node runs with --acknowledge: give source --acknowledge, too",
+        );
     }
 }
 
@@ -209,7 +226,7 @@ fn wait_for_saved(
     sent: u128,
     number: u64,
 ) -> Result<(), ProgramFault> {
-    let mut rest = CountedDevice::new(stream);
+    let mut rest = CountedDevice::new(NodeStream::new(stream));
     let mut lines = Lines::new(rt.alloc(), READS, MAX_LINE_LEN);
     let mut line = Vec::new(rt.alloc());
     if let Ok(true) = lines.next(&mut rest, &mut line)
