@@ -79,13 +79,20 @@ pub(crate) fn new_command<'a>(
 ) -> Result<Command<'a>, AllocError>
     ensures { IfOk result (λ made. app_of made ≡ app_by command) }
 {
+    command_with(alloc, text_of(command))
+}
+
+/// The texts of a command.
+fn text_of(command: CommandName) -> &'static CommandText
+    ensures { app_with result.now ≡ app_by command }
+{
     match command {
-        CommandName::Trace => command_with(alloc, &TRACE),
-        CommandName::Whole => command_with(alloc, &WHOLE),
-        CommandName::Node => command_with(alloc, &NODE),
-        CommandName::Source => command_with(alloc, &SOURCE),
-        CommandName::Check => command_with(alloc, &CHECK),
-        CommandName::Why => command_with(alloc, &WHY),
+        CommandName::Trace => &TRACE,
+        CommandName::Whole => &WHOLE,
+        CommandName::Node => &NODE,
+        CommandName::Source => &SOURCE,
+        CommandName::Check => &CHECK,
+        CommandName::Why => &WHY,
     }
 }
 
