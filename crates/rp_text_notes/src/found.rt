@@ -8,7 +8,7 @@ use crate::times::time_way;
 use crate::uses::Asked;
 use crate::way::Way;
 use crate::whole::whole_way;
-use rp_value::{Kind, Row};
+use rp_value::Row;
 use std::alloc::{AllocError, Global};
 
 /// A column, by its number from 1, and the way in which it is to be read.
@@ -52,13 +52,13 @@ pub(crate) fn columns_found(
     rows: &[Row],
 ) -> Result<Vec<Found>, AllocError> {
     let mut found = Vec::new(alloc);
-    for (index, column) in asked.query.table().columns().iter().enumerate() {
+    for number in 1..asked.query.table().columns().len().saturating_add(1) {
         let texts = ColumnTexts {
             rows,
-            number: index.saturating_add(1),
+            number,
             sign: "",
         };
-        if column.kind == Kind::Text && asked.asks_of(texts.number) {
+        if asked.is_text(number) && asked.asks_of(number) {
             if let Some(one) = found_in(alloc, reader, asked, texts)? {
                 found.push(one)?;
             }

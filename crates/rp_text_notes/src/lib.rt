@@ -1,5 +1,5 @@
 //! Notes on columns of texts that are numbers or times, where what a clause asks of them has another answer as texts, which are compared
-//! byte by byte: each note says how the column is read as whole numbers.
+//! byte by byte: each note says how the column is read as whole numbers. And notes on columns that are given in different units.
 //!
 //! Nothing here decides: no value is changed, and which way of reading is meant is for people to say. A note is given only where its
 //! reading reads each field. The only error is being out of memory.
@@ -9,6 +9,7 @@ mod decimals;
 mod example;
 mod formats;
 mod found;
+mod given_units;
 mod lines;
 mod notes;
 mod null_words;
@@ -16,6 +17,7 @@ mod retyped;
 mod same_form;
 mod shell;
 mod signs;
+mod strays;
 mod texts;
 mod times;
 mod units;
@@ -23,4 +25,5 @@ mod uses;
 mod way;
 mod whole;
 
+pub use given_units::notes_on_units;
 pub use notes::{Note, Proposed, notes_on_texts};

@@ -1,10 +1,11 @@
 //! Notes on columns of texts that are numbers or times.
 
 use crate::example::example_of;
-use crate::found::columns_found;
+use crate::found::{Found, columns_found};
 use crate::lines::line_of;
 use crate::retyped::options_for;
-use crate::texts::NumberReader;
+use crate::strays::{line_of_strays, strays_of};
+use crate::texts::{ColumnTexts, NumberReader};
 use crate::units::share_units;
 use crate::uses::Asked;
 use rp_query::Query;
@@ -38,11 +39,11 @@ pub struct Proposed<'a> {
 
 /// A note on each column of texts that are all decimal numbers, whose values the query asks for, or all dates or times, whose order it
 /// asks for and may not find: in the order of the columns. Words that other programs write for a null may be among them; between such words
-/// numbers may be whole. The rows are all of an input, whose columns are proposed. The filter is the query of a condition that leaves rows
-/// out.
+/// numbers may be whole. A column whose order is asked for may have a few other fields among its numbers, too. The rows are all of an input,
+/// whose columns are proposed. The filter is the query of a condition that leaves rows out.
 ///
 /// Each note has the same options, by which all these are read as numbers, in one unit where they are compared with each other. It reads each
-/// field of the rows.
+/// field of the rows. Where other fields are among the numbers, it has none, and says what to do with these.
 pub fn notes_on_texts(
     alloc: Global,
     query: &Query,
@@ -56,20 +57,76 @@ pub fn notes_on_texts(
     share_units(alloc, &mut reader, asked, rows, &mut found)?;
     let options = options_for(alloc, proposed, found.as_slice())?;
     let mut notes = Vec::new(alloc);
-    for one in &found {
-        let example = example_of(&mut reader, &one.way.reading, one.texts(rows));
-        let name = name_of(alloc, query, one.number)?;
-        let line = line_of(alloc, name.as_str(), one, example, options.as_str())?;
-        notes.push(Note {
-            column: one.number,
-            line,
-        })?;
+    for number in 1..query.table().columns().len().saturating_add(1) {
+        let line = match found_at(found.as_slice(), number) {
+            Some(one) => Some(line_of_found(
+                alloc,
+                &mut reader,
+                asked,
+                one,
+                rows,
+                options.as_str(),
+            )?),
+            None => line_on_strays(alloc, asked, rows, number)?,
+        };
+        if let Some(line) = line {
+            notes.push(Note {
+                column: number,
+                line,
+            })?;
+        }
     }
     Ok(notes)
 }
 
+/// The column of this number among those that are found.
+fn found_at(found: &[Found], number: usize) -> Option<&Found> {
+    for one in found {
+        if one.number == number {
+            return Some(one);
+        }
+    }
+    None
+}
+
+/// What is said of a column that is read in a way.
+fn line_of_found(
+    alloc: Global,
+    reader: &mut NumberReader,
+    asked: Asked<'_>,
+    found: &Found,
+    rows: &[Row],
+    options: &str,
+) -> Result<String, AllocError> {
+    let example = example_of(reader, &found.way.reading, found.texts(rows));
+    let name = name_of(alloc, asked.query, found.number)?;
+    line_of(alloc, name.as_str(), found, example, options)
+}
+
+/// What is said of a column whose order is asked for, and whose numbers have other fields among them; None where there is nothing to say.
+fn line_on_strays(
+    alloc: Global,
+    asked: Asked<'_>,
+    rows: &[Row],
+    number: usize,
+) -> Result<Option<String>, AllocError> {
+    if !asked.is_text(number) || !asked.asks_order(number) {
+        return Ok(None);
+    }
+    let column = ColumnTexts {
+        rows,
+        number,
+        sign: "",
+    };
+    let Some(strays) = strays_of(column) else {
+        return Ok(None);
+    };
+    let name = name_of(alloc, asked.query, number)?;
+    Ok(Some(line_of_strays(alloc, name.as_str(), strays)?))
+}
+
 /// The name of a column as it may be typed.
-fn name_of(alloc: Global, query: &Query, number: usize) -> Result<String, AllocError> {
+pub(crate) fn name_of(alloc: Global, query: &Query, number: usize) -> Result<String, AllocError> {
     match query.table().columns().get(number.saturating_sub(1)) {
         Some(column) => shown(alloc, column.name.as_str()),
         None => Ok(String::new(alloc)),

@@ -7,7 +7,7 @@ use crate::texts::{ColumnTexts, NumberReader};
 use crate::times::time_way;
 use crate::uses::Asked;
 use crate::way::Way;
-use rp_value::{Kind, Row};
+use rp_value::Row;
 use std::alloc::{AllocError, Global};
 
 /// Reads columns that are compared with each other in one unit, that of the finest: numbers with as many places, times as parts of a second
@@ -94,15 +94,7 @@ fn is_coarser(asked: Asked<'_>, number: usize, found: &[Found], finest: Finest) 
                 && one.way.fineness() < finest.fineness;
         }
     }
-    !finest.is_of_numbers && finest.fineness > 0 && is_text(asked, number)
-}
-
-/// Whether a column has texts.
-fn is_text(asked: Asked<'_>, number: usize) -> bool {
-    match asked.query.table().columns().get(number.saturating_sub(1)) {
-        Some(column) => column.kind == Kind::Text,
-        None => false,
-    }
+    !finest.is_of_numbers && finest.fineness > 0 && asked.is_text(number)
 }
 
 /// The way to read a column in a unit that is at least so fine.

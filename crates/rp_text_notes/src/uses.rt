@@ -1,7 +1,7 @@
 //! What a clause asks of the texts of a column.
 
-use rp_query::{Condition, Expr, Function, Query};
-use rp_value::Comparison;
+use rp_query::{Condition, Expr, Function, Operation, Query};
+use rp_value::{Comparison, Kind};
 
 /// What is asked of rows: by a query, and by a condition that leaves rows out, if there is one.
 #[derive(Clone, Copy)]
@@ -30,7 +30,15 @@ impl<'a> Asked<'a> {
             }
     }
 
-    /// Whether two columns are compared with each other.
+    /// Whether a column has texts.
+    pub(crate) fn is_text(self, column: usize) -> bool {
+        match self.query.table().columns().get(column.saturating_sub(1)) {
+            Some(column) => column.kind == Kind::Text,
+            None => false,
+        }
+    }
+
+    /// Whether two columns are compared with each other, or one is added to the other or taken from it.
     pub(crate) fn compares_both(self, one: usize, other: usize) -> bool {
         compares_both(self.query, one, other)
             || match self.filter {
@@ -114,38 +122,81 @@ fn compares(condition: &Condition, column: usize, by_order: bool) -> bool {
     }
 }
 
-/// Whether a condition of a query compares two columns with each other.
+/// Whether a condition or a measure of a query takes two columns for values of one unit.
 fn compares_both(query: &Query, one: usize, other: usize) -> bool {
-    query
-        .plan()
-        .conditions
+    let plan = query.plan();
+    let pair = Pair { query, one, other };
+    plan.conditions
         .iter()
-        .any(|condition| compares_both_in(query, condition, one, other))
+        .any(|condition| pair.is_compared_in(condition))
+        || plan
+            .measures
+            .iter()
+            .any(|measure| pair.is_added_in(measure))
 }
 
-fn compares_both_in(query: &Query, condition: &Condition, one: usize, other: usize) -> bool {
-    match condition {
-        Condition::Compare(_, left, right) => {
-            is_of(query, left, one) && is_of(query, right, other)
-                || is_of(query, left, other) && is_of(query, right, one)
+/// Two columns of a query.
+#[derive(Clone, Copy)]
+struct Pair<'a> {
+    query: &'a Query,
+    one: usize,
+    other: usize,
+}
+
+impl<'a> Pair<'a> {
+    /// Whether a condition compares them with each other, or adds them.
+    fn is_compared_in(self, condition: &Condition) -> bool {
+        match condition {
+            Condition::Compare(_, left, right) => {
+                self.are(left, right) || self.is_added_in(left) || self.is_added_in(right)
+            }
+            Condition::IsNull(operand) => self.is_added_in(operand),
+            Condition::Not(body) => self.is_compared_in(body),
+            Condition::And(left, right) | Condition::Or(left, right) => {
+                self.is_compared_in(left) || self.is_compared_in(right)
+            }
         }
-        Condition::IsNull(_) => false,
-        Condition::Not(body) => compares_both_in(query, body, one, other),
-        Condition::And(left, right) | Condition::Or(left, right) => {
-            compares_both_in(query, left, one, other) || compares_both_in(query, right, one, other)
+    }
+
+    /// Whether an expression has a sum or a difference of both in it.
+    fn is_added_in(self, expr: &Expr) -> bool {
+        match expr {
+            Expr::Arithmetic(operation, left, right) => {
+                is_sum(*operation) && self.are(left, right)
+                    || self.is_added_in(left)
+                    || self.is_added_in(right)
+            }
+            _ => false,
         }
+    }
+
+    /// Whether two expressions are of these columns, one of each.
+    fn are(self, left: &Expr, right: &Expr) -> bool {
+        is_of(self.query, left, self.one) && is_of(self.query, right, self.other)
+            || is_of(self.query, left, self.other) && is_of(self.query, right, self.one)
     }
 }
 
-/// Whether an expression is a cell of a column, or its least or greatest.
+/// Whether it takes two values of one unit.
+fn is_sum(operation: Operation) -> bool {
+    matches!(operation, Operation::Plus | Operation::Minus)
+}
+
+/// Whether an expression is a cell of a column, its least or greatest, or its sum.
 fn is_of(query: &Query, expr: &Expr, column: usize) -> bool {
     match expr {
         Expr::Aggregate { number, .. } => match query.plan().totals.get(*number) {
-            Some(total) => is_extreme_of(&total.function, column),
+            Some(total) => is_in_unit_of(&total.function, column),
             None => false,
         },
         _ => names(expr, column),
     }
+}
+
+/// Whether an aggregate has the unit of a column.
+fn is_in_unit_of(function: &Function, column: usize) -> bool {
+    is_extreme_of(function, column)
+        || matches!(function, Function::Sum(number) if *number == column)
 }
 
 /// Whether an aggregate is the least or the greatest value of a column.
