@@ -6,9 +6,10 @@ use crate::input::InputLayout;
 use crate::input_fault::input_fault;
 use crate::progress::Progress;
 use crate::remarks::{tell_never_found, tell_quotes_of};
-use crate::texts::tell_texts;
+use crate::texts::{notes_on_columns, notes_on_given, tell_notes};
 use rp_query::Query;
 use rp_question::{InputFault, Inputs, Question, Unread};
+use rp_text_notes::Note;
 use rp_value::{Cells, Row};
 use rp_whole::Watch;
 use std::alloc::AllocError;
@@ -70,6 +71,18 @@ impl<'a> JobInputs<'a> {
         }
     }
 
+    /// What is to be known of the columns, over the rows of all inputs.
+    fn notes(&self, rows: &[Row]) -> Result<Vec<Note>, AllocError> {
+        let (alloc, layout) = (self.rt.alloc(), self.layout);
+        match &layout.proposed {
+            Some(columns) => {
+                let proposed = layout.form.proposed(columns.as_str());
+                notes_on_columns(alloc, self.query, self.asked.filter, proposed, rows)
+            }
+            None => notes_on_given(alloc, self.query, self.asked.filter, &layout.shape),
+        }
+    }
+
     /// The name of the file at hand.
     fn name(&self) -> Option<&'a str> {
         self.asked.name_at(self.index)
@@ -105,13 +118,8 @@ impl Inputs for JobInputs<'_> {
     }
 
     fn has_all(&mut self, rows: &[Row]) -> Result<(), AllocError> {
-        match &self.layout.proposed {
-            Some(columns) => {
-                let proposed = self.layout.form.proposed(columns.as_str());
-                tell_texts(self.rt, self.query, self.asked.filter, proposed, rows)
-            }
-            None => Ok(()),
-        }
+        let notes = self.notes(rows)?;
+        tell_notes(self.rt, notes.as_slice())
     }
 }
 

@@ -1,8 +1,10 @@
-//! What is reported of columns that are proposed as texts, and are numbers or times that a clause compares.
+//! What is reported of columns that are proposed as texts, and are numbers or times that a clause compares, and of those that are given in
+//! different units.
 use crate::telling::tell;
 use rp_compile::{CompileFault, compile};
 use rp_query::Query;
-use rp_text_notes::{Note, Proposed, notes_on_texts};
+use rp_question::InputShape;
+use rp_text_notes::{Note, Proposed, notes_on_texts, notes_on_units};
 use rp_value::{Row, Table};
 use rp_wording::{Pieces, shown_line};
 use std::alloc::{AllocError, Global};
@@ -25,6 +27,24 @@ pub fn notes_on_columns(
     }
 }
 
+/// Notes on columns that are given, where a query, or a condition that leaves rows out, takes two of them for values of one unit, and they
+/// have two.
+pub fn notes_on_given(
+    alloc: Global,
+    query: &Query,
+    condition: &Option<String>,
+    shape: &InputShape,
+) -> Result<Vec<Note>, AllocError> {
+    let columns = match shape {
+        InputShape::Columns(columns) | InputShape::Objects(columns) => columns.as_slice(),
+        InputShape::Table(_) => return Ok(Vec::new(alloc)),
+    };
+    match condition_query(alloc, condition, query.table())? {
+        Some(filter) => notes_on_units(alloc, query, Some(&filter), columns),
+        None => notes_on_units(alloc, query, None, columns),
+    }
+}
+
 /// The query of the clause that a condition of rows is read as, over a table; None where there is no condition, or it has a fault.
 pub fn condition_query(
     alloc: Global,
@@ -43,15 +63,9 @@ pub fn condition_query(
     }
 }
 
-/// Reports these columns, a line for each.
-pub(crate) fn tell_texts(
-    rt: &HostRuntime,
-    query: &Query,
-    condition: &Option<String>,
-    proposed: Proposed<'_>,
-    rows: &[Row],
-) -> Result<(), AllocError> {
-    for note in notes_on_columns(rt.alloc(), query, condition, proposed, rows)? {
+/// Reports notes, a line for each.
+pub(crate) fn tell_notes(rt: &HostRuntime, notes: &[Note]) -> Result<(), AllocError> {
+    for note in notes {
         tell(rt, &shown_line(rt.alloc(), note.line.as_str())?);
     }
     Ok(())
