@@ -3,6 +3,7 @@ use crate::found::{Found, RowsSeen};
 use crate::inputs::{Input, inputs_of, is_pipe};
 use crate::proposing::propose;
 use crate::rows::look_at_inputs;
+use crate::texts::units_told;
 use rp_command::{CheckJob, ReportFormat};
 use rp_compile::{CompileFault, compile};
 use rp_explain_clauses::{explain_condition, explain_other_rows, explain_table, explain_text};
@@ -30,6 +31,8 @@ fn look_at_all(rt: &HostRuntime, job: &CheckJob, found: &mut Found) -> Result<()
     look_at_columns(rt, job, &form, inputs.as_slice(), found)?;
     look_at_clause(rt.alloc(), job, found);
     look_at_condition(rt.alloc(), job, found);
+    let told = units_told(found, &job.filter);
+    found.note(told);
     if inputs.is_empty() {
         tell_no_input(rt, found);
     }

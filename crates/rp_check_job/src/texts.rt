@@ -1,7 +1,8 @@
-//! What `check` says of columns that are proposed as texts, and are numbers or times that a clause compares.
+//! What `check` says of columns that are proposed as texts, and are numbers or times that a clause compares, and of columns that are given
+//! in different units.
 
 use crate::found::Found;
-use rp_job::{InputForm, notes_on_columns};
+use rp_job::{InputForm, notes_on_columns, notes_on_given};
 use rp_query::Query;
 use rp_value::Row;
 use rp_wording::{Pieces, shown_text};
@@ -25,6 +26,18 @@ pub(crate) fn texts_told(
                 lines.push(note.line.as_str());
                 lines.push("\n");
             }
+        }
+    }
+    shown_text(found.alloc, lines.text()?)
+}
+
+/// What is said of columns that are given, where the clause, or the condition of this text, takes two of them for values of one unit.
+pub(crate) fn units_told(found: &Found, condition: &Option<String>) -> Result<String, AllocError> {
+    let mut lines = Pieces::new(found.alloc);
+    if let (None, Some(shape), Some(query)) = (&found.proposed, &found.shape, &found.query) {
+        for note in notes_on_given(found.alloc, query, condition, shape)? {
+            lines.push(note.line.as_str());
+            lines.push("\n");
         }
     }
     shown_text(found.alloc, lines.text()?)
