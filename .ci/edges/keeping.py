@@ -131,6 +131,32 @@ def acknowledged(checks, folder):
     node.ended()
 
 
+def taken_away(checks, folder):
+    """A file that somebody takes away from a running node is written again, before what it had is said to be saved."""
+    state = f"{folder}/state"
+    node = Node(state, connections=MANY, options=ACKNOWLEDGE)
+    talk(node, ROWS)
+    whole = read(state)
+    os.rename(state, f"{folder}/elsewhere")
+    told = talk(node, ROWS)
+    checks.same("the rows are known", (told[: len(REPEAT) * 6], was_saved(told[len(REPEAT) * 6 :], 6)), (REPEAT * 6, True))
+    checks.same("the file is there again", read(state), whole)
+    os.remove(state)
+    touch(node)
+    checks.same("and once more, where nothing is sent", read(state), whole)
+    end(node)
+    lines = [line for line in node.told if "taken away" in line]
+    checks.same("told each time", lines, ["rowmatch: the file of the node was taken away: what was saved is written again\n"] * 2)
+    node = Node(state, connections=MANY, clause=OTHER)
+    os.remove(state)
+    touch(node)
+    checks.same("a refused file that is taken away", sorted(os.listdir(folder)), ["elsewhere", "state", "state.lock"])
+    end(node)
+    node = Node(state, clause=OTHER)
+    checks.same("is one of the new clause then", ("".join(node.told), talk(node, ROWS)), ("", NEW * 6))
+    node.ended()
+
+
 def small_files():
     signal.signal(signal.SIGXFSZ, signal.SIG_IGN)
     resource.setrlimit(resource.RLIMIT_FSIZE, (1000, 1000))
@@ -274,6 +300,6 @@ def one_file(checks, folder):
 
 if __name__ == "__main__":
     main([
-        refused_is_kept, blanks, acknowledged, ended_before_it_saved, full_disk, no_memory_to_save, unchanged, without_a_count, whose_file,
+        refused_is_kept, blanks, acknowledged, taken_away, ended_before_it_saved, full_disk, no_memory_to_save, unchanged, without_a_count, whose_file,
         flush_of_the_folder, one_file,
     ])

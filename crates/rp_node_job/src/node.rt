@@ -154,16 +154,24 @@ fn connection(
     })
 }
 
-/// Writes what was saved, unless the file has it.
+/// Writes what was saved, unless the file has it. A file that somebody has taken away is written again, which is told.
 fn write_if_new(
     rt: &HostRuntime,
     file: &mut StateFile,
     end: &RoundEnd<Node>,
 ) -> Result<(), ProgramFault> {
-    if end.is_new
-        && let Some(bytes) = &end.saved
-    {
-        file.write(rt, bytes.as_slice())?;
+    let Some(bytes) = &end.saved else {
+        return Ok(());
+    };
+    if end.is_new {
+        return file.write(rt, bytes.as_slice());
+    }
+    if file.is_gone(rt) {
+        tell(
+            rt,
+            &"the file of the node was taken away: what was saved is written again",
+        );
+        return file.write(rt, bytes.as_slice());
     }
     Ok(())
 }
