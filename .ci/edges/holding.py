@@ -133,7 +133,8 @@ def errors_that_pass(checks, folder):
         found = replies, status, "no connection can be accepted" in told
         checks.same(errno.errorcode[error], found, ([NEW], 0, error not in (errno.ECONNABORTED, errno.EINTR)))
     node = Node(f"{folder}/no", variables={"LD_PRELOAD": library, "ACCEPT": str(errno.EBADF)})
-    checks.same("an error that doesn't pass", node.ended(), (3, "rowmatch: device: listen\n"))
+    told = "rowmatch: no connection can be accepted: Bad file descriptor (os error 9)\nrowmatch: device: listen\n"
+    checks.same("an error that doesn't pass", node.ended(), (3, told))
 
 
 def web_pages(checks, folder):

@@ -125,7 +125,7 @@ def acknowledged(checks, folder):
     node = Node(state, options=["--acknowledge"], limit=small_files)
     rows = "".join(row(number, ["x", number, number]) for number in range(7, 200))
     checks.same("a save that fails: no line", talk(node, rows), NEW * 193)
-    checks.same("a save that fails: the end", node.ended(), (3, "rowmatch: device: state\n"))
+    checks.same("a save that fails: the end", node.ended(), (3, f"rowmatch: {state}: File too large (os error 27)\nrowmatch: device: state\n"))
     node = Node(state)
     checks.same("without the option: no line", talk(node, rows), NEW * 193)
     node.ended()
@@ -193,7 +193,7 @@ def full_disk(checks, folder):
     data = "sym,t,p\n" + "".join(f"k{number},1,1\n" for number in range(200))
     words = ["source", "--table", TABLE, "--clause", CLAUSE, *acknowledging("source"), f"127.0.0.1:{node.port}"]
     status, out, told = run(*words, stdin=data)
-    checks.same("the node's end", node.ended(), (3, "rowmatch: device: state\n"))
+    checks.same("the node's end", node.ended(), (3, f"rowmatch: {folder}/state: File too large (os error 27)\nrowmatch: device: state\n"))
     checks.true("no file", not os.path.exists(f"{folder}/state"))
     checks.same("the source's end", (status, out.count("\n"), told), (3, 200, "rowmatch: node 1: not saved\n"))
 

@@ -187,17 +187,26 @@ def addresses(checks, folder):
     def listen(at):
         return run("node", "--table", TABLE, "--clause", CLAUSE, "--listen", at, "--state", f"{folder}/s", "--connections", "1")
 
+    def told(at, why):
+        return 3, "", f"rowmatch: can't listen at {at}: {why}\nrowmatch: device: listen\n"
+
     with socket.create_server(("127.0.0.1", 0)) as taken:
-        checks.same("a port in use", listen(f"127.0.0.1:{taken.getsockname()[1]}"), (3, "", "rowmatch: device: listen\n"))
-    for at in ["", "nowhere", "127.0.0.1", "127.0.0.1:", "127.0.0.1:99999", "300.0.0.1:80", ":"]:
-        checks.same(f"the address {at!r}", listen(at), (3, "", "rowmatch: device: listen\n"))
+        at = f"127.0.0.1:{taken.getsockname()[1]}"
+        checks.same("a port in use", listen(at), told(at, "Address already in use (os error 98)"))
+    for at in ["", "nowhere", "127.0.0.1"]:
+        checks.same(f"the address {at!r}", listen(at), told(at, "invalid socket address"))
+    for at in ["127.0.0.1:", "127.0.0.1:99999", ":"]:
+        checks.same(f"the address {at!r}", listen(at), told(at, "invalid port value"))
+    status, out, error = listen("300.0.0.1:80")
+    checks.same("a name of no host", (status, out, error.splitlines()[1:]), (3, "", ["rowmatch: device: listen"]))
 
 
 def states_that_fail(checks, folder):
     os.mkdir(f"{folder}/folder")
     cases = [
         ("a folder as file", f"{folder}/folder", f"rowmatch: {folder}/folder is no regular file\n"),
-        ("a folder that isn't there", f"{folder}/none/state", ""),
+        ("a folder that isn't there", f"{folder}/none/state",
+         f"rowmatch: {folder}/none/state.lock: No such file or directory (os error 2)\n"),
     ]
     for name, state, told in cases:
         checks.same(name, beginning(state), (3, f"{told}rowmatch: device: state\n"))
@@ -220,7 +229,7 @@ def full_disk(checks, folder):
 
     node = Node(state, limit=limit)
     talk(node, "".join(row(n, ["x", n, n]) for n in range(2, 200)))
-    checks.same("a file that can't grow", node.ended(), (3, "rowmatch: device: state\n"))
+    checks.same("a file that can't grow", node.ended(), (3, f"rowmatch: {state}: File too large (os error 27)\nrowmatch: device: state\n"))
     with open(state, "rb") as file:
         checks.same("the file is as it was", file.read(), before)
     checks.same("nothing is left of the write that failed", sorted(os.listdir(folder)), ["state", "state.lock"])
@@ -230,7 +239,8 @@ def read_only_folder(checks, folder):
     if os.geteuid() == 0:
         return  # who may write everywhere sees nothing of it
     os.mkdir(f"{folder}/closed", 0o500)
-    checks.same("a folder that takes no file", beginning(f"{folder}/closed/state"), (3, "rowmatch: device: state\n"))
+    told = f"rowmatch: {folder}/closed/state.lock: Permission denied (os error 13)\nrowmatch: device: state\n"
+    checks.same("a folder that takes no file", beginning(f"{folder}/closed/state"), (3, told))
 
 
 def rude_clients(checks, folder):

@@ -9,7 +9,7 @@ import subprocess
 import threading
 import time
 
-from sockets import CLAUSE, PROGRAM, TABLE, Node, free_port, main, poll, row, run, talk
+from sockets import CLAUSE, PROGRAM, REFUSED, TABLE, Node, free_port, main, not_reached, poll, row, run, talk
 
 TEXTS = ["--table", TABLE, "--clause", CLAUSE]
 ONE_ROW = "sym,t,p\nx,1,10\n"
@@ -175,7 +175,8 @@ def gone(checks, folder):
         checks.same(f"gone {name}, without --acknowledge", source(make(*given)), (status, printed, told))
     checks.same("a whole line that is no reply", source("--acknowledge", gone_peer([], "nope\n")), (1, "", BAD_REPLY))
     checks.same("a refusal", source("--acknowledge", gone_peer([], '{"refused":"TooFar"}\n')), (1, "", "rowmatch: node 1: refused\n"))
-    checks.same("nobody listens", source("--acknowledge", f"127.0.0.1:{free_port()}"), (3, "", "rowmatch: device: connect\n"))
+    at = f"127.0.0.1:{free_port()}"
+    checks.same("nobody listens", source("--acknowledge", at), (3, "", not_reached(1, at, REFUSED)))
 
 
 def unconnected(checks, folder):
@@ -188,8 +189,8 @@ def unconnected(checks, folder):
             one.setblocking(False)
             one.connect_ex(server.getsockname())
         begun = time.monotonic()
-        found = source("--idle", "1", f"127.0.0.1:{server.getsockname()[1]}")
-        checks.same("no connection is taken", found, (3, "", "rowmatch: device: connect\n"))
+        at = f"127.0.0.1:{server.getsockname()[1]}"
+        checks.same("no connection is taken", source("--idle", "1", at), (3, "", not_reached(1, at, "connection timed out")))
         checks.true("after a second", 0.9 < time.monotonic() - begun < 20)
         for one in waiting:
             one.close()

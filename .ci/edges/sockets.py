@@ -22,6 +22,14 @@ CLAUSE = (
 PROGRAM = os.path.abspath(sys.argv[1] if len(sys.argv) > 1 else "crates/rowmatch/out/rowmatch")
 
 
+REFUSED = "Connection refused (os error 111)"
+
+
+def not_reached(number, address, why):
+    """What a source tells of a node to which it has no connection."""
+    return f"rowmatch: node {number} at {address}: {why}\nrowmatch: device: connect\n"
+
+
 # connections for a node that is ended by a signal: programs of before ask for a number
 MANY = 1_000_000
 

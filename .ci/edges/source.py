@@ -6,7 +6,7 @@ import socket
 import subprocess
 import threading
 
-from sockets import CLAUSE, PROGRAM, TABLE, Node, free_port, main, poll, row, run, talk
+from sockets import CLAUSE, PROGRAM, REFUSED, TABLE, Node, free_port, main, not_reached, poll, row, run, talk
 
 CSV = "sym,t,p\nx,2,8\ny,1,5\nx,1,10\nx,3,6\nx,4,7\nx,6,9\nx,5,9\n"
 ITEMS = [
@@ -137,13 +137,14 @@ def bad_peers(checks, folder):
     for name, replies, wanted in cases:
         checks.same(name, source(peer(replies), stdin=one), wanted)
     good = [new, idle, new, end, idle]
+    gone = f"127.0.0.1:{free_port()}"
     cases = [
         ("the second node refuses", [peer(['{"refused":"TooFar"}\n'])], (1, "1 " + end, "rowmatch: node 2: refused\n")),
         ("it answers what can't be", [peer(["nope\n"])], (1, "1 " + end, "rowmatch: node 2: bad reply\n")),
         ("it ends without a reply", [peer([])], (1, "1 " + end, "rowmatch: node 2: bad reply\n")),
         ("it refuses behind an item", [peer([new, end, '{"refused":"UnknownPartition"}\n'])],
          (1, "1 " + end + "2 " + end, "rowmatch: node 2: refused\n")),
-        ("it isn't there", [f"127.0.0.1:{free_port()}"], (3, "1 " + end, "rowmatch: device: connect\n")),
+        ("it isn't there", [gone], (3, "1 " + end, not_reached(2, gone, REFUSED))),
         ("a bad reply of the third node", [peer(good), peer([idle])], (1, "1 " + end + "2 " + end, "rowmatch: node 3: bad reply\n")),
     ]
     for name, others, wanted in cases:
@@ -169,9 +170,12 @@ def streams(checks, folder):
 def faults(checks, folder):
     with socket.create_server(("127.0.0.1", 0)) as server:
         free = server.getsockname()[1]
-    checks.same("nobody listens", source(f"127.0.0.1:{free}"), (3, "", "rowmatch: device: connect\n"))
-    for at in ["", "nowhere", "127.0.0.1", "127.0.0.1:99999"]:
-        checks.same(f"the address {at!r}", source(at), (3, "", "rowmatch: device: connect\n"))
+    at = f"127.0.0.1:{free}"
+    checks.same("nobody listens", source(at), (3, "", not_reached(1, at, REFUSED)))
+    for at in ["", "nowhere", "127.0.0.1"]:
+        checks.same(f"the address {at!r}", source(at), (3, "", not_reached(1, at, "invalid socket address")))
+    at = "127.0.0.1:99999"
+    checks.same("a port that is none", source(at), (3, "", not_reached(1, at, "invalid port value")))
     checks.same("a field that is no number", source("127.0.0.1:1", stdin="sym,t,p\nx,1,z\n"),
                 (1, "", "rowmatch: csv: Field at record 1\n"))
     checks.same("no header", source("127.0.0.1:1", stdin=""), (1, "", "rowmatch: csv: Header\n"))

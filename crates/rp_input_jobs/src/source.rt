@@ -14,7 +14,7 @@ use rp_query::Query;
 use rp_value::Row;
 use rp_wording::Pieces;
 use std::alloc::{AllocError, Global};
-use std::io::{IsTerminal, Read};
+use std::io::{self, ErrorKind, IsTerminal, Read};
 use std::net::{Shutdown, TcpStream, ToSocketAddrs};
 use std::time::Duration;
 
@@ -93,8 +93,9 @@ fn hand_to_one<O: Outlet>(
     address: &str,
     out: &mut O,
 ) -> Result<(), ProgramFault> {
-    let Some(stream) = connected(rt, address, idle_time(node.job)) else {
-        return Err(ProgramFault::Connect);
+    let stream = match connected(rt, address, idle_time(node.job)) {
+        Ok(stream) => stream,
+        Err(error) => return Err(no_connection(rt, node.number, address, &error)),
     };
     prepare(node.job, &stream);
     converse(rt, node, &stream, out)
@@ -105,20 +106,25 @@ fn idle_time(job: &SourceJob) -> Option<Duration> {
     Some(Duration::from_secs(u64::from(job.idle?)))
 }
 
+/// The fault of a node to which there is no connection. Why there is none is told.
+fn no_connection(rt: &HostRuntime, number: u64, address: &str, error: &io::Error) -> ProgramFault {
+    let _ = eprintln!(rt; "rowmatch: node {number} at {address}: {error}");
+    ProgramFault::Connect
+}
+
 /// A connection to the node at this address, which takes it in this time where that is bounded.
-fn connected(rt: &HostRuntime, address: &str, time: Option<Duration>) -> Option<TcpStream> {
+fn connected(rt: &HostRuntime, address: &str, time: Option<Duration>) -> io::Result<TcpStream> {
     let Some(time) = time else {
-        return TcpStream::connect(rt, address).ok();
+        return TcpStream::connect(rt, address);
     };
-    let Ok(addresses) = address.to_socket_addrs(rt) else {
-        return None;
-    };
-    for one in addresses {
-        if let Ok(stream) = TcpStream::connect_timeout(rt, &one, time) {
-            return Some(stream);
+    let mut fault = io::Error::from(ErrorKind::AddrNotAvailable);
+    for one in address.to_socket_addrs(rt)? {
+        match TcpStream::connect_timeout(rt, &one, time) {
+            Ok(stream) => return Ok(stream),
+            Err(error) => fault = error,
         }
     }
-    None
+    Err(fault)
 }
 
 /// What a node is handed, and its number, from 1.

@@ -73,7 +73,10 @@ pub fn accepted(rt: &HostRuntime, listener: &TcpListener) -> Result<TcpStream, P
                 pause(rt, &error, is_told);
                 is_told = true;
             }
-            Next::Never => return Err(ProgramFault::Listen),
+            Next::Never => {
+                let _ = eprintln!(rt; "rowmatch: no connection can be accepted: {error}");
+                return Err(ProgramFault::Listen);
+            }
         }
     }
     Err(ProgramFault::Listen)

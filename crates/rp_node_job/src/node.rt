@@ -34,11 +34,20 @@ pub fn run_node(rt: &HostRuntime, job: &NodeJob) -> Result<(), ProgramFault> {
     let query = query_of(rt.alloc(), job)?;
     let mut file = StateFile::take(rt, job.state.as_str())?;
     let standing = begun(rt, job, &mut file, query)?;
-    let Ok(listener) = TcpListener::bind(rt, job.listen.as_str()) else {
-        return Err(ProgramFault::Listen);
-    };
+    let listener = listening(rt, job.listen.as_str())?;
     tell_listening(rt, job, &listener);
     serve_all(rt, job, &listener, &mut file, standing)
+}
+
+/// What listens at an address. Why nothing can is told.
+fn listening(rt: &HostRuntime, address: &str) -> Result<TcpListener, ProgramFault> {
+    match TcpListener::bind(rt, address) {
+        Ok(listener) => Ok(listener),
+        Err(error) => {
+            let _ = eprintln!(rt; "rowmatch: can't listen at {address}: {error}");
+            Err(ProgramFault::Listen)
+        }
+    }
 }
 
 /// The query of the job's clause, over its table.

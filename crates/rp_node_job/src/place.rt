@@ -51,7 +51,7 @@ fn behind(rt: &HostRuntime, given: &str, name: &str) -> Result<Option<String>, P
         Ok(Found::Nothing | Found::File) => Ok(None),
         Ok(Found::Link) => Ok(Some(target_of(rt, name)?)),
         Ok(Found::Other) => Err(no_regular_file(rt, given)),
-        Err(error) => Err(state_fault(&error)),
+        Err(error) => Err(state_fault(rt, given, &error)),
     }
 }
 
@@ -59,7 +59,7 @@ fn behind(rt: &HostRuntime, given: &str, name: &str) -> Result<Option<String>, P
 fn target_of(rt: &HostRuntime, link: &str) -> Result<String, ProgramFault> {
     let target = match fs::read_link(rt, link) {
         Ok(target) => target,
-        Err(error) => return Err(state_fault(&error)),
+        Err(error) => return Err(state_fault(rt, link, &error)),
     };
     match Path::new(link).parent() {
         Some(folder) => Ok(folder.join(rt.alloc(), target.as_str())?.into_string()),
@@ -88,7 +88,7 @@ pub fn only_regular(rt: &HostRuntime, name: &str) -> Result<(), ProgramFault> {
     match found_at(rt, name) {
         Ok(Found::Nothing | Found::File) => Ok(()),
         Ok(_) => Err(no_regular_file(rt, name)),
-        Err(error) => Err(state_fault(&error)),
+        Err(error) => Err(state_fault(rt, name, &error)),
     }
 }
 
@@ -98,11 +98,11 @@ fn no_regular_file(rt: &HostRuntime, name: &str) -> ProgramFault {
     ProgramFault::State
 }
 
-/// The fault of a call that failed.
-pub fn state_fault(error: &io::Error) -> ProgramFault {
+/// The fault of a call for the file of this name that failed. Why it did is told, unless memory was refused.
+pub fn state_fault(rt: &HostRuntime, name: &str, error: &io::Error) -> ProgramFault {
     if error.kind() == ErrorKind::OutOfMemory {
-        ProgramFault::OutOfMemory
-    } else {
-        ProgramFault::State
+        return ProgramFault::OutOfMemory;
     }
+    let _ = eprintln!(rt; "rowmatch: {name}: {error}");
+    ProgramFault::State
 }
