@@ -1016,3 +1016,40 @@ def test_many_rows():
     frame = pd.DataFrame({"p": np.arange(200_000)})
     answer = rowmatch.match(frame, "ALL ROWS PER MATCH PATTERN (A) DEFINE A AS p >= 0")
     assert answer["p"].tolist() == frame["p"].tolist()
+
+
+ABOVE = "MEASURES A.bid AS bid PATTERN (A) DEFINE A AS bid > ask"
+
+
+@pytest.mark.parametrize(
+    "ways, told",
+    [
+        (
+            {"bid": "decimal(2)", "ask": "decimal(3)"},
+            "bid is in units of 1/100 and ask in units of 1/1000, and they are compared",
+        ),
+        ({"bid": "decimal(1)"}, "ask is in units of 1 and bid in units of 1/10, and they are"),
+    ],
+)
+def test_columns_of_different_units_are_warned_of(ways, told):
+    quotes = pd.DataFrame({"bid": [1.5], "ask": [1.0]})
+    with pytest.warns(UserWarning, match=told):
+        rowmatch.match(quotes, ABOVE, columns=ways)
+
+
+def test_times_of_different_units_are_warned_of():
+    days = pd.to_datetime(["2024-01-05", "2024-01-06"])
+    spans = pd.DataFrame({"bid": days[:1], "ask": days[1:]})
+    told = "bid is in seconds since 1970 and ask in millionths of a second since 1970"
+    with pytest.warns(UserWarning, match=told):
+        rowmatch.match(spans, ABOVE, columns={"bid": "seconds"})
+
+
+def test_one_unit_is_not_warned_of(recwarn):
+    quotes = pd.DataFrame({"bid": [1.5], "ask": [1.4], "n": [3]})
+    thousandths = {"bid": "decimal(3)", "ask": "decimal(3)"}
+    assert len(rowmatch.match(quotes, ABOVE, columns=thousandths)) == 1
+    other = {"bid": "decimal(2)", "ask": "decimal(3)"}
+    for apart in ["* 10 > ask", "> 100 AND n = 3"]:
+        assert len(rowmatch.match(quotes, ABOVE.replace("> ask", apart), columns=other)) == 1
+    assert not recwarn.list

@@ -144,6 +144,30 @@ def test_an_address_has_a_host_and_a_port(address):
         Node(address)
 
 
+def test_a_node_that_is_not_there():
+    with socket.create_server(("127.0.0.1", 0)) as server:
+        address = f"127.0.0.1:{server.getsockname()[1]}"
+    told = f"no connection to the node at {address}: .*Connection refused"
+    with pytest.raises(NodeError, match=told) as caught:
+        Node(address)
+    assert isinstance(caught.value.__cause__, ConnectionRefusedError)
+
+
+def test_a_connection_that_is_given_up(start):
+    """The node goes on with the next one."""
+    _, address = start("--acknowledge")
+    client = Node(address)
+    client.rows(EVE[:2])
+    client.disconnect()
+    client.disconnect()
+    with pytest.raises(NodeError, match="the connection to the node failed"):
+        client.rows(EVE[:2])
+    with Node(address, timeout=10) as client:
+        client.rows(EVE)
+        assert client.poll(["eve"]) == [Item(("eve",), 1, ("eve", 10, 2), 1)]
+        client.commit()
+
+
 def test_a_node_that_was_killed_has_not_saved(start):
     process, address = start("--acknowledge")
     with Node(address) as client:

@@ -68,10 +68,17 @@ def read(kinds: Mapping[str, str], clause: str, limit: Limit = NO_LIMIT) -> Clau
     return _clause(said["clause"], kinds)
 
 
+def noted(columns: str, clause: str, limit: Limit = NO_LIMIT) -> list[str]:
+    """What the program says of a clause over columns as ``--columns`` has them, as of columns in
+    different units that it compares."""
+    said = json.loads(_said(program(), columns, clause, limit, "--columns-file"))
+    return [note["message"] for note in said.get("notes", ())]
+
+
 @functools.lru_cache(maxsize=64)
-def _said(path: str, table: str, clause: str, limit: Limit) -> str:
+def _said(path: str, table: str, clause: str, limit: Limit, option: str = "--table-file") -> str:
     """The line that ``check --format json`` prints."""
-    ran = run(["check", "--format", "json"], table, clause, limit=limit)
+    ran = run(["check", "--format", "json"], table, clause, limit=limit, option=option)
     if ran.status not in (0, 1) or not ran.printed:
         raise ran.failed()
     return ran.printed.decode()

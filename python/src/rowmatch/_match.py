@@ -49,7 +49,9 @@ def match(
                                          numbers of hundredths
     ===================================  ========================================================
 
-    What can't be handed over exactly is a `DataError` and is never rounded or cut.
+    What can't be handed over exactly is a `DataError` and is never rounded or cut. Where the clause
+    compares, adds or subtracts columns that are counted in different units, as by ``decimal(2)``
+    and ``decimal(3)``, or by ``decimal(2)`` and as whole numbers, it warns.
 
     Args:
         data: the rows: a frame, what has ``to_pandas()``, or what ``pandas.DataFrame(..)`` takes.
@@ -96,6 +98,8 @@ def match(
         raise ValueError(f"on_skip_fault={on_skip_fault!r} is none of raise, warn, ignore")
     limit = Limit.of(timeout)
     question = understand(pandas_frame(data), clause, columns or {}, times, limit)
+    for note in question.units(limit):
+        warnings.warn(note, stacklevel=2)
     answer, faults = question.answer(limit)
     if faults and on_skip_fault == "raise":
         raise SkipFault(faults, answer)

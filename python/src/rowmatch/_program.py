@@ -135,15 +135,17 @@ def run(
     clause: str,
     chunks: Iterable[bytes] | None = None,
     limit: Limit = NO_LIMIT,
+    option: str = "--table-file",
 ) -> Ran:
-    """Runs the program over a table, a clause and chunks of its input, or over no input.
+    """Runs the program over a table, a clause and chunks of its input, or over no input. With the
+    option ``--columns-file`` the table is a text of columns.
 
     Chunks are made while the program reads. An exception of theirs ends the program and is raised.
     """
     starting = _Starting()
     try:
         with _file(table) as table_file, _file(clause) as clause_file:
-            words = [*arguments, "--table-file", f"/dev/fd/{table_file}"]
+            words = [*arguments, option, f"/dev/fd/{table_file}"]
             words += ["--clause-file", f"/dev/fd/{clause_file}"]
             files = (table_file, clause_file)
             child = starting.child(lambda: _Child(words, files, chunks is not None))

@@ -460,6 +460,20 @@ def way_of(label: Hashable, values: pd.Series, said: str | None, times: str) -> 
     return {"int": Whole, "bool": Flags, "text": Texts, "date": Days}[said](label, dtype)
 
 
+def reading_of(dtype: Any, kind: str, said: str | None, times: str) -> str:
+    """How the program reads a column whose numbers count the same, as ``--columns`` has it: a form
+    with the column's name in the place of ``{}``. Nothing is known of whole numbers, and the
+    program has no nanoseconds."""
+    if kind == "text":
+        return "text({})"
+    if said is None and dtype.kind in "mM":
+        said = times
+    places = _places(said or "")
+    if places is not None:
+        return f"decimal({{}}, {places})"
+    return f"{said}({{}})" if said in ("date", "seconds", "millis", "micros") else "int({})"
+
+
 def _used(values: pd.Series) -> Array:
     """The numbers of those categories that a row has, ascending."""
     codes = values.cat.codes.to_numpy()

@@ -144,11 +144,15 @@ class Node:
     """
 
     def __init__(self, address: str, *, timeout: float | None = 60) -> None:
-        """Connects to ``HOST:PORT``. Where the node doesn't answer for ``timeout`` seconds, that is
-        an error; it serves one connection after the other, so a second one waits for the first to
-        end.
+        """Connects to ``HOST:PORT``; a `NodeError` says why there is no connection. Where the node
+        doesn't answer for ``timeout`` seconds, that is one too; it serves one connection after the
+        other, so a second one waits for the first to end.
         """
-        self._socket = socket.create_connection(_place_of(address), timeout=timeout)
+        place = _place_of(address)
+        try:
+            self._socket = socket.create_connection(place, timeout=timeout)
+        except OSError as error:
+            raise NodeError(f"no connection to the node at {address}: {error}") from error
         self._socket.setsockopt(socket.SOL_SOCKET, socket.SO_SNDBUF, 2 * _BYTES)
         self._replies = self._socket.makefile("rb")
         self._process = os.getpid()
@@ -228,6 +232,11 @@ class Node:
         if _parsed(line) != {"saved": self._answered}:
             message = f"the node wrote {line[:100]!r}, and {self._answered} lines were answered"
             raise NodeError(f"{message}: {_AGAIN}")
+
+    def disconnect(self) -> None:
+        """Ends the connection without a `commit`, as the end of ``with`` does: what was sent may be
+        kept by the node or lost. Nothing happens where it has ended."""
+        self._end()
 
     def __enter__(self) -> Node:
         return self
