@@ -24,6 +24,7 @@ CASES = int(os.environ.get("CASES", "60"))
 SEED = int(os.environ.get("SEED", "1"))
 EVERY = int(os.environ.get("EVERY", "3"))
 NULL = "(null)"
+pytestmark = pytest.mark.filterwarnings("ignore:.* compared or added as they are")
 
 
 def moments(numbers, zone=None):
