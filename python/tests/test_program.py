@@ -4,6 +4,7 @@ from __future__ import annotations
 
 import contextlib
 import os
+import resource
 import shutil
 import signal
 import subprocess
@@ -113,6 +114,20 @@ def test_a_program_that_fails(stand_in, script, status, told):
     with pytest.raises(ProgramError) as caught:
         rowmatch.match(pd.DataFrame({"p": range(300_000)}), CLAUSE)
     assert caught.value.status == status and str(caught.value) == told
+
+
+def test_no_file_can_be_opened():
+    """As where the process has as many open as it may."""
+    frame = pd.DataFrame({"p": [1, 2]})
+    before = resource.getrlimit(resource.RLIMIT_NOFILE)
+    resource.setrlimit(resource.RLIMIT_NOFILE, (3, before[1]))
+    try:
+        with pytest.raises(ProgramError, match="can't be started: .*Too many open files") as caught:
+            rowmatch.match(frame, CLAUSE.replace("0", "17"))
+    finally:
+        resource.setrlimit(resource.RLIMIT_NOFILE, before)
+    assert caught.value.status is None
+    assert rowmatch.match(frame, CLAUSE).n.tolist() == [2]
 
 
 def test_a_table_that_is_refused(monkeypatch, tmp_path):

@@ -144,11 +144,14 @@ def run(
     """
     starting = _Starting()
     try:
-        with _file(table) as table_file, _file(clause) as clause_file:
-            words = [*arguments, option, f"/dev/fd/{table_file}"]
-            words += ["--clause-file", f"/dev/fd/{clause_file}"]
-            files = (table_file, clause_file)
-            child = starting.child(lambda: _Child(words, files, chunks is not None))
+        try:
+            with _file(table) as table_file, _file(clause) as clause_file:
+                words = [*arguments, option, f"/dev/fd/{table_file}"]
+                words += ["--clause-file", f"/dev/fd/{clause_file}"]
+                files = (table_file, clause_file)
+                child = starting.child(lambda: _Child(words, files, chunks is not None))
+        except OSError as error:
+            raise ProgramError(f"the program can't be started: {error}") from error
         return _Run(child, limit).to_end(chunks or ())
     finally:
         starting.leave_nothing()
