@@ -6,11 +6,10 @@ use crate::scan::field_span;
 use csv::ByteRecord;
 use rp_input::names_column;
 use rp_proposal::{
-    Records, are_text, has_mark, is_named, is_shown, is_whole, meanings, of_above, push_table,
-    record_start,
+    Records, are_text, has_mark, is_named, is_shown, meanings, of_above, push_table, record_start,
 };
 use rp_value::{Column, Kind, Table};
-use rp_wording::{Advice, Pieces, Report, column_names, kind_word};
+use rp_wording::{Advice, Pieces, Report, column_names, is_whole, kind_word};
 use std::alloc::{AllocError, Global};
 
 /// What to do where blanks seem to be between fields.

@@ -1,9 +1,9 @@
 //! Zeros before a number, which are lost.
 
 use csv::ByteRecord;
-use rp_proposal::{Records, has_zeros, is_whole};
+use rp_proposal::Records;
 use rp_value::{Column, Kind, Table};
-use rp_wording::{Pieces, shown_text};
+use rp_wording::{Pieces, has_zeros, is_whole, shown_text};
 use std::alloc::{AllocError, Global};
 
 /// Says of the bytes of a CSV text, which are rows of a table, where zeros before a number are lost. The line ends in LF; there may be

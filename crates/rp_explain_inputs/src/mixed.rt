@@ -3,9 +3,9 @@
 use crate::null_words::of_null_word;
 use rp_input::CsvLayout;
 use rp_place::push_help;
-use rp_proposal::{Records, Seen, is_named, is_null_word, meanings, seen_in};
+use rp_proposal::{Records, Seen, is_named, meanings, seen_in};
 use rp_value::Text;
-use rp_wording::Pieces;
+use rp_wording::{Pieces, is_null_word};
 use std::alloc::{AllocError, Global};
 
 /// Writes of each column that is proposed for a CSV text, and has whole numbers and words for null alone, that it is text, and what to

@@ -1,8 +1,8 @@
 //! What to do about a word that another program wrote for a null.
 
 use rp_input::{CsvLayout, MAX_RECORDS};
-use rp_proposal::{Records, is_null_word};
-use rp_wording::{Pieces, noun};
+use rp_proposal::Records;
+use rp_wording::{Pieces, is_null_word, noun};
 use std::alloc::{AllocError, Global};
 
 /// What to do about a field that holds such a word, at this place of the records; None where it holds none.

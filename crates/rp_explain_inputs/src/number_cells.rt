@@ -1,6 +1,6 @@
 //! What to do about fields that should be whole numbers, and aren't.
 
-use rp_wording::{is_date, is_one_of};
+use rp_wording::{are_digits, are_digits_or, count_digits, is_date, is_one_of, unsigned};
 
 /// What spreadsheets write where a formula failed.
 const SHEET_ERRORS: &str = "#REF! #DIV/0! #VALUE! #NAME? #NUM! #NULL!";
@@ -81,10 +81,7 @@ fn is_of_number(byte: u8) -> bool {
 
 /// Whether it is a number in brackets.
 fn is_bracketed(text: &str) -> bool {
-    text.starts_with('(')
-        && text.ends_with(')')
-        && text.bytes().all(|byte| byte.is_ascii_digit()
-            || matches!(byte, b'(' | b')' | b'.' | b','))
+    text.starts_with('(') && text.ends_with(')') && are_digits_or(text, "().,")
 }
 
 /// What to do about a number with signs between thousands, one whose fraction is 0, and seconds with a fraction.
@@ -95,10 +92,10 @@ pub(crate) fn of_known_fraction(text: &str) -> Option<&'static str> {
         );
     }
     let (whole, rest) = text.split_once('.')?;
-    if !is_digits(rest) || !is_digits(unsigned(whole)) {
+    if !are_digits(rest) || !are_digits(unsigned(whole)) {
         return None;
     }
-    if rest.bytes().all(|byte| byte == b'0') {
+    if rest.trim_start_matches('0').is_empty() {
         return Some(
             "pandas writes whole numbers so in a column with a null: astype(\"Int64\") before to_csv; or decimal(C, 0) of --columns reads them",
         );
@@ -112,7 +109,7 @@ pub(crate) fn of_known_fraction(text: &str) -> Option<&'static str> {
 /// What to do about a number with one comma, behind which there are digits, and not three of them: it is the point.
 pub(crate) fn of_comma_point(text: &str) -> Option<&'static str> {
     let (whole, rest) = text.split_once(',')?;
-    if !is_digits(unsigned(whole)) || !is_digits(rest) {
+    if !are_digits(unsigned(whole)) || !are_digits(rest) {
         return None;
     }
     match rest.len() {
@@ -150,7 +147,7 @@ fn is_grouped(text: &str) -> bool {
     let mut groups = 0usize;
     for group in unsigned(text).split(',') {
         let fits = group.len() == 3 || groups == 0 && group.len() < 3;
-        if !fits || !is_digits(group) {
+        if !fits || !are_digits(group) {
             return false;
         }
         groups = groups.saturating_add(1);
@@ -158,29 +155,12 @@ fn is_grouped(text: &str) -> bool {
     groups > 1
 }
 
-/// The text without a sign in front.
-fn unsigned(text: &str) -> &str {
-    match text.strip_prefix('-') {
-        Some(rest) => rest,
-        None => match text.strip_prefix('+') {
-            Some(rest) => rest,
-            None => text,
-        },
-    }
-}
-
-/// Whether it is one digit or more, and nothing else.
-fn is_digits(text: &str) -> bool {
-    !text.is_empty() && text.bytes().all(|byte| byte.is_ascii_digit())
-}
-
 /// What to do about a number that is no whole one.
 fn of_digits(text: &str) -> &'static str {
-    let digits = text.bytes().filter(|byte| byte.is_ascii_digit()).count();
-    if digits == 0 {
+    if count_digits(text) == 0 {
         return "is the column one of text?";
     }
-    if text.bytes().all(|byte| byte.is_ascii_digit() || byte == b'-' || byte == b'+') {
+    if are_digits_or(text, "-+") {
         return "it has more than 64 bits, or its sign is in a wrong place";
     }
     if is_decimal(text, '.') || is_decimal(text, ',') {
@@ -212,15 +192,14 @@ fn has_exponent(text: &str) -> bool {
         None => text.split_once('E'),
     };
     match parts {
-        Some((number, exponent)) => has_digits(unsigned(number)) && is_digits(unsigned(exponent)),
+        Some((number, exponent)) => has_digits(unsigned(number)) && are_digits(unsigned(exponent)),
         None => false,
     }
 }
 
 /// Whether it is digits, and signs inside numbers.
 fn has_digits(text: &str) -> bool {
-    text.bytes().any(|byte| byte.is_ascii_digit())
-        && text.bytes().all(|byte| byte.is_ascii_digit() || matches!(byte, b'.' | b','))
+    count_digits(text) > 0 && are_digits_or(text, ".,")
 }
 
 /// Whether it is a number and a word of letters, with a blank between, as 5 EUR.
@@ -242,11 +221,7 @@ fn is_word(text: &str) -> bool {
 /// Whether it is digits, one point and digits.
 fn is_decimal(text: &str, point: char) -> bool {
     match text.split_once(point) {
-        Some((whole, rest)) => {
-            !rest.is_empty()
-                && rest.bytes().all(|byte| byte.is_ascii_digit())
-                && whole.bytes().all(|byte| byte.is_ascii_digit() || byte == b'-' || byte == b'+')
-        }
+        Some((whole, rest)) => are_digits(rest) && are_digits_or(whole, "-+"),
         None => false,
     }
 }

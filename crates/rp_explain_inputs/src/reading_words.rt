@@ -2,6 +2,7 @@
 
 use crate::number_cells::{of_comma_point, of_known_fraction, of_number, of_sign};
 use rp_columns::{Reading, ReadingFault};
+use rp_wording::{are_digits, count_digits};
 
 /// What is wrong with a field, behind the field.
 pub(crate) fn wrong(reading: &Reading, why: ReadingFault) -> &'static str {
@@ -59,7 +60,7 @@ fn of_no_time(reading: &Reading, field: &str) -> &'static str {
 /// Whether it may count seconds since 1970, or thousandths, millionths or billionths of them.
 fn is_count(field: &str) -> bool {
     let digits = field.trim();
-    matches!(digits.len(), 10 | 13 | 16 | 19) && digits.bytes().all(|byte| byte.is_ascii_digit())
+    matches!(digits.len(), 10 | 13 | 16 | 19) && are_digits(digits)
 }
 
 /// What to write for a time that clocks skip, or show twice.
@@ -76,7 +77,7 @@ fn of_change(reading: &Reading) -> &'static str {
 
 /// What to write for a number that is too large: with 18 digits it fits where the column has no more places than the number.
 fn of_range(field: &str) -> &'static str {
-    if field.bytes().filter(|byte| byte.is_ascii_digit()).count() > 18 {
+    if count_digits(field) > 18 {
         return "read it as text";
     }
     "read it as text, or in a greater unit: by fewer places, as decimal(C, 2)"

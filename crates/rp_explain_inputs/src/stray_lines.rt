@@ -1,6 +1,7 @@
 //! Lines of a CSV text that are no records.
 
 use csv::ByteRecord;
+use rp_wording::are_digits;
 
 /// What to do about a record that is one field where more are wanted, if it seems to be a line that is to be left out.
 pub(crate) fn of_stray_line(fields: &ByteRecord) -> Option<&'static str> {
@@ -33,9 +34,7 @@ fn is_row_count(text: &str) -> bool {
         return false;
     };
     match behind.split_once(' ') {
-        Some((count, what)) => {
-            count.bytes().all(|byte| byte.is_ascii_digit()) && what.starts_with("row")
-        }
+        Some((count, what)) => are_digits(count) && what.starts_with("row"),
         None => false,
     }
 }

@@ -2,7 +2,7 @@
 
 use rp_query::{Condition, Edge, Expr, Navigation, Query, RowsOf, Step};
 use rp_value::{Column, Comparison, Row, Value};
-use rp_wording::{Pieces, is_date, noun, shown_text};
+use rp_wording::{Pieces, are_digits_or, count_digits, is_date, noun, shown_text, unsigned};
 use std::alloc::{AllocError, Global};
 
 /// The most bytes of a text that is written again.
@@ -295,12 +295,6 @@ fn offset_of(text: &str) -> Option<&str> {
 
 /// Whether a text is a sign with hours and minutes, as +01:00 and -0530.
 fn is_offset(text: &str) -> bool {
-    match text.as_bytes() {
-        [b'+' | b'-', rest @ ..] => {
-            rest.iter()
-                .all(|byte| byte.is_ascii_digit() || *byte == b':')
-                && rest.iter().filter(|byte| byte.is_ascii_digit()).count() == 4
-        }
-        _ => false,
-    }
+    let hours = unsigned(text);
+    hours.len() < text.len() && are_digits_or(hours, ":") && count_digits(hours) == 4
 }

@@ -7,7 +7,6 @@
 mod fault_lines;
 mod fronts;
 mod heading;
-mod null_words;
 mod proposed;
 mod records;
 mod seen;
@@ -15,9 +14,8 @@ mod seen;
 pub use fault_lines::{csv_fault_line, name_of, objects_fault_line, source_of};
 pub use fronts::of_no_json;
 pub use heading::of_above;
-pub use null_words::is_null_word;
 pub use proposed::{
     Proposal, are_text, is_named, is_shown, meaning, meanings, propose_columns, push_table,
 };
 pub use records::{Records, has_mark, record_start, start_of, without_mark};
-pub use seen::{Seen, has_zeros, is_whole, seen_in};
+pub use seen::{Seen, seen_in};

@@ -1,10 +1,10 @@
 //! What is seen in the fields of each column of a CSV text.
 
-use crate::null_words::is_null_word;
 use crate::records::Records;
 use csv::ByteRecord;
-use rp_input::{MAX_RECORDS, is_value};
-use rp_value::{Kind, Text};
+use rp_input::MAX_RECORDS;
+use rp_value::Text;
+use rp_wording::{has_zeros, is_null_word, is_whole};
 use std::alloc::{AllocError, Global};
 
 /// What was seen in a column's fields that aren't null.
@@ -97,18 +97,4 @@ fn is_null(field: &[u8], nulls: &[Text]) -> bool {
 /// Whether a field is a whole number of 64 bits without a zero in front, which a whole number doesn't keep.
 fn is_plain_number(field: &[u8]) -> bool {
     is_whole(field) && !has_zeros(field)
-}
-
-/// Whether a zero stands in front of what follows it, behind a sign or none.
-pub fn has_zeros(field: &[u8]) -> bool {
-    let digits = match field {
-        [b'-' | b'+', rest @ ..] => rest,
-        _ => field,
-    };
-    digits.len() > 1 && digits.first() == Some(&b'0')
-}
-
-/// Whether it is a whole number of 64 bits.
-pub fn is_whole(field: &[u8]) -> bool {
-    !field.is_empty() && is_value(Kind::Int, field)
 }
