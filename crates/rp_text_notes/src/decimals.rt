@@ -2,7 +2,7 @@
 
 use crate::texts::{ColumnTexts, NumberReader};
 use crate::way::Way;
-use rp_wording::Pieces;
+use rp_wording::{Pieces, are_digits_or, count_digits};
 use std::alloc::{AllocError, Global};
 
 /// So many digits in a number surely leave it within 64 bits with sign.
@@ -11,38 +11,39 @@ const MOST_DIGITS: usize = 18;
 /// How decimal numbers are written: the sign before a fraction, and the one between thousands, also as a text of columns has it.
 #[derive(Clone, Copy)]
 struct Style {
-    point: u8,
-    thousands: u8,
+    point: char,
+    thousands: char,
     written: &'static str,
 }
 
 const BY_POINT: Style = Style {
-    point: b'.',
-    thousands: b',',
+    point: '.',
+    thousands: ',',
     written: ", ','",
 };
 
 const BY_COMMA: Style = Style {
-    point: b',',
-    thousands: b'.',
+    point: ',',
+    thousands: '.',
     written: ", '.', ','",
 };
 
-/// Styles that no other one can be taken for.
-const OTHERS: [Style; 3] = [
+/// Styles where none with a point before fractions and commas between thousands is meant.
+const OTHERS: [Style; 4] = [
+    BY_COMMA,
     Style {
-        point: b',',
-        thousands: b' ',
+        point: ',',
+        thousands: ' ',
         written: ", ' ', ','",
     },
     Style {
-        point: b'.',
-        thousands: b' ',
+        point: '.',
+        thousands: ' ',
         written: ", ' '",
     },
     Style {
-        point: b'.',
-        thousands: b'\'',
+        point: '.',
+        thousands: '\'',
         written: ", ''''",
     },
 ];
@@ -68,13 +69,23 @@ pub(crate) fn decimal_way(
     column: ColumnTexts<'_>,
     least: usize,
 ) -> Result<Option<Way>, AllocError> {
-    let by_point = way_of(alloc, reader, column, BY_POINT, least)?;
-    let by_comma = way_of(alloc, reader, column, BY_COMMA, least)?;
-    match (by_point, by_comma) {
-        (Some(way), Some(other)) => Ok(Some(either_way(alloc, way, &other)?)),
-        (Some(way), None) => Ok(Some(way)),
-        (None, Some(way)) => Ok(Some(way)),
-        (None, None) => other_way(alloc, reader, column, least),
+    match way_of(alloc, reader, column, BY_POINT, least)? {
+        Some(way) => or_by_comma(alloc, reader, column, least, way),
+        None => other_way(alloc, reader, column, least),
+    }
+}
+
+/// The way by a point, with the one by a comma where that reads all texts too.
+fn or_by_comma(
+    alloc: Global,
+    reader: &mut NumberReader,
+    column: ColumnTexts<'_>,
+    least: usize,
+    way: Way,
+) -> Result<Option<Way>, AllocError> {
+    match way_of(alloc, reader, column, BY_COMMA, least)? {
+        Some(other) => Ok(Some(either_way(alloc, way, &other)?)),
+        None => Ok(Some(way)),
     }
 }
 
@@ -85,9 +96,10 @@ fn other_way(
     column: ColumnTexts<'_>,
     least: usize,
 ) -> Result<Option<Way>, AllocError> {
-    for style in OTHERS {
-        if let Some(way) = way_of(alloc, reader, column, style, least)? {
-            return Ok(Some(way));
+    for style in OTHERS.as_slice() {
+        let way = way_of(alloc, reader, column, *style, least)?;
+        if way.is_some() {
+            return Ok(way);
         }
     }
     Ok(None)
@@ -137,7 +149,7 @@ fn behind_source(
     behind.push_count(places);
     behind.push(match (is_grouped, style.point) {
         (true, _) => style.written,
-        (false, b'.') => "",
+        (false, '.') => "",
         (false, _) => ", '', ','",
     });
     behind.finish()
@@ -153,35 +165,25 @@ fn digits_seen(column: ColumnTexts<'_>, style: Style) -> Option<Digits> {
     };
     for row in column.rows {
         if let Some(text) = column.of_row(row) {
-            digits = with_text(digits, text.trim().as_bytes(), style)?;
+            digits = with_text(digits, text.trim(), style)?;
         }
     }
     Some(digits)
 }
 
 /// The digits that were seen with a further text.
-fn with_text(digits: Digits, text: &[u8], style: Style) -> Option<Digits> {
-    if !text.iter().all(|byte| may_be_in_number(*byte)) {
+fn with_text(digits: Digits, text: &str, style: Style) -> Option<Digits> {
+    if !are_digits_or(text, ".,-+ \t'") {
         return None;
     }
-    let point = text.iter().position(|byte| *byte == style.point);
-    let at = point.unwrap_or(text.len());
-    let before = text.get(..at).unwrap_or(text);
-    let behind = text.get(at..).unwrap_or(b"");
+    let (before, behind, has_point) = match text.split_once(style.point) {
+        Some((before, behind)) => (before, behind, true),
+        None => (text, "", false),
+    };
     Some(Digits {
-        whole: digits.whole.max(count_of(before)),
-        places: digits.places.max(count_of(behind)),
-        is_grouped: digits.is_grouped || before.contains(&style.thousands),
-        has_point: digits.has_point || point.is_some(),
+        whole: digits.whole.max(count_digits(before)),
+        places: digits.places.max(count_digits(behind)),
+        is_grouped: digits.is_grouped || before.contains(style.thousands),
+        has_point: digits.has_point || has_point,
     })
-}
-
-/// Whether a number may have this byte.
-fn may_be_in_number(byte: u8) -> bool {
-    byte.is_ascii_digit() || matches!(byte, b'.' | b',' | b'-' | b'+' | b' ' | b'\t' | b'\'')
-}
-
-/// How many digits there are.
-fn count_of(bytes: &[u8]) -> usize {
-    bytes.iter().filter(|byte| byte.is_ascii_digit()).count()
 }

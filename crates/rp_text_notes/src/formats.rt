@@ -3,7 +3,7 @@
 use crate::texts::{ColumnTexts, NumberReader};
 use crate::times::{IN_UTC, IN_ZONE};
 use crate::way::{Way, as_fine};
-use rp_wording::Pieces;
+use rp_wording::{Pieces, count_digits};
 use std::alloc::{AllocError, Global};
 
 /// Formats of dates, each with the one that has its numbers in another order and may be meant as well, if there is such a one.
@@ -72,6 +72,16 @@ struct Form {
     word: &'static str,
 }
 
+/// Another way that may be meant.
+struct Other {
+    /// When the first one is meant.
+    condition: &'static str,
+    /// When this one is.
+    otherwise: &'static str,
+    /// What is behind the source then.
+    behind: String,
+}
+
 /// How all texts of a column are read as dates or times by a format, in a unit that is at least so fine. None where not all are.
 pub(crate) fn format_way(
     alloc: Global,
@@ -79,25 +89,36 @@ pub(crate) fn format_way(
     column: ColumnTexts<'_>,
     least: usize,
 ) -> Result<Option<Way>, AllocError> {
-    if !has_digits(column.first().unwrap_or("")) {
+    if count_digits(column.first().unwrap_or("")) < FEW_DIGITS {
         return Ok(None);
     }
-    for (date, swapped) in DATES {
-        for (clock, word) in CLOCKS {
-            let word = as_fine(word, least);
-            let form = Form { date, clock, word };
-            if let Some(way) = way_of(alloc, reader, column, form)? {
-                return Ok(Some(with_other(alloc, reader, column, form, swapped, way)?));
-            }
+    for date in DATES.as_slice() {
+        let way = way_of_date(alloc, reader, column, least, *date, CLOCKS.as_slice())?;
+        if way.is_some() {
+            return Ok(way);
         }
     }
     Ok(None)
 }
 
-/// Whether a text has as many digits as a date.
-fn has_digits(text: &str) -> bool {
-    let digits = text.bytes().filter(|byte| byte.is_ascii_digit()).count();
-    digits >= FEW_DIGITS
+/// The same by a date's format and one of these that may follow it.
+fn way_of_date(
+    alloc: Global,
+    reader: &mut NumberReader,
+    column: ColumnTexts<'_>,
+    least: usize,
+    date: (&'static str, &'static str),
+    clocks: &[(&'static str, &'static str)],
+) -> Result<Option<Way>, AllocError> {
+    let (date, swapped) = date;
+    for (clock, word) in clocks {
+        let word = as_fine(word, least);
+        let form = Form { date, clock, word };
+        if let Some(way) = way_of(alloc, reader, column, form)? {
+            return with_other(alloc, reader, column, form, swapped, way);
+        }
+    }
+    Ok(None)
 }
 
 /// How all texts of a column are read by a format, in UTC where they have no offset.
@@ -125,8 +146,7 @@ fn is_without_offset(form: Form) -> bool {
     form.word != "date" && !form.clock.contains("%z")
 }
 
-/// The way of a format with the one that may be meant otherwise: with its numbers in another order, where that reads all texts too, or in a
-/// time zone.
+/// The way of a format, with the one that may be meant otherwise.
 fn with_other(
     alloc: Global,
     reader: &mut NumberReader,
@@ -134,23 +154,57 @@ fn with_other(
     form: Form,
     swapped: &'static str,
     way: Way,
-) -> Result<Way, AllocError> {
+) -> Result<Option<Way>, AllocError> {
+    match other_of(alloc, reader, column, form, swapped)? {
+        Some(
+            Other {
+                condition,
+                otherwise,
+                behind,
+            },
+        ) => Ok(Some(way.or(condition, otherwise, behind))),
+        None => Ok(Some(way)),
+    }
+}
+
+/// What may be meant otherwise than by a format: one with its numbers in another order, where that reads all texts too, or a time zone.
+fn other_of(
+    alloc: Global,
+    reader: &mut NumberReader,
+    column: ColumnTexts<'_>,
+    form: Form,
+    swapped: &'static str,
+) -> Result<Option<Other>, AllocError> {
     let other = Form {
         date: swapped,
         ..form
     };
-    let is_either = !swapped.is_empty() && way_of(alloc, reader, column, other)?.is_some();
-    let other = if is_either { other } else { form };
-    let behind = behind_source(alloc, other, "Europe/Berlin")?;
-    Ok(match (is_either, is_without_offset(form)) {
-        (true, has_none) => way.or(
-            condition_of(form.date, has_none),
-            otherwise_of(swapped, has_none),
-            behind,
-        ),
-        (false, true) => way.or(IN_UTC, IN_ZONE, behind),
-        (false, false) => way,
-    })
+    let has_no_offset = is_without_offset(form);
+    if !swapped.is_empty() && reads_all(alloc, reader, column, other)? {
+        return Ok(Some(Other {
+            condition: condition_of(form.date, has_no_offset),
+            otherwise: otherwise_of(swapped, has_no_offset),
+            behind: behind_source(alloc, other, "Europe/Berlin")?,
+        }));
+    }
+    if !has_no_offset {
+        return Ok(None);
+    }
+    Ok(Some(Other {
+        condition: IN_UTC,
+        otherwise: IN_ZONE,
+        behind: behind_source(alloc, form, "Europe/Berlin")?,
+    }))
+}
+
+/// Whether a format reads all texts of a column.
+fn reads_all(
+    alloc: Global,
+    reader: &mut NumberReader,
+    column: ColumnTexts<'_>,
+    form: Form,
+) -> Result<bool, AllocError> {
+    Ok(way_of(alloc, reader, column, form)?.is_some())
 }
 
 /// When a format of numbers is meant, by the first of them; of times without an offset also that they are in UTC.

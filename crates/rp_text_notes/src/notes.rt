@@ -56,27 +56,53 @@ pub fn notes_on_texts(
     let mut found = columns_found(alloc, &mut reader, asked, rows)?;
     share_units(alloc, &mut reader, asked, rows, &mut found)?;
     let options = options_for(alloc, proposed, found.as_slice())?;
+    let readings = Readings {
+        found: found.as_slice(),
+        options: options.as_str(),
+    };
+    notes_by(alloc, &mut reader, asked, rows, readings)
+}
+
+/// The columns that are found, and the options by which they are read.
+#[derive(Clone, Copy)]
+struct Readings<'a> {
+    found: &'a [Found],
+    options: &'a str,
+}
+
+/// The notes on the columns of a query's table, in their order.
+fn notes_by(
+    alloc: Global,
+    reader: &mut NumberReader,
+    asked: Asked<'_>,
+    rows: &[Row],
+    readings: Readings<'_>,
+) -> Result<Vec<Note>, AllocError> {
     let mut notes = Vec::new(alloc);
-    for number in 1..query.table().columns().len().saturating_add(1) {
-        let line = match found_at(found.as_slice(), number) {
-            Some(one) => Some(line_of_found(
-                alloc,
-                &mut reader,
-                asked,
-                one,
-                rows,
-                options.as_str(),
-            )?),
-            None => line_on_strays(alloc, asked, rows, number)?,
-        };
-        if let Some(line) = line {
-            notes.push(Note {
-                column: number,
-                line,
-            })?;
+    for column in 1..asked.query.table().columns().len().saturating_add(1) {
+        if let Some(line) = line_on(alloc, reader, asked, rows, readings, column)? {
+            notes.push(Note { column, line })?;
         }
     }
     Ok(notes)
+}
+
+/// What is said of a column; None where there is nothing to say.
+fn line_on(
+    alloc: Global,
+    reader: &mut NumberReader,
+    asked: Asked<'_>,
+    rows: &[Row],
+    readings: Readings<'_>,
+    number: usize,
+) -> Result<Option<String>, AllocError> {
+    match found_at(readings.found, number) {
+        Some(one) => {
+            let line = line_of_found(alloc, reader, asked, one, rows, readings.options)?;
+            Ok(Some(line))
+        }
+        None => line_on_strays(alloc, asked, rows, number),
+    }
 }
 
 /// The column of this number among those that are found.

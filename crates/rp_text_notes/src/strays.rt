@@ -3,8 +3,7 @@
 
 use crate::same_form::have_one_form;
 use crate::texts::ColumnTexts;
-use rp_proposal::has_zeros;
-use rp_wording::{Pieces, noun};
+use rp_wording::{Pieces, are_digits, are_digits_or, count_digits, has_zeros, noun, unsigned};
 use std::alloc::{AllocError, Global};
 
 /// A number of so many digits surely has 64 bits with sign.
@@ -60,11 +59,7 @@ fn with_further<'a>(strays: Option<Strays<'a>>, text: &'a str) -> Option<Strays<
 
 /// Whether a text is a number that some reading takes.
 fn is_read(text: &str) -> bool {
-    is_fixed(unsigned(text)) && digits_of(text) <= MOST_DIGITS
-}
-
-fn digits_of(text: &str) -> usize {
-    text.bytes().filter(|byte| byte.is_ascii_digit()).count()
+    is_fixed(unsigned(text)) && count_digits(text) <= MOST_DIGITS
 }
 
 /// Whether a text is a number as people and programs write one: as a reading takes it, or with an exponent, or with the sign behind it.
@@ -79,29 +74,17 @@ fn is_number(text: &str) -> bool {
 
 /// Whether a text is digits with a zero in front, as ids are.
 fn is_id(text: &str) -> bool {
-    digits_of(text) == text.len() && has_zeros(text.as_bytes())
+    are_digits(text) && has_zeros(text.as_bytes())
 }
 
 fn is_exponent_sign(character: char) -> bool {
     matches!(character, 'e' | 'E')
 }
 
-/// A number without the sign in front of it.
-fn unsigned(text: &str) -> &str {
-    match text.strip_prefix('-') {
-        Some(rest) => rest,
-        None => text.strip_prefix('+').unwrap_or(text),
-    }
-}
-
 /// Whether a text has digits, and besides them at most one point or comma.
 fn is_fixed(text: &str) -> bool {
-    let digits = digits_of(text);
-    let signs = text
-        .bytes()
-        .filter(|byte| matches!(*byte, b'.' | b','))
-        .count();
-    digits > 0 && signs <= 1 && digits.saturating_add(signs) == text.len()
+    let digits = count_digits(text);
+    digits > 0 && text.len() <= digits.saturating_add(1) && are_digits_or(text, ".,")
 }
 
 /// What is to be known of a column of this name.

@@ -2,8 +2,8 @@
 
 use crate::signs::without_sign;
 use rp_columns::{Reading, ReadingFault, Texts, read};
-use rp_proposal::is_null_word;
 use rp_value::{Row, Value};
+use rp_wording::is_null_word;
 use std::alloc::{AllocError, Global};
 
 /// A column of rows, by its number from 1.

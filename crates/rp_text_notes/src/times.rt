@@ -4,6 +4,7 @@ use crate::formats::format_way;
 use crate::same_form::have_one_form;
 use crate::texts::{ColumnTexts, NumberReader};
 use crate::way::{Way, as_fine};
+use rp_wording::are_digits;
 use std::alloc::{AllocError, Global};
 
 /// So many digits a year has.
@@ -41,8 +42,8 @@ pub(crate) fn time_way(
 
 /// Whether a text begins with a year if it is a time, and smaller units come behind greater ones: it has no clock of twelve hours.
 fn has_year_first(text: &str) -> bool {
-    let year = text.trim().as_bytes().get(..YEAR_DIGITS).unwrap_or(b" ");
-    year.iter().all(|byte| byte.is_ascii_digit()) && !text.contains('m') && !text.contains('M')
+    let year = text.trim().get(..YEAR_DIGITS).unwrap_or("");
+    are_digits(year) && !text.contains('m') && !text.contains('M')
 }
 
 /// How all texts of a column are read as dates or times by ISO 8601, in a unit that is at least so fine.

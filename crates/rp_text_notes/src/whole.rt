@@ -2,7 +2,7 @@
 
 use crate::texts::{ColumnTexts, NumberReader};
 use crate::way::Way;
-use rp_proposal::{has_zeros, is_whole};
+use rp_wording::{has_zeros, is_whole};
 use std::alloc::{AllocError, Global};
 
 /// How all texts of a column are read as whole numbers, which they would have been proposed as but for words for null, or for blanks: None
