@@ -196,7 +196,7 @@ def unread_reports(checks, folder):
     process = subprocess.Popen([PROGRAM, "node", "--table", TABLE, "--clause", CLAUSE, *words], stderr=theirs, stdin=subprocess.DEVNULL)
     os.close(theirs)
     with open(ours, "rb", buffering=0) as reports:
-        port = int(reports.read(100).rsplit(b":", 1)[1])
+        port = int(reports.read(100).split(b"\n")[0].rsplit(b":", 1)[1])
         served = 0
         while served < 1000 and answers(port):
             served += 1

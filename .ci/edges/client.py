@@ -12,7 +12,7 @@ import sys
 import tempfile
 import time
 
-from sockets import CLAUSE, PROGRAM, TABLE, main, run
+from sockets import BEGINS, CLAUSE, PROGRAM, TABLE, main, run
 
 CLIENT = os.path.abspath("examples/client/client.py")
 KILLS = int(os.environ.get("KILLS", "60"))
@@ -108,8 +108,10 @@ def under_kills(checks, folder):
 
 
 def is_of_kills(line):
-    """Whether a client tells a batch that is sent again, or its node a connection that ended before."""
-    return line.startswith("rowmatch: connection 1: ") or (line.startswith("client: ") and line.endswith(": the batch is sent again"))
+    """Whether a client tells a batch that is sent again, or its node how it began, or a connection that ended before."""
+    if line.startswith(("rowmatch: connection 1: ", "rowmatch: resumed from ")) or line.endswith(BEGINS.rstrip()):
+        return True
+    return line.startswith("client: ") and line.endswith(": the batch is sent again")
 
 
 def items_in(kept):

@@ -10,7 +10,7 @@ import stat
 import time
 
 from sockets import (
-    CLAUSE, MANY, TABLE, Node, acknowledging, beginning, close, end, main, poll, preloaded, read_all, row, run, saved, talk,
+    BEGINS, CLAUSE, MANY, TABLE, Node, acknowledging, beginning, close, end, main, poll, preloaded, read_all, row, run, saved, talk,
 )
 
 NEW, REPEAT = '{"taken":"new"}\n', '{"taken":"repeat"}\n'
@@ -70,6 +70,27 @@ def refused_is_kept(checks, folder):
     node = Node(state)
     checks.same("what was refused can be had back", ("".join(node.told), talk(node, ROWS)), ("", REPEAT * 6))
     node.ended()
+
+
+def how_it_began(checks, folder):
+    """A node says with --verbose whether it goes on from its file. With a mistake in the name of the file it begins with nothing."""
+    state = f"{folder}/state"
+    node = Node(state)
+    checks.same("a first start", node.began, f"rowmatch: {state}{BEGINS}")
+    talk(node, ROWS)
+    node.ended()
+    node = Node(state)
+    checks.same("a restart", (node.began, talk(node, ROWS)), (f"rowmatch: resumed from {state}\n", REPEAT * 6))
+    node.ended()
+    node = Node(f"{folder}/stat")
+    checks.same("another name", (node.began, talk(node, ROWS)), (f"rowmatch: {folder}/stat{BEGINS}", NEW * 6))
+    node.ended()
+    node = Node(state, clause=OTHER)
+    checks.same("another clause", (node.began, "ClauseDiffers" in "".join(node.told)), ("", True))
+    end(node)
+    node = Node(f"{folder}/quiet", quiet=True)
+    talk(node, ROWS)
+    checks.same("without --verbose", node.ended(), (0, ""))
 
 
 def blanks(checks, folder):
@@ -300,6 +321,6 @@ def one_file(checks, folder):
 
 if __name__ == "__main__":
     main([
-        refused_is_kept, blanks, acknowledged, taken_away, ended_before_it_saved, full_disk, no_memory_to_save, unchanged, without_a_count, whose_file,
+        refused_is_kept, how_it_began, blanks, acknowledged, taken_away, ended_before_it_saved, full_disk, no_memory_to_save, unchanged, without_a_count, whose_file,
         flush_of_the_folder, one_file,
     ])

@@ -30,6 +30,8 @@ def not_reached(number, address, why):
     return f"rowmatch: node {number} at {address}: {why}\nrowmatch: device: connect\n"
 
 
+# how a node with --verbose says that its file isn't there
+BEGINS = " isn't there: the node begins with nothing\n"
 # connections for a node that is ended by a signal: programs of before ask for a number
 MANY = 1_000_000
 
@@ -37,7 +39,8 @@ MANY = 1_000_000
 class Node:
     """A node of the program, listening at a port of loopback that the system chose. A quiet one, without --verbose, doesn't say which:
     it is given one that was free. With `variables` of the environment it runs under these too. With None for the connections it serves
-    until it is ended; with None for the clause the options have it. A node that ends before it listens has no port."""
+    until it is ended; with None for the clause the options have it. A node that ends before it listens has no port. What it says of how it
+    began is `began`, apart from what it told."""
 
     all = weakref.WeakSet()
 
@@ -50,12 +53,14 @@ class Node:
         self.process = subprocess.Popen(words, stdin=subprocess.DEVNULL, stderr=subprocess.PIPE, text=True, preexec_fn=limit,
                                         env={**os.environ, **(variables or {})})
         Node.all.add(self)
-        self.told = []
+        self.told, self.began = [], ""
         for line in [] if quiet else self.process.stderr:
             if line.startswith("rowmatch: listening at "):
                 self.port = int(line.rsplit(":", 1)[1])
                 break
             self.told.append(line)
+        if self.port and not quiet and not any("checkpoint refused" in line for line in self.told):
+            self.began = self.process.stderr.readline()
         self.reader = threading.Thread(target=self.read_errors, daemon=True)
         self.reader.start()
 

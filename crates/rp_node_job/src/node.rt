@@ -36,6 +36,7 @@ pub fn run_node(rt: &HostRuntime, job: &NodeJob) -> Result<(), ProgramFault> {
     let standing = begun(rt, job, &mut file, query)?;
     let listener = listening(rt, job.listen.as_str())?;
     tell_listening(rt, job, &listener);
+    tell_beginning(rt, job, &file, &standing);
     serve_all(rt, job, &listener, &mut file, standing)
 }
 
@@ -226,6 +227,20 @@ fn tell_difference(rt: &HostRuntime, clause: &[u8], bytes: &[u8]) -> Result<(), 
         None => tell(rt, &"table differs"),
     }
     Ok(())
+}
+
+/// Tells with `--verbose` whether the node goes on from its file, unless that is told as refused. One whose file isn't there begins with
+/// nothing, as a new node does and as one does whose file's name has a mistake in it.
+fn tell_beginning(rt: &HostRuntime, job: &NodeJob, file: &StateFile, standing: &Standing) {
+    if !job.verbose || file.is_refused {
+        return;
+    }
+    let path = job.state.as_str();
+    let _ = if standing.saved.is_some() {
+        eprintln!(rt; "rowmatch: resumed from {path}")
+    } else {
+        eprintln!(rt; "rowmatch: {path} isn't there: the node begins with nothing")
+    };
 }
 
 fn tell_listening(rt: &HostRuntime, job: &NodeJob, listener: &TcpListener) {
