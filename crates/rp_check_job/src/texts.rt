@@ -1,5 +1,5 @@
-//! What `check` says of columns that are proposed as texts, and are numbers or times that a clause compares, and of columns that are given
-//! in different units.
+//! What `check` says of columns that are proposed as texts, and are numbers or times that a clause compares, or as whole numbers, and are
+//! dates that it adds or subtracts; and of columns that are given in different units.
 
 use crate::found::Found;
 use rp_job::{InputForm, notes_on_columns, notes_on_given};

@@ -1,10 +1,10 @@
-//! What is reported of columns that are proposed as texts, and are numbers or times that a clause compares, and of those that are given in
-//! different units.
+//! What is reported of columns that are proposed as texts, and are numbers or times that a clause compares, or as whole numbers, and are dates
+//! that it adds or subtracts; and of those that are given in different units.
 use crate::telling::tell;
 use rp_compile::{CompileFault, compile};
 use rp_query::Query;
 use rp_question::InputShape;
-use rp_text_notes::{Note, Proposed, notes_on_texts, notes_on_units};
+use rp_text_notes::{Note, Proposed, notes_on_proposed, notes_on_units};
 use rp_value::{Row, Table};
 use rp_wording::{Pieces, shown_line};
 use std::alloc::{AllocError, Global};
@@ -12,8 +12,8 @@ use std::alloc::{AllocError, Global};
 /// What is before a condition of rows in the clause that it is read as.
 const FRONT: &str = "PATTERN (R) DEFINE R AS ";
 
-/// Notes on the columns of a query, which are proposed, that are numbers or times and are compared as texts: by the query, or by a condition
-/// that leaves rows out. The rows are all of the inputs.
+/// Notes on the columns of a query, which are proposed, that are numbers or times and are compared as texts, or dates and are added as whole
+/// numbers: by the query, or by a condition that leaves rows out. The rows are all of the inputs.
 pub fn notes_on_columns(
     alloc: Global,
     query: &Query,
@@ -22,8 +22,8 @@ pub fn notes_on_columns(
     rows: &[Row],
 ) -> Result<Vec<Note>, AllocError> {
     match condition_query(alloc, condition, query.table())? {
-        Some(filter) => notes_on_texts(alloc, query, Some(&filter), proposed, rows),
-        None => notes_on_texts(alloc, query, None, proposed, rows),
+        Some(filter) => notes_on_proposed(alloc, query, Some(&filter), proposed, rows),
+        None => notes_on_proposed(alloc, query, None, proposed, rows),
     }
 }
 

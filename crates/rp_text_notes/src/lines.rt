@@ -1,6 +1,6 @@
 //! The line of a note.
 
-use crate::example::Example;
+use crate::example::{Example, Numbered};
 use crate::found::Found;
 use crate::way::Way;
 use rp_wording::Pieces;
@@ -29,6 +29,26 @@ pub(crate) fn line_of(
             &[found.sign],
         );
     }
+    line.finish()
+}
+
+/// What is to be known of a column of this name whose whole numbers are dates or times, and the options to write.
+pub(crate) fn line_of_dates(
+    alloc: Global,
+    name: &str,
+    way: &Way,
+    one: Numbered<'_>,
+    options: &str,
+) -> Result<String, AllocError> {
+    let mut line = Pieces::of(alloc, name);
+    line.push_filled(" has {}, as ", &[way.texts()]);
+    line.push(one.text);
+    line.push_filled(
+        ", and sums and differences of such numbers count no {}",
+        &[way.unit()],
+    );
+    let example = Example { one, before: None };
+    push_reading(alloc, &mut line, name, way, Some(example), options);
     line.finish()
 }
 

@@ -1,5 +1,6 @@
 //! Notes on columns of texts that are numbers or times.
 
+use crate::compact_dates::{add_dates, line_on_dates};
 use crate::example::example_of;
 use crate::found::{Found, columns_found};
 use crate::lines::line_of;
@@ -39,12 +40,13 @@ pub struct Proposed<'a> {
 
 /// A note on each column of texts that are all decimal numbers, whose values the query asks for, or all dates or times, whose order it
 /// asks for and may not find: in the order of the columns. Words that other programs write for a null may be among them; between such words
-/// numbers may be whole. A column whose order is asked for may have a few other fields among its numbers, too. The rows are all of an input,
-/// whose columns are proposed. The filter is the query of a condition that leaves rows out.
+/// numbers may be whole. A column whose order is asked for may have a few other fields among its numbers, too. And a note on each column of
+/// whole numbers that are all dates or times, as 20240131, which the query adds to or subtracts. The rows are all of an input, whose columns are
+/// proposed. The filter is the query of a condition that leaves rows out.
 ///
 /// Each note has the same options, by which all these are read as numbers, in one unit where they are compared with each other. It reads each
 /// field of the rows. Where other fields are among the numbers, it has none, and says what to do with these.
-pub fn notes_on_texts(
+pub fn notes_on_proposed(
     alloc: Global,
     query: &Query,
     filter: Option<&Query>,
@@ -55,6 +57,7 @@ pub fn notes_on_texts(
     let asked = Asked { query, filter };
     let mut found = columns_found(alloc, &mut reader, asked, rows)?;
     share_units(alloc, &mut reader, asked, rows, &mut found)?;
+    add_dates(alloc, &mut reader, asked, rows, &mut found)?;
     let options = options_for(alloc, proposed, found.as_slice())?;
     let readings = Readings {
         found: found.as_slice(),
@@ -97,10 +100,16 @@ fn line_on(
     number: usize,
 ) -> Result<Option<String>, AllocError> {
     match found_at(readings.found, number) {
-        Some(one) => {
+        Some(one) if asked.is_text(number) => {
             let line = line_of_found(alloc, reader, asked, one, rows, readings.options)?;
             Ok(Some(line))
         }
+        Some(one) if asked.adds(number) => {
+            let name = name_of(alloc, asked.query, number)?;
+            let line = line_on_dates(alloc, reader, rows, name.as_str(), one, readings.options)?;
+            Ok(Some(line))
+        }
+        Some(_) => Ok(None),
         None => line_on_strays(alloc, asked, rows, number),
     }
 }

@@ -112,7 +112,7 @@ fn way_as_fine(
 }
 
 /// Puts a column in its place, in the order of the columns.
-fn put(
+pub(crate) fn put(
     found: &mut Vec<Found>,
     number: usize,
     way: Way,

@@ -47,7 +47,16 @@ impl<'a> Asked<'a> {
             }
     }
 
-    /// Whether their order is.
+    /// Whether a column is added to anything, or subtracted.
+    pub(crate) fn adds(self, column: usize) -> bool {
+        adds(self.query, column)
+            || match self.filter {
+                Some(filter) => adds(filter, column),
+                None => false,
+            }
+    }
+
+    /// Whether the order of a column is asked for.
     pub(crate) fn asks_order(self, column: usize) -> bool {
         asks_order(self.query, column)
             || match self.filter {
@@ -124,31 +133,45 @@ fn compares(condition: &Condition, column: usize, by_order: bool) -> bool {
 
 /// Whether a condition or a measure of a query takes two columns for values of one unit.
 fn compares_both(query: &Query, one: usize, other: usize) -> bool {
-    let plan = query.plan();
-    let pair = Pair { query, one, other };
-    plan.conditions
-        .iter()
-        .any(|condition| pair.is_compared_in(condition))
-        || plan
-            .measures
-            .iter()
-            .any(|measure| pair.is_added_in(measure))
+    let other = Some(other);
+    Operands { query, one, other }.are_in_query()
 }
 
-/// Two columns of a query.
+/// Whether a column is an operand of a sum or a difference in a condition or a measure of a query.
+fn adds(query: &Query, column: usize) -> bool {
+    let (one, other) = (column, None);
+    Operands { query, one, other }.are_in_query()
+}
+
+/// Two columns of a query; or one of them, and anything beside it in a sum or a difference.
 #[derive(Clone, Copy)]
-struct Pair<'a> {
+struct Operands<'a> {
     query: &'a Query,
     one: usize,
-    other: usize,
+    other: Option<usize>,
 }
 
-impl<'a> Pair<'a> {
-    /// Whether a condition compares them with each other, or adds them.
+impl<'a> Operands<'a> {
+    /// Whether a condition or a measure has them.
+    fn are_in_query(self) -> bool {
+        let plan = self.query.plan();
+        for condition in &plan.conditions {
+            if self.is_compared_in(condition) {
+                return true;
+            }
+        }
+        plan.measures
+            .iter()
+            .any(|measure| self.is_added_in(measure))
+    }
+
+    /// Whether a condition compares two columns with each other, or adds them.
     fn is_compared_in(self, condition: &Condition) -> bool {
         match condition {
             Condition::Compare(_, left, right) => {
-                self.are(left, right) || self.is_added_in(left) || self.is_added_in(right)
+                self.other.is_some() && self.are(left, right)
+                    || self.is_added_in(left)
+                    || self.is_added_in(right)
             }
             Condition::IsNull(operand) => self.is_added_in(operand),
             Condition::Not(body) => self.is_compared_in(body),
@@ -158,7 +181,7 @@ impl<'a> Pair<'a> {
         }
     }
 
-    /// Whether an expression has a sum or a difference of both in it.
+    /// Whether an expression has a sum or a difference of them in it.
     fn is_added_in(self, expr: &Expr) -> bool {
         match expr {
             Expr::Arithmetic(operation, left, right) => {
@@ -172,8 +195,16 @@ impl<'a> Pair<'a> {
 
     /// Whether two expressions are of these columns, one of each.
     fn are(self, left: &Expr, right: &Expr) -> bool {
-        is_of(self.query, left, self.one) && is_of(self.query, right, self.other)
-            || is_of(self.query, left, self.other) && is_of(self.query, right, self.one)
+        is_of(self.query, left, self.one) && self.is_other(right)
+            || self.is_other(left) && is_of(self.query, right, self.one)
+    }
+
+    /// Whether an expression is of the other column, or of any where there is no other.
+    fn is_other(self, expr: &Expr) -> bool {
+        match self.other {
+            Some(other) => is_of(self.query, expr, other),
+            None => true,
+        }
     }
 }
 

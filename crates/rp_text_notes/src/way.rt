@@ -1,6 +1,7 @@
 //! A way to read the texts of a column as whole numbers.
 
 use crate::texts::{ColumnTexts, NumberReader};
+use crate::times::{IN_UTC, IN_ZONE};
 use rp_columns::{Columns, ColumnsFault, Reading, read_columns};
 use rp_wording::Pieces;
 use std::alloc::{AllocError, Global};
@@ -55,7 +56,28 @@ impl Way {
         if !reader.reads_all(&reading, column) {
             return Ok(None);
         }
-        Ok(Some(Way {
+        Ok(Some(Way::by(alloc, reading, word, behind)))
+    }
+
+    /// The way of dates, as days.
+    pub(crate) fn of_days(alloc: Global) -> Way {
+        Way::by(alloc, Reading::Day, "date", String::new(alloc))
+    }
+
+    /// The way of times that are digits alone, as seconds: in UTC, or in a time zone.
+    pub(crate) fn of_compact_times(alloc: Global) -> Result<Option<Way>, AllocError> {
+        let behind = String::from_str(alloc, ", '%Y%m%d%H%M%S', 'UTC'")?;
+        let Some(reading) = reading_of(alloc, "seconds", behind.as_str())? else {
+            return Ok(None);
+        };
+        let other = String::from_str(alloc, ", '%Y%m%d%H%M%S', 'Europe/Berlin'")?;
+        let way = Way::by(alloc, reading, "seconds", behind);
+        Ok(Some(way.or(IN_UTC, IN_ZONE, other)))
+    }
+
+    /// The way of a reading that this word means with this behind the source.
+    fn by(alloc: Global, reading: Reading, word: &'static str, behind: String) -> Way {
+        Way {
             reading,
             word,
             behind,
@@ -64,7 +86,7 @@ impl Way {
             condition: "",
             otherwise: "",
             other: String::new(alloc),
-        }))
+        }
     }
 
     /// The same, where it is meant on a condition, and another one otherwise.
@@ -134,6 +156,14 @@ impl Way {
             "decimal" | "int" => "numbers",
             "date" => "dates",
             _ => "times",
+        }
+    }
+
+    /// What the differences of their values count, where they are dates or times.
+    pub(crate) fn unit(&self) -> &'static str {
+        match self.word {
+            "date" => "days",
+            _ => "seconds",
         }
     }
 
