@@ -21,7 +21,7 @@ pub(crate) struct Example<'a> {
 
 /// The texts of a column that came so far, as far as the next one is compared with them.
 #[derive(Clone, Copy)]
-struct Passed<'a> {
+pub(crate) struct Passed<'a> {
     /// The last one.
     last: Numbered<'a>,
     /// The one that comes last as a text.
@@ -65,7 +65,7 @@ fn number_of<'a>(
 }
 
 /// A text that came before and the one that is here, where their order is another one as numbers.
-fn crossing<'a>(passed: Option<Passed<'a>>, here: Numbered<'a>) -> Option<Example<'a>> {
+pub(crate) fn crossing<'a>(passed: Option<Passed<'a>>, here: Numbered<'a>) -> Option<Example<'a>> {
     let passed = passed?;
     for other in [passed.last, passed.greatest_text, passed.greatest_number] {
         if other.text > here.text && other.number < here.number {
@@ -87,7 +87,7 @@ fn pair<'a>(one: Numbered<'a>, other: Numbered<'a>) -> Example<'a> {
 }
 
 /// The texts that came so far, with a further one.
-fn with_further<'a>(passed: Option<Passed<'a>>, here: Numbered<'a>) -> Passed<'a> {
+pub(crate) fn with_further<'a>(passed: Option<Passed<'a>>, here: Numbered<'a>) -> Passed<'a> {
     let Some(passed) = passed else {
         return Passed {
             last: here,

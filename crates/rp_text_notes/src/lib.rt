@@ -6,6 +6,7 @@
 //! reading reads each field. The only error is being out of memory.
 #![tactic(auto)]
 
+mod clocks;
 mod compact_dates;
 mod decimals;
 mod example;

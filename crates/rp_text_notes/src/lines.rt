@@ -85,7 +85,7 @@ fn push_reading(
 }
 
 /// Adds two texts in their order, where it isn't that of the numbers.
-fn push_order(line: &mut Pieces, example: Option<Example<'_>>) {
+pub(crate) fn push_order(line: &mut Pieces, example: Option<Example<'_>>) {
     let Some(example) = example else {
         return;
     };

@@ -1,5 +1,6 @@
 //! Notes on columns of texts that are numbers or times.
 
+use crate::clocks::{clocks_of, line_of_clocks};
 use crate::compact_dates::{add_dates, line_on_dates};
 use crate::example::example_of;
 use crate::found::{Found, columns_found};
@@ -45,7 +46,7 @@ pub struct Proposed<'a> {
 /// proposed. The filter is the query of a condition that leaves rows out.
 ///
 /// Each note has the same options, by which all these are read as numbers, in one unit where they are compared with each other. It reads each
-/// field of the rows. Where other fields are among the numbers, it has none, and says what to do with these.
+/// field of the rows. Where other fields are among the numbers, or the column has times of day, it has none, and says what to do with these.
 pub fn notes_on_proposed(
     alloc: Global,
     query: &Query,
@@ -110,7 +111,7 @@ fn line_on(
             Ok(Some(line))
         }
         Some(_) => Ok(None),
-        None => line_on_strays(alloc, asked, rows, number),
+        None => line_on_others(alloc, asked, rows, number),
     }
 }
 
@@ -138,8 +139,9 @@ fn line_of_found(
     line_of(alloc, name.as_str(), found, example, options)
 }
 
-/// What is said of a column whose order is asked for, and whose numbers have other fields among them; None where there is nothing to say.
-fn line_on_strays(
+/// What is said of a column whose order is asked for, and that no reading takes: its numbers have other fields among them, or it has times of
+/// day. None where there is nothing to say.
+fn line_on_others(
     alloc: Global,
     asked: Asked<'_>,
     rows: &[Row],
@@ -153,11 +155,15 @@ fn line_on_strays(
         number,
         sign: "",
     };
-    let Some(strays) = strays_of(column) else {
+    if let Some(strays) = strays_of(column) {
+        let name = name_of(alloc, asked.query, number)?;
+        return Ok(Some(line_of_strays(alloc, name.as_str(), strays)?));
+    }
+    let Some(clocks) = clocks_of(column) else {
         return Ok(None);
     };
     let name = name_of(alloc, asked.query, number)?;
-    Ok(Some(line_of_strays(alloc, name.as_str(), strays)?))
+    Ok(Some(line_of_clocks(alloc, name.as_str(), clocks)?))
 }
 
 /// The name of a column as it may be typed.
