@@ -1,7 +1,7 @@
 -- Byte order marks: whether a text begins with one, and what is behind it.
-use Rattle.std.proofs.Common.{◌≡◌, ℕ, Bool, true, false, List, [], ◌∷◌, ◌++◌, ◌==◌, ◌&&◌, if◌then◌else◌, refl, ap, ◌∙◌, sym, append_assoc, subst, arith, eqb}
+use Rattle.std.proofs.Common.{◌≡◌, ℕ, Bool, true, false, List, [], ◌∷◌, ◌++◌, ◌==◌, refl, ap, ◌∙◌, sym, append_assoc, subst, arith, eqb}
 use Rattle.std.proofs.lemmas.Bool.Decides.{nat_tests}
-use Rattle.csv.specs.Reading.{is_bom, strip_bom}
+use Rattle.csv.specs.Reading.{strip_bom}
 use Rattle.rp_quotes.specs.Watching.{HasMark, IsSettled}
 use Rattle.rp_quotes.specs.declared.mark.Mark.{Mark}
 use Rattle.rp_quotes.specs.declared.mark.Mark.TheVariants as mark

@@ -1,21 +1,34 @@
 -- What a watch has of a text, with one byte more.
-use Rattle.std.proofs.Common.{◌≡◌, ℕ, Bool, true, false, ◌||◌, ◌==◌, if◌then◌else◌, List, [], ◌∷◌, ◌++◌, Option, Some, None, refl, ap, ◌∙◌, sym, subst}
+use Rattle.std.proofs.Common.{◌≡◌, ℕ, Bool, true, false, ◌||◌, ◌&&◌, ◌==◌, if◌then◌else◌, List, [], ◌∷◌, ◌++◌, Option, Some, None, refl, ap, ◌∙◌, sym, subst}
 use Rattle.std.specs.Option.{is_some}
 use Rattle.csv.specs.Machine.{step}
 use Rattle.csv.specs.Reading.{strip_bom}
 use Rattle.csv.specs.declared.parser.State.{State}
 use Rattle.csv.specs.declared.parser.State.TheVariants as st
 use Rattle.rp_input.specs.Layouts.{config_with}
-use Rattle.rp_quotes.specs.Quotes.{IsAt, quoting_of, goes_on, goes_on_behind_quote, goes_on_within, state_behind, state_of}
-use Rattle.rp_quotes.specs.Watching.{HasMark, HasSeen, LeadsTo, is_stray, stray_behind}
-use Rattle.rp_quotes.specs.declared.mark.Mark.{Mark}
+use Rattle.rp_quotes.specs.Quotes.{
+  IsAt,
+  begins_field,
+  goes_on,
+  goes_on_behind_quote,
+  goes_on_within,
+  has_quote_behind_blank,
+  has_quote_within,
+  is_blank_behind,
+  is_blank_with,
+  is_in_field,
+  quoting_of,
+  state_behind,
+  state_of,
+}
+use Rattle.rp_quotes.specs.Watching.{HasMark, HasSeen, LeadsTo, behind_blank_by, ends_in_blanks, is_begin, is_blank_by, is_plain, is_stray, stray_behind}
 use Rattle.rp_quotes.specs.declared.mark.Mark.TheVariants as mark
 use Rattle.rp_quotes.specs.declared.quoting.Quoting.{Quoting}
 use Rattle.rp_quotes.specs.declared.quoting.Quoting.TheVariants as quoting
 use Rattle.rp_quotes.specs.declared.watch.QuoteWatch.{QuoteWatch}
 use Rattle.rp_quotes.specs.declared.watch.Stray.{Stray}
 use Rattle.rp_quotes.proofs.Marks.{stripped_last}
-use Rattle.rp_quotes.proofs.Steps.{behind_last, or_false, within_last}
+use Rattle.rp_quotes.proofs.Steps.{behind_last, blank_last, quote_last, within_last}
 
 pub at_start : (d : ℕ) → IsAt quoting.Begin (state_of d [])
 unfolding state_behind strip_bom
@@ -24,6 +37,14 @@ at_start d = refl
 pub stray_at_start : (d : ℕ) → is_some {T = Stray} None ≡ goes_on_behind_quote d []
 unfolding goes_on_within strip_bom
 stray_at_start d = refl
+
+pub blank_at_start : (d : ℕ) → false ≡ ends_in_blanks d []
+unfolding is_blank_behind strip_bom
+blank_at_start d = refl
+
+pub behind_blank_at_start : (d : ℕ) → is_some {T = ℕ} None ≡ has_quote_behind_blank d []
+unfolding has_quote_within strip_bom
+behind_blank_at_start d = refl
 
 -- a step of csv goes on behind a quote where that of the watch does
 stray_of : Option Quoting → Option Quoting → Bool
@@ -101,6 +122,49 @@ same_stray : (old new : Quoting) (s t : State) → IsAt old s → IsAt new t →
 unfolding stray_of
 same_stray old new s t at to = states_stray s t ∙ ap (λ q. stray_of q (quoting_of t)) at ∙ ap (stray_of (Some old)) to
 
+-- csv is before a field, and in one without quotes, where the watch is
+begin_of : Option Quoting → Bool
+begin_of (Some at) = is_begin at
+begin_of None = false
+
+plain_of : Option Quoting → Bool
+plain_of (Some at) = is_plain at
+plain_of None = false
+
+states_begin : (s : State) → begins_field s ≡ begin_of (quoting_of s)
+unfolding begin_of
+states_begin st.StartRecord = refl
+states_begin st.StartField = refl
+states_begin st.InField = refl
+states_begin st.InQuoted = refl
+states_begin st.AfterQuote = refl
+states_begin st.InEscape = refl
+states_begin st.InComment = refl
+states_begin st.AfterCr = refl
+
+states_plain : (s : State) → is_in_field s ≡ plain_of (quoting_of s)
+unfolding plain_of
+states_plain st.StartRecord = refl
+states_plain st.StartField = refl
+states_plain st.InField = refl
+states_plain st.InQuoted = refl
+states_plain st.AfterQuote = refl
+states_plain st.InEscape = refl
+states_plain st.InComment = refl
+states_plain st.AfterCr = refl
+
+same_begin : (at : Quoting) (s : State) → IsAt at s → begins_field s ≡ is_begin at
+unfolding begin_of
+same_begin at s is = states_begin s ∙ ap begin_of is
+
+same_plain : (at : Quoting) (s : State) → IsAt at s → is_in_field s ≡ is_plain at
+unfolding plain_of
+same_plain at s is = states_plain s ∙ ap plain_of is
+
+same_blank : (blank : Bool) (old new : Quoting) (s t : State) (b : ℕ) → IsAt old s → IsAt new t → is_blank_with blank s b t ≡ is_blank_by blank old b new
+same_blank blank old new s t b at to =
+    ap (λ x. (b == 32) && ((blank || x) && is_in_field t)) (same_begin old s at) ∙ ap (λ x. (b == 32) && ((blank || is_begin old) && x)) (same_plain new t to)
+
 -- behind the mark
 at_mark : (d : ℕ) → IsAt quoting.Begin (state_of d (0xEF ∷ 0xBB ∷ 0xBF ∷ []))
 unfolding state_behind strip_bom
@@ -114,6 +178,28 @@ stray_of_mark d false is = rw is refl
 stray_of_whole : (d : ℕ) → goes_on_behind_quote d (0xEF ∷ 0xBB ∷ 0xBF ∷ []) ≡ false
 unfolding goes_on_within strip_bom
 stray_of_whole d = refl
+
+blank_of_mark : (d : ℕ) → ends_in_blanks d (0xEF ∷ 0xBB ∷ []) ≡ false
+unfolding is_blank_behind strip_bom
+blank_of_mark d = refl
+
+blank_of_whole : (d : ℕ) → ends_in_blanks d (0xEF ∷ 0xBB ∷ 0xBF ∷ []) ≡ false
+unfolding is_blank_behind strip_bom
+blank_of_whole d = refl
+
+behind_blank_of_mark : (d : ℕ) → has_quote_behind_blank d (0xEF ∷ 0xBB ∷ []) ≡ false
+unfolding has_quote_within strip_bom
+behind_blank_of_mark d = refl
+
+behind_blank_of_whole : (d : ℕ) → has_quote_behind_blank d (0xEF ∷ 0xBB ∷ 0xBF ∷ []) ≡ false
+unfolding has_quote_within strip_bom
+behind_blank_of_whole d = refl
+
+no_blank : (blank : Bool) (old : Quoting) (b : ℕ) → b ≡ 0xBF → false ≡ is_blank_by blank old b quoting.Begin
+no_blank blank old b last = ap (λ x. is_blank_by blank old x quoting.Begin) (sym last)
+
+no_quote : (d b : ℕ) → false ≡ has_quote_behind_blank d (0xEF ∷ 0xBB ∷ []) || (ends_in_blanks d (0xEF ∷ 0xBB ∷ []) && (b == 34))
+no_quote d b = ap (λ x. false || (x && (b == 34))) (sym (blank_of_mark d)) ∙ ap (λ x. x || (ends_in_blanks d (0xEF ∷ 0xBB ∷ []) && (b == 34))) (sym (behind_blank_of_mark d))
 
 never_to_begin : (old : Quoting) → is_stray old quoting.Begin ≡ false
 never_to_begin quoting.Begin = refl
@@ -129,6 +215,10 @@ mark_ends d text b w is last seen =
     record {
       at = subst (λ t. IsAt quoting.Begin (state_of d t)) (sym whole) (at_mark d);
       stray = ap (goes_on_behind_quote d) whole ∙ stray_of_whole d ∙ sym (ap (λ x. x || is_stray w.quoting quoting.Begin) none ∙ never_to_begin w.quoting);
+      blank = ap (ends_in_blanks d) whole ∙ blank_of_whole d ∙ no_blank (ends_in_blanks d text) w.quoting b last;
+      behind_blank =
+          ap (has_quote_behind_blank d) whole ∙ behind_blank_of_whole d ∙ no_quote d b
+          ∙ ap (λ t. has_quote_behind_blank d t || (ends_in_blanks d t && (b == 34))) (sym two);
     }
 
 -- anywhere else
@@ -142,6 +232,10 @@ goes_further d text b w new other leads seen =
     record {
       at = subst (IsAt new) (sym state) to;
       stray = ap (goes_on_within (config_with d) st.StartRecord) stripped ∙ within_last (config_with d) st.StartRecord front b ∙ ap (λ x. goes_on_behind_quote d text || x) (same_stray w.quoting new (state_of d text) (step (config_with d) (state_of d text) b).0 seen.at to);
+      blank =
+          ap (is_blank_behind (config_with d) st.StartRecord false) stripped ∙ blank_last (config_with d) st.StartRecord false front b
+          ∙ same_blank (ends_in_blanks d text) w.quoting new (state_of d text) (step (config_with d) (state_of d text) b).0 b seen.at to;
+      behind_blank = ap (has_quote_within (config_with d) st.StartRecord false) stripped ∙ quote_last (config_with d) st.StartRecord false front b;
     }
 
 -- a field is noted where one has gone on
@@ -149,5 +243,13 @@ pub stray_is : (old new : Quoting) (before : Option Stray) (here : Stray) → is
 stray_is old new (Some first) here = refl
 stray_is old new None here = noted (is_stray old new) refl where
   noted : (stray : Bool) → is_stray old new ≡ stray → is_some (if is_stray old new then Some here else None) ≡ is_stray old new
+  noted true is = rw is refl
+  noted false is = rw is refl
+
+-- and a quote is, where one has come behind blanks
+pub behind_blank_is : (blank : Bool) (b : ℕ) (before : Option ℕ) (line : ℕ) → is_some (behind_blank_by blank b before line) ≡ is_some before || (blank && (b == 34))
+behind_blank_is blank b (Some first) line = refl
+behind_blank_is blank b None line = noted (blank && (b == 34)) refl where
+  noted : (is : Bool) → (blank && (b == 34)) ≡ is → is_some (if blank && (b == 34) then Some line else None) ≡ blank && (b == 34)
   noted true is = rw is refl
   noted false is = rw is refl

@@ -1,5 +1,5 @@
 -- The quotes of a CSV text (RFC 4180, part 2), in terms of the states in which csv reads it.
-use Rattle.std.specs.Prelude.{◌≡◌, ◌||◌, ℕ, Bool, true, false, List, [], ◌∷◌, Option, Some, None}
+use Rattle.std.specs.Prelude.{◌≡◌, ◌||◌, ◌&&◌, ◌==◌, ℕ, Bool, true, false, List, [], ◌∷◌, Option, Some, None}
 use Rattle.csv.specs.Machine.{step}
 use Rattle.csv.specs.Reading.{strip_bom}
 use Rattle.csv.specs.declared.parser.Config.{Config}
@@ -48,3 +48,34 @@ goes_on_within config s (byte ∷ rest) = goes_on s (step config s byte).0 || go
 
 abbrev pub goes_on_behind_quote : ℕ → List ℕ → Bool
 goes_on_behind_quote delimiter text = goes_on_within (config_with delimiter) st.StartRecord (strip_bom text)
+
+-- whether csv is before the first byte of a field
+abbrev pub begins_field : State → Bool
+begins_field st.StartRecord = true
+begins_field st.StartField = true
+begins_field st.AfterCr = true
+begins_field _ = false
+
+-- whether csv takes what follows into a field without quotes
+abbrev pub is_in_field : State → Bool
+is_in_field st.InField = true
+is_in_field _ = false
+
+-- whether a field is blanks alone, and at least one, with one byte more that leads csv from here to there
+abbrev pub is_blank_with : Bool → State → ℕ → State → Bool
+is_blank_with blank here byte there = (byte == 32) && ((blank || begins_field here) && is_in_field there)
+
+-- whether the last field is blanks alone, and at least one
+unfoldable pub is_blank_behind : Config → State → Bool → List ℕ → Bool
+is_blank_behind config s blank [] = blank
+is_blank_behind config s blank (byte ∷ rest) =
+    is_blank_behind config (step config s byte).0 (is_blank_with blank s byte (step config s byte).0) rest
+
+-- whether a quote comes behind blanks with which some field begins: it doesn't open the field, and is a part of it as they are
+unfoldable pub has_quote_within : Config → State → Bool → List ℕ → Bool
+has_quote_within config s blank [] = false
+has_quote_within config s blank (byte ∷ rest) =
+    (blank && (byte == 34)) || has_quote_within config (step config s byte).0 (is_blank_with blank s byte (step config s byte).0) rest
+
+abbrev pub has_quote_behind_blank : ℕ → List ℕ → Bool
+has_quote_behind_blank delimiter text = has_quote_within (config_with delimiter) st.StartRecord false (strip_bom text)

@@ -7,7 +7,7 @@ ghost use Rattle.rp_quotes.specs.Quotes.{IsAt};
 ghost use Rattle.rp_quotes.specs.declared.quoting.Quoting.TheVariants as quoting;
 
 /// The byte that opens and closes a field.
-const QUOTE: u8 = b'"';
+pub(crate) const QUOTE: u8 = b'"';
 
 /// Where a text ends, as far as the quotes of its last field go.
 #[derive(Clone, Copy, PartialEq, Eq)]

@@ -7,6 +7,9 @@ use std::alloc::{AllocError, Global};
 /// its end. There may be none.
 pub fn remarks_on(alloc: Global, quotes: &QuoteWatch) -> Result<Vec<String>, AllocError> {
     let mut remarks = Vec::new(alloc);
+    if let Some(line) = quotes.behind_blank() {
+        remarks.push(behind_blank_remark(alloc, line)?)?;
+    }
     if let Some(stray) = quotes.stray() {
         remarks.push(stray_remark(alloc, stray)?)?;
     }
@@ -14,6 +17,16 @@ pub fn remarks_on(alloc: Global, quotes: &QuoteWatch) -> Result<Vec<String>, All
         remarks.push(open_remark(alloc, line)?)?;
     }
     Ok(remarks)
+}
+
+/// What is said of a quote behind blanks.
+fn behind_blank_remark(alloc: Global, line: u64) -> Result<String, AllocError> {
+    let mut remark = Pieces::of(alloc, "a field of line ");
+    remark.push_number(line);
+    remark.push(
+        " begins with a blank, so that the quote behind it is a part of the text: leave the blank out",
+    );
+    remark.finish()
 }
 
 /// What is said of a field that goes on behind its closing quote.

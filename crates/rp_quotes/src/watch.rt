@@ -1,10 +1,13 @@
 //! The quotes of a text that comes piece by piece.
 ghost use Rattle.std.specs.Prelude.{ℕ, ◌++◌, ◌∷◌, [], List, MatchOption, ◌≡◌, true, false};
-ghost use Rattle.rp_quotes.specs.Quotes.{LeavesQuoteOpen, goes_on_behind_quote};
-ghost use Rattle.rp_quotes.specs.Watching.{HasSeen, LeadsTo, stray_behind};
+ghost use Rattle.rp_quotes.specs.Quotes.{LeavesQuoteOpen, goes_on_behind_quote, has_quote_behind_blank};
+ghost use Rattle.rp_quotes.specs.Watching.{HasSeen, LeadsTo, behind_blank_by, is_blank_by, stray_behind};
 
 use crate::mark::Mark;
-use crate::quoting::Quoting;
+use crate::quoting::{QUOTE, Quoting};
+
+/// What some programs write behind each delimiter.
+const BLANK: u8 = b' ';
 
 /// A field that goes on behind its closing quote.
 #[derive(Clone, Copy)]
@@ -29,6 +32,10 @@ pub struct QuoteWatch {
     opened: u64,
     /// The first field that goes on behind its closing quote.
     stray: Option<Stray>,
+    /// Whether the last field is blanks alone so far, and at least one.
+    blank: bool,
+    /// The line of the first quote behind blanks with which a field begins.
+    behind_blank: Option<u64>,
 }
 
 impl QuoteWatch {
@@ -43,6 +50,8 @@ impl QuoteWatch {
             line: 1,
             opened: 1,
             stray: None,
+            blank: false,
+            behind_blank: None,
         }
     }
 
@@ -77,12 +86,22 @@ impl QuoteWatch {
         self.stray
     }
 
+    /// The line of the first quote that comes behind blanks with which a field begins, if one does.
+    pub fn behind_blank(&self) -> Option<u64>
+        ensures { (delimiter : ℕ) (text : List ℕ) → HasSeen delimiter text self.now →
+            MatchOption result (has_quote_behind_blank delimiter text ≡ false)
+            (λ line. has_quote_behind_blank delimiter text ≡ true) }
+    {
+        self.behind_blank
+    }
+
     fn take_byte(&mut self, byte: u8)
         ensures { (delimiter : ℕ) (text : List ℕ) → HasSeen delimiter text self.old →
             HasSeen delimiter (text ++ byte ∷ []) self.new }
     {
         let quoting = self.quoting_behind(byte);
         self.note(quoting);
+        self.note_blank(byte, quoting);
         self.line = self.line.saturating_add(u64::from(byte == b'\n'));
         self.quoting = quoting;
         self.mark = self.mark.behind(byte);
@@ -105,6 +124,20 @@ impl QuoteWatch {
                 goes_on: self.line,
             });
         }
+    }
+
+    /// Notes whether the field is blanks alone with a byte by which the text comes to stand here, and the line of a quote behind them.
+    fn note_blank(&mut self, byte: u8, next: Quoting)
+        ensures { self.new ≡ record self.old {
+          blank = is_blank_by self.old.blank self.old.quoting byte next;
+          behind_blank = behind_blank_by self.old.blank byte self.old.behind_blank self.old.line;
+        } }
+    {
+        if self.behind_blank.is_none() && self.blank && byte == QUOTE {
+            self.behind_blank = Some(self.line);
+        }
+        let begins = self.blank || self.quoting == Quoting::Begin;
+        self.blank = byte == BLANK && begins && next == Quoting::Plain;
     }
 
     /// Where the text ends with one more byte. Behind the mark it begins anew.
