@@ -3,6 +3,7 @@
 use crate::csv_text::write_at;
 use crate::null_words::of_null_word;
 use crate::number_cells::of_number;
+use crate::quote_notes::of_quotes;
 use crate::scan::{field_span, long_quote, open_quote};
 use crate::stray_lines::of_stray_line;
 use csv::ByteRecord;
@@ -160,15 +161,18 @@ fn of_count(alloc: Global, wanted: &Wanted, fields: &ByteRecord, delimiter: u8) 
     what.push_filled(" {}", &[wanted.what]);
     let help = match of_stray_line(fields) {
         Some(help) if wanted.count > 1 => help,
-        _ => of_fields(count > wanted.count, delimiter),
+        _ => of_fields(fields, count > wanted.count, delimiter),
     };
     Advice::with_what(alloc, what, help)
 }
 
 /// What to do about a record with too many fields, or too few.
-fn of_fields(too_many: bool, delimiter: u8) -> &'static str {
+fn of_fields(fields: &ByteRecord, too_many: bool, delimiter: u8) -> &'static str {
     let (many, few) = by_delimiter(delimiter);
-    if too_many { many } else { few }
+    if !too_many {
+        return few;
+    }
+    of_quotes(fields).unwrap_or(many)
 }
 
 /// What to do about too many fields with this byte between them, and about too few.

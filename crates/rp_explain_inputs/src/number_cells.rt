@@ -1,5 +1,6 @@
 //! What to do about fields that should be whole numbers, and aren't.
 
+use crate::quote_notes::of_quote;
 use rp_wording::{are_digits, are_digits_or, count_digits, is_date, is_one_of, unsigned};
 
 /// What spreadsheets write where a formula failed.
@@ -10,6 +11,9 @@ const UNIT: &str = "write the digits alone, without the sign of a unit";
 
 /// What to do about a field that should be a whole number.
 pub(crate) fn of_number(field: &str) -> &'static str {
+    if let Some(help) = of_quote(field.as_bytes()) {
+        return help;
+    }
     let inside = field.trim();
     if inside.len() != field.len() && inside.parse::<i64>().is_ok() {
         return "the blanks round the number are to be taken out of the file";

@@ -1,6 +1,7 @@
 //! What is wrong with a field by the reading of its column, and what to write.
 
 use crate::number_cells::{of_comma_point, of_known_fraction, of_number, of_sign};
+use crate::quote_notes::of_quote;
 use rp_columns::{Reading, ReadingFault};
 use rp_wording::{are_digits, count_digits};
 
@@ -85,6 +86,9 @@ fn of_range(field: &str) -> &'static str {
 
 /// What to write for a field that hasn't the form of its reading.
 fn of_form(reading: &Reading, field: &str) -> &'static str {
+    if let Some(help) = of_quote(field.as_bytes()) {
+        return help;
+    }
     match reading {
         Reading::Int => of_int(field),
         Reading::Decimal(_, _) => of_decimal(field),
