@@ -16,7 +16,7 @@ pub struct Proposal {
     /// Their text, as `sym text, t int`. It is empty where there is no header, there is something above it, it isn't UTF-8, or no field
     /// of it has a name of its own that can be typed.
     pub columns: String,
-    /// Whether each field of the header has a column, so that the text is that of a table too.
+    /// Whether each field of the header has a column of its own name, so that the text is that of a table too.
     pub is_table: bool,
 }
 
@@ -25,8 +25,9 @@ pub struct Proposal {
 /// lost: a card number or a postal code. So is one with a plus sign where no other has a minus sign: a telephone number. So of `sym,t`
 /// and `x,1` it is `sym text, t int`.
 ///
-/// A field of the header that is empty, has the name of another one, or a line end or another character in its name that can't be shown,
-/// has no column.
+/// Blanks round the name of a field are no part of its column's name, unless another field has that or there are quotes in it: of `sym, t`
+/// they are `sym text, t = int(" t")`. A field of the header that is empty, has the name of another one, or a line end or another character in its
+/// name that can't be shown, has no column.
 pub fn propose_columns(
     alloc: Global,
     bytes: &[u8],
@@ -70,27 +71,73 @@ fn propose_kinds(
         return Ok(no_columns(alloc));
     }
     let names = meanings(alloc, header)?;
+    let bare = bare_names(alloc, header)?;
     let mut columns = Pieces::new(alloc);
     let mut is_table = true;
     for (index, one) in seen.iter().enumerate() {
-        if is_named(names.as_slice(), index) {
-            if !columns.is_empty() {
-                columns.push(", ");
-            }
-            push_column(
-                alloc,
-                &mut columns,
-                header.get(index).unwrap_or(b""),
-                kind_seen(*one),
-            );
-        } else {
-            is_table = false;
+        let field = header.get(index).unwrap_or(b"");
+        let naming = naming_of(names.as_slice(), bare.as_slice(), index, field);
+        if naming != Naming::Nameless && !columns.is_empty() {
+            columns.push(", ");
         }
+        match naming {
+            Naming::Nameless => {}
+            Naming::Own => push_column(alloc, &mut columns, field, kind_seen(*one)),
+            Naming::Bare => push_bare(alloc, &mut columns, field, kind_seen(*one)),
+        }
+        is_table = is_table && naming == Naming::Own;
     }
     Ok(Proposal {
         columns: columns.finish()?,
         is_table,
     })
+}
+
+/// The name of the column of a header's field.
+#[derive(Clone, Copy, PartialEq, Eq)]
+enum Naming {
+    /// There is none, and so no column.
+    Nameless,
+    /// That of the field.
+    Own,
+    /// The same without the blanks round it.
+    Bare,
+}
+
+/// The name of the column of the field at this index, by the names of all fields, with the blanks round them and without.
+fn naming_of(names: &[String], bare_names: &[String], index: usize, field: &[u8]) -> Naming {
+    if !is_named(names, index) {
+        return Naming::Nameless;
+    }
+    let within = bare(field);
+    if within.len() < field.len() && !within.contains(&b'"') && is_named(bare_names, index) {
+        return Naming::Bare;
+    }
+    Naming::Own
+}
+
+/// The names that the fields of a header mean without the blanks round them.
+fn bare_names(alloc: Global, header: &ByteRecord) -> Result<Vec<String>, AllocError> {
+    let mut names = Vec::new(alloc);
+    for index in 0..header.len() {
+        names.push(meaning(alloc, bare(header.get(index).unwrap_or(b"")))?)?;
+    }
+    Ok(names)
+}
+
+/// A field without the blanks round it.
+fn bare(field: &[u8]) -> &[u8] {
+    field.trim_ascii()
+}
+
+/// Adds a column that has the name of a header's field without the blanks round it, and is read from that field.
+fn push_bare(alloc: Global, text: &mut Pieces, field: &[u8], kind: &str) {
+    text.push_made(typed_name(alloc, bare(field)));
+    text.push(" = ");
+    text.push(kind);
+    text.push("(");
+    text.push_made(typed_name(alloc, field));
+    text.push(")");
 }
 
 /// Whether all fields of a record are UTF-8.

@@ -27,6 +27,7 @@ mod units;
 mod uses;
 mod way;
 mod whole;
+mod written;
 
 pub use given_units::notes_on_units;
 pub use notes::{Note, Proposed, notes_on_proposed};

@@ -10,6 +10,7 @@ use crate::strays::{line_of_strays, strays_of};
 use crate::texts::{ColumnTexts, NumberReader};
 use crate::units::share_units;
 use crate::uses::Asked;
+use crate::written::{add_sources, written_columns};
 use rp_query::Query;
 use rp_value::{Row, Text};
 use rp_wording::shown;
@@ -33,7 +34,7 @@ impl Drop for Note {
 /// Columns that are proposed for an input.
 #[derive(Clone, Copy)]
 pub struct Proposed<'a> {
-    /// Their text: of each its name and its kind.
+    /// Their text: of each its name and its kind, and the field from which it is read where that has another name.
     pub columns: &'a str,
     /// The words for null by which they are proposed.
     pub nulls: &'a [Text],
@@ -59,7 +60,9 @@ pub fn notes_on_proposed(
     let mut found = columns_found(alloc, &mut reader, asked, rows)?;
     share_units(alloc, &mut reader, asked, rows, &mut found)?;
     add_dates(alloc, &mut reader, asked, rows, &mut found)?;
-    let options = options_for(alloc, proposed, found.as_slice())?;
+    let columns = written_columns(alloc, proposed.columns)?;
+    add_sources(alloc, columns.as_slice(), &mut found)?;
+    let options = options_for(alloc, columns.as_slice(), proposed.nulls, found.as_slice())?;
     let readings = Readings {
         found: found.as_slice(),
         options: options.as_str(),

@@ -1,22 +1,23 @@
 //! Options by which some columns are read in another way.
 
 use crate::found::Found;
-use crate::notes::Proposed;
 use crate::null_words::NullWords;
 use crate::shell::push_word;
 use crate::way::Way;
-use rp_lexer::Token;
+use crate::written::WrittenColumn;
 use rp_value::Text;
-use rp_wording::{Pieces, tokens_of};
+use rp_wording::Pieces;
 use std::alloc::{AllocError, Global};
 
-/// The options by which these columns are read in their ways, and all others as before. One with a sign that no reading takes stays too.
+/// The options by which these columns are read in their ways, and all others as before, by these words for null. One with a sign that no
+/// reading takes stays too.
 pub(crate) fn options_for(
     alloc: Global,
-    proposed: Proposed<'_>,
+    columns: &[WrittenColumn<'_>],
+    nulls: &[Text],
     found: &[Found],
 ) -> Result<String, AllocError> {
-    let columns = retyped(alloc, proposed.columns, found)?;
+    let columns = retyped(alloc, columns, found)?;
     let mut words = NullWords::new(alloc);
     for one in found {
         if one.sign.is_empty() {
@@ -25,7 +26,7 @@ pub(crate) fn options_for(
     }
     let mut options = Pieces::new(alloc);
     words.push_options(&mut options);
-    if !words.is_empty() && is_empty_null(proposed.nulls) {
+    if !words.is_empty() && is_empty_null(nulls) {
         options.push("--null '' ");
     }
     options.push("--columns ");
@@ -43,35 +44,24 @@ fn is_empty_null(nulls: &[Text]) -> bool {
     false
 }
 
-/// A text of columns, each of which is a name and a kind, as `sym text, p text`, with ways to read some of them, as
-/// `sym text, p = decimal(p, 2)`.
-fn retyped(alloc: Global, columns: &str, found: &[Found]) -> Result<String, AllocError> {
+/// The text of these columns, as `sym text, p text`, with ways to read some of them, as `sym text, p = decimal(p, 2)`.
+fn retyped(
+    alloc: Global,
+    columns: &[WrittenColumn<'_>],
+    found: &[Found],
+) -> Result<String, AllocError> {
     let mut text = Pieces::new(alloc);
-    let tokens = tokens_of(alloc, columns)?;
-    for index in 0..tokens.len().saturating_add(1) / 3 {
+    for (index, column) in columns.iter().enumerate() {
         if index > 0 {
             text.push(", ");
         }
-        let at = index.saturating_mul(3);
-        let name = written(columns, tokens.as_slice(), at);
-        text.push(name);
+        text.push(column.name);
         match way_of(found, index.saturating_add(1)) {
-            Some(way) => push_way(alloc, &mut text, way, name),
-            None => push_kind(
-                &mut text,
-                written(columns, tokens.as_slice(), at.saturating_add(1)),
-            ),
+            Some(way) => push_way(alloc, &mut text, way, column.name),
+            None => push_kind(&mut text, column),
         }
     }
     text.finish()
-}
-
-/// A token of a text as it is written.
-fn written<'a>(text: &'a str, tokens: &[Token], index: usize) -> &'a str {
-    match tokens.get(index) {
-        Some(token) => text.get(token.start..token.end).unwrap_or(""),
-        None => "",
-    }
 }
 
 /// The way to read a column, by its number.
@@ -84,14 +74,17 @@ fn way_of(found: &[Found], number: usize) -> Option<&Way> {
     None
 }
 
-/// Adds a way to read the source of this name.
+/// Adds a way to read a column of this name.
 fn push_way(alloc: Global, text: &mut Pieces, way: &Way, name: &str) {
     text.push(" = ");
     text.push_made(way.written(alloc, name));
 }
 
-/// Adds a kind.
-fn push_kind(text: &mut Pieces, kind: &str) {
-    text.push(" ");
-    text.push(kind);
+/// Adds the kind of a column, with the field from which it is read where that has another name.
+fn push_kind(text: &mut Pieces, column: &WrittenColumn<'_>) {
+    if column.source.is_empty() {
+        text.push_filled(" {}", &[column.kind]);
+    } else {
+        text.push_filled(" = {}({})", &[column.kind, column.source]);
+    }
 }

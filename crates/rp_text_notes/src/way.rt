@@ -9,6 +9,8 @@ use std::alloc::{AllocError, Global};
 /// A way to read the texts of a column as whole numbers.
 pub(crate) struct Way {
     pub(crate) reading: Reading,
+    /// The name of the field from which the column is read; it is empty where that is the column's.
+    pub(crate) source: String,
     /// The word of the reading, as `decimal`.
     word: &'static str,
     /// What is behind the source in its brackets, as `, 2`.
@@ -30,6 +32,7 @@ impl Drop for Way {
     fn drop(self) {
         let Way {
             reading: _,
+            source: _,
             word: _,
             behind: _,
             places: _,
@@ -79,6 +82,7 @@ impl Way {
     fn by(alloc: Global, reading: Reading, word: &'static str, behind: String) -> Way {
         Way {
             reading,
+            source: String::new(alloc),
             word,
             behind,
             places: 0,
@@ -131,18 +135,26 @@ impl Way {
         self.behind.as_str()
     }
 
-    /// The reading of a source as it is written, as `decimal(p, 2)`.
-    pub(crate) fn written(&self, alloc: Global, source: &str) -> Result<String, AllocError> {
-        called(alloc, self.word, source, self.behind.as_str())
+    /// The reading of a column of this name as it is written, as `decimal(p, 2)`.
+    pub(crate) fn written(&self, alloc: Global, name: &str) -> Result<String, AllocError> {
+        called(alloc, self.word, self.source_of(name), self.behind.as_str())
     }
 
-    /// The reading of a source that is meant otherwise.
+    /// The reading that is meant otherwise.
     pub(crate) fn written_otherwise(
         &self,
         alloc: Global,
-        source: &str,
+        name: &str,
     ) -> Result<String, AllocError> {
-        called(alloc, self.word, source, self.other.as_str())
+        called(alloc, self.word, self.source_of(name), self.other.as_str())
+    }
+
+    /// The name of the field from which a column of this name is read.
+    fn source_of<'a>(&'a self, name: &'a str) -> &'a str {
+        if self.source.is_empty() {
+            return name;
+        }
+        self.source.as_str()
     }
 
     /// Whether its numbers are written as the texts are.
