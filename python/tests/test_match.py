@@ -5,6 +5,7 @@ from __future__ import annotations
 import datetime
 import io
 import pickle
+import re
 from decimal import Decimal
 
 import numpy as np
@@ -1043,6 +1044,60 @@ def test_times_of_different_units_are_warned_of():
     told = "bid is in seconds since 1970 and ask in millionths of a second since 1970"
     with pytest.warns(UserWarning, match=told):
         rowmatch.match(spans, ABOVE, columns={"bid": "seconds"})
+
+
+MIXED = [
+    (
+        datetime.date(2024, 1, 6),
+        pd.Timestamp("2024-01-05"),
+        {},
+        "bid is in days since 1970 and ask in millionths of a second since 1970, and they are",
+    ),
+    (
+        pd.Timestamp("2024-01-06"),
+        pd.Timestamp("2024-01-05"),
+        {"ask": "nanos"},
+        "bid is in millionths of a second since 1970 and ask in billionths of a second since 1970, "
+        "and they are compared or added as they are: read both by nanos",
+    ),
+    (
+        pd.Timestamp("2024-01-06", tz="Europe/Berlin"),
+        pd.Timestamp("2024-01-05"),
+        {},
+        "ask has no time zone and counts as its clock shows it, and bid has one and counts in UTC, "
+        "and they are compared or added as they are: .dt.tz_localize gives ask its zone",
+    ),
+]
+
+
+@pytest.mark.parametrize("dtype", [None, "category"])
+@pytest.mark.parametrize("bid, ask, ways, told", MIXED)
+def test_times_that_count_otherwise_are_warned_of(bid, ask, ways, told, dtype):
+    spans = pd.DataFrame({"bid": [None, bid], "ask": [ask, ask], "other": [bid, bid]})
+    if dtype is not None:
+        spans = spans.astype({"bid": dtype, "ask": dtype})
+    with pytest.warns(UserWarning, match=re.escape(told)) as warned:
+        rowmatch.match(spans, ABOVE, columns=ways)
+    assert len(warned) == 1
+
+
+@pytest.mark.parametrize("bid, ask, ways, _", MIXED)
+def test_where_they_are_not_compared_nothing_is_warned_of(bid, ask, ways, _, recwarn):
+    spans = pd.DataFrame({"bid": [bid], "ask": [ask]})
+    rowmatch.match(spans, "PATTERN (A) DEFINE A AS bid > 0 AND ask > 0", columns=ways)
+    assert not recwarn.list
+
+
+def test_zones_that_differ_and_lengths_are_not_warned_of(recwarn):
+    spans = pd.DataFrame(
+        {
+            "bid": pd.to_datetime(["2024-01-06"]).tz_localize("Europe/Berlin"),
+            "ask": pd.to_datetime(["2024-01-05"]).tz_localize("Asia/Tokyo"),
+            "length": pd.to_timedelta(["1h"]),
+        }
+    )
+    assert len(rowmatch.match(spans, ABOVE.replace("ask", "ask + length"))) == 1
+    assert not recwarn.list
 
 
 def test_one_unit_is_not_warned_of(recwarn):

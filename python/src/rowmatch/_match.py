@@ -51,7 +51,8 @@ def match(
 
     What can't be handed over exactly is a `DataError` and is never rounded or cut. Where the clause
     compares, adds or subtracts columns that are counted in different units, as by ``decimal(2)``
-    and ``decimal(3)``, or by ``decimal(2)`` and as whole numbers, it warns.
+    and ``decimal(3)``, by ``decimal(2)`` and as whole numbers, or as days and as seconds, or times
+    with a time zone and without one, it warns.
 
     Args:
         data: the rows: a frame, what has ``to_pandas()``, or what ``pandas.DataFrame(..)`` takes.

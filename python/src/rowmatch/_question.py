@@ -10,10 +10,11 @@ from typing import Any, Union
 import pandas as pd
 
 from ._cells import Read, Sheet, SkipFaults, from_csv, from_lines, kind_of_cells, row_numbers
-from ._clause import Clause, Measure, noted, quoted, read, table_of
+from ._clause import Clause, Measure, quoted, read, table_of
 from ._names import Names, Source, kinds_of, unused
 from ._program import NO_LIMIT, Limit, Ran, run
-from ._ways import Cells, Way, look_at_ways, reading_of, way_of
+from ._units import notes_on_units
+from ._ways import Cells, Way, look_at_ways, way_of
 from .errors import ClauseError, DataError, Fault
 
 _ROW = "row of the frame"
@@ -125,19 +126,9 @@ class Question:
         return ClauseError(self.text, [Fault("DoubleName", message, (write,))])
 
     def units(self, limit: Limit) -> list[str]:
-        """What is to be known of columns that are counted in different units, where the clause
-        compares, adds or subtracts them as they are. Where no way is said there is one for each
-        kind of column."""
-        if not any(source.said for source in self.sources.values()):
-            return []
-        readings = {
-            name: reading_of(source.values(self.frame).dtype, source.kind, source.said, self.times)
-            for name, source in self.sources.items()
-        }
-        if len({reading for reading in readings.values() if reading != "text({})"}) < 2:
-            return []
-        columns = (f"{quoted(name)} = {readings[name].format(quoted(name))}" for name in readings)
-        return noted(", ".join(columns), self.text, limit)
+        """What is to be known of columns whose numbers don't count the same, where the clause
+        compares, adds or subtracts them as they are."""
+        return notes_on_units(self.frame, self.sources, self.text, self.times, limit)
 
     def answer(self, limit: Limit) -> tuple[pd.DataFrame, SkipFaults]:
         """The answer, and the skip faults in it."""

@@ -405,7 +405,7 @@ def look_at_ways(ways: Mapping[Hashable, str], labels: Collection[Hashable], tim
             write = f": write {alike[0]!r}" if alike else ""
             message = f"columns= names {label!r}, and the data have no such column{write}"
             raise DataError(message, label)
-        if said not in ("int", "text", "date", *UNITS) and _places(str(said)) is None:
+        if said not in ("int", "text", "date", *UNITS) and places_in(str(said)) is None:
             there_is = f"there is int, text, decimal(PLACES), date, {', '.join(UNITS)}"
             raise DataError(f"columns={{{label!r}: {said!r}}}: {there_is}", label)
 
@@ -425,12 +425,17 @@ def kind_of(dtype: Any, values: Callable[[], pd.Series], said: str | None) -> st
         return "text"
     if dtype != object:
         return "int"
-    column = values()
-    for size in (100, len(column)):
-        known = column.iloc[:size].dropna()
+    first = first_known(values())
+    return "text" if first is None or isinstance(first, str) else "int"
+
+
+def first_known(values: pd.Series) -> Any:
+    """The first value that isn't null; None where there is none."""
+    for size in (100, len(values)):
+        known = values.iloc[:size].dropna()
         if len(known):
-            return "text" if isinstance(known.iloc[0], str) else "int"
-    return "text"
+            return known.iloc[0]
+    return None
 
 
 def way_of(label: Hashable, values: pd.Series, said: str | None, times: str) -> Way:
@@ -452,26 +457,12 @@ def way_of(label: Hashable, values: pd.Series, said: str | None, times: str) -> 
         raise DataError(message, label)
     if said is None:
         said = times if dtype.kind in "mM" else _said_by_values(label, values)
-    places = _places(said)
+    places = places_in(said)
     if places is not None:
         return Places(label, dtype, places)
     if said in UNITS:
         return Moments(label, dtype, said)
     return {"int": Whole, "bool": Flags, "text": Texts, "date": Days}[said](label, dtype)
-
-
-def reading_of(dtype: Any, kind: str, said: str | None, times: str) -> str:
-    """How the program reads a column whose numbers count the same, as ``--columns`` has it: a form
-    with the column's name in the place of ``{}``. Nothing is known of whole numbers, and the
-    program has no nanoseconds."""
-    if kind == "text":
-        return "text({})"
-    if said is None and dtype.kind in "mM":
-        said = times
-    places = _places(said or "")
-    if places is not None:
-        return f"decimal({{}}, {places})"
-    return f"{said}({{}})" if said in ("date", "seconds", "millis", "micros") else "int({})"
 
 
 def _used(values: pd.Series) -> Array:
@@ -481,7 +472,7 @@ def _used(values: pd.Series) -> Array:
     return used
 
 
-def _places(said: str) -> int | None:
+def places_in(said: str) -> int | None:
     """The places of ``decimal(PLACES)``."""
     found = _DECIMAL.fullmatch(said)
     return int(found[1]) if found and int(found[1]) <= _MOST_PLACES else None
