@@ -3,6 +3,11 @@ ghost use Rattle.rp_job.specs.Statuses.{Ends};
 
 use crate::fault::ProgramFault;
 use std::fmt::Display;
+use std::io::IsTerminal;
+
+/// What says more of a mistake, to people.
+const MORE: &str =
+    "`rowmatch check` says of the same clause, columns and input where that is, and what to write";
 
 /// Reports a fault that ends the program, and gives the exit status: that of a device where help or the version can't be written. What
 /// standard error doesn't take is lost.
@@ -20,11 +25,14 @@ pub fn end_with(rt: &HostRuntime, fault: &ProgramFault) -> u8
     fault.status().unwrap_or(0)
 }
 
-/// Prints the line of a fault, and that of a node which refused what it was sent.
+/// Prints the line of a fault, and that of a node which refused what it was sent. On a terminal it says of a mistake what says more of it.
 fn tell_lines(rt: &HostRuntime, fault: &ProgramFault) {
     tell(rt, fault);
     if let ProgramFault::Refused(_, Some(text)) = fault {
         tell(rt, text);
+    }
+    if fault.is_explained() && rt.stderr().is_terminal() {
+        tell(rt, &MORE);
     }
 }
 
