@@ -11,7 +11,7 @@ use crate::scan::field_span;
 use csv::ByteRecord;
 use rp_columns::{Columns, InputColumn, Reading, ReadingFault};
 use rp_input::{ColumnsCsvFault, CsvLayout};
-use rp_proposal::{are_text, csv_fault_line, meanings, name_of, of_above, source_of};
+use rp_proposal::{are_text, csv_fault_line, meaning, meanings, name_of, of_above, source_of};
 use rp_value::upper_case_name;
 use rp_wording::{Advice, Pieces, Report, nearest, noun};
 use std::alloc::{AllocError, Global};
@@ -188,8 +188,12 @@ fn is_counted(reading: &Reading) -> bool {
 /// A line that guesses which field of a header is meant; nothing where there is no guess.
 fn meant_field(alloc: Global, header: &ByteRecord, source: &str) -> Result<Pieces, AllocError> {
     let names = meanings(alloc, header)?;
+    let place = match place_within(alloc, header, source)? {
+        Some(place) => Some(place),
+        None => nearest(alloc, source, names.as_slice())?,
+    };
     let mut help = Pieces::new(alloc);
-    if let Some(place) = nearest(alloc, source, names.as_slice())?
+    if let Some(place) = place
         && let Some(name) = names.get(place)
     {
         help.push("write ");
@@ -197,6 +201,21 @@ fn meant_field(alloc: Global, header: &ByteRecord, source: &str) -> Result<Piece
         help.push(" in the brackets\n");
     }
     Ok(help)
+}
+
+/// The place of the first field that has this name without the blanks round it.
+fn place_within(
+    alloc: Global,
+    header: &ByteRecord,
+    source: &str,
+) -> Result<Option<usize>, AllocError> {
+    for place in 0..header.len() {
+        let field = header.get(place).unwrap_or(b"").trim_ascii();
+        if meaning(alloc, field)?.as_str() == source {
+            return Ok(Some(place));
+        }
+    }
+    Ok(None)
 }
 
 /// Whether the header is one field of words with blanks between, of which one is this name.
