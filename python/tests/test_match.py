@@ -1081,6 +1081,15 @@ def test_times_that_count_otherwise_are_warned_of(bid, ask, ways, told, dtype):
     assert len(warned) == 1
 
 
+@pytest.mark.parametrize("bid, ask, ways, told", MIXED)
+def test_check_says_so(bid, ask, ways, told, recwarn):
+    spans = pd.DataFrame({"bid": [bid], "ask": [ask]})
+    said = rowmatch.check(spans, ABOVE, columns=ways).split("\n")
+    assert said[-1] == "" and said[-2].startswith(told)
+    assert not any(line.startswith("bid is") for line in said[:-2])
+    assert not recwarn.list
+
+
 @pytest.mark.parametrize("bid, ask, ways, _", MIXED)
 def test_where_they_are_not_compared_nothing_is_warned_of(bid, ask, ways, _, recwarn):
     spans = pd.DataFrame({"bid": [bid], "ask": [ask]})

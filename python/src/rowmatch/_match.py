@@ -12,7 +12,7 @@ except ImportError as error:
     raise ImportError(need) from error
 
 from ._clause import table_of
-from ._program import Limit, run
+from ._program import NO_LIMIT, Limit, run
 from ._question import Ways, understand
 from .errors import SkipFault
 
@@ -112,7 +112,8 @@ def match(
 def check(
     data: pd.DataFrame, clause: str, *, columns: Ways | None = None, times: str = "micros"
 ) -> str:
-    """Says what a clause is over the columns of a frame, as ``rowmatch check`` does.
+    """Says what a clause is over the columns of a frame, as ``rowmatch check`` does, and where it
+    compares, adds or subtracts columns that aren't counted alike, of which `match` warns.
 
     Raises:
         ClauseError: the clause is wrong; its text says where, and what to write.
@@ -133,7 +134,7 @@ def check(
     ran = run(["check"], table_of(question.kinds), clause)
     if ran.status != 0:
         raise ran.failed()
-    return ran.printed.decode()
+    return ran.printed.decode() + "".join(f"{note}\n" for note in question.units(NO_LIMIT))
 
 
 def pandas_frame(data: Any) -> pd.DataFrame:
