@@ -12,23 +12,25 @@ use Rattle.rp_quotes.specs.Quotes.{
   goes_on,
   goes_on_behind_quote,
   goes_on_within,
-  has_quote_behind_blank,
-  has_quote_within,
   is_blank_behind,
   is_blank_with,
   is_in_field,
+  line_behind,
+  line_of_quote_behind_blank,
+  line_with,
+  quote_line_within,
   quoting_of,
   state_behind,
   state_of,
 }
-use Rattle.rp_quotes.specs.Watching.{HasMark, HasSeen, LeadsTo, behind_blank_by, ends_in_blanks, is_begin, is_blank_by, is_plain, is_stray, stray_behind}
+use Rattle.rp_quotes.specs.Watching.{HasMark, HasSeen, LeadsTo, behind_blank_by, ends_in_blanks, is_begin, is_blank_by, is_plain, is_stray, line_of_end, stray_behind}
 use Rattle.rp_quotes.specs.declared.mark.Mark.TheVariants as mark
 use Rattle.rp_quotes.specs.declared.quoting.Quoting.{Quoting}
 use Rattle.rp_quotes.specs.declared.quoting.Quoting.TheVariants as quoting
 use Rattle.rp_quotes.specs.declared.watch.QuoteWatch.{QuoteWatch}
 use Rattle.rp_quotes.specs.declared.watch.Stray.{Stray}
 use Rattle.rp_quotes.proofs.Marks.{stripped_last}
-use Rattle.rp_quotes.proofs.Steps.{behind_last, blank_last, quote_last, within_last}
+use Rattle.rp_quotes.proofs.Steps.{behind_last, blank_last, line_last, quote_last, within_last}
 
 pub at_start : (d : ℕ) → IsAt quoting.Begin (state_of d [])
 unfolding state_behind strip_bom
@@ -42,8 +44,12 @@ pub blank_at_start : (d : ℕ) → false ≡ ends_in_blanks d []
 unfolding is_blank_behind strip_bom
 blank_at_start d = refl
 
-pub behind_blank_at_start : (d : ℕ) → is_some {T = ℕ} None ≡ has_quote_behind_blank d []
-unfolding has_quote_within strip_bom
+pub line_at_start : 1 ≡ line_of_end []
+unfolding line_behind strip_bom
+line_at_start = refl
+
+pub behind_blank_at_start : (d : ℕ) → None ≡ line_of_quote_behind_blank d []
+unfolding quote_line_within strip_bom
 behind_blank_at_start d = refl
 
 -- a step of csv goes on behind a quote where that of the watch does
@@ -187,19 +193,32 @@ blank_of_whole : (d : ℕ) → ends_in_blanks d (0xEF ∷ 0xBB ∷ 0xBF ∷ []) 
 unfolding is_blank_behind strip_bom
 blank_of_whole d = refl
 
-behind_blank_of_mark : (d : ℕ) → has_quote_behind_blank d (0xEF ∷ 0xBB ∷ []) ≡ false
-unfolding has_quote_within strip_bom
+line_of_mark : line_of_end (0xEF ∷ 0xBB ∷ []) ≡ 1
+unfolding line_behind strip_bom
+line_of_mark = refl
+
+line_of_whole : line_of_end (0xEF ∷ 0xBB ∷ 0xBF ∷ []) ≡ 1
+unfolding line_behind strip_bom
+line_of_whole = refl
+
+behind_blank_of_mark : (d : ℕ) → line_of_quote_behind_blank d (0xEF ∷ 0xBB ∷ []) ≡ None
+unfolding quote_line_within strip_bom
 behind_blank_of_mark d = refl
 
-behind_blank_of_whole : (d : ℕ) → has_quote_behind_blank d (0xEF ∷ 0xBB ∷ 0xBF ∷ []) ≡ false
-unfolding has_quote_within strip_bom
+behind_blank_of_whole : (d : ℕ) → line_of_quote_behind_blank d (0xEF ∷ 0xBB ∷ 0xBF ∷ []) ≡ None
+unfolding quote_line_within strip_bom
 behind_blank_of_whole d = refl
+
+same_line : (line b : ℕ) → b ≡ 0xBF → line ≡ line_with line b
+same_line line b last = ap (λ x. line_with line x) (sym last)
 
 no_blank : (blank : Bool) (old : Quoting) (b : ℕ) → b ≡ 0xBF → false ≡ is_blank_by blank old b quoting.Begin
 no_blank blank old b last = ap (λ x. is_blank_by blank old x quoting.Begin) (sym last)
 
-no_quote : (d b : ℕ) → false ≡ has_quote_behind_blank d (0xEF ∷ 0xBB ∷ []) || (ends_in_blanks d (0xEF ∷ 0xBB ∷ []) && (b == 34))
-no_quote d b = ap (λ x. false || (x && (b == 34))) (sym (blank_of_mark d)) ∙ ap (λ x. x || (ends_in_blanks d (0xEF ∷ 0xBB ∷ []) && (b == 34))) (sym (behind_blank_of_mark d))
+no_quote : (d b : ℕ) → None ≡ behind_blank_by (ends_in_blanks d (0xEF ∷ 0xBB ∷ [])) b (line_of_quote_behind_blank d (0xEF ∷ 0xBB ∷ [])) (line_of_end (0xEF ∷ 0xBB ∷ []))
+no_quote d b =
+    ap (λ x. behind_blank_by x b None (line_of_end (0xEF ∷ 0xBB ∷ []))) (sym (blank_of_mark d))
+    ∙ ap (λ x. behind_blank_by (ends_in_blanks d (0xEF ∷ 0xBB ∷ [])) b x (line_of_end (0xEF ∷ 0xBB ∷ []))) (sym (behind_blank_of_mark d))
 
 never_to_begin : (old : Quoting) → is_stray old quoting.Begin ≡ false
 never_to_begin quoting.Begin = refl
@@ -216,9 +235,10 @@ mark_ends d text b w is last seen =
       at = subst (λ t. IsAt quoting.Begin (state_of d t)) (sym whole) (at_mark d);
       stray = ap (goes_on_behind_quote d) whole ∙ stray_of_whole d ∙ sym (ap (λ x. x || is_stray w.quoting quoting.Begin) none ∙ never_to_begin w.quoting);
       blank = ap (ends_in_blanks d) whole ∙ blank_of_whole d ∙ no_blank (ends_in_blanks d text) w.quoting b last;
+      line = ap line_of_end whole ∙ line_of_whole ∙ sym line_of_mark ∙ ap line_of_end (sym two) ∙ same_line (line_of_end text) b last;
       behind_blank =
-          ap (has_quote_behind_blank d) whole ∙ behind_blank_of_whole d ∙ no_quote d b
-          ∙ ap (λ t. has_quote_behind_blank d t || (ends_in_blanks d t && (b == 34))) (sym two);
+          ap (line_of_quote_behind_blank d) whole ∙ behind_blank_of_whole d ∙ no_quote d b
+          ∙ ap (λ t. behind_blank_by (ends_in_blanks d t) b (line_of_quote_behind_blank d t) (line_of_end t)) (sym two);
     }
 
 -- anywhere else
@@ -235,7 +255,8 @@ goes_further d text b w new other leads seen =
       blank =
           ap (is_blank_behind (config_with d) st.StartRecord false) stripped ∙ blank_last (config_with d) st.StartRecord false front b
           ∙ same_blank (ends_in_blanks d text) w.quoting new (state_of d text) (step (config_with d) (state_of d text) b).0 b seen.at to;
-      behind_blank = ap (has_quote_within (config_with d) st.StartRecord false) stripped ∙ quote_last (config_with d) st.StartRecord false front b;
+      line = ap (line_behind 1) stripped ∙ line_last 1 front b;
+      behind_blank = ap (quote_line_within (config_with d) st.StartRecord false 1) stripped ∙ quote_last (config_with d) st.StartRecord false 1 front b;
     }
 
 -- a field is noted where one has gone on
@@ -243,13 +264,5 @@ pub stray_is : (old new : Quoting) (before : Option Stray) (here : Stray) → is
 stray_is old new (Some first) here = refl
 stray_is old new None here = noted (is_stray old new) refl where
   noted : (stray : Bool) → is_stray old new ≡ stray → is_some (if is_stray old new then Some here else None) ≡ is_stray old new
-  noted true is = rw is refl
-  noted false is = rw is refl
-
--- and a quote is, where one has come behind blanks
-pub behind_blank_is : (blank : Bool) (b : ℕ) (before : Option ℕ) (line : ℕ) → is_some (behind_blank_by blank b before line) ≡ is_some before || (blank && (b == 34))
-behind_blank_is blank b (Some first) line = refl
-behind_blank_is blank b None line = noted (blank && (b == 34)) refl where
-  noted : (is : Bool) → (blank && (b == 34)) ≡ is → is_some (if blank && (b == 34) then Some line else None) ≡ blank && (b == 34)
   noted true is = rw is refl
   noted false is = rw is refl

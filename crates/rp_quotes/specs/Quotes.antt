@@ -1,5 +1,5 @@
 -- The quotes of a CSV text (RFC 4180, part 2), in terms of the states in which csv reads it.
-use Rattle.std.specs.Prelude.{◌≡◌, ◌||◌, ◌&&◌, ◌==◌, ℕ, Bool, true, false, List, [], ◌∷◌, Option, Some, None}
+use Rattle.std.specs.Prelude.{◌≡◌, ◌||◌, ◌&&◌, ◌==◌, ◌+◌, ◌-◌, ◌^◌, min, if◌then◌else◌, ℕ, Bool, true, false, List, [], ◌∷◌, Option, Some, None}
 use Rattle.csv.specs.Machine.{step}
 use Rattle.csv.specs.Reading.{strip_bom}
 use Rattle.csv.specs.declared.parser.Config.{Config}
@@ -71,11 +71,21 @@ is_blank_behind config s blank [] = blank
 is_blank_behind config s blank (byte ∷ rest) =
     is_blank_behind config (step config s byte).0 (is_blank_with blank s byte (step config s byte).0) rest
 
--- whether a quote comes behind blanks with which some field begins: it doesn't open the field, and is a part of it as they are
-unfoldable pub has_quote_within : Config → State → Bool → List ℕ → Bool
-has_quote_within config s blank [] = false
-has_quote_within config s blank (byte ∷ rest) =
-    (blank && (byte == 34)) || has_quote_within config (step config s byte).0 (is_blank_with blank s byte (step config s byte).0) rest
+-- the number of a line, from 1, with one byte more; a count that is full stays
+abbrev pub line_with : ℕ → ℕ → ℕ
+line_with line byte = if byte == 10 then min (line + 1) (2 ^ 64 - 1) else line
 
-abbrev pub has_quote_behind_blank : ℕ → List ℕ → Bool
-has_quote_behind_blank delimiter text = has_quote_within (config_with delimiter) st.StartRecord false (strip_bom text)
+-- the number of the line in which these bytes end, from that of a line on
+unfoldable pub line_behind : ℕ → List ℕ → ℕ
+line_behind line [] = line
+line_behind line (byte ∷ rest) = line_behind (line_with line byte) rest
+
+-- the line of the first quote behind blanks with which some field begins: it doesn't open the field, and blanks and quote are parts of it
+unfoldable pub quote_line_within : Config → State → Bool → ℕ → List ℕ → Option ℕ
+quote_line_within config s blank line [] = None
+quote_line_within config s blank line (byte ∷ rest) =
+    if blank && (byte == 34) then Some line
+    else quote_line_within config (step config s byte).0 (is_blank_with blank s byte (step config s byte).0) (line_with line byte) rest
+
+abbrev pub line_of_quote_behind_blank : ℕ → List ℕ → Option ℕ
+line_of_quote_behind_blank delimiter text = quote_line_within (config_with delimiter) st.StartRecord false 1 (strip_bom text)

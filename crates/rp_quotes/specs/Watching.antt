@@ -4,7 +4,7 @@ use Rattle.std.specs.Option.{is_some}
 use Rattle.csv.specs.Reading.{strip_bom}
 use Rattle.csv.specs.declared.parser.State.TheVariants as st
 use Rattle.rp_input.specs.Layouts.{config_with}
-use Rattle.rp_quotes.specs.Quotes.{IsAt, goes_on_behind_quote, has_quote_behind_blank, is_blank_behind, state_of}
+use Rattle.rp_quotes.specs.Quotes.{IsAt, goes_on_behind_quote, is_blank_behind, line_behind, line_of_quote_behind_blank, line_with, state_of}
 use Rattle.rp_quotes.specs.declared.mark.Mark.{Mark}
 use Rattle.rp_quotes.specs.declared.mark.Mark.TheVariants as mark
 use Rattle.rp_quotes.specs.declared.quoting.Quoting.{Quoting}
@@ -27,6 +27,10 @@ HasMark mark.Settled text = IsSettled text
 abbrev pub ends_in_blanks : ℕ → List ℕ → Bool
 ends_in_blanks delimiter text = is_blank_behind (config_with delimiter) st.StartRecord false (strip_bom text)
 
+-- the number of the line in which a text ends, from 1
+abbrev pub line_of_end : List ℕ → ℕ
+line_of_end text = line_behind 1 (strip_bom text)
+
 -- it has seen the text, byte by byte
 pub record HasSeen (delimiter : ℕ) (text : List ℕ) (watch : QuoteWatch) : Type 0 where
   pub same : watch.delimiter ≡ delimiter
@@ -34,7 +38,8 @@ pub record HasSeen (delimiter : ℕ) (text : List ℕ) (watch : QuoteWatch) : Ty
   pub at : IsAt watch.quoting (state_of delimiter text)
   pub stray : is_some watch.stray ≡ goes_on_behind_quote delimiter text
   pub blank : watch.blank ≡ ends_in_blanks delimiter text
-  pub behind_blank : is_some watch.behind_blank ≡ has_quote_behind_blank delimiter text
+  pub line : watch.line ≡ line_of_end text
+  pub behind_blank : watch.behind_blank ≡ line_of_quote_behind_blank delimiter text
 
 -- whether a field goes on behind its closing quote, by where the text ends before and behind one byte more
 abbrev pub is_stray : Quoting → Quoting → Bool
@@ -70,5 +75,6 @@ pub record LeadsTo (delimiter : ℕ) (text : List ℕ) (byte : ℕ) (old new : Q
   pub at : IsAt new (state_of delimiter (text ++ byte ∷ []))
   pub stray : goes_on_behind_quote delimiter (text ++ byte ∷ []) ≡ goes_on_behind_quote delimiter text || is_stray old new
   pub blank : ends_in_blanks delimiter (text ++ byte ∷ []) ≡ is_blank_by (ends_in_blanks delimiter text) old byte new
-  pub behind_blank : has_quote_behind_blank delimiter (text ++ byte ∷ [])
-      ≡ has_quote_behind_blank delimiter text || (ends_in_blanks delimiter text && (byte == 34))
+  pub line : line_of_end (text ++ byte ∷ []) ≡ line_with (line_of_end text) byte
+  pub behind_blank : line_of_quote_behind_blank delimiter (text ++ byte ∷ [])
+      ≡ behind_blank_by (ends_in_blanks delimiter text) byte (line_of_quote_behind_blank delimiter text) (line_of_end text)

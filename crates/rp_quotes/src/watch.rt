@@ -1,6 +1,6 @@
 //! The quotes of a text that comes piece by piece.
 ghost use Rattle.std.specs.Prelude.{ℕ, ◌++◌, ◌∷◌, [], List, MatchOption, ◌≡◌, true, false};
-ghost use Rattle.rp_quotes.specs.Quotes.{LeavesQuoteOpen, goes_on_behind_quote, has_quote_behind_blank};
+ghost use Rattle.rp_quotes.specs.Quotes.{LeavesQuoteOpen, goes_on_behind_quote, line_of_quote_behind_blank, line_with};
 ghost use Rattle.rp_quotes.specs.Watching.{HasSeen, LeadsTo, behind_blank_by, is_blank_by, stray_behind};
 
 use crate::mark::Mark;
@@ -89,8 +89,7 @@ impl QuoteWatch {
     /// The line of the first quote that comes behind blanks with which a field begins, if one does.
     pub fn behind_blank(&self) -> Option<u64>
         ensures { (delimiter : ℕ) (text : List ℕ) → HasSeen delimiter text self.now →
-            MatchOption result (has_quote_behind_blank delimiter text ≡ false)
-            (λ line. has_quote_behind_blank delimiter text ≡ true) }
+            result ≡ line_of_quote_behind_blank delimiter text }
     {
         self.behind_blank
     }
@@ -102,7 +101,7 @@ impl QuoteWatch {
         let quoting = self.quoting_behind(byte);
         self.note(quoting);
         self.note_blank(byte, quoting);
-        self.line = self.line.saturating_add(u64::from(byte == b'\n'));
+        self.line = line_behind(self.line, byte);
         self.quoting = quoting;
         self.mark = self.mark.behind(byte);
     }
@@ -149,5 +148,16 @@ impl QuoteWatch {
             return Quoting::Begin;
         }
         self.quoting.behind(byte, self.delimiter)
+    }
+}
+
+/// The number of a line with one byte more. A count that is full stays.
+fn line_behind(line: u64, byte: u8) -> u64
+    ensures { result ≡ line_with line byte }
+{
+    if byte == b'\n' {
+        line.saturating_add(1)
+    } else {
+        line
     }
 }

@@ -1,7 +1,8 @@
-use Rattle.std.proofs.Common.{◌∙◌, ◌||◌, ◌&&◌, ◌==◌, ap, sym, subst}
+use Rattle.std.proofs.Common.{◌∙◌, ◌||◌, ap, sym, subst}
 use Rattle.std.specs.Option.{is_some}
+use Rattle.rp_quotes.specs.Quotes.{line_of_quote_behind_blank, line_with}
 use Rattle.rp_quotes.specs.Watching.{HasMark, behind_blank_by, ends_in_blanks, is_blank_by, is_stray}
-use Rattle.rp_quotes.proofs.Seen.{behind_blank_is, stray_is}
+use Rattle.rp_quotes.proofs.Seen.{stray_is}
 use Rattle.rp_quotes.proofs.watch.QuoteWatch.take_byte.Goals as goal
 
 pub returns : goal.returns
@@ -20,11 +21,17 @@ returns c = λ delimiter text seen. record {
       ∙ ap (λ w. is_blank_by w.blank w.quoting c.args.byte c.quoting_behind-quoting.result) c.note.ensures
       ∙ ap (λ x. is_blank_by x c.args.self.now.quoting c.args.byte c.quoting_behind-quoting.result) seen.blank
       ∙ sym (c.quoting_behind-quoting.ensures delimiter text seen).blank;
+  line =
+      c.line_behind-self.ensures
+      ∙ ap (λ w. line_with w.line c.args.byte) c.note_blank.ensures
+      ∙ ap (λ w. line_with w.line c.args.byte) c.note.ensures
+      ∙ ap (λ line. line_with line c.args.byte) seen.line
+      ∙ sym (c.quoting_behind-quoting.ensures delimiter text seen).line;
   behind_blank =
-      ap (λ w. is_some w.behind_blank) c.note_blank.ensures
-      ∙ ap (λ w. is_some (behind_blank_by w.blank c.args.byte w.behind_blank w.line)) c.note.ensures
-      ∙ behind_blank_is c.args.self.now.blank c.args.byte c.args.self.now.behind_blank c.args.self.now.line
-      ∙ ap (λ x. is_some c.args.self.now.behind_blank || (x && (c.args.byte == 34))) seen.blank
-      ∙ ap (λ x. x || (ends_in_blanks delimiter text && (c.args.byte == 34))) seen.behind_blank
+      ap (λ w. w.behind_blank) c.note_blank.ensures
+      ∙ ap (λ w. behind_blank_by w.blank c.args.byte w.behind_blank w.line) c.note.ensures
+      ∙ ap (λ x. behind_blank_by x c.args.byte c.args.self.now.behind_blank c.args.self.now.line) seen.blank
+      ∙ ap (λ x. behind_blank_by (ends_in_blanks delimiter text) c.args.byte x c.args.self.now.line) seen.behind_blank
+      ∙ ap (behind_blank_by (ends_in_blanks delimiter text) c.args.byte (line_of_quote_behind_blank delimiter text)) seen.line
       ∙ sym (c.quoting_behind-quoting.ensures delimiter text seen).behind_blank;
 }
