@@ -1,3 +1,5 @@
 mod Marks
 mod Steps
 mod Seen
+mod Opened
+mod Firsts

@@ -1,56 +1,26 @@
 -- What a watch has of a text, with one byte more.
-use Rattle.std.proofs.Common.{◌≡◌, ℕ, Bool, true, false, ◌||◌, ◌&&◌, ◌==◌, if◌then◌else◌, List, [], ◌∷◌, ◌++◌, Option, Some, None, refl, ap, ◌∙◌, sym, subst}
-use Rattle.std.specs.Option.{is_some}
+use Rattle.std.proofs.Common.{◌≡◌, ℕ, Bool, false, List, [], ◌∷◌, ◌++◌, Option, Some, None, refl, ap, ◌∙◌, sym, subst}
 use Rattle.csv.specs.Machine.{step}
 use Rattle.csv.specs.Reading.{strip_bom}
 use Rattle.csv.specs.declared.parser.State.{State}
 use Rattle.csv.specs.declared.parser.State.TheVariants as st
 use Rattle.rp_input.specs.Layouts.{config_with}
-use Rattle.rp_quotes.specs.Quotes.{
-  IsAt,
-  begins_field,
-  goes_on,
-  goes_on_behind_quote,
-  goes_on_within,
-  is_blank_behind,
-  is_blank_with,
-  is_in_field,
-  line_behind,
-  line_of_quote_behind_blank,
-  line_with,
-  quote_line_within,
-  quoting_of,
-  state_behind,
-  state_of,
-}
-use Rattle.rp_quotes.specs.Watching.{HasMark, HasSeen, LeadsTo, behind_blank_by, ends_in_blanks, is_begin, is_blank_by, is_plain, is_stray, line_of_end, stray_behind}
+use Rattle.rp_quotes.specs.Quotes.{IsAt, begins_field, goes_on, is_in_field, line_behind, line_of_end, line_with, quoting_of, state_behind, state_of}
+use Rattle.rp_quotes.specs.Watching.{HasMark, HasSeen, LeadsTo, LeadsToQuoted, is_begin, is_plain, is_stray}
 use Rattle.rp_quotes.specs.declared.mark.Mark.TheVariants as mark
 use Rattle.rp_quotes.specs.declared.quoting.Quoting.{Quoting}
 use Rattle.rp_quotes.specs.declared.quoting.Quoting.TheVariants as quoting
 use Rattle.rp_quotes.specs.declared.watch.QuoteWatch.{QuoteWatch}
-use Rattle.rp_quotes.specs.declared.watch.Stray.{Stray}
 use Rattle.rp_quotes.proofs.Marks.{stripped_last}
-use Rattle.rp_quotes.proofs.Steps.{behind_last, blank_last, line_last, quote_last, within_last}
+use Rattle.rp_quotes.proofs.Steps.{behind_last, line_last}
 
 pub at_start : (d : ℕ) → IsAt quoting.Begin (state_of d [])
 unfolding state_behind strip_bom
 at_start d = refl
 
-pub stray_at_start : (d : ℕ) → is_some {T = Stray} None ≡ goes_on_behind_quote d []
-unfolding goes_on_within strip_bom
-stray_at_start d = refl
-
-pub blank_at_start : (d : ℕ) → false ≡ ends_in_blanks d []
-unfolding is_blank_behind strip_bom
-blank_at_start d = refl
-
 pub line_at_start : 1 ≡ line_of_end []
 unfolding line_behind strip_bom
 line_at_start = refl
-
-pub behind_blank_at_start : (d : ℕ) → None ≡ line_of_quote_behind_blank d []
-unfolding quote_line_within strip_bom
-behind_blank_at_start d = refl
 
 -- a step of csv goes on behind a quote where that of the watch does
 stray_of : Option Quoting → Option Quoting → Bool
@@ -124,7 +94,7 @@ states_stray st.AfterCr st.InEscape = refl
 states_stray st.AfterCr st.InComment = refl
 states_stray st.AfterCr st.AfterCr = refl
 
-same_stray : (old new : Quoting) (s t : State) → IsAt old s → IsAt new t → goes_on s t ≡ is_stray old new
+pub same_stray : (old new : Quoting) (s t : State) → IsAt old s → IsAt new t → goes_on s t ≡ is_stray old new
 unfolding stray_of
 same_stray old new s t at to = states_stray s t ∙ ap (λ q. stray_of q (quoting_of t)) at ∙ ap (stray_of (Some old)) to
 
@@ -159,39 +129,18 @@ states_plain st.InEscape = refl
 states_plain st.InComment = refl
 states_plain st.AfterCr = refl
 
-same_begin : (at : Quoting) (s : State) → IsAt at s → begins_field s ≡ is_begin at
+pub same_begin : (at : Quoting) (s : State) → IsAt at s → begins_field s ≡ is_begin at
 unfolding begin_of
 same_begin at s is = states_begin s ∙ ap begin_of is
 
-same_plain : (at : Quoting) (s : State) → IsAt at s → is_in_field s ≡ is_plain at
+pub same_plain : (at : Quoting) (s : State) → IsAt at s → is_in_field s ≡ is_plain at
 unfolding plain_of
 same_plain at s is = states_plain s ∙ ap plain_of is
-
-same_blank : (blank : Bool) (old new : Quoting) (s t : State) (b : ℕ) → IsAt old s → IsAt new t → is_blank_with blank s b t ≡ is_blank_by blank old b new
-same_blank blank old new s t b at to =
-    ap (λ x. (b == 32) && ((blank || x) && is_in_field t)) (same_begin old s at) ∙ ap (λ x. (b == 32) && ((blank || is_begin old) && x)) (same_plain new t to)
 
 -- behind the mark
 at_mark : (d : ℕ) → IsAt quoting.Begin (state_of d (0xEF ∷ 0xBB ∷ 0xBF ∷ []))
 unfolding state_behind strip_bom
 at_mark d = refl
-
-stray_of_mark : (d : ℕ) (is : Bool) → (0xEF == d) ≡ is → goes_on_behind_quote d (0xEF ∷ 0xBB ∷ []) ≡ false
-unfolding goes_on_within strip_bom
-stray_of_mark d true is = rw is refl
-stray_of_mark d false is = rw is refl
-
-stray_of_whole : (d : ℕ) → goes_on_behind_quote d (0xEF ∷ 0xBB ∷ 0xBF ∷ []) ≡ false
-unfolding goes_on_within strip_bom
-stray_of_whole d = refl
-
-blank_of_mark : (d : ℕ) → ends_in_blanks d (0xEF ∷ 0xBB ∷ []) ≡ false
-unfolding is_blank_behind strip_bom
-blank_of_mark d = refl
-
-blank_of_whole : (d : ℕ) → ends_in_blanks d (0xEF ∷ 0xBB ∷ 0xBF ∷ []) ≡ false
-unfolding is_blank_behind strip_bom
-blank_of_whole d = refl
 
 line_of_mark : line_of_end (0xEF ∷ 0xBB ∷ []) ≡ 1
 unfolding line_behind strip_bom
@@ -201,68 +150,35 @@ line_of_whole : line_of_end (0xEF ∷ 0xBB ∷ 0xBF ∷ []) ≡ 1
 unfolding line_behind strip_bom
 line_of_whole = refl
 
-behind_blank_of_mark : (d : ℕ) → line_of_quote_behind_blank d (0xEF ∷ 0xBB ∷ []) ≡ None
-unfolding quote_line_within strip_bom
-behind_blank_of_mark d = refl
-
-behind_blank_of_whole : (d : ℕ) → line_of_quote_behind_blank d (0xEF ∷ 0xBB ∷ 0xBF ∷ []) ≡ None
-unfolding quote_line_within strip_bom
-behind_blank_of_whole d = refl
-
 same_line : (line b : ℕ) → b ≡ 0xBF → line ≡ line_with line b
 same_line line b last = ap (λ x. line_with line x) (sym last)
 
-no_blank : (blank : Bool) (old : Quoting) (b : ℕ) → b ≡ 0xBF → false ≡ is_blank_by blank old b quoting.Begin
-no_blank blank old b last = ap (λ x. is_blank_by blank old x quoting.Begin) (sym last)
-
-no_quote : (d b : ℕ) → None ≡ behind_blank_by (ends_in_blanks d (0xEF ∷ 0xBB ∷ [])) b (line_of_quote_behind_blank d (0xEF ∷ 0xBB ∷ [])) (line_of_end (0xEF ∷ 0xBB ∷ []))
-no_quote d b =
-    ap (λ x. behind_blank_by x b None (line_of_end (0xEF ∷ 0xBB ∷ []))) (sym (blank_of_mark d))
-    ∙ ap (λ x. behind_blank_by (ends_in_blanks d (0xEF ∷ 0xBB ∷ [])) b x (line_of_end (0xEF ∷ 0xBB ∷ []))) (sym (behind_blank_of_mark d))
-
-never_to_begin : (old : Quoting) → is_stray old quoting.Begin ≡ false
-never_to_begin quoting.Begin = refl
-never_to_begin quoting.Plain = refl
-never_to_begin quoting.Inside = refl
-never_to_begin quoting.AtQuote = refl
+to_begin : (old : Quoting) (b : ℕ) → LeadsToQuoted old b quoting.Begin
+to_begin quoting.Begin b = tt
+to_begin quoting.Plain b = tt
+to_begin quoting.Inside b = tt
+to_begin quoting.AtQuote b = tt
 
 pub mark_ends : (d : ℕ) (text : List ℕ) (b : ℕ) (w : QuoteWatch) → w.mark ≡ mark.Second → b ≡ 0xBF → HasSeen d text w → LeadsTo d text b w.quoting quoting.Begin
 mark_ends d text b w is last seen =
     let two : text ≡ 0xEF ∷ 0xBB ∷ [] = subst (λ n. HasMark n text) is seen.mark in
     let whole : text ++ b ∷ [] ≡ 0xEF ∷ 0xBB ∷ 0xBF ∷ [] = ap (λ t. t ++ b ∷ []) two ∙ ap (λ x. 0xEF ∷ 0xBB ∷ x ∷ []) last in
-    let none : goes_on_behind_quote d text ≡ false = ap (goes_on_behind_quote d) two ∙ stray_of_mark d (0xEF == d) refl in
     record {
       at = subst (λ t. IsAt quoting.Begin (state_of d t)) (sym whole) (at_mark d);
-      stray = ap (goes_on_behind_quote d) whole ∙ stray_of_whole d ∙ sym (ap (λ x. x || is_stray w.quoting quoting.Begin) none ∙ never_to_begin w.quoting);
-      blank = ap (ends_in_blanks d) whole ∙ blank_of_whole d ∙ no_blank (ends_in_blanks d text) w.quoting b last;
+      quoted = to_begin w.quoting b;
       line = ap line_of_end whole ∙ line_of_whole ∙ sym line_of_mark ∙ ap line_of_end (sym two) ∙ same_line (line_of_end text) b last;
-      behind_blank =
-          ap (line_of_quote_behind_blank d) whole ∙ behind_blank_of_whole d ∙ no_quote d b
-          ∙ ap (λ t. behind_blank_by (ends_in_blanks d t) b (line_of_quote_behind_blank d t) (line_of_end t)) (sym two);
     }
 
 -- anywhere else
 pub goes_further : (d : ℕ) (text : List ℕ) (b : ℕ) (w : QuoteWatch) (new : Quoting) → (w.mark ≡ mark.Second → b ≡ 0xBF → ⊥) →
-    ((s : State) → IsAt w.quoting s → IsAt new (step (config_with w.delimiter) s b).0) → HasSeen d text w → LeadsTo d text b w.quoting new
-goes_further d text b w new other leads seen =
+    ((s : State) → IsAt w.quoting s → IsAt new (step (config_with w.delimiter) s b).0) → LeadsToQuoted w.quoting b new → HasSeen d text w → LeadsTo d text b w.quoting new
+goes_further d text b w new other leads quoted seen =
     let front : List ℕ = strip_bom text in
     let stripped : strip_bom (text ++ b ∷ []) ≡ front ++ b ∷ [] = stripped_last w.mark text b seen.mark other in
     let state : state_of d (text ++ b ∷ []) ≡ (step (config_with d) (state_of d text) b).0 = ap (state_behind (config_with d) st.StartRecord) stripped ∙ behind_last (config_with d) st.StartRecord front b in
     let to : IsAt new (step (config_with d) (state_of d text) b).0 = subst (λ e. IsAt new (step (config_with e) (state_of d text) b).0) seen.same (leads (state_of d text) seen.at) in
     record {
       at = subst (IsAt new) (sym state) to;
-      stray = ap (goes_on_within (config_with d) st.StartRecord) stripped ∙ within_last (config_with d) st.StartRecord front b ∙ ap (λ x. goes_on_behind_quote d text || x) (same_stray w.quoting new (state_of d text) (step (config_with d) (state_of d text) b).0 seen.at to);
-      blank =
-          ap (is_blank_behind (config_with d) st.StartRecord false) stripped ∙ blank_last (config_with d) st.StartRecord false front b
-          ∙ same_blank (ends_in_blanks d text) w.quoting new (state_of d text) (step (config_with d) (state_of d text) b).0 b seen.at to;
+      quoted = quoted;
       line = ap (line_behind 1) stripped ∙ line_last 1 front b;
-      behind_blank = ap (quote_line_within (config_with d) st.StartRecord false 1) stripped ∙ quote_last (config_with d) st.StartRecord false 1 front b;
     }
-
--- a field is noted where one has gone on
-pub stray_is : (old new : Quoting) (before : Option Stray) (here : Stray) → is_some (stray_behind old new before here) ≡ is_some before || is_stray old new
-stray_is old new (Some first) here = refl
-stray_is old new None here = noted (is_stray old new) refl where
-  noted : (stray : Bool) → is_stray old new ≡ stray → is_some (if is_stray old new then Some here else None) ≡ is_stray old new
-  noted true is = rw is refl
-  noted false is = rw is refl

@@ -1,5 +1,5 @@
 -- The quotes of a CSV text (RFC 4180, part 2), in terms of the states in which csv reads it.
-use Rattle.std.specs.Prelude.{◌≡◌, ◌||◌, ◌&&◌, ◌==◌, ◌+◌, ◌-◌, ◌^◌, min, if◌then◌else◌, ℕ, Bool, true, false, List, [], ◌∷◌, Option, Some, None}
+use Rattle.std.specs.Prelude.{◌≡◌, ◌==◌, ◌+◌, ◌-◌, ◌^◌, min, if◌then◌else◌, ℕ, Bool, true, false, List, [], ◌∷◌, ◌++◌, Option, Some, None}
 use Rattle.csv.specs.Machine.{step}
 use Rattle.csv.specs.Reading.{strip_bom}
 use Rattle.csv.specs.declared.parser.Config.{Config}
@@ -8,6 +8,7 @@ use Rattle.csv.specs.declared.parser.State.TheVariants as st
 use Rattle.rp_input.specs.Layouts.{config_with}
 use Rattle.rp_quotes.specs.declared.quoting.Quoting.{Quoting}
 use Rattle.rp_quotes.specs.declared.quoting.Quoting.TheVariants as quoting
+use Rattle.rp_quotes.specs.declared.watch.Stray.{Stray}
 
 -- what a state of csv is, as far as quotes go; it has no other states where there are neither escapes nor comments
 abbrev pub quoting_of : State → Option Quoting
@@ -36,40 +37,12 @@ state_of delimiter text = state_behind (config_with delimiter) st.StartRecord (s
 abbrev pub LeavesQuoteOpen : ℕ → List ℕ → Type 0
 LeavesQuoteOpen delimiter text = state_of delimiter text ≡ st.InQuoted
 
--- whether csv comes from behind a quote between quotes into the field itself: the quote closed it, and it goes on
-abbrev pub goes_on : State → State → Bool
-goes_on st.AfterQuote st.InField = true
-goes_on _ _ = false
-
--- whether some field goes on behind its closing quote
-unfoldable pub goes_on_within : Config → State → List ℕ → Bool
-goes_on_within config s [] = false
-goes_on_within config s (byte ∷ rest) = goes_on s (step config s byte).0 || goes_on_within config (step config s byte).0 rest
-
-abbrev pub goes_on_behind_quote : ℕ → List ℕ → Bool
-goes_on_behind_quote delimiter text = goes_on_within (config_with delimiter) st.StartRecord (strip_bom text)
-
 -- whether csv is before the first byte of a field
 abbrev pub begins_field : State → Bool
 begins_field st.StartRecord = true
 begins_field st.StartField = true
 begins_field st.AfterCr = true
 begins_field _ = false
-
--- whether csv takes what follows into a field without quotes
-abbrev pub is_in_field : State → Bool
-is_in_field st.InField = true
-is_in_field _ = false
-
--- whether a field is blanks alone, and at least one, with one byte more that leads csv from here to there
-abbrev pub is_blank_with : Bool → State → ℕ → State → Bool
-is_blank_with blank here byte there = (byte == 32) && ((blank || begins_field here) && is_in_field there)
-
--- whether the last field is blanks alone, and at least one
-unfoldable pub is_blank_behind : Config → State → Bool → List ℕ → Bool
-is_blank_behind config s blank [] = blank
-is_blank_behind config s blank (byte ∷ rest) =
-    is_blank_behind config (step config s byte).0 (is_blank_with blank s byte (step config s byte).0) rest
 
 -- the number of a line, from 1, with one byte more; a count that is full stays
 abbrev pub line_with : ℕ → ℕ → ℕ
@@ -80,12 +53,65 @@ unfoldable pub line_behind : ℕ → List ℕ → ℕ
 line_behind line [] = line
 line_behind line (byte ∷ rest) = line_behind (line_with line byte) rest
 
--- the line of the first quote behind blanks with which some field begins: it doesn't open the field, and blanks and quote are parts of it
-unfoldable pub quote_line_within : Config → State → Bool → ℕ → List ℕ → Option ℕ
-quote_line_within config s blank line [] = None
-quote_line_within config s blank line (byte ∷ rest) =
-    if blank && (byte == 34) then Some line
-    else quote_line_within config (step config s byte).0 (is_blank_with blank s byte (step config s byte).0) (line_with line byte) rest
+-- the number of the line in which a text ends, from 1
+abbrev pub line_of_end : List ℕ → ℕ
+line_of_end text = line_behind 1 (strip_bom text)
 
-abbrev pub line_of_quote_behind_blank : ℕ → List ℕ → Option ℕ
-line_of_quote_behind_blank delimiter text = quote_line_within (config_with delimiter) st.StartRecord false 1 (strip_bom text)
+-- The last field of a text is quoted, and its quote is in this line: the quote comes where csv is before a field, and behind no part of what
+-- follows it is csv before one again.
+pub record IsQuotedFrom (delimiter : ℕ) (text : List ℕ) (line : ℕ) : Type 0 where
+  pub front : List ℕ
+  pub inside : List ℕ
+  pub parts : text ≡ front ++ 34 ∷ inside
+  pub begins : begins_field (state_of delimiter front) ≡ true
+  pub within : (part rest : List ℕ) → inside ≡ part ++ rest → begins_field (state_of delimiter (front ++ 34 ∷ part)) ≡ false
+  pub in_line : line ≡ line_of_end front
+
+-- whether csv comes from behind a quote between quotes into the field itself: the quote closed it, and it goes on
+abbrev pub goes_on : State → State → Bool
+goes_on st.AfterQuote st.InField = true
+goes_on _ _ = false
+
+-- no field of a text goes on behind its closing quote
+abbrev pub HasNoStray : ℕ → List ℕ → Type 0
+HasNoStray delimiter text =
+    (front : List ℕ) (byte : ℕ) (rest : List ℕ) → text ≡ front ++ byte ∷ rest
+    → goes_on (state_of delimiter front) (state_of delimiter (front ++ byte ∷ [])) ≡ true → ⊥
+
+-- The first field of a text that goes on behind its closing quote: a front ends with that quote, and no field of it has gone on before. The
+-- field begins and goes on in these lines.
+pub record IsFirstStray (delimiter : ℕ) (text : List ℕ) (stray : Stray) : Type 0 where
+  pub front : List ℕ
+  pub byte : ℕ
+  pub rest : List ℕ
+  pub parts : text ≡ front ++ byte ∷ rest
+  pub goes : goes_on (state_of delimiter front) (state_of delimiter (front ++ byte ∷ [])) ≡ true
+  pub first : HasNoStray delimiter front
+  pub begins : IsQuotedFrom delimiter front stray.begins
+  pub in_line : stray.goes_on ≡ line_of_end front
+
+-- whether csv takes what follows into a field without quotes
+abbrev pub is_in_field : State → Bool
+is_in_field st.InField = true
+is_in_field _ = false
+
+-- The last field of a text is blanks alone, and at least one: csv is before a field and takes a blank into it, or the field was so before
+-- and it takes one more.
+pub data IsBlankField (delimiter : ℕ) : List ℕ → Type 0 where
+  first : {text : List ℕ} (front : List ℕ) → text ≡ front ++ 32 ∷ [] → begins_field (state_of delimiter front) ≡ true
+      → is_in_field (state_of delimiter text) ≡ true → IsBlankField delimiter text
+  further : {text : List ℕ} (front : List ℕ) → text ≡ front ++ 32 ∷ [] → IsBlankField delimiter front
+      → is_in_field (state_of delimiter text) ≡ true → IsBlankField delimiter text
+
+-- in a text no quote comes behind blanks with which a field begins: such a quote doesn't open the field, and blanks and quote are parts of it
+abbrev pub HasNoQuoteBehindBlanks : ℕ → List ℕ → Type 0
+HasNoQuoteBehindBlanks delimiter text = (front rest : List ℕ) → text ≡ front ++ 34 ∷ rest → IsBlankField delimiter front → ⊥
+
+-- the first one of a text is in this line
+pub record IsFirstQuoteBehindBlanks (delimiter : ℕ) (text : List ℕ) (line : ℕ) : Type 0 where
+  pub front : List ℕ
+  pub rest : List ℕ
+  pub parts : text ≡ front ++ 34 ∷ rest
+  pub blanks : IsBlankField delimiter front
+  pub first : HasNoQuoteBehindBlanks delimiter front
+  pub in_line : line ≡ line_of_end front

@@ -1,10 +1,18 @@
 -- Inside: what a watch has of the text that it has seen.
-use Rattle.std.specs.Prelude.{◌≡◌, ◌||◌, ◌&&◌, ◌==◌, if◌then◌else◌, Bool, true, false, ℕ, Option, Some, None, List, [], ◌∷◌, ◌++◌}
-use Rattle.std.specs.Option.{is_some}
+use Rattle.std.specs.Prelude.{◌≡◌, ⊤, ◌||◌, ◌&&◌, ◌==◌, if◌then◌else◌, Bool, true, false, ℕ, Option, Some, None, MatchOption, List, [], ◌∷◌, ◌++◌}
 use Rattle.csv.specs.Reading.{strip_bom}
-use Rattle.csv.specs.declared.parser.State.TheVariants as st
-use Rattle.rp_input.specs.Layouts.{config_with}
-use Rattle.rp_quotes.specs.Quotes.{IsAt, goes_on_behind_quote, is_blank_behind, line_behind, line_of_quote_behind_blank, line_with, state_of}
+use Rattle.rp_quotes.specs.Quotes.{
+  IsAt,
+  HasNoQuoteBehindBlanks,
+  HasNoStray,
+  IsBlankField,
+  IsFirstQuoteBehindBlanks,
+  IsFirstStray,
+  IsQuotedFrom,
+  line_of_end,
+  line_with,
+  state_of,
+}
 use Rattle.rp_quotes.specs.declared.mark.Mark.{Mark}
 use Rattle.rp_quotes.specs.declared.mark.Mark.TheVariants as mark
 use Rattle.rp_quotes.specs.declared.quoting.Quoting.{Quoting}
@@ -23,28 +31,41 @@ HasMark mark.First text = text ≡ 0xEF ∷ []
 HasMark mark.Second text = text ≡ 0xEF ∷ 0xBB ∷ []
 HasMark mark.Settled text = IsSettled text
 
--- whether the last field of a text is blanks alone, and at least one
-abbrev pub ends_in_blanks : ℕ → List ℕ → Bool
-ends_in_blanks delimiter text = is_blank_behind (config_with delimiter) st.StartRecord false (strip_bom text)
-
--- the number of the line in which a text ends, from 1
-abbrev pub line_of_end : List ℕ → ℕ
-line_of_end text = line_behind 1 (strip_bom text)
+-- between the quotes of a field, or behind a quote there
+abbrev pub is_quoted : Quoting → Bool
+is_quoted quoting.Inside = true
+is_quoted quoting.AtQuote = true
+is_quoted _ = false
 
 -- it has seen the text, byte by byte
 pub record HasSeen (delimiter : ℕ) (text : List ℕ) (watch : QuoteWatch) : Type 0 where
   pub same : watch.delimiter ≡ delimiter
   pub mark : HasMark watch.mark text
   pub at : IsAt watch.quoting (state_of delimiter text)
-  pub stray : is_some watch.stray ≡ goes_on_behind_quote delimiter text
-  pub blank : watch.blank ≡ ends_in_blanks delimiter text
+  pub opened : is_quoted watch.quoting ≡ true → IsQuotedFrom delimiter text watch.opened
   pub line : watch.line ≡ line_of_end text
-  pub behind_blank : watch.behind_blank ≡ line_of_quote_behind_blank delimiter text
+  pub stray : MatchOption watch.stray (HasNoStray delimiter text) (IsFirstStray delimiter text)
+  pub blank : watch.blank ≡ true → IsBlankField delimiter text
+  pub blank_only : IsBlankField delimiter text → watch.blank ≡ true
+  pub behind_blank : MatchOption watch.behind_blank (HasNoQuoteBehindBlanks delimiter text) (IsFirstQuoteBehindBlanks delimiter text)
 
 -- whether a field goes on behind its closing quote, by where the text ends before and behind one byte more
 abbrev pub is_stray : Quoting → Quoting → Bool
 is_stray quoting.AtQuote quoting.Plain = true
 is_stray _ _ = false
+
+-- A byte leads between quotes by opening a field, or from there.
+abbrev pub LeadsToQuoted : Quoting → ℕ → Quoting → Type 0
+LeadsToQuoted quoting.Begin byte quoting.Inside = byte ≡ 34
+LeadsToQuoted quoting.Begin byte quoting.AtQuote = ⊥
+LeadsToQuoted quoting.Plain byte quoting.Inside = ⊥
+LeadsToQuoted quoting.Plain byte quoting.AtQuote = ⊥
+LeadsToQuoted _ byte _ = ⊤
+
+-- the line of the quote that opened the last quoted field, where this line's may be one
+abbrev pub opened_by : Quoting → Quoting → ℕ → ℕ → ℕ
+opened_by quoting.Begin quoting.Inside opened line = line
+opened_by _ _ opened line = opened
 
 -- the first field that does, where this one may with one byte more
 abbrev pub stray_behind : Quoting → Quoting → Option Stray → Stray → Option Stray
@@ -73,8 +94,5 @@ behind_blank_by blank byte None line = if blank && (byte == 34) then Some line e
 -- one byte more leads from there to here
 pub record LeadsTo (delimiter : ℕ) (text : List ℕ) (byte : ℕ) (old new : Quoting) : Type 0 where
   pub at : IsAt new (state_of delimiter (text ++ byte ∷ []))
-  pub stray : goes_on_behind_quote delimiter (text ++ byte ∷ []) ≡ goes_on_behind_quote delimiter text || is_stray old new
-  pub blank : ends_in_blanks delimiter (text ++ byte ∷ []) ≡ is_blank_by (ends_in_blanks delimiter text) old byte new
+  pub quoted : LeadsToQuoted old byte new
   pub line : line_of_end (text ++ byte ∷ []) ≡ line_with (line_of_end text) byte
-  pub behind_blank : line_of_quote_behind_blank delimiter (text ++ byte ∷ [])
-      ≡ behind_blank_by (ends_in_blanks delimiter text) byte (line_of_quote_behind_blank delimiter text) (line_of_end text)

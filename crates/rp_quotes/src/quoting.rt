@@ -1,9 +1,10 @@
 //! Where a text ends, as far as the quotes of its last field go.
-ghost use Rattle.std.specs.Prelude.{◌≢◌, ◌⊎◌};
+ghost use Rattle.std.specs.Prelude.{◌≡◌, ◌≢◌, ◌⊎◌, false};
 ghost use Rattle.csv.specs.Machine.{step};
 ghost use Rattle.csv.specs.declared.parser.State.{State};
 ghost use Rattle.rp_input.specs.Layouts.{config_with};
 ghost use Rattle.rp_quotes.specs.Quotes.{IsAt};
+ghost use Rattle.rp_quotes.specs.Watching.{LeadsToQuoted, is_quoted};
 ghost use Rattle.rp_quotes.specs.declared.quoting.Quoting.TheVariants as quoting;
 
 /// The byte that opens and closes a field.
@@ -25,7 +26,8 @@ pub enum Quoting {
 impl Quoting {
     /// Where the text ends with one more byte.
     pub fn behind(self, byte: u8, delimiter: u8) -> Quoting
-        ensures { (s : State) → IsAt self s → IsAt result (step (config_with delimiter) s byte).0 }
+        ensures at { (s : State) → IsAt self s → IsAt result (step (config_with delimiter) s byte).0 }
+        ensures quoted { LeadsToQuoted self byte result }
     {
         match self {
             Quoting::Begin if byte == QUOTE => Quoting::Inside,
@@ -44,6 +46,7 @@ fn unquoted(byte: u8, delimiter: u8) -> Quoting
     ensures plain { (s : State) → IsAt quoting.Plain s → IsAt result (step (config_with delimiter) s byte).0 }
     ensures other { (s : State) → IsAt quoting.Begin s ⊎ IsAt quoting.AtQuote s → byte ≢ 34 →
         IsAt result (step (config_with delimiter) s byte).0 }
+    ensures outside { is_quoted result ≡ false }
 {
     if byte == delimiter || byte == b'\n' || byte == b'\r' {
         Quoting::Begin

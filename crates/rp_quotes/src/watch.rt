@@ -1,7 +1,8 @@
 //! The quotes of a text that comes piece by piece.
 ghost use Rattle.std.specs.Prelude.{ℕ, ◌++◌, ◌∷◌, [], List, MatchOption, ◌≡◌, true, false};
-ghost use Rattle.rp_quotes.specs.Quotes.{LeavesQuoteOpen, goes_on_behind_quote, line_of_quote_behind_blank, line_with};
-ghost use Rattle.rp_quotes.specs.Watching.{HasSeen, LeadsTo, behind_blank_by, is_blank_by, stray_behind};
+ghost use Rattle.rp_quotes.specs.Quotes.{HasNoQuoteBehindBlanks, HasNoStray, IsFirstQuoteBehindBlanks, IsFirstStray};
+ghost use Rattle.rp_quotes.specs.Quotes.{IsQuotedFrom, LeavesQuoteOpen, line_with};
+ghost use Rattle.rp_quotes.specs.Watching.{HasSeen, LeadsTo, behind_blank_by, is_blank_by, opened_by, stray_behind};
 
 use crate::mark::Mark;
 use crate::quoting::{QUOTE, Quoting};
@@ -68,7 +69,8 @@ impl QuoteWatch {
     /// The line in which the quote is that is open at the end of the text, if one is.
     pub fn open_line(&self) -> Option<u64>
         ensures { (delimiter : ℕ) (text : List ℕ) → HasSeen delimiter text self.now →
-            MatchOption result (LeavesQuoteOpen delimiter text → ⊥) (λ line. LeavesQuoteOpen delimiter text) }
+            MatchOption result (LeavesQuoteOpen delimiter text → ⊥) (λ line.
+            LeavesQuoteOpen delimiter text × IsQuotedFrom delimiter text line) }
     {
         if self.quoting == Quoting::Inside {
             Some(self.opened)
@@ -80,8 +82,7 @@ impl QuoteWatch {
     /// The first field that goes on behind its closing quote, if one does.
     pub fn stray(&self) -> Option<Stray>
         ensures { (delimiter : ℕ) (text : List ℕ) → HasSeen delimiter text self.now →
-            MatchOption result (goes_on_behind_quote delimiter text ≡ false)
-            (λ stray. goes_on_behind_quote delimiter text ≡ true) }
+            MatchOption result (HasNoStray delimiter text) (IsFirstStray delimiter text) }
     {
         self.stray
     }
@@ -89,7 +90,7 @@ impl QuoteWatch {
     /// The line of the first quote that comes behind blanks with which a field begins, if one does.
     pub fn behind_blank(&self) -> Option<u64>
         ensures { (delimiter : ℕ) (text : List ℕ) → HasSeen delimiter text self.now →
-            result ≡ line_of_quote_behind_blank delimiter text }
+            MatchOption result (HasNoQuoteBehindBlanks delimiter text) (IsFirstQuoteBehindBlanks delimiter text) }
     {
         self.behind_blank
     }
@@ -109,7 +110,7 @@ impl QuoteWatch {
     /// Notes the line of a byte by which the text comes to stand here.
     fn note(&mut self, next: Quoting)
         ensures { self.new ≡ record self.old {
-          opened = self.new.opened;
+          opened = opened_by self.old.quoting next self.old.opened self.old.line;
           stray = stray_behind self.old.quoting next self.old.stray
               (record { begins = self.old.opened; goes_on = self.old.line });
         } }
