@@ -10,7 +10,7 @@ use rp_explain_clauses::{explain_condition, explain_other_rows, explain_table, e
 use rp_explain_inputs::{explain_columns, explain_zone};
 use rp_filter::{FilterFault, read_filter};
 use rp_io::{CountedDevice, write_all};
-use rp_job::{InputForm, ProgramFault, Verdict, named_shape};
+use rp_job::{InputForm, ProgramFault, Verdict, named_shape, seeded_hasher};
 use rp_value::Table;
 use rp_wording::Report;
 use std::alloc::{AllocError, Global};
@@ -36,7 +36,8 @@ fn look_at_all(rt: &HostRuntime, job: &CheckJob, found: &mut Found) -> Result<()
     if inputs.is_empty() {
         tell_no_input(rt, found);
     }
-    Ok(look_at_inputs(&form, inputs.as_slice(), &job.filter, found)?)
+    let hasher = seeded_hasher(rt)?;
+    Ok(look_at_inputs(&form, inputs.as_slice(), &job.filter, hasher, found)?)
 }
 
 fn print_found(rt: &HostRuntime, format: ReportFormat, found: &Found) -> Result<(), ProgramFault> {

@@ -1,8 +1,10 @@
 //! What `check` says of rows over the condition that leaves rows out.
 
 use crate::found::{Found, RowsSeen};
+use crate::texts::compared_told;
 use rp_explain_queries::describe_input;
 use rp_job::condition_query;
+use rp_query::Query;
 use rp_value::{Row, Table};
 use rp_wording::Pieces;
 use std::alloc::{AllocError, Global};
@@ -30,9 +32,17 @@ fn said_of(
     rows: &[Row],
 ) -> Result<String, AllocError> {
     match condition_query(alloc, condition, table)? {
-        Some(query) => describe_input(alloc, &query, rows),
+        Some(query) => said_over(alloc, &query, rows),
         None => Ok(String::new(alloc)),
     }
+}
+
+/// What is said of rows over a query.
+fn said_over(alloc: Global, query: &Query, rows: &[Row]) -> Result<String, AllocError> {
+    let said = describe_input(alloc, query, rows)?;
+    let mut told = Pieces::of(alloc, said.as_str());
+    told.push_made(compared_told(alloc, query, rows));
+    told.finish()
 }
 
 /// Lines, each behind a word that says that it is of the condition.

@@ -5,8 +5,12 @@ mod check;
 mod condition;
 mod found;
 mod inputs;
+mod near_keys;
+mod nulls;
+mod parts;
 mod proposing;
 mod rows;
 mod texts;
+mod ties;
 
 pub use check::run_check;

@@ -2,7 +2,8 @@
 use crate::condition::condition_described;
 use crate::found::Found;
 use crate::inputs::Input;
-use crate::texts::texts_told;
+use crate::parts::parts_told;
+use crate::texts::{compared_told, texts_told};
 use rp_columns::Columns;
 use rp_command::InputFormat;
 use rp_explain_inputs::{
@@ -17,6 +18,7 @@ use rp_report::FoundRows;
 use rp_value::{Row, Table};
 use rp_wording::{Pieces, Report, noun};
 use std::alloc::{AllocError, Global};
+use std::collections::hash_map::RandomState;
 
 /// The rows of an input, or what is said of why they are none.
 type Looked = Result<Vec<Row>, Result<Report, AllocError>>;
@@ -30,11 +32,12 @@ struct RowsRead {
 }
 
 /// How many rows each input has, or what is wrong with it, and what is to be known of the rows that the clause sees. The condition is the
-/// text of the one that leaves rows out.
+/// text of the one that leaves rows out. The hasher finds the partitions of rows.
 pub(crate) fn look_at_inputs(
     form: &InputForm,
     inputs: &[Input<'_>],
     condition: &Option<String>,
+    hasher: RandomState,
     found: &mut Found,
 ) -> Result<(), AllocError> {
     let (mut all, mut seen) = (Vec::new(found.alloc), Vec::new(found.alloc));
@@ -50,6 +53,11 @@ pub(crate) fn look_at_inputs(
     found.note(told);
     let described = rows_described(found, form, condition, all.as_slice(), seen.as_slice());
     found.note(described);
+    let of_parts = match &found.query {
+        Some(query) => parts_told(found.alloc, query, seen, hasher),
+        None => Ok(String::new(found.alloc)),
+    };
+    found.note(of_parts);
     Ok(())
 }
 
@@ -170,7 +178,7 @@ fn never_found_told(found: &Found, rows: &[Row]) -> Result<String, AllocError> {
     lines.finish()
 }
 
-/// What is said of rows over which the clause has no fault: of those that it sees, and of columns that are proposed for all.
+/// What is said of rows over which the clause has no fault: of those that it sees, and of the columns and texts of all.
 fn rows_described(
     found: &Found,
     form: &InputForm,
@@ -184,6 +192,7 @@ fn rows_described(
     let described = describe_input(found.alloc, query, seen)?;
     let mut told = Pieces::of(found.alloc, described.as_str());
     told.push_made(texts_told(found, form, query, condition, all, described.as_str()));
+    told.push_made(compared_told(found.alloc, query, all));
     told.finish()
 }
 

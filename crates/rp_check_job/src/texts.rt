@@ -1,8 +1,9 @@
 //! What `check` says of columns that are proposed as texts, and are numbers or times that a clause compares, or as whole numbers, and are
-//! dates that it adds or subtracts; and of columns that are given in different units.
+//! dates that it adds or subtracts; of columns that are given in different units; and of texts that rows have nearly, or not at all.
 
 use crate::found::Found;
 use rp_job::{InputForm, notes_on_columns, notes_on_given};
+use rp_near_misses::{absent_texts, near_misses};
 use rp_query::Query;
 use rp_value::Row;
 use rp_wording::{Pieces, shown_text};
@@ -41,6 +42,22 @@ pub(crate) fn units_told(found: &Found, condition: &Option<String>) -> Result<St
         }
     }
     shown_text(found.alloc, lines.text()?)
+}
+
+/// What is said of texts with which a query compares columns, where rows have them nearly, or no row has them: a line for each.
+pub(crate) fn compared_told(
+    alloc: Global,
+    query: &Query,
+    rows: &[Row],
+) -> Result<String, AllocError> {
+    let mut notes = near_misses(alloc, query, rows)?;
+    notes.append(&mut absent_texts(alloc, query, rows)?)?;
+    let mut lines = Pieces::new(alloc);
+    for note in notes {
+        lines.push(note.as_str());
+        lines.push("\n");
+    }
+    shown_text(alloc, lines.text()?)
 }
 
 /// Whether something was told of the offsets of a column, by its number from 1.

@@ -1,13 +1,16 @@
 //! `why`: what is in the way of a match, partition by partition.
 use rp_command::{ReportFormat, WhyJob};
 use rp_io::{CountedDevice, write_all};
-use rp_job::{Asked, InputLayout, JobInputs, ProgramFault, Verdict, seeded_hasher, shown_key};
+use rp_job::{
+    Asked, InputLayout, JobInputs, ProgramFault, Verdict, seeded_hasher, shown_key, tell,
+};
 use rp_json::cells_of;
+use rp_near_misses::absent_texts;
 use rp_numbering::{Part, order_rows, partitions};
 use rp_query::Query;
 use rp_value::{Cells, Row};
 use rp_why::{Finding, Wanted, object_line, told, why};
-use rp_wording::shown_text;
+use rp_wording::{shown_line, shown_text};
 use serde_json::Value as Json;
 use std::alloc::{AllocError, Global};
 
@@ -27,7 +30,8 @@ pub fn run_why(rt: &HostRuntime, job: &WhyJob) -> Result<Verdict, ProgramFault> 
     tell_question(rt, job, asked, &layout, ready, &key)
 }
 
-/// Prints what is found of each partition that is asked about, of the rows of inputs that are read so.
+/// Prints what is found of each partition that is asked about, of the rows of inputs that are read so. Where one has no match, texts of the
+/// clause that no row has are reported.
 fn tell_question<'a>(
     rt: &'a HostRuntime,
     job: &WhyJob,
@@ -38,7 +42,20 @@ fn tell_question<'a>(
 ) -> Result<Verdict, ProgramFault> {
     let question = asked.question(rt.alloc(), layout)?;
     let rows = JobInputs::new(rt, asked, layout, &question.query, ready, None).rows(&question)?;
-    tell_rows(rt, job, &question.query, key, rows)
+    let absent = absent_texts(rt.alloc(), &question.query, rows.as_slice())?;
+    let verdict = tell_rows(rt, job, &question.query, key, rows)?;
+    if !matches!(verdict, Verdict::Clean) {
+        tell_absent(rt, absent.as_slice())?;
+    }
+    Ok(verdict)
+}
+
+/// Reports texts of the clause that no row has.
+fn tell_absent(rt: &HostRuntime, notes: &[String]) -> Result<(), AllocError> {
+    for note in notes {
+        tell(rt, &shown_line(rt.alloc(), note.as_str())?);
+    }
+    Ok(())
 }
 
 /// Prints for these rows what is found of each partition that is asked about.

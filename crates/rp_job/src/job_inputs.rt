@@ -5,7 +5,7 @@ use crate::files::bytes_of;
 use crate::input::InputLayout;
 use crate::input_fault::input_fault;
 use crate::progress::Progress;
-use crate::remarks::{tell_never_found, tell_quotes_of};
+use crate::remarks::{tell_near_misses, tell_never_found, tell_quotes_of};
 use crate::texts::{notes_on_columns, notes_on_given, tell_notes};
 use rp_query::Query;
 use rp_question::{InputFault, Inputs, Question, Unread};
@@ -119,7 +119,8 @@ impl Inputs for JobInputs<'_> {
 
     fn has_all(&mut self, rows: &[Row]) -> Result<(), AllocError> {
         let notes = self.notes(rows)?;
-        tell_notes(self.rt, notes.as_slice())
+        tell_notes(self.rt, notes.as_slice())?;
+        tell_near_misses(self.rt, self.query, self.asked.filter, rows)
     }
 }
 

@@ -1,9 +1,12 @@
-//! What is reported of an input that has rows, though they aren't what is meant, most likely: quotes that csv takes otherwise, and paths
-//! that no line of JSON has.
+//! What is reported of inputs that have rows, though they aren't what is meant, most likely: quotes that csv takes otherwise, paths that no
+//! line of JSON has, and texts that are nearly what they are compared with.
 use crate::input::InputForm;
 use crate::never_found::columns_never_found;
 use crate::telling::tell;
+use crate::texts::condition_query;
 use rp_command::InputFormat;
+use rp_near_misses::near_misses;
+use rp_query::Query;
 use rp_question::InputShape;
 use rp_quotes::{QuoteWatch, remarks_on};
 use rp_value::Row;
@@ -41,7 +44,33 @@ pub(crate) fn tell_never_found(
     Ok(())
 }
 
-/// Reports a remark, behind the word for what the input is.
+/// Reports texts of the rows that are nearly what a condition that leaves rows out, or a query, compares them with.
+pub(crate) fn tell_near_misses(
+    rt: &HostRuntime,
+    query: &Query,
+    condition: &Option<String>,
+    rows: &[Row],
+) -> Result<(), AllocError> {
+    if let Some(filter) = condition_query(rt.alloc(), condition, query.table())? {
+        tell_near_misses_of(rt, "where: ", &filter, rows)?;
+    }
+    tell_near_misses_of(rt, "", query, rows)
+}
+
+/// Reports those of a query, each behind a word that says what that is the query of.
+fn tell_near_misses_of(
+    rt: &HostRuntime,
+    word: &str,
+    query: &Query,
+    rows: &[Row],
+) -> Result<(), AllocError> {
+    for note in near_misses(rt.alloc(), query, rows)? {
+        tell_remark(rt, word, note.as_str(), None)?;
+    }
+    Ok(())
+}
+
+/// Reports a remark, behind a word for what it is about.
 fn tell_remark(
     rt: &HostRuntime,
     word: &str,

@@ -26,8 +26,8 @@ pub struct Proposal {
 /// and `x,1` it is `sym text, t int`.
 ///
 /// Blanks round the name of a field are no part of its column's name, unless another field has that or there are quotes in it: of `sym, t`
-/// they are `sym text, t = int(" t")`. A field of the header that is empty, has the name of another one, or a line end or another character in its
-/// name that can't be shown, has no column.
+/// they are `sym text, t = int(" t")`. A field of the header that is empty, has the name of another one, or a line end or another character
+/// in its name that can't be shown, has no column.
 pub fn propose_columns(
     alloc: Global,
     bytes: &[u8],
