@@ -151,6 +151,16 @@ def bad_peers(checks, folder):
         checks.same(name, source(peer(good), *others, stdin=one), wanted)
 
 
+def near_misses(checks, folder):
+    """What `whole` reports of the rows `source` reports too, once, and hands them to each node."""
+    new, idle, end = '{"taken":"new"}\n', '{"idle":["x"]}\n', '{"end":true,"key":["x"],"place":"1"}\n'
+    good = [new, idle, new, end, idle]
+    clause = "PARTITION BY sym ORDER BY t MEASURES A.t AS t PATTERN (A) DEFINE A AS sym = 'X'"
+    words = ["source", "--table", TABLE, "--clause", clause, peer(good), peer(good)]
+    told = "rowmatch: sym is compared with 'X', which no row has; 1 row has 'x', and capitals count: write it so\n"
+    checks.same("a text in other letters", run(*words, stdin="sym,t,p\nx,1,10\n"), (0, "1 " + end + "2 " + end, told))
+
+
 def streams(checks, folder):
     """Standard output that takes nothing, standard input that is a folder, and an input without a row."""
     node = Node(f"{folder}/state", connections=2)
@@ -198,4 +208,4 @@ def small_budget(checks, folder):
 
 
 if __name__ == "__main__":
-    main([two_nodes, examples, killed, bad_peers, streams, faults, small_budget])
+    main([two_nodes, examples, killed, bad_peers, near_misses, streams, faults, small_budget])
