@@ -1097,6 +1097,77 @@ def test_where_they_are_not_compared_nothing_is_warned_of(bid, ask, ways, _, rec
     assert not recwarn.list
 
 
+NEAR = "outcome is compared with 'fail', which no row has; 2 rows have 'FAIL', and capitals count"
+FAILED = "PATTERN (A B) DEFINE A AS outcome = 'fail', B AS outcome = 'ok'"
+
+
+@pytest.mark.parametrize("measures", ["", "MEASURES A.t AS t ", "MEASURES '' AS none "])
+@pytest.mark.parametrize("timeout", [None, 60])
+@pytest.mark.parametrize("dtype", [object, "category"])
+def test_texts_that_are_nearly_equal_are_warned_of(measures, timeout, dtype):
+    logins = pd.DataFrame({"t": [1, 2, 3], "outcome": ["FAIL", "FAIL", "ok"]})
+    with pytest.warns(UserWarning, match=re.escape(NEAR)) as warned:
+        answer = rowmatch.match(
+            logins.astype({"outcome": dtype}), measures + FAILED, timeout=timeout
+        )
+    assert len(warned) == 1 and len(answer) == 0
+
+
+def test_check_says_what_is_to_be_known_of_the_rows(recwarn):
+    logins = pd.DataFrame(
+        {
+            "account": ["eve", "eve", "Eve", None],
+            "t": pd.to_datetime(["2024-01-05", "2024-01-05", "2024-01-06", None]),
+            "outcome": ["FAIL", None, "ok", "ok"],
+            "unread": [1.5, 2.5, 3.5, 4.5],
+        }
+    )
+    clause = "PARTITION BY account ORDER BY t PATTERN (A B) DEFINE A AS outcome <> 'fail', "
+    said = rowmatch.check(logins, clause + "B AS outcome = 'new'").split("\n")
+    assert said[-8:] == [
+        "outcome is null in 1 row, and null is neither equal nor unequal (<>): to take them too "
+        "write (outcome <> 'fail' OR outcome IS NULL)",
+        NEAR.replace("2 rows have", "1 row has") + ": write it so",
+        "outcome is compared with 'new', which no row has; rows have 'FAIL', 'ok'",
+        "account is null in 1 row, and null is a key like any other",
+        "t is null in 1 row, which ORDER BY puts last",
+        '["eve"] and ["Eve"] are two partitions, since capitals and blanks count',
+        "ORDER BY doesn't tell all rows apart: 1 row has the values of the row before, as "
+        '[1704412800000000] in partition ["eve"], and stays behind it in the order of the input',
+        "",
+    ]
+    assert not recwarn.list
+
+
+def test_check_says_why_rows_cannot_be_handed_over():
+    prices = pd.DataFrame({"price": [1.5, 2.25]})
+    clause = "PATTERN (A B) DEFINE B AS price < PREV(price)"
+    said = rowmatch.check(prices, clause)
+    with pytest.raises(rowmatch.DataError) as refused:
+        rowmatch.match(prices, clause)
+    assert said.endswith(f"\n{refused.value}\n")
+    assert (
+        rowmatch.check(prices, clause, columns={"price": "decimal(2)"}) + f"{refused.value}\n"
+        == said
+    )
+
+
+def test_check_of_rows_of_which_nothing_is_to_be_known():
+    ticks = pd.DataFrame({"t": [1, 2], "sym": ["x", "y"]})
+    clauses = ["PATTERN (A) DEFINE A AS 1 = 1", "ORDER BY t PATTERN (A) DEFINE A AS sym = 'x'"]
+    for clause in clauses:
+        assert rowmatch.check(ticks, clause).endswith("no condition waits for later rows\n")
+        assert "no row has" not in rowmatch.check(ticks.iloc[:0], clause)
+
+
+def test_equal_texts_and_what_the_clause_names_too_are_not_warned_of(recwarn):
+    logins = pd.DataFrame({"t": [1, 2, 3], "outcome": ["FAIL", "fail", None]})
+    both = "PATTERN (A B) DEFINE A AS outcome = 'FAIL', B AS outcome = 'fail'"
+    assert len(rowmatch.match(logins, both)) == 1
+    assert len(rowmatch.match(logins, FAILED.replace("'fail'", "'failed'"))) == 0
+    assert not recwarn.list
+
+
 def test_zones_that_differ_and_lengths_are_not_warned_of(recwarn):
     spans = pd.DataFrame(
         {

@@ -24,12 +24,13 @@ SkipFaults = list[tuple[list[Any], str]]
 @dataclass(frozen=True)
 class Read:
     """An answer as it was read: how many rows it has, the columns that were wanted, by their
-    places, as object texts and Int64, and the keys of partitions that a skip fault ended, with its
-    name."""
+    places, as object texts and Int64, the keys of partitions that a skip fault ended, with its
+    name, and what was reported of the rows."""
 
     rows: int
     columns: Mapping[int, pd.Series]
     faults: SkipFaults
+    notes: list[str]
 
 
 @dataclass(frozen=True)
@@ -79,8 +80,11 @@ class Sheet:
         return any(isinstance(cells, Words) for cells in self.cells.values())
 
 
-def kind_of_cells(cells: Cells) -> str:
-    return "text" if isinstance(cells, Words) else "int"
+def kinds_of_sheet(sheet: Sheet) -> dict[str, str]:
+    """The kinds of its columns, by their names."""
+    return {
+        name: "text" if isinstance(cells, Words) else "int" for name, cells in sheet.cells.items()
+    }
 
 
 def row_numbers(rows: int) -> Numbers:
@@ -124,7 +128,7 @@ def from_csv(ran: Ran, kinds: Mapping[int, str]) -> Read:
     except ValueError:
         read = _read_csv(ran.printed, texts)
     columns = {at: _column(read[at], kind) for at, kind in kinds.items()}
-    return Read(len(next(iter(read.values()))), columns, [])
+    return Read(len(next(iter(read.values()))), columns, [], ran.notes())
 
 
 def _read_csv(printed: bytes, dtypes: Mapping[int, str]) -> Mapping[int, pd.Series]:
@@ -168,4 +172,5 @@ def from_lines(ran: Ran, kinds: Mapping[int, str]) -> Read:
         at: pd.Series([row[at] for row in rows], dtype=object if kind == "text" else "Int64")
         for at, kind in kinds.items()
     }
-    return Read(len(rows), columns, [(fault["key"], fault["fault"]) for fault in said])
+    faults = [(fault["key"], fault["fault"]) for fault in said]
+    return Read(len(rows), columns, faults, ran.notes())

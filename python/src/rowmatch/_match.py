@@ -52,7 +52,8 @@ def match(
     What can't be handed over exactly is a `DataError` and is never rounded or cut. Where the clause
     compares, adds or subtracts columns that are counted in different units, as by ``decimal(2)``
     and ``decimal(3)``, by ``decimal(2)`` and as whole numbers, or as days and as seconds, or times
-    with a time zone and without one, it warns.
+    with a time zone and without one, it warns. So it does where it compares a column with a text
+    that rows have but for capitals, or for blanks at the ends.
 
     Args:
         data: the rows: a frame, what has ``to_pandas()``, or what ``pandas.DataFrame(..)`` takes.
@@ -101,7 +102,9 @@ def match(
     question = understand(pandas_frame(data), clause, columns or {}, times, limit)
     for note in question.units(limit):
         warnings.warn(note, stacklevel=2)
-    answer, faults = question.answer(limit)
+    answer, faults, notes = question.answer(limit)
+    for note in notes:
+        warnings.warn(note, stacklevel=2)
     if faults and on_skip_fault == "raise":
         raise SkipFault(faults, answer)
     if faults and on_skip_fault == "warn":
@@ -112,8 +115,12 @@ def match(
 def check(
     data: pd.DataFrame, clause: str, *, columns: Ways | None = None, times: str = "micros"
 ) -> str:
-    """Says what a clause is over the columns of a frame, as ``rowmatch check`` does, and where it
-    compares, adds or subtracts columns that aren't counted alike, of which `match` warns.
+    """Says what a clause is over the columns of a frame, as ``rowmatch check`` does; where it
+    compares, adds or subtracts columns that aren't counted alike, of which `match` warns; and what
+    is to be known of the rows: texts that the clause compares a column with and no row has, or some
+    have but for capitals and blanks, keys that differ so, nulls that are compared by ``<>`` or are
+    in columns of PARTITION BY and ORDER BY, and rows that tie there. Where `match` refuses to hand
+    the rows over, it says why.
 
     Raises:
         ClauseError: the clause is wrong; its text says where, and what to write.
@@ -134,7 +141,8 @@ def check(
     ran = run(["check"], table_of(question.kinds), clause)
     if ran.status != 0:
         raise ran.failed()
-    return ran.printed.decode() + "".join(f"{note}\n" for note in question.units(NO_LIMIT))
+    notes = question.units(NO_LIMIT) + question.rows()
+    return ran.printed.decode() + "".join(f"{note}\n" for note in notes)
 
 
 def pandas_frame(data: Any) -> pd.DataFrame:

@@ -26,6 +26,7 @@ _GIVE_BACK = (
     "glibc.malloc.tcache_count=0:glibc.malloc.mxfast=0"
     ":glibc.malloc.mmap_threshold=1048576:glibc.malloc.trim_threshold=1048576"
 )
+_NEAR = " is compared with '"  # it begins what is reported of near misses
 _LOST = (
     "the program's exit status was lost, so its answer may be a part of one: SIGCHLD is ignored in "
     "this process, or a handler of it waits for every child"
@@ -71,6 +72,11 @@ class Ran:
         have what else str.splitlines takes for an end."""
         lines = self.reported.split("\n")
         return [line for line in lines if line and not is_progress(line)]
+
+    def notes(self) -> list[str]:
+        """What is to be known of texts of the rows that are nearly what the clause compares them
+        with."""
+        return [line.replace("rowmatch: ", "", 1) for line in self.lines() if _NEAR in line]
 
     def failed(self) -> ProgramError:
         """The error of a run that ended in a way that it shouldn't."""

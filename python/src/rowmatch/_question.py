@@ -2,6 +2,7 @@
 
 from __future__ import annotations
 
+import json
 import re
 from collections.abc import Hashable, Mapping
 from dataclasses import dataclass, replace
@@ -9,7 +10,7 @@ from typing import Any, Union
 
 import pandas as pd
 
-from ._cells import Read, Sheet, SkipFaults, from_csv, from_lines, kind_of_cells, row_numbers
+from ._cells import Read, Sheet, SkipFaults, from_csv, from_lines, kinds_of_sheet, row_numbers
 from ._clause import Clause, Measure, quoted, read, table_of
 from ._names import Names, Source, kinds_of, unused
 from ._program import NO_LIMIT, Limit, Ran, run
@@ -130,14 +131,9 @@ class Question:
         compares, adds or subtracts them as they are."""
         return notes_on_units(self.frame, self.sources, self.text, self.times, limit)
 
-    def answer(self, limit: Limit) -> tuple[pd.DataFrame, SkipFaults]:
-        """The answer, and the skip faults in it."""
-        values = {name: source.values(self.frame) for name, source in self.sources.items()}
-        ways = {
-            name: way_of(source.label, values[name], source.said, self.times)
-            for name, source in self.sources.items()
-        }
-        given: dict[str, Cells] = {name: way.cells(values[name]) for name, way in ways.items()}
+    def answer(self, limit: Limit) -> tuple[pd.DataFrame, SkipFaults, list[str]]:
+        """The answer, the skip faults in it, and what is to be known of the rows."""
+        ways, given = self._given()
         hidden = self._row_number()
         if hidden is not None:
             given[hidden] = row_numbers(len(self.frame))
@@ -149,7 +145,31 @@ class Question:
         found = self._run(Sheet(given, len(self.frame)), wanted, limit)
         columns = [(wanted[at], cells) for at, cells in found.columns.items()]
         make = self._all_rows if self.clause.all_rows else self._one_row
-        return make(columns, ways, found.rows), found.faults
+        return make(columns, ways, found.rows), found.faults, found.notes
+
+    def rows(self) -> list[str]:
+        """What the program says of the rows that the clause sees; where `match` refuses them, why.
+        It takes them all."""
+        if not self.sources:
+            return []
+        try:
+            sheet = Sheet(self._given()[1], len(self.frame))
+        except DataError as error:
+            return [str(error)]
+        words = ["check", "--format", "json", *sheet.options()]
+        ran = run(words, table_of(kinds_of_sheet(sheet)), self.text, sheet.csv())
+        if ran.status != 0:
+            raise ran.failed()
+        return [note["message"] for note in json.loads(ran.printed).get("notes", [])]
+
+    def _given(self) -> tuple[Mapping[str, Way], dict[str, Cells]]:
+        """The columns that the clause names, each in its way, and the cells that are handed over."""
+        values = {name: source.values(self.frame) for name, source in self.sources.items()}
+        ways = {
+            name: way_of(source.label, values[name], source.said, self.times)
+            for name, source in self.sources.items()
+        }
+        return ways, {name: way.cells(values[name]) for name, way in ways.items()}
 
     def _row_number(self) -> str | None:
         """The name of a column of row numbers, by which whole rows of the answer are picked from
@@ -161,7 +181,7 @@ class Question:
 
     def _run(self, sheet: Sheet, wanted: Wanted, limit: Limit) -> Read:
         """Runs the program, and reads what is wanted of its answer: from CSV where that can be."""
-        kinds = {name: kind_of_cells(cells) for name, cells in sheet.cells.items()}
+        kinds = kinds_of_sheet(sheet)
         wanted_kinds = {
             at: column.kind if isinstance(column, Measure) else kinds[column]
             for at, column in wanted.items()
