@@ -35,7 +35,7 @@ class Node:
         words = [program, "node", "--table", TABLE, "--clause", CLAUSE, "--listen", "127.0.0.1:0", "--state", self.state]
         words += ["--acknowledge", "--idle", "60", "--verbose"]
         with open(f"{folder}/told", "w", encoding="utf-8") as told:
-            self.process = subprocess.Popen(words, stderr=told, preexec_fn=end_with_parent)
+            self.process = subprocess.Popen(words, stderr=told, preexec_fn=end_with_bridge)
         replace(f"{folder}/node.pid", str(self.process.pid).encode())
         self.told = f"{folder}/told"
 
@@ -50,7 +50,7 @@ class Node:
             place = re.search(r"^rowmatch: listening at .*:(\d+)\n", told, re.M)
             if status is not None and not place:
                 sys.stderr.write(told)
-                raise SystemExit(status) if status in (1, 2) else Lost("the node ended")
+                raise SystemExit(status) if status in (1, 2) else Lost(f"the node ended with status {status}")
         if "rowmatch: checkpoint refused" in told:
             told = told[:place.start()]
             raise SystemExit(f"{told}bridge: the node doesn't go on from what is kept; in another FOLDER it reads the log from its beginning")
@@ -74,8 +74,12 @@ class Node:
         return items
 
 
-def end_with_parent():
+def end_with_bridge(bridge=os.getpid()):
+    """A node ends with its bridge, also where that was killed before this asks for it: else it would keep its state's file locked, and no
+    node of the next bridge could begin."""
     ctypes.CDLL(None).prctl(1, signal.SIGKILL)
+    if os.getppid() != bridge:
+        os._exit(1)
 
 
 def talk(connection, replies, lines, items):
@@ -133,9 +137,11 @@ def main():
             node.listen()
             while True:
                 position = bring(log, shard, replica, folder, node, position)
-        except (Lost, OSError, ValueError):
+        except (Lost, OSError, ValueError) as fault:
             node.process.kill()
             node.process.wait()
+            sys.stderr.write(f"bridge {shard} {replica}: {fault}: the batch is brought again\n")
+            time.sleep(0.1)
 
 
 if __name__ == "__main__":
