@@ -48,7 +48,7 @@ PollCounts budget old steps steps' entered entered' result =
     TurnsAreCounted budget steps steps' entered entered'
     × IfOk result (PollTakes budget steps steps') × IfOk result (IdleTakes old steps steps')
 
--- What a poll by a budget does that nobody counts. The query, how many rows are known and the end stay. After a want of memory the
+-- What a poll by a budget does that nobody counts. The query, how many rows are known and the end stay. Where memory ran out the
 -- same item is still to come and the same rows are held; else, by a budget of 1 or more, the rows below the horizon are dropped.
 pub record Advances (budget : ℕ) (old new : MatcherData) (result : Result Poll AllocError) : Type 0 where
   pub query : new.query ≡ old.query

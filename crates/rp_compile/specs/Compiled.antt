@@ -50,7 +50,7 @@ pub record IsFaulty (text : List ℕ) (columns : List Column) (why : Fault) : Ty
   pub others : List Fault
   pub first : faults clause columns ≡ why ∷ others
 
--- what is wrong with the text; want of memory says nothing of it
+-- what is wrong with the text; being out of memory says nothing of it
 abbrev pub IsCompileFault : List ℕ → List Column → CompileFault → Type 0
 IsCompileFault text columns (fault.Lex why) = IsFirstFault text why
 IsCompileFault text columns (fault.Parse why) = IsNoClause text why

@@ -33,7 +33,7 @@ abbrev pub TellsWrites : {X : Type 0} → Result X DriveFault → ℕ → ℕ �
 TellsWrites (Err Write) w w' o o' = ((w' ≡ raised w) × (o' ≡ o)) ⊎ ((w' ≡ w) × (o' ≡ raised o))
 TellsWrites _ w w' o o' = (w' ≡ w) × (o' ≡ o)
 
--- a fault of reading, or want of memory
+-- a fault of reading, or out of memory
 abbrev pub IsOfReading : DriveFault → Type 0
 IsOfReading Read = ⊤
 IsOfReading Turns = ⊤
@@ -45,7 +45,7 @@ abbrev pub TellsWrite : {X : Type 0} → Result X DriveFault → ℕ → ℕ →
 TellsWrite (Err Write) old new = new ≡ raised old
 TellsWrite _ old new = new ≡ old
 
--- a fault of writing, or want of memory
+-- a fault of writing, or out of memory
 abbrev pub IsOfWriting : DriveFault → Type 0
 IsOfWriting Write = ⊤
 IsOfWriting OutOfMemory = ⊤

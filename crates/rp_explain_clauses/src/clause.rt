@@ -10,8 +10,8 @@ use std::alloc::{AllocError, Global};
 
 /// Explains why `compile` refuses a clause over a table, by the fault that it gave.
 ///
-/// The first line is the fault's own, `clause: UnknownColumn at byte 129`; each line ends in LF. Of want of memory that line alone
-/// is told.
+/// The first line is the fault's own, `clause: UnknownColumn at byte 129`; each line ends in LF. Where memory ran out that line is
+/// all there is.
 pub fn explain_clause(
     alloc: Global,
     table: &Table,

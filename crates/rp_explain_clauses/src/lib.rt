@@ -11,7 +11,7 @@
 //!       help: the columns are sym, t, price
 //!
 //! Nothing here decides: the fault is that of `read_table` or `compile`, and hints are guesses from the words round its place. Each line
-//! ends in LF. The only error is want of memory.
+//! ends in LF. The only error is being out of memory.
 #![tactic(auto)]
 
 mod clause;

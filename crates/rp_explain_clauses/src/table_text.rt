@@ -16,8 +16,8 @@ const LIKE: &str = "write a name and a kind, int or text, for each column: sym t
 
 /// Explains why `read_table` refuses a text, by the fault that it gave.
 ///
-/// The first line is the fault's own, `table: Expected at byte 6`; each line ends in LF. Of want of memory that line alone is
-/// told.
+/// The first line is the fault's own, `table: Expected at byte 6`; each line ends in LF. Where memory ran out that line is all
+/// there is.
 pub fn explain_table(
     alloc: Global,
     text: &str,

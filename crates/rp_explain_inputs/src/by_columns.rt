@@ -50,8 +50,8 @@ struct Input<'a> {
 
 /// Explains why `rows_by` refuses the bytes of a CSV text, by the fault that it gave.
 ///
-/// The first line is the fault's name with its record; each line ends in LF. Of a device and of want of memory that line alone is
-/// told.
+/// The first line is the fault's name with its record; each line ends in LF. Where a device failed or memory ran out that line is
+/// all there is.
 pub fn explain_csv_by(
     alloc: Global,
     columns: &Columns,

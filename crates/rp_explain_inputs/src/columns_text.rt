@@ -18,7 +18,7 @@ const READINGS: &str =
 
 /// Explains why `read_columns` refuses a text, by the fault that it gave.
 ///
-/// The first line is the fault's own, `columns: Reading at byte 4`; each line ends in LF. Of want of memory that line alone is told.
+/// The first line is the fault's own, `columns: Reading at byte 4`; each line ends in LF. Where memory ran out that line is all there is.
 pub fn explain_columns(
     alloc: Global,
     text: &str,

@@ -11,8 +11,8 @@ use std::alloc::{AllocError, Global};
 
 /// Explains why `rows_of` refuses the bytes of a CSV text over a table, by the fault that it gave.
 ///
-/// The first line is the fault's own, `csv: Field at record 3`; each line ends in LF. Of a device and of want of memory that line
-/// alone is told.
+/// The first line is the fault's own, `csv: Field at record 3`; each line ends in LF. Where a device failed or memory ran out that
+/// line is all there is.
 pub fn explain_csv(
     alloc: Global,
     table: &Table,

@@ -10,7 +10,7 @@ use std::alloc::{AllocError, Global};
 
 /// Explains why `rows_by_objects` refuses the bytes of a text, by the fault that it gave.
 ///
-/// The first line is the fault's name with its line; each line ends in LF. Of want of memory that line alone is told.
+/// The first line is the fault's name with its line; each line ends in LF. Where memory ran out that line is all there is.
 pub fn explain_objects(
     alloc: Global,
     columns: &Columns,

@@ -56,7 +56,7 @@ close_answer fed count =
     if nat_lt greatest_number count then Err NumberRange
     else closed_answer fed.closed count (if has_above fed count then Err CloseBelow else Ok New)
 
--- what an answer says of the row, want of memory aside: that says that the row would have been New
+-- what an answer says of the row, being out of memory aside: that says that the row would have been New
 abbrev pub memory_aside : Answer → Answer
 memory_aside (Err OutOfMemory) = Ok New
 memory_aside answer = answer

@@ -1,7 +1,7 @@
 //! What to write in place of what can't stand in a clause, by the words round its place: what people know from other dialects of SQL,
 //! from other languages and from elsewhere in a clause.
 //!
-//! Hints are guesses, and nothing here decides. The only error is want of memory.
+//! Hints are guesses, and nothing here decides. The only error is being out of memory.
 #![tactic(auto)]
 
 mod behind;

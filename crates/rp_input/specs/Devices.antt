@@ -35,7 +35,7 @@ IsInputFault columns text fault = IsTextFault columns text fault ⊎ IsOfDevice 
 abbrev pub IsByColumnsInputFault : List (List ℕ) → CsvLayout → List InputColumn → List ℕ → ColumnsCsvFault → Type 0
 IsByColumnsInputFault words layout columns text fault = IsByColumnsFault words layout columns text fault ⊎ IsOfDeviceBy fault
 
--- What a fault tells of the reads: a fault of the text comes when all of it was read, and want of memory may come before or after.
+-- What a fault tells of the reads: a fault of the text comes when all of it was read, and memory may run out before or after.
 abbrev pub fault_told : CsvFault → Told
 fault_told Header = Ended
 fault_told (Record n) = Ended

@@ -60,7 +60,7 @@ impl Taking {
         Ok(())
     }
 
-    /// The rows of all records. After want of memory they are dropped.
+    /// The rows of all records. Where memory runs out they are dropped.
     pub(crate) fn into_rows(self) -> Result<Vec<Row>, AllocError>
         ensures { IfOk result (λ rows. rows.items ≡ rows_added self.rows) }
     {

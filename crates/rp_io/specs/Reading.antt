@@ -9,7 +9,7 @@ use Rattle.rp_io.specs.declared.lines.LineFault.{LineFault}
 use Rattle.rp_io.specs.declared.lines.LineFault.TheVariants.{Read, TooManyReads, OutOfMemory}
 
 -- How a run's reads came to their end: the end of the input was read, a read failed, all reads that are allowed were made and another
--- was due, or something else than reading ended the run, as a write that failed or want of memory.
+-- was due, or something else than reading ended the run, as a write that failed or being out of memory.
 pub data Told : Type 0 where
   Ended : Told
   ReadFailed : Told

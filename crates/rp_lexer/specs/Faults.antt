@@ -24,7 +24,7 @@ abbrev pub IsUnclosed : ℕ → List ℕ → ℕ → Type 0
 IsUnclosed quote text at = (inside : List ℕ) × (drop at text ≡ quote ∷ doubled quote inside)
 
 -- What a fault says is so at its offset: there stands a stray byte or an empty quoted name, the quote of a text literal or of a name
--- that is never closed, or a number that is out of range. Want of memory is no fault of a text.
+-- that is never closed, or a number that is out of range. Being out of memory is no fault of a text.
 abbrev pub IsFault : List ℕ → LexFault → Type 0
 IsFault text (BadChar at) = (at < length text) × (IsStray (slice_index text at) ⊎ IsEmptyQuoted text at)
 IsFault text (OpenText at) = IsUnclosed single_quote text at
@@ -33,7 +33,7 @@ IsFault text (NumberRange at) =
     (end : ℕ) × IsLongest text kinds.Number at end × (IsInRange (slice_range text at end) → ⊥)
 IsFault text OutOfMemory = ⊥
 
--- the offset of a fault; 0 for want of memory, which has none
+-- the offset of a fault; 0 for being out of memory, which has none
 abbrev pub offset : LexFault → ℕ
 offset (BadChar at) = at
 offset (OpenText at) = at

@@ -35,7 +35,7 @@ pub record IsUnknown (old new : NodeSeen) (key : List Value) : Type 0 where
   pub none : entry_at old.records key ≡ None
   pub kept : new ≡ old
 
--- what a poll of a key comes to: an answer, want of memory, or no packet of that key was accepted; no other
+-- what a poll of a key comes to: an answer, out of memory, or no packet of that key was accepted; no other
 -- fault is told
 abbrev pub NodePolls : NodeSeen → NodeSeen → List Value → Result Poll NodeFault → Type 0
 NodePolls old new key (Ok answer) = PolledAt old new key (Ok answer)

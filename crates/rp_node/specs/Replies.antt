@@ -21,7 +21,7 @@ use Rattle.rp_node.specs.Polling.{GoesByBudget, NodePolls}
 
 -- ---- replies
 
--- why a call is refused, as it is replied; want of memory has no reply
+-- why a call is refused, as it is replied; being out of memory has no reply
 abbrev pub refusal_of : NodeFault → Option Refusal
 refusal_of (node.BadRow row.Width) = Some refusal.BadRowWidth
 refusal_of (node.BadRow (row.Kind column)) = Some (refusal.BadRowKind column)

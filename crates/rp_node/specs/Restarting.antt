@@ -56,7 +56,7 @@ bytes_fault bytes.Version = Version
 bytes_fault bytes.BadField = BadField
 bytes_fault bytes.OutOfMemory = OutOfMemory
 
--- why the bytes are refused; want of memory says nothing of them
+-- why the bytes are refused; being out of memory says nothing of them
 abbrev pub IsRefused : QueryData → List ℕ → RestartFault → Type 0
 IsRefused q bs Digest = restored bs ≡ Err bytes.Digest
 IsRefused q bs NotJson = restored bs ≡ Err bytes.NotJson

@@ -23,7 +23,7 @@ pub struct Begun {
     pub refused: Option<RestartFault>,
 }
 
-/// A node that goes on from what was saved, where a node can, and else begins with nothing. Only want of memory is no
+/// A node that goes on from what was saved, where a node can, and else begins with nothing. Only being out of memory is no
 /// answer: it says nothing of what was saved.
 pub fn begin(
     alloc: Global,

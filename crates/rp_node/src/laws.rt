@@ -6,7 +6,7 @@ ghost use Rattle.rp_node.specs.Events.{ClosesAreEvents, PollsAreEvents, RefusedP
 /// query that is the same as the node's. So whatever nodes are called with, as long as one number carries one row, is a run of
 /// that law: `rp_schedules::law_schedules`. A packet that is not New, and a poll of an unknown key, leave the node as it is,
 /// which is the event of a refused call. Bytes restart to what was saved in them, in another process too, whose query is the
-/// same: it refuses them for want of memory alone.
+/// same: it refuses them only where memory runs out.
 pub fn law_calls()
     ensures rows { RowsAreEvents }
     ensures closes { ClosesAreEvents }

@@ -114,7 +114,7 @@ fn refused(fault: NodeFault) -> Result<Reply, AllocError>
     Ok(Reply::Refused(refusal))
 }
 
-/// Want of memory, which alone keeps a node from going on from what it has saved itself.
+/// Being out of memory, which alone keeps a node from going on from what it has saved itself.
 fn memory_alone(fault: RestartFault) -> AllocError
     requires { fault ≡ RestartFault.OutOfMemory }
 {

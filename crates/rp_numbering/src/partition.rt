@@ -24,7 +24,7 @@ pub struct Part {
 /// over a partition then goes through memory in order. A text isn't copied but gets a further owner.
 type Parts = IndexMap<Cells, RowList, RandomState>;
 
-/// The partitions of rows by the query, by first appearance. After want of memory the rows are dropped.
+/// The partitions of rows by the query, by first appearance. Where memory runs out the rows are dropped.
 ///
 /// The hasher finds the partition of a key. Its seed is drawn at random, so that whoever chooses keys can't choose ones that
 /// are all looked for in one place; the result is the same with any seed.

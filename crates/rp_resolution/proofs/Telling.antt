@@ -29,7 +29,7 @@ tells_test e test kind at is failed = rw (is, failed) (first_fault (record { kin
 pub passed : (test : Bool) (kind : CheckKind) (at : ℕ) → test ≡ true → unless test kind at ≡ []
 passed test kind at holds = rw holds refl
 
--- want of memory may be told at any time
+-- being out of memory may be reported at any time
 pub tells_memory : (e : CheckFault) (fs : List Fault) → e ≡ refusal.OutOfMemory → Tells e fs
 tells_memory e fs is = rw is (no_memory fs)
 
@@ -38,7 +38,7 @@ pub allowed : {X : Type 0} (fs gs : List Fault) (Right : X → Type 0) (r : Resu
 allowed fs gs Right (Ok x) none done = (none_in_both fs gs none done.0, tt)
 allowed fs gs Right (Err e) none told = tells_behind e fs gs none told
 
--- where nothing is at fault, want of memory alone may be told
+-- where nothing is at fault, being out of memory alone may be reported
 pub clean_or_memory : {X : Type 0} (fs : List Fault) (Right : X → Type 0) (r : Result X CheckFault) → fs ≡ [] → MatchResult r Right (λ e. e ≡ refusal.OutOfMemory) → FirstFaultOr fs Right r
 clean_or_memory fs Right (Ok x) clean right = (clean, right)
 clean_or_memory fs Right (Err e) clean is = tells_memory e fs is

@@ -88,7 +88,7 @@ RunAnswers old new asked PausedOutcome = Unit {0}
 
 -- ---- what a run takes
 
--- how many turns its last run took that had a budget and met no want of memory
+-- how many turns its last run took that had a budget and didn't run out of memory
 unfoldable pub turns_of_run : Search → ℕ
 turns_of_run s = s.taken
 

@@ -42,7 +42,7 @@ pub struct Search {
     outlook: Option<Outlook>,
     /// Where it failed, of tests that name their pattern.
     memo: Memo,
-    /// The turns of the last run that had a budget and met no want of memory.
+    /// The turns of the last run that had a budget and didn't run out of memory.
     taken: u32,
     /// Those of all such runs since it was made. Only after the first ones does it remember where it failed.
     turns: u32,
@@ -202,7 +202,7 @@ impl Search {
         self.choices.start()
     }
 
-    /// How many turns the last run took that had a budget and met no want of memory.
+    /// How many turns the last run took that had a budget and didn't run out of memory.
     pub fn turns_taken(&self) -> u32
         ensures { result ≡ turns_of_run self.now }
     {

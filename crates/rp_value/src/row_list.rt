@@ -94,7 +94,7 @@ impl RowList {
         }
     }
 
-    /// Adds a row of these cells, which leave their list, so that its room can be used again. After want of memory the rows
+    /// Adds a row of these cells, which leave their list, so that its room can be used again. Where memory runs out the rows
     /// and the cells are as they were.
     pub fn push(&mut self, cells: &mut Vec<Value>) -> Result<(), AllocError>
         ensures ok { OnOk result (rows_added self.new ≡ rows_added self.old ++ cells.old.items ∷ []) }
@@ -107,7 +107,7 @@ impl RowList {
         self.last.push(cells)
     }
 
-    /// All rows. After want of memory they are dropped.
+    /// All rows. Where memory runs out they are dropped.
     pub fn into_rows(self) -> Result<Vec<Row>, AllocError>
         ensures { IfOk result (λ rows. rows.items ≡ rows_added self) }
     {

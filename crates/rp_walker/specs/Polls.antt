@@ -98,7 +98,7 @@ moves_by false q p old new = Moves q p old new
 abbrev pub GoesAlong : QueryData → Known → MatcherState → MatcherState → Type 0
 GoesAlong q k old new = ForEachThatFits q k old (λ p. Fits q new p × moves_by old.over q p old new)
 
--- What stands after want of memory: as many items were given, and as many turns are left as where the search of the
+-- What is left where memory ran out: as many items were given, and as many turns are left as where the search of the
 -- record's start row is yet to begin.
 pub record StartsAgain (q : QueryData) (p : Known) (before : ℕ) (r : MatcherState) (turns : ℕ) : Type 0 where
   pub given : r.given ≡ before

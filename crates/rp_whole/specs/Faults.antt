@@ -24,7 +24,7 @@ told_csv Read = Csv Read
 told_csv Turns = Csv Turns
 told_csv OutOfMemory = WholeOutOfMemory
 
--- Of a refused input nothing is written. A write that fails leaves a front of what is to be written, and want of memory, which is
+-- Of a refused input nothing is written. A write that fails leaves a front of what is to be written, and being out of memory, which is
 -- told as such wherever it comes, nothing or a front of it.
 abbrev pub Leaves : QueryData → Option (List ℕ) → Option (List ℕ) → Option (List ℕ) → Type 0 → WholeFault → Type 0
 Leaves q input old new front (Csv why) = (why ≢ OutOfMemory) × (new ≡ old) × IfSome input (λ text. IsInputFault q.table text why)
@@ -43,7 +43,7 @@ LeavesFront q input old new = Leaves q input old new (WritesFront q input old ne
 abbrev pub LeavesRecords : QueryData → Option (List ℕ) → Option (List ℕ) → Option (List ℕ) → WholeFault → Type 0
 LeavesRecords q input old new = Leaves q input old new (WritesRecordsFront q input old new)
 
--- What a fault of a run tells of its reads. A fault of the output comes when all of the input was read, and want of memory may come
+-- What a fault of a run tells of its reads. A fault of the output comes when all of the input was read, and memory may run out
 -- before or after.
 abbrev pub fault_told : WholeFault → Told
 fault_told (Csv why) = csv_told why

@@ -3,7 +3,7 @@
 //! may be meant; and what a field of an input looks like.
 //!
 //! Nothing here decides, and nothing knows the faults of a clause or an input: those are explained by the crates above. The only error
-//! is want of memory.
+//! is being out of memory.
 #![tactic(auto)]
 
 mod advice;

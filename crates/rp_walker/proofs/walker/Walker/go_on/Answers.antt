@@ -187,7 +187,7 @@ advance-requires-clause-stands g c =
     let p = known_in g.R.Rows.known g.R.Rows.ending c.args.rows.now in
     subst (λ b. stands_by b c.args.query.now p c.loop-left.self) c.if-self.false c.loop-left.invariant.stands
 
--- want of memory
+-- out of memory
 
 pub returns-in_err-step-clause-stands : goal.returns-in_err-step-clause-stands
 returns-in_err-step-clause-stands g c =
