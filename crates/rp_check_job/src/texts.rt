@@ -9,7 +9,7 @@ use rp_value::Row;
 use rp_wording::{Pieces, shown_text};
 use std::alloc::{AllocError, Global};
 
-/// What is said of these columns, a line for each: of all but those of whose offsets from UTC something was told. The rows are all of the
+/// What is said of these columns, a line for each: of all but those of whose offsets from UTC something was said. The rows are all of the
 /// inputs, which have this form, and the condition is the text of the one that leaves rows out.
 pub(crate) fn texts_told(
     found: &Found,
@@ -60,7 +60,7 @@ pub(crate) fn compared_told(
     shown_text(alloc, lines.text()?)
 }
 
-/// Whether something was told of the offsets of a column, by its number from 1.
+/// Whether something was said of the offsets of a column, by its number from 1.
 fn is_told(alloc: Global, query: &Query, column: usize, told: &str) -> Result<bool, AllocError> {
     let Some(column) = query.table().columns().get(column.saturating_sub(1)) else {
         return Ok(false);

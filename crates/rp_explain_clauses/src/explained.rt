@@ -13,7 +13,7 @@ use rp_value::Table;
 use rp_wording::{Advice, Report, Source};
 use std::alloc::{AllocError, Global};
 
-/// So many faults of a clause are told, at most.
+/// So many faults of a clause are reported, at most.
 const MOST: u32 = 5;
 
 /// What is said of a text that is no clause.

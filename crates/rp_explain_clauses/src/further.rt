@@ -196,7 +196,7 @@ fn is_certain_value(reading: &Reading<'_>) -> bool {
     }
 }
 
-/// Whether a function is called that isn't one, and that wasn't told of before: behind a fraction it was.
+/// Whether a function is called that isn't one, and that wasn't reported before: behind a fraction it was.
 fn is_function(reading: &Reading<'_>) -> bool {
     reading.kind_back(1) == Some(TokenKind::Name)
         && is_missing_function(reading.back(1))

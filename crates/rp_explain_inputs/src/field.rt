@@ -148,7 +148,7 @@ fn quote_span(at: usize) -> Span {
     }
 }
 
-/// What is told of a record with this many fields, between which this byte is.
+/// What is said of a record with this many fields, between which this byte is.
 fn of_count(alloc: Global, wanted: &Wanted, fields: &ByteRecord, delimiter: u8) -> Advice {
     let count = fields.len();
     let mut what = Pieces::of(alloc, "this record has ");
@@ -240,7 +240,7 @@ fn of_word(
     }
 }
 
-/// What is told of a field.
+/// What is said of a field.
 fn at_field(alloc: Global, column: &Column, field: &[u8], number: u64) -> Advice {
     let Ok(text) = std::str::from_utf8(field) else {
         let mut what = place_told(alloc, number, column.name.as_str());
@@ -252,7 +252,7 @@ fn at_field(alloc: Global, column: &Column, field: &[u8], number: u64) -> Advice
     not_whole(alloc, column, field, number, help)
 }
 
-/// The place of a field as it is told, by its record's number and its column's name.
+/// The place of a field as it is reported, by its record's number and its column's name.
 pub(crate) fn place_told(alloc: Global, number: u64, name: &str) -> Pieces {
     let mut told = Pieces::of(alloc, "record ");
     told.push_number(number);

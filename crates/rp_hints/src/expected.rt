@@ -36,7 +36,7 @@ pub fn unexpected(alloc: Global, reading: &Reading<'_>) -> Result<Advice, AllocE
     briefly(alloc, reading)
 }
 
-/// The same by words and signs that are told of in the same way wherever they stand.
+/// The same by words and signs of which the same is said wherever they are.
 fn briefly(alloc: Global, reading: &Reading<'_>) -> Result<Advice, AllocError> {
     if is_call(reading) {
         return no_function(alloc, reading.back(1));
@@ -208,7 +208,7 @@ fn ends_early(alloc: Global, reading: &Reading<'_>) -> Advice {
     by_structure(alloc, reading)
 }
 
-/// What is told by the part alone.
+/// What is said by the part alone.
 fn by_structure(alloc: Global, reading: &Reading<'_>) -> Advice {
     Advice::of(alloc, of_structure(reading).unwrap_or(generally(reading)))
 }

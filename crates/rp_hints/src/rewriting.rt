@@ -68,7 +68,7 @@ fn fully(alloc: Global, reading: &Reading<'_>, word: usize, is_opposite: bool) -
     one_of(alloc, reading, test)
 }
 
-/// How a NOT BETWEEN and a NOT IN are written. (Those without a NOT are told of wherever they stand.)
+/// How a NOT BETWEEN and a NOT IN are written. (Of those without a NOT the same is said wherever they are.)
 fn opposite(alloc: Global, word: &str, is_opposite: bool) -> Option<Advice> {
     if !is_opposite {
         return None;

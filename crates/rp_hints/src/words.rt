@@ -2,14 +2,14 @@
 
 use rp_wording::{Entry, Hint, look_up};
 
-/// What is told where SQL round the clause is met.
+/// What is said where SQL round the clause is met.
 const ROUND: &str = "only what is in MATCH_RECOGNIZE ( .. ) is read";
 
 /// What to write in place of it.
 const COLUMNS: &str =
     "leave SELECT and FROM out: the columns are chosen by MEASURES, and what is printed can be filtered";
 
-/// What is told of dates and times.
+/// What is said of dates and times.
 const NO_DATES: &str = "there are no dates and times";
 
 /// What to write in place of them.
@@ -17,7 +17,7 @@ const DATES: &str =
     "in a column of text, dates as 2024-01-05 are ordered and compared: t >= '2024-01-05'\n\
             to subtract, let the column be whole numbers, as seconds: t - PREV(t) <= 3600";
 
-/// What is told of CASE.
+/// What is said of CASE.
 const NO_CASE: &str = "there is no CASE";
 
 /// What to write in place of it.
@@ -246,17 +246,17 @@ const FUNCTIONS: [Entry; 16] = [
 /// The functions that there are.
 pub(crate) const KNOWN: &str = "COUNT SUM MIN MAX FIRST LAST PREV NEXT CLASSIFIER MATCH_NUMBER";
 
-/// What is told of a word that can't stand where it is met. (Each function that names a table has all of it to prove.)
+/// What is said of a word that can't stand where it is met. (Each function that names a table has all of it to prove.)
 pub(crate) fn misplaced_word(word: &str) -> Option<Hint> {
     look_up(&HERE, word)
 }
 
-/// What is told of a word after which a clause can't go on as it is meant.
+/// What is said of a word after which a clause can't go on as it is meant.
 pub(crate) fn misplaced_behind(word: &str) -> Option<Hint> {
     look_up(&BEHIND, word)
 }
 
-/// What is told of the name of a function that there isn't.
+/// What is said of the name of a function that there isn't.
 pub(crate) fn missing_function(name: &str) -> Option<Hint> {
     look_up(&FUNCTIONS, name)
 }
@@ -266,7 +266,7 @@ pub fn is_missing_function(word: &str) -> bool {
     missing_function(word).is_some()
 }
 
-/// What is told where SQL round the clause is met, and what to write in place of it.
+/// What is said where SQL round the clause is met, and what to write in place of it.
 pub fn sql_around() -> Hint {
     Hint {
         what: ROUND,

@@ -106,7 +106,7 @@ fn idle_time(job: &SourceJob) -> Option<Duration> {
     Some(Duration::from_secs(u64::from(job.idle?)))
 }
 
-/// The fault of a node to which there is no connection. Why there is none is told.
+/// The fault of a node to which there is no connection. Why there is none is reported.
 fn no_connection(rt: &HostRuntime, number: u64, address: &str, error: &io::Error) -> ProgramFault {
     let _ = eprintln!(rt; "rowmatch: node {number} at {address}: {error}");
     ProgramFault::Connect

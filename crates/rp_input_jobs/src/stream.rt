@@ -5,7 +5,7 @@ use std::net::TcpStream;
 /// How often a call is made that signals interrupt.
 const TRIES: u32 = 1_000_000;
 
-/// What a node is told and what it replies.
+/// What is sent to a node and what it replies.
 #[derive(Drop)]
 pub(crate) struct NodeStream<'a> {
     stream: &'a TcpStream,

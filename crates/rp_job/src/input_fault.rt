@@ -34,7 +34,7 @@ fn columns_in(shape: &InputShape) -> &[InputColumn] {
     }
 }
 
-/// The fault of an input, which this text tells.
+/// The fault of an input, which this text reports.
 fn told_so(text: Result<String, AllocError>) -> ProgramFault {
     match text {
         Ok(text) => ProgramFault::Input(text),

@@ -58,7 +58,7 @@ enum Next {
     Never,
 }
 
-/// The next connection. One that its client has given up before it was accepted is passed over. An error that passes is told, once
+/// The next connection. One that its client has given up before it was accepted is passed over. An error that passes is reported, once
 /// in a row, and accepting goes on after a pause.
 pub fn accepted(rt: &HostRuntime, listener: &TcpListener) -> Result<TcpStream, ProgramFault> {
     let mut is_told = false;

@@ -5,7 +5,7 @@ use crate::place::{Found, found_at};
 use std::fs;
 use std::io::{self, ErrorKind};
 
-/// How many refused files may be kept beside a file.
+/// How many refused files may be kept next to a file.
 const MOST_REFUSED: u64 = 1_000_000;
 
 /// What became of a refused file that was to have another name.
@@ -19,7 +19,7 @@ enum Aside {
     Gone,
 }
 
-/// Keeps a refused file under the first name for one that is free, and tells that name. A file that somebody has taken away meanwhile
+/// Keeps a refused file under the first name for one that is free, and reports that name. A file that somebody has taken away meanwhile
 /// needn't be kept.
 pub fn set_aside(rt: &HostRuntime, path: &str) -> io::Result<()> {
     for number in 1..MOST_REFUSED {

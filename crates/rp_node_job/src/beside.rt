@@ -1,4 +1,4 @@
-//! The names of what lies beside a node's file.
+//! The names of what lies next to a node's file.
 ghost use Rattle.std.specs.Prelude.{◌≡◌, IfOk, string_bytes, true};
 ghost use Rattle.rp_node_job.specs.Names.{ends_beside, ends_in, is_digit, lock_name, new_name, refused_name, without_digits_end};
 
@@ -40,7 +40,7 @@ pub fn refused_name(alloc: Global, path: &str, number: u64) -> Result<String, Al
     Ok(name)
 }
 
-/// Whether this is a name of what lies beside another file: no node's file may have it, since the node of that other file takes it for
+/// Whether this is a name of what lies next to another file: no node's file may have it, since the node of that other file takes it for
 /// its own.
 pub fn ends_beside(name: &str) -> bool
     ensures { result ≡ ends_beside name.now }

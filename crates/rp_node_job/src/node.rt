@@ -40,7 +40,7 @@ pub fn run_node(rt: &HostRuntime, job: &NodeJob) -> Result<(), ProgramFault> {
     serve_all(rt, job, &listener, &mut file, standing)
 }
 
-/// What listens at an address. Why nothing can is told.
+/// What listens at an address. Why nothing can is reported.
 fn listening(rt: &HostRuntime, address: &str) -> Result<TcpListener, ProgramFault> {
     match TcpListener::bind(rt, address) {
         Ok(listener) => Ok(listener),
@@ -57,7 +57,7 @@ fn query_of(alloc: Global, job: &NodeJob) -> Result<Query, ProgramFault> {
     Ok(compile(alloc, job.clause.as_str(), &table)?)
 }
 
-/// The node as it begins. A file that is refused is told, and stays until there is something else to be kept.
+/// The node as it begins. A file that is refused is reported, and stays until there is something else to be kept.
 fn begun(
     rt: &HostRuntime,
     job: &NodeJob,
@@ -164,7 +164,7 @@ fn connection(
     })
 }
 
-/// Writes what was saved, unless the file has it. A file that somebody has taken away is written again, which is told.
+/// Writes what was saved, unless the file has it. A file that somebody has taken away is written again, which is reported.
 fn write_if_new(
     rt: &HostRuntime,
     file: &mut StateFile,
@@ -229,7 +229,7 @@ fn tell_difference(rt: &HostRuntime, clause: &[u8], bytes: &[u8]) -> Result<(), 
     Ok(())
 }
 
-/// Tells with `--verbose` whether the node goes on from its file, unless that is told as refused. One whose file isn't there begins with
+/// Says with `--verbose` whether the node goes on from its file, unless that is reported as refused. One whose file isn't there begins with
 /// nothing, as a new node does and as one does whose file's name has a mistake in it.
 fn tell_beginning(rt: &HostRuntime, job: &NodeJob, file: &StateFile, standing: &Standing) {
     if !job.verbose || file.is_refused {
@@ -252,7 +252,7 @@ fn tell_listening(rt: &HostRuntime, job: &NodeJob, listener: &TcpListener) {
     }
 }
 
-/// A fault is told always, and with `--verbose` how many lines were answered too.
+/// A fault is reported always, and with `--verbose` how many lines were answered too.
 fn tell_end(rt: &HostRuntime, job: &NodeJob, number: u64, end: &RoundEnd<Node>, is_http: bool) {
     if is_http {
         tell(rt, &"a client that speaks HTTP was turned away");

@@ -22,7 +22,7 @@ pub enum Found {
 }
 
 /// The name of the file that is kept where this one is given: its own, or that to which its links lead, be it there or not. It is a fault
-/// that there can be none, which is told.
+/// that there can be none, which is reported.
 pub fn place_of(rt: &HostRuntime, path: &str) -> Result<String, ProgramFault> {
     if path.is_empty() {
         tell(rt, &"--state names no file");
@@ -39,7 +39,7 @@ pub fn place_of(rt: &HostRuntime, path: &str) -> Result<String, ProgramFault> {
     Err(ProgramFault::State)
 }
 
-/// Where the link of this name leads; None where it is no link. What can't be kept is told of the name that was given.
+/// Where the link of this name leads; None where it is no link. What can't be kept is reported by the name that was given.
 fn behind(rt: &HostRuntime, given: &str, name: &str) -> Result<Option<String>, ProgramFault> {
     if ends_beside(name) {
         let _ = eprintln!(rt;
@@ -83,7 +83,7 @@ pub fn found_at(rt: &HostRuntime, name: &str) -> io::Result<Found> {
     Ok(Found::Other)
 }
 
-/// It is a fault, which is told, that this name has something else than a regular file, even a link.
+/// It is a fault, which is reported, that this name has something else than a regular file, even a link.
 pub fn only_regular(rt: &HostRuntime, name: &str) -> Result<(), ProgramFault> {
     match found_at(rt, name) {
         Ok(Found::Nothing | Found::File) => Ok(()),
@@ -92,13 +92,13 @@ pub fn only_regular(rt: &HostRuntime, name: &str) -> Result<(), ProgramFault> {
     }
 }
 
-/// The fault of a name that something else than a regular file has. It is told.
+/// The fault of a name that something else than a regular file has. It is reported.
 fn no_regular_file(rt: &HostRuntime, name: &str) -> ProgramFault {
     let _ = eprintln!(rt; "rowmatch: {name} is no regular file");
     ProgramFault::State
 }
 
-/// The fault of a call for the file of this name that failed. Why it did is told, unless memory was refused.
+/// The fault of a call for the file of this name that failed. Why it did is reported, unless memory was refused.
 pub fn state_fault(rt: &HostRuntime, name: &str, error: &io::Error) -> ProgramFault {
     if error.kind() == ErrorKind::OutOfMemory {
         return ProgramFault::OutOfMemory;

@@ -1,4 +1,4 @@
-//! The lines of faults of an input, with the name of the column that they are of. A program tells them, and what is explained begins
+//! The lines of faults of an input, with the name of the column that they are of. A program reports them, and what is explained begins
 //! with them.
 
 use rp_columns::InputColumn;
