@@ -7,14 +7,16 @@ use rp_value::Text;
 use rp_wording::{Pieces, kind_word, noun, shown_text};
 use std::alloc::{AllocError, Global};
 
-/// Says what a query gives and looks at: its output columns with their kinds; of each pattern variable which rows it looks at, or
-/// that it has no definition and takes any row; how far before a match rows are read; what rows cost that are read without a match,
-/// and which variables may take any number of them; whether a condition waits for later rows.
+/// Says what a query gives and looks at: its output columns with their kinds; that there is no PARTITION BY or no ORDER BY, which may have
+/// been forgotten; of each pattern variable which rows it looks at, or that it has no definition and takes any row; how far before a match
+/// rows are read; what rows cost that are read without a match, and which variables may take any number of them; whether a condition waits
+/// for later rows.
 ///
 /// Each line ends in LF.
 pub fn describe(alloc: Global, query: &Query) -> Result<String, AllocError> {
     let mut out = Pieces::new(alloc);
     push_output(&mut out, query);
+    push_arrangement(&mut out, query);
     push_variables(&mut out, query);
     push_reach(&mut out, query.reach());
     let all = all_looks(query);
@@ -40,6 +42,16 @@ fn push_output(out: &mut Pieces, query: &Query) {
         out.push("no columns");
     }
     out.push("\n");
+}
+
+/// Writes how rows are taken that no PARTITION BY groups, or no ORDER BY orders.
+fn push_arrangement(out: &mut Pieces, query: &Query) {
+    if query.partition().is_empty() {
+        out.push("all rows are one partition (no PARTITION BY)\n");
+    }
+    if query.order().is_empty() {
+        out.push("rows are taken in the order in which they come (no ORDER BY)\n");
+    }
 }
 
 /// Writes a line for each pattern variable.

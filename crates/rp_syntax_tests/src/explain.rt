@@ -66,6 +66,8 @@ csv: Field at record 2
   help: for any text the table has p text
 sym text, t int, p text
 output: q int
+all rows are one partition (no PARTITION BY)
+rows are taken in the order in which they come (no ORDER BY)
 A has no definition and takes any row
 B looks at its own row, 1 row back
 up to 1 row before a match are read (PREV)
