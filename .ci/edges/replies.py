@@ -18,6 +18,8 @@ NEW, IDLE, END = '{"taken":"new"}\n', '{"idle":["x"]}\n', '{"end":true,"key":["x
 WORKED = [NEW, IDLE, NEW, END, IDLE]
 PRINTED = "1 " + END
 BAD_REPLY = "rowmatch: node 1: bad reply\n"
+UNASKED = "rowmatch: node 1: a reply came to nothing that was asked\n" + BAD_REPLY
+ENDED = "rowmatch: node 1: the connection ended in place of a reply\n" + BAD_REPLY
 ACKNOWLEDGES = "rowmatch: the node runs with --acknowledge: give source --acknowledge, too\n"
 NOT_SAVED = "rowmatch: node 1: not saved\n"
 LONGEST = 16_777_216
@@ -83,10 +85,10 @@ def surplus(checks, folder):
     """A reply that nothing was asked for is a bad one, whenever it comes."""
     cases = [
         ("none", "", "", (0, PRINTED, "")),
-        ("with the last one", NEW, "", (1, PRINTED, BAD_REPLY)),
-        ("a part of one", NEW[:5], "", (1, PRINTED, BAD_REPLY)),
-        ("an empty line", "\n", "", (1, PRINTED, BAD_REPLY)),
-        ("after the end", "", IDLE, (1, PRINTED, BAD_REPLY)),
+        ("with the last one", NEW, "", (1, PRINTED, UNASKED)),
+        ("a part of one", NEW[:5], "", (1, PRINTED, UNASKED)),
+        ("an empty line", "\n", "", (1, PRINTED, UNASKED)),
+        ("after the end", "", IDLE, (1, PRINTED, UNASKED)),
         ("what was saved, unasked for", "", '{"saved":5}\n', (1, PRINTED, ACKNOWLEDGES + BAD_REPLY)),
     ]
     for name, behind, after, wanted in cases:
@@ -133,7 +135,7 @@ def acknowledged(checks, folder):
     ]
     for after, last, wanted in cases:
         checks.same(f"saved by {after + last!r}", source("--acknowledge", peer(WORKED, "", after, last)), wanted)
-    checks.same("before the end", source("--acknowledge", peer(WORKED, '{"saved":5}\n', "")), (1, PRINTED, BAD_REPLY))
+    checks.same("before the end", source("--acknowledge", peer(WORKED, '{"saved":5}\n', "")), (1, PRINTED, UNASKED))
     checks.same("no row", source("--acknowledge", peer([], "", '{"saved":0}\n'), stdin="sym,t,p\n"), (0, "", ""))
     node = Node(f"{folder}/state")
     found = source("--acknowledge", f"127.0.0.1:{node.port}")
@@ -163,10 +165,10 @@ def gone(checks, folder):
     """With --acknowledge a node whose connection ends or fails before it said that it saved hasn't saved. Without, what came is judged."""
     read = "rowmatch: device: read\n"
     cases = [
-        ("in place of the first reply", gone_peer, ([],), "", (1, BAD_REPLY)),
-        ("in place of a later reply", gone_peer, ([NEW, IDLE],), "", (1, BAD_REPLY)),
-        ("behind an item", gone_peer, ([NEW, IDLE, NEW, END],), PRINTED, (1, BAD_REPLY)),
-        ("within a reply", gone_peer, ([NEW], IDLE[:7]), "", (1, BAD_REPLY)),
+        ("in place of the first reply", gone_peer, ([],), "", (1, ENDED)),
+        ("in place of a later reply", gone_peer, ([NEW, IDLE],), "", (1, ENDED)),
+        ("behind an item", gone_peer, ([NEW, IDLE, NEW, END],), PRINTED, (1, ENDED)),
+        ("within a reply", gone_peer, ([NEW], IDLE[:7]), "", (1, ENDED)),
         ("by a reset", gone_peer, ([NEW], "", True), "", (3, read)),
         ("by a reset within a reply", gone_peer, ([], NEW[:7], True), "", (3, read)),
     ]
@@ -274,7 +276,14 @@ def refused(checks, folder):
     at_key = 'rowmatch: node 1: {"refused":"TooFar"} at row 1 of ["y \\"z\\""]\n'
     replies = [NEW, IDLE, NEW, IDLE, NEW, IDLE, '{"refused":"TooFar"}\n']
     checks.same("a key with quotes", source("--verbose", peer(replies, after=""), stdin=data), (1, "", told + at_key))
-    checks.same("a bad reply", source("--verbose", peer([IDLE], after=""), stdin=data), (1, "", BAD_REPLY))
+    came = "rowmatch: node 1: what came last begins with "
+    cases = [
+        ("a bad reply", IDLE, '{"idle":["x"]}\n'),
+        ("a server of another kind", "HTTP/1.1 400 Bad Request\r\nContent-Length: 0\r\n\r\n", "HTTP/1.1 400 Bad Request\n"),
+        ("a long line, with a character that would control a terminal", "\033" + 99 * "x" + "\n", "?" + 39 * "x" + "\n"),
+    ]
+    for name, reply, shown in cases:
+        checks.same(name, source("--verbose", peer([reply], after=""), stdin=data), (1, "", came + shown + BAD_REPLY))
     checks.same("on a terminal", on_terminal(peer(second, after=""), data), (1, told + at_row))
 
 

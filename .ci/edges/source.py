@@ -15,6 +15,7 @@ ITEMS = [
     '{"end":true,"key":["y"],"place":"1"}',
 ]
 TEXTS = ["--table", TABLE, "--clause", CLAUSE]
+ENDED = "rowmatch: node 1: the connection ended in place of a reply\nrowmatch: node 1: bad reply\n"
 
 
 def source(*words, stdin=CSV):
@@ -77,7 +78,7 @@ def killed(checks, folder):
     told = runner.stderr.read()
     runner.wait()
     checks.true("a node that is gone: the source's fault", (runner.returncode, told) in (
-        (1, b"rowmatch: node 1: bad reply\n"), (3, b"rowmatch: device: read\n"), (3, b"rowmatch: device: write\n")), told)
+        (1, ENDED.encode()), (3, b"rowmatch: device: read\n"), (3, b"rowmatch: device: write\n")), told)
     node = Node(state)
     status, out, told = source(f"127.0.0.1:{node.port}", stdin=data)
     checks.same("the next run", (status, told), (0, ""))
@@ -127,7 +128,7 @@ def bad_peers(checks, folder):
         ("the worked replies", [new, idle, new, end, idle], (0, "1 " + end, "")),
         ("a refusal", ['{"refused":"TooFar"}\n'], (1, "", "rowmatch: node 1: refused\n")),
         ("idle in place of taken", [idle], (1, "", "rowmatch: node 1: bad reply\n")),
-        ("no reply", [], (1, "", "rowmatch: node 1: bad reply\n")),
+        ("no reply", [], (1, "", ENDED)),
         ("no JSON", ["nope\n"], (1, "", "rowmatch: node 1: bad reply\n")),
         ("taken in place of idle", [new, new], (1, "", "rowmatch: node 1: bad reply\n")),
         ("an item, and then a refusal", [new, end, '{"refused":"UnknownPartition"}\n'],
@@ -141,7 +142,7 @@ def bad_peers(checks, folder):
     cases = [
         ("the second node refuses", [peer(['{"refused":"TooFar"}\n'])], (1, "1 " + end, "rowmatch: node 2: refused\n")),
         ("it answers what can't be", [peer(["nope\n"])], (1, "1 " + end, "rowmatch: node 2: bad reply\n")),
-        ("it ends without a reply", [peer([])], (1, "1 " + end, "rowmatch: node 2: bad reply\n")),
+        ("it ends without a reply", [peer([])], (1, "1 " + end, ENDED.replace("node 1", "node 2"))),
         ("it refuses behind an item", [peer([new, end, '{"refused":"UnknownPartition"}\n'])],
          (1, "1 " + end + "2 " + end, "rowmatch: node 2: refused\n")),
         ("it isn't there", [gone], (3, "1 " + end, not_reached(2, gone, REFUSED))),

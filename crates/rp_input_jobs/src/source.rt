@@ -157,7 +157,7 @@ fn converse<O: Outlet>(
     let mut sent = Counted::new(CountedDevice::new(NodeStream::new(stream)));
     hand_over(rt, node, &mut heard, &mut sent, out)?;
     if heard.lines > sent.lines {
-        return Err(ProgramFault::BadReply(node.number));
+        return Err(unasked(rt, node.number));
     }
     let is_shut = stream.shutdown(Shutdown::Write).is_ok();
     if node.job.acknowledge {
@@ -188,8 +188,39 @@ fn hand_over<O: Outlet>(
         Err(stop) if node.job.acknowledge && is_gone(&stop, heard, sent) => {
             Err(ProgramFault::NotSaved(node.number))
         }
-        Err(stop) => Err(node_fault(rt, node, &stop)?),
+        Err(stop) => {
+            if let DriveFault::BadReply = stop.fault {
+                tell_bad_reply(rt, node, heard)?;
+            }
+            Err(node_fault(rt, node, &stop)?)
+        }
     }
+}
+
+/// Reports what came in place of a reply: nothing, since the connection ended, or something that is shown where somebody is to read it.
+fn tell_bad_reply(
+    rt: &HostRuntime,
+    node: &SourceNode<'_>,
+    heard: &Counter<'_>,
+) -> Result<(), AllocError> {
+    let mut text = Pieces::of(rt.alloc(), "node ");
+    text.push_number(node.number);
+    if heard.device.ended {
+        text.push(": the connection ended in place of a reply");
+    } else if node.job.verbose || rt.stderr().is_terminal() {
+        text.push(": what came last begins with ");
+        text.push_start(heard.device.device.last_line());
+    } else {
+        return Ok(());
+    }
+    tell(rt, &text.finish()?);
+    Ok(())
+}
+
+/// The fault of a reply to nothing that was asked, which is reported.
+fn unasked(rt: &HostRuntime, number: u64) -> ProgramFault {
+    let _ = eprintln!(rt; "rowmatch: node {number}: a reply came to nothing that was asked");
+    ProgramFault::BadReply(number)
 }
 
 /// Whether a conversation stopped since its connection ended or failed: no whole line came where a reply was due, or a line wasn't taken.
@@ -207,22 +238,22 @@ fn wait_for_end(rt: &HostRuntime, stream: &TcpStream, number: u64) -> Result<(),
     let mut rest = [0u8; 9];
     match NodeStream::new(stream).read(&mut rest) {
         Ok(0) => Ok(()),
-        Ok(_) => {
-            tell_acknowledged(rt, &rest);
-            Err(ProgramFault::BadReply(number))
-        }
+        Ok(_) => Err(behind_replies(rt, &rest, number)),
         Err(_) => Err(ProgramFault::Read),
     }
 }
 
-/// Reports that a node says what it saved, where these bytes behind its replies begin so: it expects a source that waits for that.
-fn tell_acknowledged(rt: &HostRuntime, rest: &[u8]) {
-    if rest == SAVED {
-        tell(
-            rt,
-            &"the node runs with --acknowledge: give source --acknowledge, too",
-        );
+/// The fault of a node that goes on behind its replies with these bytes, which is reported. One that says what it saved expects a source
+/// that waits for that.
+fn behind_replies(rt: &HostRuntime, rest: &[u8], number: u64) -> ProgramFault {
+    if rest != SAVED {
+        return unasked(rt, number);
     }
+    tell(
+        rt,
+        &"the node runs with --acknowledge: give source --acknowledge, too",
+    );
+    ProgramFault::BadReply(number)
 }
 
 /// Waits for the line by which the node says that it saved all lines that were sent, and for the end behind it.
