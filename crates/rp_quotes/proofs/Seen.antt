@@ -5,21 +5,21 @@ use Rattle.csv.specs.Reading.{strip_bom}
 use Rattle.csv.specs.declared.parser.State.{State}
 use Rattle.csv.specs.declared.parser.State.TheVariants as st
 use Rattle.rp_input.specs.Layouts.{config_with}
-use Rattle.rp_quotes.specs.Quotes.{IsAt, begins_field, goes_on, is_in_field, line_behind, line_of_end, line_with, quoting_of, state_behind, state_of}
-use Rattle.rp_quotes.specs.Watching.{HasMark, HasSeen, LeadsTo, LeadsToQuoted, is_begin, is_plain, is_stray}
+use Rattle.rp_quotes.specs.Quotes.{IsAt, begins_field, goes_on, is_in_field, line_of_end, quoting_of, state_behind, state_of}
+use Rattle.rp_quotes.specs.Watching.{HasMark, HasSeen, LeadsTo, LeadsToQuoted, is_begin, is_plain, is_stray, line_with}
 use Rattle.rp_quotes.specs.declared.mark.Mark.TheVariants as mark
 use Rattle.rp_quotes.specs.declared.quoting.Quoting.{Quoting}
 use Rattle.rp_quotes.specs.declared.quoting.Quoting.TheVariants as quoting
 use Rattle.rp_quotes.specs.declared.watch.QuoteWatch.{QuoteWatch}
 use Rattle.rp_quotes.proofs.Marks.{stripped_last}
-use Rattle.rp_quotes.proofs.Steps.{behind_last, line_last}
+use Rattle.rp_quotes.proofs.Steps.{behind_last, last_line, line_last}
 
 pub at_start : (d : ℕ) → IsAt quoting.Begin (state_of d [])
 unfolding state_behind strip_bom
 at_start d = refl
 
 pub line_at_start : 1 ≡ line_of_end []
-unfolding line_behind strip_bom
+unfolding strip_bom
 line_at_start = refl
 
 -- a step of csv goes on behind a quote where that of the watch does
@@ -143,11 +143,11 @@ unfolding state_behind strip_bom
 at_mark d = refl
 
 line_of_mark : line_of_end (0xEF ∷ 0xBB ∷ []) ≡ 1
-unfolding line_behind strip_bom
+unfolding strip_bom
 line_of_mark = refl
 
 line_of_whole : line_of_end (0xEF ∷ 0xBB ∷ 0xBF ∷ []) ≡ 1
-unfolding line_behind strip_bom
+unfolding strip_bom
 line_of_whole = refl
 
 same_line : (line b : ℕ) → b ≡ 0xBF → line ≡ line_with line b
@@ -180,5 +180,5 @@ goes_further d text b w new other leads quoted seen =
     record {
       at = subst (IsAt new) (sym state) to;
       quoted = quoted;
-      line = ap (line_behind 1) stripped ∙ line_last 1 front b;
+      line = ap last_line stripped ∙ line_last front b;
     }

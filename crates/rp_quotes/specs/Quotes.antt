@@ -1,5 +1,5 @@
 -- The quotes of a CSV text (RFC 4180, part 2), in terms of the states in which csv reads it.
-use Rattle.std.specs.Prelude.{◌≡◌, ◌==◌, ◌+◌, ◌-◌, ◌^◌, min, if◌then◌else◌, ℕ, Bool, true, false, List, [], ◌∷◌, ◌++◌, Option, Some, None}
+use Rattle.std.specs.Prelude.{◌≡◌, ◌==◌, ◌+◌, ◌-◌, ◌^◌, min, ℕ, Bool, true, false, List, [], ◌∷◌, ◌++◌, count_by, Option, Some, None}
 use Rattle.csv.specs.Machine.{step}
 use Rattle.csv.specs.Reading.{strip_bom}
 use Rattle.csv.specs.declared.parser.Config.{Config}
@@ -44,18 +44,9 @@ begins_field st.StartField = true
 begins_field st.AfterCr = true
 begins_field _ = false
 
--- the number of a line, from 1, with one byte more; a count that is full stays
-abbrev pub line_with : ℕ → ℕ → ℕ
-line_with line byte = if byte == 10 then min (line + 1) (2 ^ 64 - 1) else line
-
--- the number of the line in which these bytes end, from that of a line on
-unfoldable pub line_behind : ℕ → List ℕ → ℕ
-line_behind line [] = line
-line_behind line (byte ∷ rest) = line_behind (line_with line byte) rest
-
--- the number of the line in which a text ends, from 1
+-- the number of the line in which a text ends, from 1: one more than its line feeds, and a count that is full stays
 abbrev pub line_of_end : List ℕ → ℕ
-line_of_end text = line_behind 1 (strip_bom text)
+line_of_end text = min (count_by (λ byte. byte == 10) (strip_bom text) + 1) (2 ^ 64 - 1)
 
 -- The last field of a text is quoted, and its quote is in this line: the quote comes where csv is before a field, and behind no part of what
 -- follows it is csv before one again.

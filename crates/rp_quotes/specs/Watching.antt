@@ -1,5 +1,5 @@
 -- Inside: what a watch has of the text that it has seen.
-use Rattle.std.specs.Prelude.{◌≡◌, ⊤, ◌||◌, ◌&&◌, ◌==◌, if◌then◌else◌, Bool, true, false, ℕ, Option, Some, None, MatchOption, List, [], ◌∷◌, ◌++◌}
+use Rattle.std.specs.Prelude.{◌≡◌, ⊤, ◌+◌, ◌-◌, ◌^◌, min, ◌||◌, ◌&&◌, ◌==◌, if◌then◌else◌, Bool, true, false, ℕ, Option, Some, None, MatchOption, List, [], ◌∷◌, ◌++◌}
 use Rattle.csv.specs.Reading.{strip_bom}
 use Rattle.rp_quotes.specs.Quotes.{
   IsAt,
@@ -10,7 +10,6 @@ use Rattle.rp_quotes.specs.Quotes.{
   IsFirstStray,
   IsQuotedFrom,
   line_of_end,
-  line_with,
   state_of,
 }
 use Rattle.rp_quotes.specs.declared.mark.Mark.{Mark}
@@ -90,6 +89,10 @@ is_blank_by blank old byte new = (byte == 32) && ((blank || is_begin old) && is_
 abbrev pub behind_blank_by : Bool → ℕ → Option ℕ → ℕ → Option ℕ
 behind_blank_by blank byte (Some first) line = Some first
 behind_blank_by blank byte None line = if blank && (byte == 34) then Some line else None
+
+-- the number of a line with one byte more; a count that is full stays
+abbrev pub line_with : ℕ → ℕ → ℕ
+line_with line byte = if byte == 10 then min (line + 1) (2 ^ 64 - 1) else line
 
 -- one byte more leads from there to here
 pub record LeadsTo (delimiter : ℕ) (text : List ℕ) (byte : ℕ) (old new : Quoting) : Type 0 where

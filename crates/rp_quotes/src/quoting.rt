@@ -26,6 +26,13 @@ pub enum Quoting {
 impl Quoting {
     /// Where the text ends with one more byte.
     pub fn behind(self, byte: u8, delimiter: u8) -> Quoting
+        ensures { (s : State) → IsAt self s → IsAt result (step (config_with delimiter) s byte).0 }
+    {
+        self.led_by(byte, delimiter)
+    }
+
+    /// The same, and a quote alone leads between quotes.
+    pub(crate) fn led_by(self, byte: u8, delimiter: u8) -> Quoting
         ensures at { (s : State) → IsAt self s → IsAt result (step (config_with delimiter) s byte).0 }
         ensures quoted { LeadsToQuoted self byte result }
     {

@@ -1,8 +1,8 @@
 //! The quotes of a text that comes piece by piece.
 ghost use Rattle.std.specs.Prelude.{ℕ, ◌++◌, ◌∷◌, [], List, MatchOption, ◌≡◌, true, false};
 ghost use Rattle.rp_quotes.specs.Quotes.{HasNoQuoteBehindBlanks, HasNoStray, IsFirstQuoteBehindBlanks, IsFirstStray};
-ghost use Rattle.rp_quotes.specs.Quotes.{IsQuotedFrom, LeavesQuoteOpen, line_with};
-ghost use Rattle.rp_quotes.specs.Watching.{HasSeen, LeadsTo, behind_blank_by, is_blank_by, opened_by, stray_behind};
+ghost use Rattle.rp_quotes.specs.Quotes.{IsQuotedFrom, LeavesQuoteOpen};
+ghost use Rattle.rp_quotes.specs.Watching.{HasSeen, LeadsTo, behind_blank_by, is_blank_by, line_with, opened_by, stray_behind};
 
 use crate::mark::Mark;
 use crate::quoting::{QUOTE, Quoting};
@@ -148,7 +148,7 @@ impl QuoteWatch {
         if self.mark == Mark::Second && byte == 0xBF {
             return Quoting::Begin;
         }
-        self.quoting.behind(byte, self.delimiter)
+        self.quoting.led_by(byte, self.delimiter)
     }
 }
 

@@ -15,4 +15,4 @@ returns c = λ delimiter text seen.
       | else-eq-via-then-eq+else-byte-eq191 w ↦ (λ second last. w.if-byte-eq191.false last)
       | else-eq-via-else-eq w ↦ (λ second last. search rules)
     ] in
-    goes_further delimiter text c.args.byte c.args.self.now c.behind.result other c.behind.ensures.at c.behind.ensures.quoted seen
+    goes_further delimiter text c.args.byte c.args.self.now c.led_by.result other c.led_by.ensures.at c.led_by.ensures.quoted seen

@@ -1,6 +1,6 @@
 use Rattle.std.proofs.Common.{◌∙◌, MatchOption, [], ◌∷◌, ◌++◌, ap, sym, subst}
-use Rattle.rp_quotes.specs.Quotes.{HasNoQuoteBehindBlanks, HasNoStray, IsFirstQuoteBehindBlanks, IsFirstStray, IsQuotedFrom, line_with}
-use Rattle.rp_quotes.specs.Watching.{HasMark, behind_blank_by, is_blank_by, opened_by}
+use Rattle.rp_quotes.specs.Quotes.{HasNoQuoteBehindBlanks, HasNoStray, IsFirstQuoteBehindBlanks, IsFirstStray, IsQuotedFrom}
+use Rattle.rp_quotes.specs.Watching.{HasMark, behind_blank_by, is_blank_by, line_with, opened_by}
 use Rattle.rp_quotes.proofs.Opened.{quoted_next}
 use Rattle.rp_quotes.proofs.Firsts.{blank_next, blank_only_next, quote_next, stray_next}
 use Rattle.rp_quotes.proofs.watch.QuoteWatch.take_byte.Goals as goal
