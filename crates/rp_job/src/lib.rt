@@ -32,5 +32,5 @@ pub use progress::Progress;
 pub use seed::seeded_hasher;
 pub use shown::shown_key;
 pub use telling::{end_with, tell};
-pub use texts::{condition_query, notes_on_columns, notes_on_given};
+pub use texts::{condition_clause, condition_query, notes_on_given};
 pub use verdict::Verdict;

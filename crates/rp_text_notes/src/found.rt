@@ -4,7 +4,7 @@ use crate::decimals::decimal_way;
 use crate::null_words::NullWords;
 use crate::signs::sign_of;
 use crate::texts::{ColumnTexts, NumberReader};
-use crate::times::time_way;
+use crate::times::{any_time_way, time_way};
 use crate::uses::Asked;
 use crate::way::Way;
 use crate::whole::whole_way;
@@ -101,6 +101,9 @@ fn way_for(
 ) -> Result<Option<Way>, AllocError> {
     if let Some(way) = number_way(alloc, reader, texts, has_words)? {
         return Ok(Some(way));
+    }
+    if asked.wants_numbers(texts.number) {
+        return any_time_way(alloc, reader, texts, 0);
     }
     if !asked.asks_order(texts.number) {
         return Ok(None);

@@ -34,7 +34,11 @@ pub fn notes_on_units(
     filter: Option<&Query>,
     columns: &[InputColumn],
 ) -> Result<Vec<Note>, AllocError> {
-    let asked = Asked { query, filter };
+    let asked = Asked {
+        query,
+        filter,
+        numbers: &[],
+    };
     let mut notes = Vec::new(alloc);
     for coarse in 1..columns.len().saturating_add(1) {
         for fine in 1..columns.len().saturating_add(1) {

@@ -31,3 +31,4 @@ mod written;
 
 pub use given_units::notes_on_units;
 pub use notes::{Note, Proposed, notes_on_proposed};
+pub use uses::Asked;

@@ -6,23 +6,29 @@ use crate::way::Way;
 use rp_wording::Pieces;
 use std::alloc::{AllocError, Global};
 
-/// What is to be known of a column of this name, and the options to write.
+/// What is to be known of a column of this name, of which numbers may be needed, and the options to write.
 pub(crate) fn line_of(
     alloc: Global,
     name: &str,
     found: &Found,
+    is_number: bool,
     example: Option<Example<'_>>,
     options: &str,
 ) -> Result<String, AllocError> {
     let mut line = Pieces::of(alloc, name);
     line.push(" is text, ");
     push_reason(&mut line, found);
-    line.push("and its ");
-    line.push(found.way.texts());
-    line.push(" are compared as texts");
-    push_order(&mut line, example);
+    if is_number {
+        line.push("and numbers are needed");
+    } else {
+        line.push_filled("and its {} are compared as texts", &[found.way.texts()]);
+        push_order(&mut line, example);
+    }
     if found.sign.is_empty() {
         push_reading(alloc, &mut line, name, &found.way, example, options);
+        if is_number {
+            push_scale(&mut line, &found.way);
+        }
     } else {
         line.push_filled(
             ". No reading takes '{}': take it out of the input",
@@ -82,6 +88,16 @@ fn push_reading(
     line.push(": ");
     line.push(options);
     push_otherwise(alloc, line, name, way);
+}
+
+/// Adds how a number is written that is compared with values which are parts of one, as hundredths.
+fn push_scale(line: &mut Pieces, way: &Way) {
+    if way.is_of_numbers() && way.fineness() > 0 {
+        line.push("; to compare it with 1, write 1");
+        for _place in 0..way.fineness() {
+            line.push("0");
+        }
+    }
 }
 
 /// Adds two texts in their order, where it isn't that of the numbers.

@@ -41,22 +41,20 @@ pub struct Proposed<'a> {
 }
 
 /// A note on each column of texts that are all decimal numbers, whose values the query asks for, or all dates or times, whose order it
-/// asks for and may not find: in the order of the columns. Words that other programs write for a null may be among them; between such words
+/// asks for and may not find, or which are taken for whole numbers: in the order of the columns. Words that other programs write for a null may be among them; between such words
 /// numbers may be whole. A column whose order is asked for may have a few other fields among its numbers, too. And a note on each column of
 /// whole numbers that are all dates or times, as 20240131, which the query adds to or subtracts. The rows are all of an input, whose columns are
-/// proposed. The filter is the query of a condition that leaves rows out.
+/// proposed.
 ///
 /// Each note has the same options, by which all these are read as numbers, in one unit where they are compared with each other. It reads each
 /// field of the rows. Where other fields are among the numbers, or the column has times of day, it has none, and says what to do with these.
 pub fn notes_on_proposed(
     alloc: Global,
-    query: &Query,
-    filter: Option<&Query>,
+    asked: Asked<'_>,
     proposed: Proposed<'_>,
     rows: &[Row],
 ) -> Result<Vec<Note>, AllocError> {
     let mut reader = NumberReader::new(alloc)?;
-    let asked = Asked { query, filter };
     let mut found = columns_found(alloc, &mut reader, asked, rows)?;
     share_units(alloc, &mut reader, asked, rows, &mut found)?;
     add_dates(alloc, &mut reader, asked, rows, &mut found)?;
@@ -139,7 +137,8 @@ fn line_of_found(
 ) -> Result<String, AllocError> {
     let example = example_of(reader, &found.way.reading, found.texts(rows));
     let name = name_of(alloc, asked.query, found.number)?;
-    line_of(alloc, name.as_str(), found, example, options)
+    let is_number = asked.wants_numbers(found.number);
+    line_of(alloc, name.as_str(), found, is_number, example, options)
 }
 
 /// What is said of a column whose order is asked for, and that no reading takes: its numbers have other fields among them, or it has times of

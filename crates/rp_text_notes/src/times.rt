@@ -30,6 +30,16 @@ pub(crate) fn time_way(
     if least == 0 && has_year_first(column.first().unwrap_or("")) && have_one_form(column) {
         return Ok(None);
     }
+    any_time_way(alloc, reader, column, least)
+}
+
+/// How all texts of a column are read as dates or times, in a unit that is at least so fine. None where not all are.
+pub(crate) fn any_time_way(
+    alloc: Global,
+    reader: &mut NumberReader,
+    column: ColumnTexts<'_>,
+    least: usize,
+) -> Result<Option<Way>, AllocError> {
     let found = match iso_way(alloc, reader, column, least)? {
         Some(way) => Some(way),
         None => format_way(alloc, reader, column, least)?,

@@ -5,12 +5,22 @@ use rp_value::{Comparison, Kind};
 
 /// What is asked of rows: by a query, and by a condition that leaves rows out, if there is one.
 #[derive(Clone, Copy)]
-pub(crate) struct Asked<'a> {
-    pub(crate) query: &'a Query,
-    pub(crate) filter: Option<&'a Query>,
+pub struct Asked<'a> {
+    /// The query.
+    pub query: &'a Query,
+    /// The query of the condition.
+    pub filter: Option<&'a Query>,
+    /// The numbers, from 1, of columns that have texts and are taken for whole numbers: by the query, whose table has them as such, or by the
+    /// condition.
+    pub numbers: &'a [usize],
 }
 
 impl<'a> Asked<'a> {
+    /// Whether a column has texts and is taken for whole numbers.
+    pub(crate) fn wants_numbers(self, column: usize) -> bool {
+        self.numbers.contains(&column)
+    }
+
     /// Whether the values of a column are asked for, or whether they are null.
     pub(crate) fn asks_of(self, column: usize) -> bool {
         self.asks_values(column)
@@ -23,7 +33,8 @@ impl<'a> Asked<'a> {
 
     /// Whether the values of a column are asked for.
     pub(crate) fn asks_values(self, column: usize) -> bool {
-        asks_values(self.query, column)
+        self.wants_numbers(column)
+            || asks_values(self.query, column)
             || match self.filter {
                 Some(filter) => asks_values(filter, column),
                 None => false,
@@ -32,6 +43,9 @@ impl<'a> Asked<'a> {
 
     /// Whether a column has texts.
     pub(crate) fn is_text(self, column: usize) -> bool {
+        if self.wants_numbers(column) {
+            return true;
+        }
         match self.query.table().columns().get(column.saturating_sub(1)) {
             Some(column) => column.kind == Kind::Text,
             None => false,
@@ -56,9 +70,10 @@ impl<'a> Asked<'a> {
             }
     }
 
-    /// Whether the order of a column is asked for.
+    /// Whether the order of a column is asked for, or that of the numbers that it is taken for.
     pub(crate) fn asks_order(self, column: usize) -> bool {
-        asks_order(self.query, column)
+        self.wants_numbers(column)
+            || asks_order(self.query, column)
             || match self.filter {
                 Some(filter) => asks_order(filter, column),
                 None => false,
