@@ -2,6 +2,8 @@
 
 use crate::clause::explain;
 use crate::further::further;
+use crate::literals::{Compared, compared_literal};
+use crate::numbers::{AsNumbers, as_numbers};
 use crate::passed::{pass_over, place_of};
 use crate::statement::{Statement, statement_of};
 use rp_compile::{CompileFault, compile};
@@ -23,6 +25,10 @@ pub struct Explained {
     pub reports: Vec<Report>,
     /// The query of what stands in MATCH_RECOGNIZE ( .. ), where that alone would be a clause without a fault.
     pub query: Option<Query>,
+    /// What it would be if columns of texts were columns of whole numbers, where it is refused since it takes them for such.
+    pub as_numbers: Option<AsNumbers>,
+    /// The column of whole numbers and the literal that is none, for whose comparison it is refused.
+    pub compared: Option<Compared>,
 }
 
 /// Explains why `compile` refuses a text over a table, by the fault that it gave, and what else can't stand in it. Of a
@@ -44,6 +50,8 @@ pub fn explain_text(
     Ok(Explained {
         reports,
         query: None,
+        as_numbers: as_numbers(alloc, table, text, fault)?,
+        compared: compared_literal(alloc, table, text, fault)?,
     })
 }
 
@@ -58,15 +66,24 @@ fn of_statement(
     match compile(alloc, statement.inside.as_str(), table) {
         Ok(query) => {
             let reports = outer_alone(alloc, table, text, statement)?;
-            let query = Some(query);
-            Ok(Explained { reports, query })
+            Ok(Explained {
+                reports,
+                query: Some(query),
+                as_numbers: None,
+                compared: None,
+            })
         }
         Err(CompileFault::OutOfMemory) => Err(AllocError),
         Err(inner) => {
             let outer_first = statement.front.is_some() || statement.is_outside(fault);
             let reports = both(alloc, table, text, statement, &inner, outer_first)?;
-            let query = None;
-            Ok(Explained { reports, query })
+            let inside = statement.inside.as_str();
+            Ok(Explained {
+                reports,
+                query: None,
+                as_numbers: as_numbers(alloc, table, inside, &inner)?,
+                compared: compared_literal(alloc, table, inside, &inner)?,
+            })
         }
     }
 }
