@@ -6,11 +6,14 @@ use crate::rows::look_at_inputs;
 use crate::texts::units_told;
 use rp_command::{CheckJob, ReportFormat};
 use rp_compile::{CompileFault, compile};
-use rp_explain_clauses::{explain_condition, explain_other_rows, explain_table, explain_text};
+use rp_explain_clauses::{
+    AsNumbers, Compared, as_numbers, compared_literal, explain_condition, explain_other_rows,
+    explain_table, explain_text,
+};
 use rp_explain_inputs::{explain_columns, explain_zone};
 use rp_filter::{FilterFault, read_filter};
 use rp_io::{CountedDevice, write_all};
-use rp_job::{InputForm, ProgramFault, Verdict, named_shape, seeded_hasher};
+use rp_job::{InputForm, ProgramFault, Verdict, condition_clause, named_shape, seeded_hasher};
 use rp_value::Table;
 use rp_wording::Report;
 use std::alloc::{AllocError, Global};
@@ -125,6 +128,39 @@ fn look_at_condition(alloc: Global, job: &CheckJob, found: &mut Found) {
             let report = explain_filter(alloc, shape.table(), condition.as_str(), fault);
             found.seen = RowsSeen::Unknown;
             found.blame("where", report);
+            if look_closer(alloc, condition.as_str(), found).is_err() {
+                found.text.push_made(Err(AllocError));
+            }
+        }
+    }
+}
+
+/// Looks at what a condition with a fault compares.
+fn look_closer(alloc: Global, condition: &str, found: &mut Found) -> Result<(), AllocError> {
+    let clause = condition_clause(alloc, condition)?;
+    let (literal, numbers) = match &found.shape {
+        Some(shape) => comparison(alloc, shape.table(), clause.as_str())?,
+        None => (None, None),
+    };
+    if let Some(compared) = literal {
+        found.tell_literal(&compared);
+    }
+    found.condition_as_numbers = numbers;
+    Ok(())
+}
+
+/// The literal that a text compares with a column, and what it would be if columns of texts were numbers, where it is refused for either.
+fn comparison(
+    alloc: Global,
+    table: &Table,
+    clause: &str,
+) -> Result<(Option<Compared>, Option<AsNumbers>), AllocError> {
+    match compile(alloc, clause, table) {
+        Ok(_) => Ok((None, None)),
+        Err(CompileFault::OutOfMemory) => Err(AllocError),
+        Err(fault) => {
+            let literal = compared_literal(alloc, table, clause, &fault)?;
+            Ok((literal, as_numbers(alloc, table, clause, &fault)?))
         }
     }
 }

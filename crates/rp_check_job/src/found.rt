@@ -1,6 +1,7 @@
 //! What `check` found.
 
-use rp_explain_clauses::Explained;
+use crate::literals::literal_told;
+use rp_explain_clauses::{AsNumbers, Compared, Explained};
 use rp_explain_queries::{describe, doubt};
 use rp_filter::Filter;
 use rp_job::Verdict;
@@ -43,6 +44,10 @@ pub(crate) struct Found {
     pub(crate) proposed: Option<String>,
     /// The query of the clause, where that has no fault.
     pub(crate) query: Option<Query>,
+    /// What the clause would be if columns of texts were numbers, where it is refused since it takes them for such.
+    pub(crate) as_numbers: Option<AsNumbers>,
+    /// The same of the condition of rows.
+    pub(crate) condition_as_numbers: Option<AsNumbers>,
     /// Which rows the clause sees.
     pub(crate) seen: RowsSeen,
     /// Whether there are several files, so that what is found in one is behind its name.
@@ -66,6 +71,8 @@ impl Drop for Found {
             shape: _,
             proposed: _,
             query: _,
+            as_numbers: _,
+            condition_as_numbers: _,
             seen: _,
             has_several: _,
             file: _,
@@ -85,6 +92,8 @@ impl Found {
             shape: None,
             proposed: None,
             query: None,
+            as_numbers: None,
+            condition_as_numbers: None,
             seen: RowsSeen::All,
             has_several,
             file: None,
@@ -198,12 +207,54 @@ impl Found {
     }
 
     fn take_explained(&mut self, explained: Explained) {
-        for report in explained.reports {
+        let Explained {
+            reports,
+            query,
+            as_numbers,
+            compared,
+        } = explained;
+        for report in reports {
             self.take_report("clause", report);
         }
-        if let Some(query) = explained.query {
+        if let Some(compared) = compared {
+            self.tell_literal(&compared);
+        }
+        self.as_numbers = as_numbers;
+        if let Some(query) = query {
             self.take_query(query);
         }
+    }
+
+    /// Says which number a literal is with which a column is compared.
+    pub(crate) fn tell_literal(&mut self, compared: &Compared) {
+        if let Some(shape) = &self.shape {
+            let told = literal_told(self.alloc, shape, compared);
+            self.note(told);
+        }
+    }
+
+    /// What is asked of rows: by the clause, or else by the condition, as they would be if columns of texts were numbers where they are
+    /// refused since they take them for such. None where there is neither.
+    pub(crate) fn asked(&self) -> Option<&Query> {
+        if let Some(query) = &self.query {
+            return Some(query);
+        }
+        match (&self.as_numbers, &self.condition_as_numbers) {
+            (Some(clause), _) => Some(&clause.query),
+            (None, Some(condition)) => Some(&condition.query),
+            (None, None) => None,
+        }
+    }
+
+    /// The numbers, from 1, of the columns of texts that the clause and the condition take for numbers.
+    pub(crate) fn numbers(&self) -> Result<Vec<usize>, AllocError> {
+        let mut numbers = Vec::new(self.alloc);
+        for taken in [&self.as_numbers, &self.condition_as_numbers] {
+            if let Some(taken) = taken {
+                numbers.extend_from_slice(taken.columns.as_slice())?;
+            }
+        }
+        Ok(numbers)
     }
 
     /// Takes how many rows an input of this name has, where they were read.

@@ -5,6 +5,7 @@ mod check;
 mod condition;
 mod found;
 mod inputs;
+mod literals;
 mod near_keys;
 mod nulls;
 mod parts;

@@ -178,7 +178,8 @@ fn never_found_told(found: &Found, rows: &[Row]) -> Result<String, AllocError> {
     lines.finish()
 }
 
-/// What is said of rows over which the clause has no fault: of those that it sees, and of the columns and texts of all.
+/// What is said of rows: of those that the clause sees, and of the columns and texts of all. Of a clause with a fault it is said of columns
+/// alone, where it takes texts for numbers.
 fn rows_described(
     found: &Found,
     form: &InputForm,
@@ -187,11 +188,11 @@ fn rows_described(
     seen: &[Row],
 ) -> Result<String, AllocError> {
     let Some(query) = &found.query else {
-        return Ok(String::new(found.alloc));
+        return texts_told(found, form, condition, all, "");
     };
     let described = describe_input(found.alloc, query, seen)?;
     let mut told = Pieces::of(found.alloc, described.as_str());
-    told.push_made(texts_told(found, form, query, condition, all, described.as_str()));
+    told.push_made(texts_told(found, form, condition, all, described.as_str()));
     told.push_made(compared_told(found.alloc, query, all));
     told.finish()
 }

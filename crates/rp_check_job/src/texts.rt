@@ -1,10 +1,12 @@
-//! What `check` says of columns that are proposed as texts, and are numbers or times that a clause compares, or as whole numbers, and are
-//! dates that it adds or subtracts; of columns that are given in different units; and of texts that rows have nearly, or not at all.
+//! What `check` says of columns that are proposed as texts, and are numbers or times that a clause compares, or numbers that it needs; or as whole
+//! numbers, and are dates that it adds or subtracts; of columns that are given in different units; and of texts that rows have nearly, or not at
+//! all.
 
 use crate::found::Found;
-use rp_job::{InputForm, notes_on_columns, notes_on_given};
+use rp_job::{InputForm, condition_query, notes_on_given};
 use rp_near_misses::{absent_texts, near_misses};
 use rp_query::Query;
+use rp_text_notes::{Asked, Note, Proposed, notes_on_proposed};
 use rp_value::Row;
 use rp_wording::{Pieces, shown_text};
 use std::alloc::{AllocError, Global};
@@ -14,15 +16,14 @@ use std::alloc::{AllocError, Global};
 pub(crate) fn texts_told(
     found: &Found,
     form: &InputForm,
-    query: &Query,
     condition: &Option<String>,
     rows: &[Row],
     told: &str,
 ) -> Result<String, AllocError> {
     let mut lines = Pieces::new(found.alloc);
-    if let Some(columns) = &found.proposed {
+    if let (Some(columns), Some(query)) = (&found.proposed, found.asked()) {
         let proposed = form.proposed(columns.as_str());
-        for note in notes_on_columns(found.alloc, query, condition, proposed, rows)? {
+        for note in notes_on(found, query, condition, proposed, rows)? {
             if !is_told(found.alloc, query, note.column, told)? {
                 lines.push(note.line.as_str());
                 lines.push("\n");
@@ -30,6 +31,57 @@ pub(crate) fn texts_told(
         }
     }
     shown_text(found.alloc, lines.text()?)
+}
+
+/// The notes on columns that are proposed, of which a query and the condition of this text ask something.
+fn notes_on(
+    found: &Found,
+    query: &Query,
+    condition: &Option<String>,
+    proposed: Proposed<'_>,
+    rows: &[Row],
+) -> Result<Vec<Note>, AllocError> {
+    let numbers = found.numbers()?;
+    let numbers = numbers.as_slice();
+    if let Some(taken) = &found.condition_as_numbers {
+        return notes_by(
+            found.alloc,
+            query,
+            Some(&taken.query),
+            numbers,
+            proposed,
+            rows,
+        );
+    }
+    match filter_of(found, condition)? {
+        Some(filter) => notes_by(found.alloc, query, Some(&filter), numbers, proposed, rows),
+        None => notes_by(found.alloc, query, None, numbers, proposed, rows),
+    }
+}
+
+/// The same by a query and that of the condition, which take the columns of these numbers for numbers.
+fn notes_by(
+    alloc: Global,
+    query: &Query,
+    filter: Option<&Query>,
+    numbers: &[usize],
+    proposed: Proposed<'_>,
+    rows: &[Row],
+) -> Result<Vec<Note>, AllocError> {
+    let asked = Asked {
+        query,
+        filter,
+        numbers,
+    };
+    notes_on_proposed(alloc, asked, proposed, rows)
+}
+
+/// The query of the condition of this text, where it has no fault.
+fn filter_of(found: &Found, condition: &Option<String>) -> Result<Option<Query>, AllocError> {
+    match &found.shape {
+        Some(shape) => condition_query(found.alloc, condition, shape.table()),
+        None => Ok(None),
+    }
 }
 
 /// What is said of columns that are given, where the clause, or the condition of this text, takes two of them for values of one unit.
