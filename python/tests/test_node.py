@@ -257,7 +257,15 @@ def test_a_forked_process_holds_no_node(start):
         os.wait()
 
 
-def test_after_a_call_that_was_interrupted(start):
+@pytest.fixture
+def interrupts():
+    """Ctrl-C interrupts this process, also where a script began it in its background."""
+    before = signal.signal(signal.SIGINT, signal.default_int_handler)
+    yield
+    signal.signal(signal.SIGINT, before)
+
+
+def test_after_a_call_that_was_interrupted(start, interrupts):
     process, address = start("--acknowledge")
     with Node(address) as client:
         client.rows(EVE[:2])
