@@ -22,7 +22,7 @@ AreRowsOver columns rows = All (λ row. row_fault (kinds_of columns) row ≡ Non
 abbrev pub values_in : List ℕ → List Value → List Value
 values_in columns row = map (λ column. value_at column row) columns
 
--- the key of a row: its values in the columns of PARTITION BY (ISO/IEC 9075-2:2016, 7.15)
+-- the key of a row: its values in the columns of PARTITION BY (ISO/IEC 9075-2:2016, 7.7, <row pattern partition by>)
 abbrev pub key_of : QueryData → List Value → List Value
 key_of q row = values_in q.partition.items row
 

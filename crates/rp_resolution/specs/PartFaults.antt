@@ -1,5 +1,5 @@
 -- The faults of the parts of a clause over a table, each check, in the order in which they are looked for.
--- Which names and bounds a clause may have is ISO/IEC 9075-2:2016, 7.6 to 7.7; the order is this project's own.
+-- Which names and bounds a clause may have is ISO/IEC 9075-2:2016, 7.7 to 7.9; the order is this project's own.
 use Rattle.std.specs.Prelude.{ℕ, Bool, suc, nat_le, true, false, not, ◌||◌, List, [], ◌∷◌, ◌++◌, map, Option, None, Some, is_some, option_map}
 use Rattle.rp_value.specs.declared.table.Column.{Column}
 use Rattle.rp_words.specs.Bounds.{bounds_hold}
