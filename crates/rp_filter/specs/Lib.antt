@@ -1,2 +1,3 @@
--- What contracts of a filter cite: the clause that a condition is read as, and which rows meet it.
+-- What contracts of a filter cite: the clause that a condition is read as, which rows meet it, and why a text is no condition.
 pub mod Meets
+pub mod Faults

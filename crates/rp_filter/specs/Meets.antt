@@ -1,6 +1,6 @@
 -- Rows that meet a condition. ISO/IEC 9075-2:2016, 7.12 <where clause>: those for which it is true, and not those for which it is
 -- unknown. Own: the condition is read as that of a pattern's only variable, over a partition of the row alone.
-use Rattle.std.specs.Prelude.{◌≡◌, ℕ, ◌++◌, Bool, false, true, List, [], ◌∷◌, Option, Some, None, codes}
+use Rattle.std.specs.Prelude.{ℕ, ◌++◌, Bool, false, true, List, [], ◌∷◌, Option, Some, None, codes}
 use Rattle.rp_value.specs.declared.value.Value.{Value}
 use Rattle.rp_words.specs.declared.word.End.TheVariants.{Closed}
 use Rattle.rp_words.specs.declared.word.Label.{Label}

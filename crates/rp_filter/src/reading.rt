@@ -1,9 +1,10 @@
 //! From the text of a condition to a filter.
-ghost use Rattle.std.specs.Prelude.{◌≡◌, IfOk, OnOk, string_bytes};
+ghost use Rattle.std.specs.Prelude.{◌≡◌, IfErr, IfOk, OnOk, string_bytes};
 ghost use Rattle.rp_query.specs.Locality.{ConditionsAreLocal};
 ghost use Rattle.rp_query.specs.LooksBack.{ConditionsLookBack};
 ghost use Rattle.rp_query.specs.declared.locality.Locality.TheVariants.{Row};
 ghost use Rattle.rp_compile.specs.Compiled.{IsCompiled};
+ghost use Rattle.rp_filter.specs.Faults.{IsFilterFault, in_condition, lex_in_condition, offset_in};
 ghost use Rattle.rp_filter.specs.Meets.{clause_of};
 
 use crate::fault::FilterFault;
@@ -24,6 +25,7 @@ pub fn read_filter(alloc: Global, text: &str, table: &Table) -> Result<Filter, F
     ensures local { IfOk result (λ filter. ConditionsAreLocal Row filter.query.plan) }
     ensures ahead { IfOk result (λ filter. ConditionsLookBack filter.query.plan) }
     ensures back { IfOk result (λ filter. filter.query.reach ≡ 0) }
+    ensures fault { IfErr result (IsFilterFault text.now table.now) }
 {
     let clause = clause_text(alloc, text)?;
     match compile(alloc, clause.as_str(), table) {
@@ -49,12 +51,16 @@ fn clause_text(alloc: Global, text: &str) -> Result<String, AllocError>
 }
 
 /// The offset in a condition, by that in its clause.
-fn offset_in(at: usize) -> usize {
+fn offset_in(at: usize) -> usize
+    ensures { result ≡ offset_in at }
+{
     at.saturating_sub(FRONT.len())
 }
 
 /// The fault with its offset in the condition.
-fn in_condition(fault: CompileFault) -> CompileFault {
+fn in_condition(fault: CompileFault) -> CompileFault
+    ensures { result ≡ in_condition fault }
+{
     match fault {
         CompileFault::Lex(why) => CompileFault::Lex(lex_in_condition(why)),
         CompileFault::Parse(ParseFault::Expected(at)) => {
@@ -71,7 +77,9 @@ fn in_condition(fault: CompileFault) -> CompileFault {
     }
 }
 
-fn lex_in_condition(fault: LexFault) -> LexFault {
+fn lex_in_condition(fault: LexFault) -> LexFault
+    ensures { result ≡ lex_in_condition fault }
+{
     match fault {
         LexFault::BadChar(at) => LexFault::BadChar(offset_in(at)),
         LexFault::OpenText(at) => LexFault::OpenText(offset_in(at)),
