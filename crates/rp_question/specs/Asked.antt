@@ -4,8 +4,11 @@ use Rattle.std.specs.Prelude.{◌≡◌, ⊤, ℕ, List, Option, Some, None}
 use Rattle.std.specs.List.{filter}
 use Rattle.rp_value.specs.declared.table.Column.{Column}
 use Rattle.rp_value.specs.declared.value.Value.{Value}
+use Rattle.rp_query.specs.declared.query.QueryData.{QueryData}
 use Rattle.rp_compile.specs.Compiled.{IsCompileFault, IsCompiled}
+use Rattle.rp_filter.specs.Faults.{IsFilterFault}
 use Rattle.rp_filter.specs.Meets.{clause_of, meets}
+use Rattle.rp_filter.specs.declared.fault.FilterFault.{FilterFault}
 use Rattle.rp_filter.specs.declared.filter.Filter.{Filter}
 use Rattle.rp_question.specs.Read.{AreRowsOfAll}
 use Rattle.rp_question.specs.declared.fault.QuestionFault.{QuestionFault}
@@ -29,7 +32,12 @@ pub record AreRowsAsked (question : Question) (texts : List (List ℕ)) (rows : 
   pub read : AreRowsOfAll question.reading texts all
   pub are : rows ≡ kept question.filter all
 
--- why two texts make no question: the first fault of the clause; of the condition's nothing is said
-abbrev pub IsQuestionFault : List ℕ → List Column → QuestionFault → Type 0
-IsQuestionFault text columns (Clause why) = IsCompileFault text columns why
-IsQuestionFault text columns (Condition why) = ⊤
+-- why there is no filter of a condition's text
+abbrev pub IsFaultOfFilter : Option (List ℕ) → List Column → FilterFault → Type 0
+IsFaultOfFilter None columns why = ⊥
+IsFaultOfFilter (Some text) columns why = IsFilterFault text columns why
+
+-- why two texts make no question: the first fault of the clause; or, where the clause is a query, the fault of the condition
+abbrev pub IsQuestionFault : (clause : List ℕ) (condition : Option (List ℕ)) → List Column → QuestionFault → Type 0
+IsQuestionFault clause condition columns (Clause why) = IsCompileFault clause columns why
+IsQuestionFault clause condition columns (Condition why) = IsFaultOfFilter condition columns why × (q : QueryData) × IsCompiled clause columns q

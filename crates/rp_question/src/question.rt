@@ -1,7 +1,7 @@
 //! What is asked of inputs, and the answer.
 ghost use Rattle.std.specs.Prelude.{◌≡◌, IfErr, IfOk, IfSome, OnOk, Some, option_map, slice_get};
 ghost use Rattle.rp_compile.specs.Compiled.{IsCompiled};
-ghost use Rattle.rp_question.specs.Asked.{IsFilterOf};
+ghost use Rattle.rp_question.specs.Asked.{IsFaultOfFilter, IsFilterOf};
 ghost use Rattle.rp_question.specs.Adding.{AddsRows, IsFaultAt};
 ghost use Rattle.rp_whole.specs.Answers.{limit_of};
 ghost use Rattle.rp_whole.specs.AnswerLines.{line_form};
@@ -51,7 +51,8 @@ impl<'a> Question<'a> {
         ensures filter { IfOk result (λ question. IsFilterOf (option_map (λ text. text.now) condition.entry)
             (columns_seen reading.entry.shape.now) question.filter) }
         ensures reading { IfOk result (λ question. question.reading ≡ reading.entry) }
-        ensures fault { IfErr result (IsQuestionFault clause.now (columns_seen reading.entry.shape.now)) }
+        ensures fault { IfErr result (IsQuestionFault clause.now (option_map (λ text. text.now) condition.entry)
+            (columns_seen reading.entry.shape.now)) }
     {
         let table = reading.shape.table();
         let query = compile(alloc, clause, table)?;
@@ -194,7 +195,8 @@ fn filter_of(
     condition: Option<&str>,
     table: &Table,
 ) -> Result<Option<Filter>, FilterFault>
-    ensures { IfOk result (IsFilterOf (option_map (λ text. text.now) condition.entry) table.now) }
+    ensures is { IfOk result (IsFilterOf (option_map (λ text. text.now) condition.entry) table.now) }
+    ensures fault { IfErr result (IsFaultOfFilter (option_map (λ text. text.now) condition.entry) table.now) }
 {
     let Some(text) = condition else {
         return Ok(None);
