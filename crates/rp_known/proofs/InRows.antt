@@ -12,7 +12,7 @@ use Rattle.rp_query.specs.declared.query.SkipTo.TheVariants.{PastLastRow, NextRo
 use Rattle.rp_query.specs.declared.item.Item.{Item}
 use Rattle.rp_known.specs.declared.place.Place.{Place}
 use Rattle.rp_known.specs.Known.{Known, count}
-use Rattle.rp_known.specs.Skips.{is_of, first_place, last_place, or_here, skipped, start_after}
+use Rattle.rp_known.specs.Skips.{is_of, first_passing, last_passing, or_here, skipped, start_after}
 use Rattle.rp_known.specs.Items.{items_of}
 use Rattle.rp_known.specs.Walk.{Leg, Goes, Pauses, Ends, after_item, after_items, after_match, after_found, found_at, at_last, searched, leg, ComesTo, here, on}
 use Rattle.rp_known.specs.WalkLaws.{AreKnown, MatchesAreKnown, IsInRows, LeadsInRows}
@@ -23,18 +23,18 @@ abbrev IsAtMost : ℕ → Option ℕ → Type 0
 IsAtMost n None = ⊤
 IsAtMost n (Some k) = k ≤ n
 
-first_in : (test : Label → Bool) (ls : List Label) → IsAtMost (length ls) (first_place test ls)
+first_in : (test : Label → Bool) (ls : List Label) → IsAtMost (length ls) (first_passing test ls)
 first_in test [] = tt
-first_in test (l ∷ ls) = go (test l) (first_place test ls) (first_in test ls)
+first_in test (l ∷ ls) = go (test l) (first_passing test ls) (first_in test ls)
   where
     go : (b : Bool) (o : Option ℕ) → IsAtMost (length ls) o → IsAtMost (suc (length ls)) (cond b (Some 0) (option_map suc o))
     go true o h = omega arith
     go false None h = tt
     go false (Some k) h = omega (arith, h)
 
-last_in : (test : Label → Bool) (ls : List Label) → IsAtMost (length ls) (last_place test ls)
+last_in : (test : Label → Bool) (ls : List Label) → IsAtMost (length ls) (last_passing test ls)
 last_in test [] = tt
-last_in test (l ∷ ls) = go (test l) (last_place test ls) (last_in test ls)
+last_in test (l ∷ ls) = go (test l) (last_passing test ls) (last_in test ls)
   where
     go : (b : Bool) (o : Option ℕ) → IsAtMost (length ls) o → IsAtMost (suc (length ls)) (or_here b o)
     go true None h = omega arith

@@ -1,7 +1,8 @@
 -- Each output row has a cell for each output column.
-use Rattle.std.proofs.Common.{◌≡◌, ◌∙◌, ℕ, zero, suc, ◌+◌, ◌-◌, List, [], ◌∷◌, ◌++◌, map, length, Bool, true, false, cond, Option, Some, None, refl, ap, subst, arith}
-use Rattle.std.specs.Prelude.{⊤, nat_le, option_map, Result, Ok, Err}
+use Rattle.std.proofs.Common.{◌≡◌, ℕ, zero, suc, ◌+◌, ◌-◌, ◌<◌, ◌≤◌, List, [], ◌∷◌, ◌++◌, map, length, Bool, true, false, cond, Option, Some, None, refl, sym, subst, arith}
+use Rattle.std.specs.Prelude.{⊤, ◌&&◌, nat_le, nat_lt, option_map, Result, Ok, Err}
 use Rattle.std.specs.List.{AllByRecursion}
+use Rattle.std.proofs.lemmas.Bool.Decides.{nat_tests}
 use Rattle.std.proofs.lemmas.List.Elements.{All-from_recursion}
 use Rattle.std.proofs.lemmas.Option.{same_Some}
 use Rattle.rp_value.specs.declared.value.Value.{Value}
@@ -23,10 +24,10 @@ use Rattle.rp_known.specs.declared.place.Place.{Place}
 use Rattle.rp_known.specs.Known.{Known, count}
 use Rattle.rp_known.specs.Plans.{setting_of, shown_in, shown_alone, before_ready, values_of, cells_in, cells_alone}
 use Rattle.rp_known.specs.Skips.{next_start}
-use Rattle.rp_known.specs.Items.{item_rows, item_at}
-use Rattle.rp_known.specs.Walk.{Leg, Goes, Pauses, Ends, after_item, after_items, after_match, after_found, found_at, at_last, searched, leg, leg_items, and_then, walk, first_place}
-use Rattle.rp_known.specs.Named.{AreNamed, IsNamed, IsRowOfMatch, KnownIsNamed}
-use Rattle.rp_known.proofs.Items.{AreWithin, rows_within}
+use Rattle.rp_known.specs.Items.{item_rows, item_at, shows_unmatched}
+use Rattle.rp_known.specs.Walk.{Leg, Goes, Pauses, Ends, after_item, after_items, after_match, after_found, found_at, at_last, searched, leg, leg_items, and_then, walk, first_place, ComesTo, here, on}
+use Rattle.rp_known.specs.Named.{AreNamed, IsNamed, IsRowOfMatch, IsSearched, KnownIsNamed}
+use Rattle.rp_known.proofs.Items.{rows_within}
 
 -- ---- cells
 
@@ -47,28 +48,31 @@ alone_named p row (o ∷ os) = (refl, alone_named p row os)
 
 -- ---- rows
 
--- a row at which what was found from a start row is shown
-abbrev IsShownAt : ℕ → Found → ℕ → Type 0
-IsShownAt start Waits row = ⊤
-IsShownAt start NoMatch row = row ≡ start
-IsShownAt start (Match labels) row = IsRowOfMatch start labels row
+-- a row at which what was found from a place is shown
+abbrev IsShownAt : RowsPerMatch → Place → Found → ℕ → Type 0
+IsShownAt shows place Waits row = ⊤
+IsShownAt shows place NoMatch row = (row ≡ place.start) × (place.covered < place.start) × (shows_unmatched shows ≡ true)
+IsShownAt shows place (Match labels) row = IsRowOfMatch place.start labels row
 
-at_start : (start : ℕ) (rows : List ℕ) → AreWithin start start rows → AllByRecursion (λ row. row ≡ start) rows
-at_start start [] h = tt
-at_start start (r ∷ rs) h = (omega (arith, h.0.0, h.0.1), at_start start rs h.1)
+none_shown : (shows : RowsPerMatch) (place : Place) (a b : Bool) → shows_unmatched shows ≡ a → nat_lt place.covered place.start ≡ b
+    → AllByRecursion (IsShownAt shows place NoMatch) (cond (a && b) (place.start ∷ []) [])
+none_shown shows place true true asked e = ((refl, grind (arith, nat_tests), asked), tt)
+none_shown shows place true false asked e = tt
+none_shown shows place false b asked e = tt
 
-all_shown : (shows : RowsPerMatch) (place : Place) (result : Found) → AllByRecursion (IsShownAt place.start result) (item_rows shows place result)
+all_shown : (shows : RowsPerMatch) (place : Place) (result : Found) → AllByRecursion (IsShownAt shows place result) (item_rows shows place result)
 all_shown shows place Waits = tt
-all_shown shows place NoMatch = at_start place.start (item_rows shows place NoMatch) (rows_within shows place place.start NoMatch (omega arith) tt)
+all_shown shows place NoMatch = none_shown shows place (shows_unmatched shows) (nat_lt place.covered place.start) refl refl
 all_shown shows place (Match labels) = rows_within shows place (place.start + (length labels - 1)) (Match labels) (omega arith) (omega arith)
 
 module _ (q : QueryData) (p : Known) where
-  item_named : (place : Place) (result : Found) → found_at q p place.start ≡ result → (row : ℕ) → IsShownAt place.start result row
+  item_named : (place : Place) (result : Found) → IsSearched q p place result → (row : ℕ) → IsShownAt q.plan.rows place result row
       → (x : Item) → item_at q p place result row ≡ Some x → IsNamed q p x
   item_named place Waits is row at x e = absurd cc
   item_named place NoMatch is row at x e =
       subst (IsNamed q p) (same_Some (RowItem None (cells_alone p.rows row q.output.items)) x e)
-      (record { row = row; found = ap (found_at q p) at ∙ is; named = alone_named p.rows row q.output.items })
+      (subst (λ r. IsNamed q p (RowItem None (cells_alone p.rows r q.output.items))) (sym at.0)
+      (record { place = place; searched = is; after_matches = at.1; shown = at.2; named = alone_named p.rows place.start q.output.items }))
   item_named place (Match labels) is row at x e = go (cells_in q (setting_of q p place.start labels (suc place.matches) row) q.output.items) refl e
     where
       go : (o : Option (List Value)) → cells_in q (setting_of q p place.start labels (suc place.matches) row) q.output.items ≡ o
@@ -77,9 +81,10 @@ module _ (q : QueryData) (p : Known) where
       go (Some vs) are e =
           subst (IsNamed q p) (same_Some (RowItem (Some (suc place.matches)) vs) x e)
           (record {
-            start = place.start;
+            place = place;
             labels = labels;
-            found = is;
+            searched = is;
+            counted = refl;
             row = row;
             within = at;
             named = ready_named (shown_in q (setting_of q p place.start labels (suc place.matches) row)) q.output.items vs are;
@@ -95,7 +100,7 @@ module _ (q : QueryData) (p : Known) where
   item_first x (Pauses xs) h k = (h, k)
   item_first x (Ends xs) h k = (h, k)
 
-  items_first : (place : Place) (result : Found) → found_at q p place.start ≡ result → (rows : List ℕ) → AllByRecursion (IsShownAt place.start result) rows
+  items_first : (place : Place) (result : Found) → IsSearched q p place result → (rows : List ℕ) → AllByRecursion (IsShownAt q.plan.rows place result) rows
       → (t : Leg) → AllNamed (leg_items t) → AllNamed (leg_items (after_items (map (item_at q p place result) rows) t))
   items_first place result found [] at t h = h
   items_first place result found (r ∷ rs) at t h = go (item_at q p place result r) refl (items_first place result found rs at.1 t h)
@@ -118,27 +123,37 @@ module _ (q : QueryData) (p : Known) where
   at_end OpenEnd = tt
   at_end ClosedEnd = (tt, tt)
 
-  leg_named : (place : Place) → AllNamed (leg_items (leg q p place))
-  leg_named place = go (nat_le place.start (count p))
+  leg_named : (place : Place) (items : ℕ) → ComesTo q p first_place items place → AllNamed (leg_items (leg q p place))
+  leg_named place items comes = go (nat_le place.start (count p)) refl
     where
-      go : (b : Bool) → AllNamed (leg_items (cond b (searched q p place (found_at q p place.start)) (at_last p.end)))
-      go true =
+      go : (b : Bool) → nat_le place.start (count p) ≡ b → AllNamed (leg_items (cond b (searched q p place (found_at q p place.start)) (at_last p.end)))
+      go true e =
           let result = found_at q p place.start in
-          items_first place result refl (item_rows q.plan.rows place result) (all_shown q.plan.rows place result) (after_found q place result) (found_last place result)
-      go false = at_end p.end
+          let in_rows : place.start ≤ count p = grind (arith, nat_tests) in
+          items_first place result (record { items = items; comes = comes; in_rows = in_rows; found = refl })
+          (item_rows q.plan.rows place result) (all_shown q.plan.rows place result) (after_found q place result) (found_last place result)
+      go false e = at_end p.end
+
+  -- from where a walk comes to, it comes one leg further
+  comes_on : {from place next : Place} {xs : List Item} {d : ℕ} → ComesTo q p from d place → leg q p place ≡ Goes xs next → (e : ℕ) × ComesTo q p from e next
+  comes_on {xs = xs} here is = (length xs + 0, on is here)
+  comes_on (on {xs = ys} first rest) is = let later = comes_on rest is in (length ys + later.0, on first later.1)
 
   both_named : (xs ys : List Item) → AllNamed xs → AllNamed ys → AllNamed (xs ++ ys)
   both_named [] ys h k = k
   both_named (x ∷ xs) ys h k = (h.0, both_named xs ys h.1 k)
 
-  then_named : (t : Leg) (walk_on : Place → List Item) → AllNamed (leg_items t) → ((next : Place) → AllNamed (walk_on next)) → AllNamed (and_then t walk_on)
-  then_named (Goes xs next) walk_on h k = both_named xs (walk_on next) h (k next)
+  then_named : (t : Leg) (walk_on : Place → List Item) → AllNamed (leg_items t)
+      → ((xs : List Item) (next : Place) → t ≡ Goes xs next → AllNamed (walk_on next)) → AllNamed (and_then t walk_on)
+  then_named (Goes xs next) walk_on h k = both_named xs (walk_on next) h (k xs next refl)
   then_named (Pauses xs) walk_on h k = h
   then_named (Ends xs) walk_on h k = h
 
-  walk_named : (legs : ℕ) (place : Place) → AllNamed (walk legs q p place)
-  walk_named zero place = tt
-  walk_named (suc legs) place = then_named (leg q p place) (walk legs q p) (leg_named place) (walk_named legs)
+  walk_named : (legs : ℕ) (place : Place) (items : ℕ) → ComesTo q p first_place items place → AllNamed (walk legs q p place)
+  walk_named zero place items comes = tt
+  walk_named (suc legs) place items comes =
+      then_named (leg q p place) (walk legs q p) (leg_named place items comes)
+      (λ xs next is. let further = comes_on comes is in walk_named legs next further.0 further.1)
 
 pub known_named : KnownIsNamed
-known_named q p = All-from_recursion (IsNamed q p) _ (walk_named q p (suc (suc (count p) - 1)) first_place)
+known_named q p = All-from_recursion (IsNamed q p) _ (walk_named q p (suc (suc (count p) - 1)) first_place 0 here)

@@ -66,9 +66,9 @@ module _ (cells : CellsHaveKinds) (values : ValuesHaveKinds) (q : QueryData) (so
 
   item_typed : (x : Item) → IsNamed q p x → IsTyped q x
   item_typed (Row (Some number) vs) h =
-      let s = setting_of q p h.start h.labels number h.row in
+      let s = setting_of q p h.place.start h.labels number h.row in
       typed (shown_in q s) q.output.items vs (all_fit s refl refl q.output.items given) h.named
-  item_typed (Row None vs) h = typed (λ from. Ready (shown_alone p.rows h.row from)) q.output.items vs (all_alone h.row q.output.items given) h.named
+  item_typed (Row None vs) h = typed (λ from. Ready (shown_alone p.rows h.place.start from)) q.output.items vs (all_alone h.place.start q.output.items given) h.named
   item_typed (Fault fault) h = tt
   item_typed End h = tt
 

@@ -1,5 +1,5 @@
 -- The cells of an output row are those of the output columns, one for one.
-use Rattle.std.specs.Prelude.{◌≡◌, ◌≤◌, ◌+◌, ◌-◌, ℕ, ⊤, List, length, All, Some, None}
+use Rattle.std.specs.Prelude.{◌≡◌, ◌<◌, ◌≤◌, ◌+◌, ◌-◌, ℕ, suc, ⊤, true, List, length, All, Some, None}
 use Rattle.std.specs.List.{AllZip}
 use Rattle.rp_value.specs.declared.value.Value.{Value}
 use Rattle.rp_words.specs.declared.word.Label.{Label}
@@ -8,35 +8,48 @@ use Rattle.rp_query.specs.declared.item.Item.TheVariants.{Row, Fault, End}
 use Rattle.rp_query.specs.declared.query.OutputColumn.{OutputColumn}
 use Rattle.rp_query.specs.declared.query.QueryData.{QueryData}
 use Rattle.rp_query.specs.declared.query.Source.{Source}
-use Rattle.rp_search.specs.Found.{Match, NoMatch}
+use Rattle.rp_search.specs.Found.{Found, Match, NoMatch}
 use Rattle.rp_eval.specs.declared.cell.Cell.{Cell}
 use Rattle.rp_eval.specs.declared.cell.Cell.TheVariants.{Ready}
-use Rattle.rp_known.specs.Known.{Known}
+use Rattle.rp_known.specs.declared.place.Place.{Place}
+use Rattle.rp_known.specs.Items.{shows_unmatched}
+use Rattle.rp_known.specs.Known.{Known, count}
 use Rattle.rp_known.specs.Plans.{setting_of, shown_in, shown_alone}
-use Rattle.rp_known.specs.Walk.{found_at, known}
+use Rattle.rp_known.specs.Walk.{ComesTo, first_place, found_at, known}
 
 -- there are as many cells as columns, and each is what the column at its place has
 abbrev pub AreNamed : (Source → Cell) → List OutputColumn → List Value → Type 0
 AreNamed shown columns cells = AllZip (λ o v. shown o.from ≡ Ready v) columns cells
 
+-- The walk comes to this place, whose row is known, and the search from this row finds this.
+pub record IsSearched (q : QueryData) (p : Known) (place : Place) (result : Found) : Type 0 where
+  pub items : ℕ
+  pub comes : ComesTo q p first_place items place
+  pub in_rows : place.start ≤ count p
+  pub found : found_at q p place.start ≡ result
+
 -- the row is one of a match that begins here with these labels; of an empty match, the row at which it was found
 abbrev pub IsRowOfMatch : ℕ → List Label → ℕ → Type 0
 IsRowOfMatch start labels row = (start ≤ row) × (row ≤ start + (length labels - 1))
 
--- the cells are those of a row of the match of this number
+-- the cells are those of a row of the match of this number: a match that the walk finds, behind all those of lower numbers
 pub record AreOfMatch (q : QueryData) (p : Known) (number : ℕ) (cells : List Value) : Type 0 where
-  pub start : ℕ
+  pub place : Place
   pub labels : List Label
-  pub found : found_at q p start ≡ Match labels
+  pub searched : IsSearched q p place (Match labels)
+  pub counted : number ≡ suc place.matches
   pub row : ℕ
-  pub within : IsRowOfMatch start labels row
-  pub named : AreNamed (shown_in q (setting_of q p start labels number row)) q.output.items cells
+  pub within : IsRowOfMatch place.start labels row
+  pub named : AreNamed (shown_in q (setting_of q p place.start labels number row)) q.output.items cells
 
--- the cells are those of a row at which no match begins and that is in none
+-- The cells are those of a row that is in no match, where such rows are shown: the walk finds none there, and each match that it found
+-- before ends before this row.
 pub record AreUnmatched (q : QueryData) (p : Known) (cells : List Value) : Type 0 where
-  pub row : ℕ
-  pub found : found_at q p row ≡ NoMatch
-  pub named : AreNamed (λ from. Ready (shown_alone p.rows row from)) q.output.items cells
+  pub place : Place
+  pub searched : IsSearched q p place NoMatch
+  pub after_matches : place.covered < place.start
+  pub shown : shows_unmatched q.plan.rows ≡ true
+  pub named : AreNamed (λ from. Ready (shown_alone p.rows place.start from)) q.output.items cells
 
 -- an output row has the cells of the output columns at a row of the partition
 abbrev pub IsNamed : QueryData → Known → Item → Type 0

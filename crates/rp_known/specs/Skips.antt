@@ -13,9 +13,9 @@ abbrev pub is_of : Variables → Label → Bool
 is_of variables label = includes variables label.var
 
 -- the place of the first label that passes, from 0
-abbrev pub first_place : (Label → Bool) → List Label → Option ℕ
-first_place test [] = None
-first_place test (l ∷ ls) = if test l then Some 0 else option_map suc (first_place test ls)
+abbrev pub first_passing : (Label → Bool) → List Label → Option ℕ
+first_passing test [] = None
+first_passing test (l ∷ ls) = if test l then Some 0 else option_map suc (first_passing test ls)
 
 -- one place further on, or here
 abbrev pub or_here : Bool → Option ℕ → Option ℕ
@@ -24,16 +24,16 @@ or_here true None = Some 0
 or_here false None = None
 
 -- the place of the last label that passes, from 0
-abbrev pub last_place : (Label → Bool) → List Label → Option ℕ
-last_place test [] = None
-last_place test (l ∷ ls) = or_here (test l) (last_place test ls)
+abbrev pub last_passing : (Label → Bool) → List Label → Option ℕ
+last_passing test [] = None
+last_passing test (l ∷ ls) = or_here (test l) (last_passing test ls)
 
 -- so many rows on from the match's first row
 abbrev pub skipped : SkipTo → List Label → Option ℕ
 skipped NextRow labels = Some 1
 skipped PastLastRow labels = Some (length labels)
-skipped (First variables) labels = first_place (is_of variables) labels
-skipped (Last variables) labels = last_place (is_of variables) labels
+skipped (First variables) labels = first_passing (is_of variables) labels
+skipped (Last variables) labels = last_passing (is_of variables) labels
 
 -- A skip to a variable without a row, and one to the match's own first row, are faults.
 abbrev pub start_after : ℕ → Option ℕ → Result ℕ SkipFault

@@ -22,7 +22,8 @@ pub fn law_known()
 }
 
 /// The laws of output rows. Each that is known has a cell for each output column, in their order: what that column has at a row
-/// of the match, or at a row that is in none. Over rows of the query's table it is null or of the column's kind.
+/// of a match that the walk finds, under the number that its MATCH_NUMBER() has, or at a row that is in none. Over rows of the query's
+/// table it is null or of the column's kind.
 pub fn law_named()
     ensures named { KnownIsNamed }
     ensures typed { KnownIsTyped }

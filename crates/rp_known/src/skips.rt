@@ -1,7 +1,7 @@
 //! Where the next search starts.
 ghost use Rattle.std.specs.Prelude.{◌≡◌, ◌+◌, ◌-◌, ◌^◌, ◌≤◌, ◌<◌, length, IfSome};
 ghost use Rattle.rp_query.specs.Scopes.{includes};
-ghost use Rattle.rp_known.specs.Skips.{is_of, first_place, last_place, skipped, next_start};
+ghost use Rattle.rp_known.specs.Skips.{is_of, first_passing, last_passing, skipped, next_start};
 
 use rp_query::{SkipFault, SkipTo, Variables};
 use rp_words::Label;
@@ -42,7 +42,7 @@ fn skipped(skip: &SkipTo, labels: &[Label]) -> Option<usize>
 
 /// The place of the first label of one of the variables.
 fn first_place(variables: &Variables, labels: &[Label]) -> Option<usize>
-    ensures is { result ≡ first_place (is_of variables.now) labels.now }
+    ensures is { result ≡ first_passing (is_of variables.now) labels.now }
     ensures bound { IfSome result (λ place. place < length labels.now) }
 {
     for (place, label) in labels.iter().enumerate() {
@@ -55,7 +55,7 @@ fn first_place(variables: &Variables, labels: &[Label]) -> Option<usize>
 
 /// The place of the last label of one of the variables.
 fn last_place(variables: &Variables, labels: &[Label]) -> Option<usize>
-    ensures is { result ≡ last_place (is_of variables.now) labels.now }
+    ensures is { result ≡ last_passing (is_of variables.now) labels.now }
     ensures bound { IfSome result (λ place. place < length labels.now) }
 {
     let mut last = None;

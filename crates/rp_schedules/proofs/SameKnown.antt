@@ -34,10 +34,9 @@ use Rattle.rp_conditions.specs.Tested.{last_row, seen_by, seen_at, outcome_of}
 use Rattle.rp_known.specs.declared.place.Place.{Place}
 use Rattle.rp_known.specs.Known.{Known, count}
 use Rattle.rp_known.specs.Plans.{tested_by, setting_of, before_ready, measured, shown_in, cells_in, cells_alone}
-use Rattle.rp_known.specs.Skips.{first_place, last_place, skipped, start_after, next_start}
+use Rattle.rp_known.specs.Skips.{first_passing, last_passing, skipped, start_after, next_start}
 use Rattle.rp_known.specs.Items.{item_rows, item_at, items_of}
-use Rattle.rp_known.specs.Walk.{after_items, after_match, after_found, found_at, at_last, searched, leg, and_then, walk, known, ComesTo, here, on}
-use Rattle.rp_known.specs.Walk.{first_place as first_of_walk}
+use Rattle.rp_known.specs.Walk.{after_items, after_match, after_found, found_at, at_last, searched, leg, and_then, walk, first_place, known, ComesTo, here, on}
 
 same_head : {A : Type 0} (x y : A) (xs ys : List A) → x ∷ xs ≡ y ∷ ys → x ≡ y
 same_head x y xs ys e = cc
@@ -86,14 +85,14 @@ includes_are (Among members) var = refl
 abbrev skipped_by : SkipRule → List Label → Option ℕ
 skipped_by ToNextRow labels = Some 1
 skipped_by PastLastRow labels = Some (length labels)
-skipped_by (ToFirst members) labels = first_place (λ l. includes_by members l.var) labels
-skipped_by (ToLast members) labels = last_place (λ l. includes_by members l.var) labels
+skipped_by (ToFirst members) labels = first_passing (λ l. includes_by members l.var) labels
+skipped_by (ToLast members) labels = last_passing (λ l. includes_by members l.var) labels
 
 skipped_are : (rule : SkipTo) (labels : List Label) → skipped rule labels ≡ skipped_by (rule_of rule) labels
 skipped_are skip.PastLastRow labels = refl
 skipped_are skip.NextRow labels = refl
-skipped_are (skip.First variables) labels = ap (λ test. first_place test labels) (fun_ext (λ (l : Label). includes_are variables l.var))
-skipped_are (skip.Last variables) labels = ap (λ test. last_place test labels) (fun_ext (λ (l : Label). includes_are variables l.var))
+skipped_are (skip.First variables) labels = ap (λ test. first_passing test labels) (fun_ext (λ (l : Label). includes_are variables l.var))
+skipped_are (skip.Last variables) labels = ap (λ test. last_passing test labels) (fun_ext (λ (l : Label). includes_are variables l.var))
 
 -- ---- the walk
 
@@ -172,7 +171,7 @@ module _ (judgements : JudgementsFollow) (values : ValuesFollow) (same_words : W
         ap (λ gone. and_then gone (walk legs r p)) (leg_same place) ∙ ap (and_then (leg q p place)) (fun_ext (walk_same legs))
 
     pub known_same : known r p ≡ known q p
-    known_same = walk_same (suc (suc (count p) - 1)) first_of_walk
+    known_same = walk_same (suc (suc (count p) - 1)) first_place
 
     pub comes_same : {from to : Place} {d : ℕ} → ComesTo r p from d to → ComesTo q p from d to
     comes_same here = here
