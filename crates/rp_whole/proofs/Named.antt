@@ -27,13 +27,7 @@ use Rattle.rp_whole.specs.AnswerObjects.{object_line}
 use Rattle.rp_whole.specs.AnswerRecords.{header_text}
 use Rattle.rp_whole.specs.AnswerRows.{output_names, row_form}
 use Rattle.rp_whole.specs.Fitting.{PartsFit}
-use Rattle.rp_whole.specs.Named.{AreOfTable, AreOutputRows, HeaderNames, HeaderNamesOf, IsOutputRow, ObjectsName, header_and_rows}
-
--- the cells of an item
-abbrev row_of : Item → List (List Value)
-row_of (Row number cells) = cells ∷ []
-row_of (Fault fault) = []
-row_of End = []
+use Rattle.rp_whole.specs.Named.{AreOfTable, AreOutputRows, HeaderNames, HeaderNamesOf, IsOutputRow, ObjectsName, header_and_rows, part_rows, row_of}
 
 abbrev rows_in : List Item → List (List Value)
 rows_in items = flat_map row_of items
@@ -56,52 +50,50 @@ module _ (P : List Value → Type 0) where
   rows_by_items Q holds (End ∷ items) h = rows_by_items Q holds items h.1
 
 module _ (q : QueryData) where
-  abbrev part_rows : Part → List (List Value)
-  part_rows part = rows_in (known q (closed part.1))
-
   -- ---- names
 
-  part_named : KnownIsNamed → (parts : List Part) (part : Part) → Contains parts part → AllByRecursion (IsOutputRow q parts) (part_rows part)
+  part_named : KnownIsNamed → (parts : List Part) (part : Part) → Contains parts part → AllByRecursion (IsOutputRow q parts) (part_rows q part)
   part_named law parts part among =
       rows_by_items (IsOutputRow q parts) (IsNamed q (closed part.1)) (λ number cells h. (part, number, among, h)) (known q (closed part.1))
       (recursion_from_All (IsNamed q (closed part.1)) (known q (closed part.1)) (law q (closed part.1)))
 
-  named_each : KnownIsNamed → (parts some : List Part) → AllByRecursion (Contains parts) some → AllByRecursion (λ part. AllByRecursion (IsOutputRow q parts) (part_rows part)) some
+  named_each : KnownIsNamed → (parts some : List Part) → AllByRecursion (Contains parts) some → AllByRecursion (λ part. AllByRecursion (IsOutputRow q parts) (part_rows q part)) some
   named_each law parts [] h = tt
   named_each law parts (part ∷ some) h = (part_named law parts part h.0, named_each law parts some h.1)
 
-  parts_named : KnownIsNamed → (parts : List Part) → All (IsOutputRow q parts) (flat_map part_rows parts)
+  parts_named : KnownIsNamed → (parts : List Part) → All (IsOutputRow q parts) (flat_map (part_rows q) parts)
   parts_named law parts =
-      All-from_recursion (IsOutputRow q parts) (flat_map part_rows parts)
-      (each_row (IsOutputRow q parts) part_rows parts (named_each law parts parts (recursion_from_All (Contains parts) parts (All-contains_itself parts))))
+      All-from_recursion (IsOutputRow q parts) (flat_map (part_rows q) parts)
+      (each_row (IsOutputRow q parts) (part_rows q) parts (named_each law parts parts (recursion_from_All (Contains parts) parts (All-contains_itself parts))))
 
   -- ---- kinds
 
-  part_typed : KnownIsTyped → IsSound q → (part : Part) → AreRowsOver q.table part.1 → AllByRecursion (AreTyped q.output.items) (part_rows part)
+  part_typed : KnownIsTyped → IsSound q → (part : Part) → AreRowsOver q.table part.1 → AllByRecursion (AreTyped q.output.items) (part_rows q part)
   part_typed law sound part over =
       rows_by_items (AreTyped q.output.items) (IsTyped q) (λ number cells h. h) (known q (closed part.1))
       (recursion_from_All (IsTyped q) (known q (closed part.1)) (law q (closed part.1) sound over))
 
-  typed_each : KnownIsTyped → IsSound q → (parts : List Part) → AllByRecursion (λ part. AreRowsOver q.table part.1) parts → AllByRecursion (λ part. AllByRecursion (AreTyped q.output.items) (part_rows part)) parts
+  typed_each : KnownIsTyped → IsSound q → (parts : List Part) → AllByRecursion (λ part. AreRowsOver q.table part.1) parts → AllByRecursion (λ part. AllByRecursion (AreTyped q.output.items) (part_rows q part)) parts
   typed_each law sound [] h = tt
   typed_each law sound (part ∷ parts) h = (part_typed law sound part h.0, typed_each law sound parts h.1)
 
-  parts_typed : KnownIsTyped → IsSound q → (parts : List Part) → AreOfTable q parts → All (AreTyped q.output.items) (flat_map part_rows parts)
+  parts_typed : KnownIsTyped → IsSound q → (parts : List Part) → AreOfTable q parts → All (AreTyped q.output.items) (flat_map (part_rows q) parts)
   parts_typed law sound parts over =
-      All-from_recursion (AreTyped q.output.items) (flat_map part_rows parts)
-      (each_row (AreTyped q.output.items) part_rows parts (typed_each law sound parts (recursion_from_All (λ (part : Part). AreRowsOver q.table part.1) parts over)))
+      All-from_recursion (AreTyped q.output.items) (flat_map (part_rows q) parts)
+      (each_row (AreTyped q.output.items) (part_rows q) parts (typed_each law sound parts (recursion_from_All (λ (part : Part). AreRowsOver q.table part.1) parts over)))
 
   -- ---- there are as many cells as names
 
   as_many : (p : Known) (number : Option ℕ) (cells : List Value) → IsNamed q p (Row number cells) → length cells ≡ length q.output.items
-  as_many p (Some number) cells h = AllZip-long (λ o v. shown_in q (setting_of q p h.start h.labels number h.row) o.from ≡ Ready v) q.output.items cells h.named
-  as_many p None cells h = AllZip-long (λ o v. Ready (shown_alone p.rows h.row o.from) ≡ Ready v) q.output.items cells h.named
+  as_many p (Some number) cells h = AllZip-long (λ o v. shown_in q (setting_of q p h.place.start h.labels number h.row) o.from ≡ Ready v) q.output.items cells h.named
+  as_many p None cells h = AllZip-long (λ o v. Ready (shown_alone p.rows h.place.start o.from) ≡ Ready v) q.output.items cells h.named
 
-  output_rows : KnownIsNamed → KnownIsTyped → (parts : List Part) → AreOutputRows q parts (flat_map part_rows parts)
+  output_rows : KnownIsNamed → KnownIsTyped → (parts : List Part) → AreOutputRows q parts (flat_map (part_rows q) parts)
   output_rows names kinds parts =
-      let rows = flat_map part_rows parts in
+      let rows = flat_map (part_rows q) parts in
       let named : All (IsOutputRow q parts) rows = parts_named names parts in
       record {
+        all = refl;
         many = All-weaker (IsOutputRow q parts) (λ cells. length cells ≡ length (output_names q))
             (λ cells h. as_many (closed h.0.1) h.1 cells h.3 ∙ sym (length-map q.output.items (λ o. o.name))) rows named;
         named = named;

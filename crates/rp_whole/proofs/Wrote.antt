@@ -1,12 +1,15 @@
 -- What is written for partitions, as the answers over the rows that they are of, and of the input that these were read of.
-use Rattle.std.proofs.Common.{◌≡◌, ◌∙◌, ℕ, ◌≤◌, List, [], ◌∷◌, ◌++◌, length, map, Option, Some, None, IfSome, refl, sym, ap, subst, arith}
+use Rattle.std.proofs.Common.{◌≡◌, ◌∙◌, ℕ, ◌<◌, ◌≤◌, List, [], ◌∷◌, ◌++◌, length, map, Option, Some, None, IfSome, refl, sym, ap, subst, arith}
 use Rattle.std.proofs.lemmas.List.Elements.{recursion_from_All}
 use Rattle.std.specs.Prelude.{All}
 use Rattle.std.specs.List.{AllByRecursion, flat_map}
 use Rattle.rp_value.specs.declared.value.Value.{Value}
 use Rattle.rp_query.specs.declared.query.QueryData.{QueryData}
 use Rattle.rp_query.specs.declared.item.Item.{Item}
-use Rattle.rp_known.specs.Walk.{known}
+use Rattle.rp_known.specs.declared.place.Place.{Place}
+use Rattle.rp_known.specs.Known.{Known}
+use Rattle.rp_known.specs.Walk.{Goes, known, leg, ComesTo, here, on}
+use Rattle.rp_known.specs.WalkLaws.{LeadsOn, LegsLeadOn}
 use Rattle.rp_io.proofs.Writes.{front_none}
 use Rattle.rp_input.specs.CsvRows.{AreRowsOf}
 use Rattle.rp_numbering.specs.Numbered.{AreOrdered}
@@ -111,20 +114,31 @@ halted_by_limit form q rows bytes stopped halted within =
     within.halts ∙ no_halted q within.shown (recursion_from_All (IsShown None q) within.shown within.are_shown)
 
 -- under a limit that no start row exceeds
-within_limit : (most : ℕ) (q : QueryData) (part : Part) → TakesAtMost most q part → (n : ℕ) (given_up : Option ℕ) → IfSome given_up (IsByLimit (Some most) q part.1 n) → given_up ≡ None
-within_limit most q part few n None by = refl
-within_limit most q part few n (Some row) by = let most_there : turns_at q (length part.1) row ≤ most = few row by.in_rows in absurd (omega (arith, most_there, by.many))
+module _ (leads : LegsLeadOn) (most : ℕ) (q : QueryData) where
+  comes_up : {p : Known} {d : ℕ} {from to : Place} → ComesTo q p from d to → from.start ≤ to.start
+  comes_up here = omega arith
+  comes_up {p = p} (on {place = place} {next = next} {xs = xs} is rest) =
+      let lead : LeadsOn place (Goes xs next) = subst (LeadsOn place) is (leads q p place) in
+      let later : place.start < next.start = lead.0 in
+      omega (arith, later, comes_up rest)
 
-none_within_limit : (most : ℕ) (q : QueryData) (shown : List Shown) → AllByRecursion (IsShown (Some most) q) shown → AllByRecursion (λ s. TakesAtMost most q s.part) shown → flat_map shown_halted shown ≡ []
-none_within_limit most q [] are few = refl
-none_within_limit most q (s ∷ shown) are few =
-    ap (λ given_up. halted_at s.part.0 given_up ++ flat_map shown_halted shown) (within_limit most q s.part few.0 s.count s.given_up are.0.by_limit)
-    ∙ none_within_limit most q shown are.1 few.1
+  within_limit : (part : Part) → TakesAtMost most q part → (n : ℕ) (given_up : Option ℕ) → IfSome given_up (IsByLimit (Some most) q part.1 n) → given_up ≡ None
+  within_limit part few n None by = refl
+  within_limit part few n (Some row) by =
+      let start : 1 ≤ by.place.start = comes_up by.comes in
+      let most_there : turns_at q (length part.1) row ≤ most = few row (omega (arith, start, by.at_row)) by.in_rows in
+      absurd (omega (arith, most_there, by.many))
 
-pub whole_within_limit : WholeWithinLimit
-whole_within_limit most form q rows bytes stopped halted within few =
+  none_within_limit : (shown : List Shown) → AllByRecursion (IsShown (Some most) q) shown → AllByRecursion (λ s. TakesAtMost most q s.part) shown → flat_map shown_halted shown ≡ []
+  none_within_limit [] are few = refl
+  none_within_limit (s ∷ shown) are few =
+      ap (λ given_up. halted_at s.part.0 given_up ++ flat_map shown_halted shown) (within_limit s.part few.0 s.count s.given_up are.0.by_limit)
+      ∙ none_within_limit shown are.1 few.1
+
+pub whole_within_limit : LegsLeadOn → WholeWithinLimit
+whole_within_limit leads most form q rows bytes stopped halted within few =
     within.halts
-    ∙ none_within_limit most q within.shown (recursion_from_All (IsShown (Some most) q) within.shown within.are_shown)
+    ∙ none_within_limit leads most q within.shown (recursion_from_All (IsShown (Some most) q) within.shown within.are_shown)
     (recursion_from_All (λ s. TakesAtMost most q s.part) within.shown few)
 
 -- without a limit

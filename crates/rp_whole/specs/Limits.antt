@@ -20,7 +20,7 @@ HaltedByLimit = (form : Form) (q : QueryData) (rows : List (List Value)) (bytes 
 
 -- no start row of a partition may take more turns than this
 abbrev pub TakesAtMost : ℕ → QueryData → Part → Type 0
-TakesAtMost most q part = (row : ℕ) → row ≤ length part.1 → turns_at q (length part.1) row ≤ most
+TakesAtMost most q part = (row : ℕ) → 1 ≤ row → row ≤ length part.1 → turns_at q (length part.1) row ≤ most
 
 -- and under a limit none is where that is so of each partition
 abbrev pub WholeWithinLimit : Type 0

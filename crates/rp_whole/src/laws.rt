@@ -40,4 +40,6 @@ pub fn law_limits()
     ensures whole { WholeUnlessHalted }
     ensures by_limit { HaltedByLimit }
     ensures within { WholeWithinLimit }
-{}
+{
+    rp_known::law_legs();
+}

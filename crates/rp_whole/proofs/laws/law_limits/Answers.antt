@@ -8,4 +8,4 @@ pub returns-clause-by_limit : goal.returns-clause-by_limit
 returns-clause-by_limit c = halted_by_limit
 
 pub returns-clause-within : goal.returns-clause-within
-returns-clause-within c = whole_within_limit
+returns-clause-within c = whole_within_limit c.law_legs.ensures.lead
