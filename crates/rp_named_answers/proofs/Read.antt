@@ -73,6 +73,7 @@ module _ (below : Below) where
   all_shown clause question texts rows parts shown asks asked ordered are = record {
     parts = parts;
     ordered = ordered;
+    all = are.all;
     named = are.named;
     typed = are.typed asks.sound
         (of_table question.query (columns_seen question.reading.shape.now) rows parts asks.compiled.is.table ordered (asked_fit question texts rows asked));

@@ -173,10 +173,10 @@ module _ (q : QueryData) (measures : All (λ e. HoldsCells (value_formula e)) q.
 
   pub item_within : (x : Item) → IsNamed q p x → IsOfCells x
   item_within (Row (Some number) cells) h =
-      let s = setting_of q p h.start h.labels number h.row in
+      let s = setting_of q p h.place.start h.labels number h.row in
       All-from_recursion IsCell cells (named_within (shown_in q s) (shown_within s refl) q.output.items cells h.named)
   item_within (Row None cells) h =
-      All-from_recursion IsCell cells (named_within (λ from. Ready (shown_alone p.rows h.row from)) (alone_within h.row) q.output.items cells h.named)
+      All-from_recursion IsCell cells (named_within (λ from. Ready (shown_alone p.rows h.place.start from)) (alone_within h.place.start) q.output.items cells h.named)
   item_within (Fault fault) h = tt
   item_within EndItem h = tt
 

@@ -22,7 +22,7 @@ use Rattle.rp_whole.specs.Answers.{AreAnswersWithin}
 use Rattle.rp_whole.specs.AnswerObjects.{object_form, object_line}
 use Rattle.rp_whole.specs.AnswerRecords.{record_form}
 use Rattle.rp_whole.specs.AnswerRows.{output_names}
-use Rattle.rp_whole.specs.Named.{IsOutputRow, header_and_rows}
+use Rattle.rp_whole.specs.Named.{IsOutputRow, header_and_rows, part_rows}
 use Rattle.rp_whole.specs.declared.stopped.Stopped.{Stopped}
 use Rattle.rp_question.specs.Asked.{AreRowsAsked}
 use Rattle.rp_question.specs.Read.{columns_seen}
@@ -49,11 +49,13 @@ IsOfCells (Row number cells) = AreCells cells
 IsOfCells (Fault fault) = ⊤
 IsOfCells End = ⊤
 
--- Cells of output rows over these rows, whose partitions are put into order: in each of these lists there is a cell for each output column,
--- what that column has at a row of a match or at one that is in none, and it is null or of the column's kind.
+-- The cells of the output rows over these rows, whose partitions are put into order: those of each partition's answer, of one after
+-- another. In each of these lists there is a cell for each output column, what that column has at a row of a match or at one that is in
+-- none, and it is null or of the column's kind.
 pub record AreShown (q : QueryData) (rows : List (List Value)) (shown : List (List Value)) : Type 0 where
   pub parts : List Part
   pub ordered : AreOrderedParts q.partition.items q.order.items rows parts
+  pub all : shown ≡ flat_map (part_rows q) parts
   pub named : All (IsOutputRow q parts) shown
   pub typed : All (AreTyped q.output.items) shown
 
