@@ -1,10 +1,10 @@
 -- The first match that is looked for. Own: ISO/IEC 9075-2:2016 has no word on why there is none. What the search from a row finds
 -- is the preferred match there (ISO/IEC TR 19075-5:2016, 4.12).
-use Rattle.std.specs.Prelude.{◌≡◌, ℕ, ◌+◌, ◌<◌, ◌≤◌, Bool, false, true, List, [], ◌∷◌, ⊤}
+use Rattle.std.specs.Prelude.{◌≡◌, ℕ, ◌+◌, ◌<◌, ◌≤◌, ◌⊎◌, Bool, false, true, List, [], ◌∷◌, ⊤}
 use Rattle.rp_words.specs.declared.word.Label.{Label}
 use Rattle.rp_search.specs.Found.{Found, Match, NoMatch, Waits}
 use Rattle.rp_query.specs.declared.query.QueryData.{QueryData}
-use Rattle.rp_known.specs.Known.{Known}
+use Rattle.rp_known.specs.Known.{Known, count}
 use Rattle.rp_known.specs.Walk.{found_at}
 use Rattle.rp_why.specs.declared.reasons.Finding.{Finding}
 use Rattle.rp_why.specs.declared.reasons.Finding.TheVariants as finding
@@ -44,10 +44,14 @@ IsSought q p wanted (FoundIt m) = IsFirst q p wanted m
 IsSought q p wanted NotFound = NoneFrom q p wanted.with_rows wanted.first (wanted.last + 1)
 IsSought q p wanted GivenUp = ⊤
 
--- What is said of a partition: its first match, or that no start row begins one. That it has no such row, or that the searches were given up,
--- says nothing.
+-- the first start row or the last one isn't a row of a partition of n rows
+abbrev pub IsOutside : ℕ → Wanted → Type 0
+IsOutside n wanted = (wanted.first ≡ 0) ⊎ ((n < wanted.first) ⊎ (n < wanted.last))
+
+-- What is said of a partition: its first match, that no start row begins one, or that it has no such start rows. That the searches were
+-- given up says nothing.
 abbrev pub IsFinding : QueryData → Known → Wanted → Finding → Type 0
 IsFinding q p wanted (Matched m) = IsFirst q p wanted m
 IsFinding q p wanted (Unmatched reasons) = NoneFrom q p wanted.with_rows wanted.first (wanted.last + 1)
-IsFinding q p wanted (NoRow row) = ⊤
+IsFinding q p wanted (NoRow row) = (row ≡ wanted.first) × IsOutside (count p) wanted
 IsFinding q p wanted finding.GivenUp = ⊤
