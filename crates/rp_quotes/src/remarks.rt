@@ -24,7 +24,7 @@ fn behind_blank_remark(alloc: Global, line: u64) -> Result<String, AllocError> {
     let mut remark = Pieces::of(alloc, "a field of line ");
     remark.push_number(line);
     remark.push(
-        " begins with a blank, so that the quote behind it is a part of the text: leave the blank out",
+        " begins with a blank, so that the quote after it is a part of the text: leave the blank out",
     );
     remark.finish()
 }
