@@ -113,7 +113,7 @@ pub struct NodeJob {
     pub clause: String,
     /// The address to listen at, as `127.0.0.1:7000`.
     pub listen: String,
-    /// The path of the file that is kept of the node.
+    /// The path of the file in which the node keeps its state.
     pub state: String,
     /// How many connections are served, at least 1; None where the node serves until it is ended.
     pub connections: Option<u32>,

@@ -64,7 +64,7 @@ pub(crate) const NODE: &[Argument] = &[
     Argument {
         name: "state",
         value: "FILE",
-        help: "The file that is kept of the node",
+        help: "The file in which the node keeps its state",
         form: Form::Text,
         presence: Presence::Required,
     },
