@@ -46,7 +46,7 @@ const SIGNS: [Pair; 12] = [
 ];
 
 /// What can't stand in the brackets of a function: its name, the word or sign before the place, what is wrong and what to write.
-const ARGUMENTS: [Pair; 8] = [
+const ARGUMENTS: [Pair; 9] = [
     (
         "CLASSIFIER",
         "",
@@ -84,10 +84,16 @@ const ARGUMENTS: [Pair; 8] = [
         "write MAX(p) or MAX(A.p); for the greatest of an expression let one more column of the file have it",
     ),
     (
-        "PREV NEXT FIRST LAST",
+        "PREV NEXT",
         ",",
         "an offset is a number that is written out",
         "write PREV(p, 2); for PREV(p, -2) write NEXT(p, 2)",
+    ),
+    (
+        "FIRST LAST",
+        ",",
+        "an offset is a number that is written out",
+        "it counts from 0, without a minus: FIRST(p, 1) is of the second row, LAST(p, 1) of the last but one",
     ),
     (
         "PREV NEXT FIRST LAST",
@@ -97,20 +103,14 @@ const ARGUMENTS: [Pair; 8] = [
     ),
 ];
 
-/// Functions without their brackets, a point behind a bracket, and marks that mean nothing in an expression, or mean something in
-/// PATTERN alone.
-const MARKS: [Pair; 13] = [
+/// CLASSIFIER and MATCH_NUMBER without their brackets, a point behind a bracket, and marks that mean nothing in an expression, or mean
+/// something in PATTERN alone.
+const MARKS: [Pair; 12] = [
     (
         "CLASSIFIER MATCH_NUMBER",
         "",
         "the brackets are missing",
         "write CLASSIFIER() and MATCH_NUMBER(); as a name in quotes, \"CLASSIFIER\"",
-    ),
-    (
-        "FIRST LAST PREV NEXT COUNT SUM MIN MAX",
-        "",
-        "a reserved word is before this, without its brackets",
-        "as a function write FIRST(p); as a name in quotes and in upper case, \"FIRST\"",
     ),
     (
         "FINAL",
@@ -176,10 +176,7 @@ fn of_numbers(reading: &Reading<'_>) -> Option<Hint> {
     let number = Some(TokenKind::Number);
     let behind = reading.kind_back(1) == number;
     if reading.here() == "." && (behind || reading.kind(reading.at.saturating_add(1)) == number) {
-        return said(
-            "there are no fractions",
-            "take a smaller unit, as cents, or multiply both sides: for p < 0.95 * q write p * 100 < 95 * q",
-        );
+        return a_fraction(reading);
     }
     if behind && reading.touches() && reading.is_name() {
         return said(
@@ -196,8 +193,29 @@ fn of_numbers(reading: &Reading<'_>) -> Option<Hint> {
     None
 }
 
+/// A fraction.
+fn a_fraction(reading: &Reading<'_>) -> Option<Hint> {
+    let what = "there are no fractions";
+    if reading.part() == Part::Measures {
+        return said(
+            what,
+            "take a smaller unit, as cents; 1.5 * p is in tenths 15 * p",
+        );
+    }
+    said(
+        what,
+        "take a smaller unit, as cents, or multiply both sides: for p < 0.95 * q write p * 100 < 95 * q",
+    )
+}
+
 /// NULL as a value, and IS before anything else.
 fn of_null(reading: &Reading<'_>) -> Option<Hint> {
+    if is_one_of(reading.here(), "NULL") && begins_measure(reading) {
+        return said(
+            "NULL is no measure",
+            "leave it out, or write a value of the match, as LAST(p) AS ended",
+        );
+    }
     if is_one_of(reading.here(), "NULL") {
         return said(
             "NULL is no value that is compared",
@@ -208,16 +226,38 @@ fn of_null(reading: &Reading<'_>) -> Option<Hint> {
         || is_one_of(reading.back(2), "IS") && is_one_of(reading.back(1), "NOT")
     {
         return said(
-            "behind IS comes NULL or NOT NULL alone",
+            "after IS comes NULL or NOT NULL alone",
             "write p IS NULL, p IS NOT NULL, or a comparison",
         );
     }
     None
 }
 
+/// Whether a measure begins at the place.
+fn begins_measure(reading: &Reading<'_>) -> bool {
+    reading.part() == Part::Measures
+        && is_one_of(reading.back(1), "MEASURES ,")
+        && !reading.is_in_brackets()
+}
+
 /// What stands in the brackets of a function.
 fn of_arguments(reading: &Reading<'_>) -> Option<Hint> {
-    of_classifier(reading).or(look_up_pair(&ARGUMENTS, reading.function(), reading.back(1)))
+    of_classifier(reading).or(of_union(reading)).or(look_up_pair(
+        &ARGUMENTS,
+        reading.function(),
+        reading.back(1),
+    ))
+}
+
+/// A union in the brackets of CLASSIFIER, in MEASURES, where nothing is compared.
+fn of_union(reading: &Reading<'_>) -> Option<Hint> {
+    if reading.part() != Part::Measures || !is_one_of(reading.function(), "CLASSIFIER") {
+        return None;
+    }
+    said(
+        "CLASSIFIER() has nothing in its brackets",
+        "write CLASSIFIER(); for a union of UP and DOWN give LAST(UP.t) AS up, LAST(DOWN.t) AS down, of which the later one is meant",
+    )
 }
 
 /// CLASSIFIER in the brackets of a navigation, in place of its column.

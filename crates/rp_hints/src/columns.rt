@@ -4,8 +4,8 @@ use crate::words::{is_missing_function, misplaced_behind};
 use rp_lexer::{Keyword, TokenKind};
 use rp_value::Table;
 use rp_wording::{
-    Advice, Pieces, Reading, column_names, index_of, inside_quotes, is_name, is_one_of, meant,
-    nearest, text_literal, upper_case,
+    Advice, Part, Pieces, Reading, column_names, index_of, inside_quotes, is_name, is_one_of,
+    meant, nearest, part_of, text_literal, upper_case,
 };
 use std::alloc::{AllocError, Global};
 
@@ -34,8 +34,7 @@ fn column_guess(
         return quoted_guess(alloc, inside, names);
     }
     if is_one_of(written, "TRUE FALSE") {
-        let line = "there are no TRUE and FALSE: write 1 = 1, or 1 = 0\n";
-        return Ok(Pieces::of(alloc, line));
+        return Ok(Pieces::of(alloc, in_place_of_true(reading)));
     }
     if is_variable(alloc, reading, written)? {
         return Ok(variable_help(alloc, written));
@@ -47,6 +46,14 @@ fn column_guess(
         Some(found) => Ok(Pieces::filled(alloc, "{}\n", &[found.help])),
         None => Ok(Pieces::new(alloc)),
     }
+}
+
+/// What to write in place of TRUE and FALSE.
+fn in_place_of_true(reading: &Reading<'_>) -> &'static str {
+    if reading.part() == Part::Measures {
+        return "there are no TRUE and FALSE: write 1 or 0\n";
+    }
+    "there are no TRUE and FALSE: write 1 = 1, or 1 = 0\n"
 }
 
 /// What to write in place of a variable that stands where a column comes.
@@ -165,11 +172,48 @@ pub fn unknown_variable(
     table: &Table,
     reading: &Reading<'_>,
 ) -> Result<Advice, AllocError> {
+    if is_defined_union(alloc, reading)? {
+        return Ok(union_definition(alloc, reading.here()));
+    }
     let variables = variables(alloc, reading)?;
     let mut help = variable_guess(alloc, table, reading, variables.as_slice())?;
     push_variables(&mut help, reading, variables.as_slice());
     let what = Pieces::filled(alloc, "the pattern has no variable {}", &[reading.here()]);
     Ok(Advice::of_pieces(what, help))
+}
+
+/// Whether the name at the place is that of a union of SUBSET, and is given a definition.
+fn is_defined_union(alloc: Global, reading: &Reading<'_>) -> Result<bool, AllocError> {
+    if reading.part() != Part::Define || !is_one_of(reading.next(1), "AS") {
+        return Ok(false);
+    }
+    let unions = unions(alloc, reading)?;
+    let name = meant(alloc, reading.here())?;
+    Ok(index_of(unions.as_slice(), name.as_str()).is_some())
+}
+
+/// The unions of SUBSET.
+fn unions(alloc: Global, reading: &Reading<'_>) -> Result<Vec<String>, AllocError> {
+    let mut names = Vec::new(alloc);
+    let mut part = Part::Front;
+    for (index, token) in reading.tokens.iter().enumerate() {
+        part = part_of(token.kind).unwrap_or(part);
+        let is_first = reading.written(index.saturating_add(1)) == "=";
+        if part == Part::Subset && is_first && is_name(Some(token.kind)) {
+            push_new(&mut names, reading.written(index))?;
+        }
+    }
+    Ok(names)
+}
+
+/// What is told of a union that is given a definition.
+fn union_definition(alloc: Global, name: &str) -> Advice {
+    let what = "{} is a union of SUBSET, which has no definition of its own";
+    Advice::with_what(
+        alloc,
+        Pieces::filled(alloc, what, &[name]),
+        "give each of its variables the condition",
+    )
 }
 
 /// A line that guesses what is meant in place of a variable; nothing where there is no guess.

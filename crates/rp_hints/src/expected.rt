@@ -6,8 +6,9 @@ use crate::columns::near_line;
 use crate::instead::instead;
 use crate::parts::{before_parts, of_parts, of_structure};
 use crate::pattern_hints::of_pattern;
+use crate::reserved_names::{as_column, reserved_word};
 use crate::rewriting::rewritten;
-use crate::words::{KNOWN, misplaced_behind, misplaced_word, missing_function};
+use crate::words::{KNOWN, misplaced_behind, misplaced_word, missing_function, missing_measure};
 use rp_lexer::{Keyword, TokenKind};
 use rp_wording::{Advice, Hint, Part, Pieces, Reading, is_one_of, said};
 use std::alloc::{AllocError, Global};
@@ -27,6 +28,9 @@ pub fn unexpected(alloc: Global, reading: &Reading<'_>) -> Result<Advice, AllocE
     if let Some(found) = outside(reading) {
         return Ok(Advice::of(alloc, found));
     }
+    if let Some(advice) = as_column(alloc, reading) {
+        return Ok(advice);
+    }
     if let Some(advice) = rewritten(alloc, reading) {
         return Ok(advice);
     }
@@ -39,7 +43,7 @@ pub fn unexpected(alloc: Global, reading: &Reading<'_>) -> Result<Advice, AllocE
 /// The same by words and signs of which the same is said wherever they are.
 fn briefly(alloc: Global, reading: &Reading<'_>) -> Result<Advice, AllocError> {
     if is_call(reading) {
-        return no_function(alloc, reading.back(1));
+        return no_function(alloc, reading);
     }
     if let Some(found) = plainly(reading) {
         return Ok(Advice::of(alloc, found));
@@ -80,7 +84,7 @@ fn outside(reading: &Reading<'_>) -> Option<Hint> {
     }
     if is_one_of(reading.back(1), "MATCH_RECOGNIZE") {
         return said(
-            "a bracket comes behind MATCH_RECOGNIZE",
+            "a bracket comes after MATCH_RECOGNIZE",
             "write MATCH_RECOGNIZE ( .. )",
         );
     }
@@ -125,9 +129,10 @@ fn is_call(reading: &Reading<'_>) -> bool {
 }
 
 /// A function that there isn't.
-fn no_function(alloc: Global, name: &str) -> Result<Advice, AllocError> {
+fn no_function(alloc: Global, reading: &Reading<'_>) -> Result<Advice, AllocError> {
+    let name = reading.back(1);
     let what = Pieces::filled(alloc, "there is no function {}", &[name]);
-    if let Some(found) = missing_function(name) {
+    if let Some(found) = missing_in(reading.part(), name) {
         return Ok(Advice::with_what(alloc, what, found.help));
     }
     let mut help = guess(alloc, name, KNOWN)?;
@@ -135,6 +140,15 @@ fn no_function(alloc: Global, name: &str) -> Result<Advice, AllocError> {
         "the functions are COUNT, SUM, MIN, MAX, FIRST, LAST, PREV, NEXT, CLASSIFIER and MATCH_NUMBER",
     );
     Ok(Advice::of_pieces(what, help))
+}
+
+/// What is said of a function that there isn't, by the part in which it is called.
+fn missing_in(part: Part, name: &str) -> Option<Hint> {
+    let found = missing_function(name);
+    match part {
+        Part::Measures => missing_measure(name).or(found),
+        _ => found,
+    }
 }
 
 /// A line with the word that is nearly this one, if one is.
@@ -157,13 +171,7 @@ fn reserved(alloc: Global, reading: &Reading<'_>) -> Advice {
     if !is_name_due(reading) {
         return by_structure(alloc, reading);
     }
-    let mut what = Pieces::new(alloc);
-    what.push_upper(reading.here());
-    what.push(" is a reserved word, and can't come here");
-    let mut help = Pieces::of(alloc, "as a name write \"");
-    help.push_upper(reading.here());
-    help.push("\", in quotes and in upper case");
-    Advice::of_pieces(what, help)
+    reserved_word(alloc, reading.here())
 }
 
 /// Whether a name may stand at the place, by what stands before it; words between conditions are meant as themselves.

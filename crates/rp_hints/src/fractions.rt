@@ -37,6 +37,57 @@ pub(crate) fn of_fraction(alloc: Global, reading: &Reading<'_>) -> Option<Advice
     Some(Advice::with_help(alloc, "there are no fractions", help))
 }
 
+/// What a comparison of a column with a fraction is: p > 9.75. The place is its point.
+pub(crate) fn of_amount(alloc: Global, reading: &Reading<'_>) -> Option<Advice> {
+    let sign = reading.at.checked_sub(2)?;
+    let name = sign.checked_sub(1)?;
+    let left = value_start(reading, sign)?;
+    if !is_amount(reading, sign) || column_end(reading, left)? != sign {
+        return None;
+    }
+    if !begins_condition(reading, left) || reading.kind(name) != Some(TokenKind::Name) {
+        return None;
+    }
+    let value = short_text(reading, left, sign)?;
+    let help = in_small_units(alloc, reading, value, reading.written(name));
+    Some(Advice::with_help(alloc, "there are no fractions", help))
+}
+
+/// Whether a fraction is compared by this sign, and the condition ends behind it.
+fn is_amount(reading: &Reading<'_>, sign: usize) -> bool {
+    let number = Some(TokenKind::Number);
+    is_comparison(reading.written(sign))
+        && reading.kind_back(1) == number
+        && reading.kind(reading.at.saturating_add(1)) == number
+        && reading.back(1).len() <= DIGITS
+        && reading.next(1).len() <= DIGITS
+        && ends_condition(reading, reading.at.saturating_add(2))
+}
+
+/// The comparison with a whole number: where the column is read in a smaller unit, and where it has whole numbers.
+fn in_small_units(alloc: Global, reading: &Reading<'_>, value: &str, column: &str) -> Pieces {
+    let digits = reading.next(1).len().max(2);
+    let form = "where {} has fractions, write with --columns '{} = decimal({}, ";
+    let mut help = Pieces::filled(alloc, form, &[column, column, column]);
+    help.push_count(digits);
+    help.push_filled(")' {} {} ", &[value, reading.back(2)]);
+    help.push_number(in_unit(reading, digits));
+    help.push_filled("\nwhere it has whole numbers, {} * ", &[value]);
+    help.push_number(power_of_ten(digits));
+    help.push_filled(" {} ", &[reading.back(2)]);
+    help.push_number(in_unit(reading, digits));
+    help
+}
+
+/// The fraction at the place in a unit of which one has so many digits behind its point, at least as many as are written.
+fn in_unit(reading: &Reading<'_>, digits: usize) -> u64 {
+    let (whole, fraction) = (reading.back(1), reading.next(1));
+    let added = power_of_ten(digits.saturating_sub(fraction.len()));
+    value_of(whole)
+        .saturating_mul(power_of_ten(digits))
+        .saturating_add(value_of(fraction).saturating_mul(added))
+}
+
 /// The operand that begins with a token, where the condition ends behind it.
 fn factor<'a>(reading: &Reading<'a>, start: usize) -> Option<&'a str> {
     let end = whole_operand(reading, start)?;

@@ -1,7 +1,7 @@
 //! What to write in place of a form that no clause has, with the words of the clause itself.
 
 use crate::columns::variables;
-use crate::fractions::of_fraction;
+use crate::fractions::{of_amount, of_fraction};
 use rp_lexer::{Keyword, TokenKind};
 use rp_wording::{
     Advice, Part, Pieces, Reading, begins_condition, ends_condition, is_behind_not, is_comparison,
@@ -25,12 +25,20 @@ fn in_values(alloc: Global, reading: &Reading<'_>) -> Option<Advice> {
     match reading.here() {
         "(" => in_call(alloc, reading),
         "." if reading.back(1) == ")" => point(alloc, reading),
-        "." => of_fraction(alloc, reading),
+        "." => fraction(alloc, reading),
         "," | "*" | "+" | "-" => in_arguments(alloc, reading),
         sign if is_comparison(sign) => chained(alloc, reading),
         word if is_one_of(word, "DISTINCT") => distinct(alloc, reading),
         _ => None,
     }
+}
+
+/// A comparison with a fraction.
+fn fraction(alloc: Global, reading: &Reading<'_>) -> Option<Advice> {
+    if let Some(advice) = of_fraction(alloc, reading) {
+        return Some(advice);
+    }
+    of_amount(alloc, reading)
 }
 
 /// Advice with a form in which words of the clause stand.

@@ -13,6 +13,7 @@ mod instead;
 mod pairs;
 mod parts;
 mod pattern_hints;
+mod reserved_names;
 mod rewriting;
 mod words;
 

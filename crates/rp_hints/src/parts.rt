@@ -71,7 +71,7 @@ const SKIP: [Pair; 6] = [
     (
         "SKIP",
         "PAST",
-        "LAST ROW comes behind PAST",
+        "LAST ROW comes after PAST",
         "write AFTER MATCH SKIP PAST LAST ROW, or SKIP TO NEXT ROW",
     ),
     (
@@ -89,7 +89,7 @@ const SKIP: [Pair; 6] = [
     (
         "",
         "SKIP",
-        "PAST or TO comes behind SKIP",
+        "PAST or TO comes after SKIP",
         "write AFTER MATCH SKIP PAST LAST ROW, SKIP TO NEXT ROW, SKIP TO FIRST A or SKIP TO LAST A",
     ),
 ];
@@ -115,7 +115,7 @@ fn behind_columns(reading: &Reading<'_>) -> Option<Hint> {
     }
     if is_one_of(reading.back(1), "BY") {
         return said(
-            "a column is missing behind BY",
+            "a column is missing after BY",
             "write PARTITION BY sym ORDER BY t, or leave the part without a column out",
         );
     }
@@ -180,11 +180,11 @@ fn of_order(reading: &Reading<'_>) -> Option<Hint> {
     }
     if is_one_of(reading.here(), "DEFINE") && reading.part() == Part::Define {
         return said(
-            "there is one DEFINE, behind SUBSET",
+            "there is one DEFINE, after SUBSET",
             "write the definitions with commas between: DEFINE A AS p > 5, B AS p < 3",
         );
     }
-    said("this part comes further to the front", ORDER)
+    said("this part comes earlier in a clause", ORDER)
 }
 
 /// SUBSET where it can't stand.
@@ -196,7 +196,7 @@ fn of_unions(reading: &Reading<'_>) -> Option<Hint> {
         );
     }
     said(
-        "SUBSET comes behind PATTERN and before DEFINE",
+        "SUBSET comes after PATTERN and before DEFINE",
         "write PATTERN (A B) SUBSET U = (A, B) DEFINE A AS p > 5",
     )
 }
@@ -256,7 +256,7 @@ fn no_measure() -> Option<Hint> {
 fn nameless() -> Option<Hint> {
     said(
         "this measure has no name",
-        "write AS and a name behind each: MEASURES LAST(p) AS ended",
+        "write AS and a name after each: MEASURES LAST(p) AS ended",
     )
 }
 
@@ -325,7 +325,7 @@ fn of_lists(reading: &Reading<'_>) -> Option<Hint> {
 fn of_measures(reading: &Reading<'_>) -> Option<Hint> {
     if is_one_of(reading.back(1), "AS") {
         return said(
-            "a name comes behind AS",
+            "a name comes after AS",
             "write AS low, or in double quotes AS \"lowest price\"",
         );
     }
@@ -367,7 +367,7 @@ pub(crate) fn is_simple(kind: Option<TokenKind>) -> bool {
 fn of_rows(reading: &Reading<'_>) -> Option<Hint> {
     if is_one_of(reading.here(), "SHOW OMIT WITH") && is_one_of(reading.back(3), "ROW") {
         return said(
-            "this comes behind ALL ROWS PER MATCH alone",
+            "this comes after ALL ROWS PER MATCH alone",
             "write ALL ROWS PER MATCH before it, or leave it out: with ONE ROW PER MATCH an empty match has its row",
         );
     }
@@ -391,7 +391,7 @@ fn of_end(reading: &Reading<'_>) -> Option<Hint> {
         );
     }
     said(
-        "behind the pattern's brackets comes SUBSET or DEFINE",
+        "after the pattern's brackets comes SUBSET or DEFINE",
         "write DEFINE A AS p > 5; the whole pattern is written in one pair of brackets",
     )
 }
@@ -423,13 +423,13 @@ fn of_define(reading: &Reading<'_>) -> Option<Hint> {
     }
     if !has_as(reading) && !is_one_of(reading.here(), "AS") {
         return said(
-            "AS is missing behind the variable",
-            "write AS behind it, as in DEFINE A AS p > 5",
+            "AS is missing after the variable",
+            "write AS after it, as in DEFINE A AS p > 5",
         );
     }
     if is_one_of(reading.back(1), "AS") {
         return said(
-            "a condition is missing behind AS",
+            "a condition is missing after AS",
             "write DEFINE A AS p > 5; for any row, A AS 1 = 1",
         );
     }
@@ -455,7 +455,7 @@ fn of_define(reading: &Reading<'_>) -> Option<Hint> {
 fn of_definition_start(reading: &Reading<'_>) -> Option<Hint> {
     if reading.is_end() && reading.back(1) == "," {
         return said(
-            "a definition is missing behind the comma",
+            "a definition is missing after the comma",
             "leave the last comma out",
         );
     }

@@ -12,13 +12,13 @@ const SIGNS: [Pair; 9] = [
     (
         "* + ? { }",
         QUANTIFIERS,
-        "a part has one quantifier, and perhaps a ? behind it",
+        "a part has one quantifier, and perhaps a ? after it",
         "write brackets for two: (A+)*; there are no possessive quantifiers",
     ),
     (
         "",
         QUANTIFIERS,
-        "a quantifier comes behind the part that it repeats",
+        "a quantifier comes after the part that it repeats",
         "write A+ or (A B)+",
     ),
     (
@@ -48,7 +48,7 @@ const SIGNS: [Pair; 9] = [
     (
         "|",
         ")",
-        "a part is missing behind |",
+        "a part is missing after |",
         "write (A | B), or A? for an A or nothing",
     ),
     ("|", "|", "one | comes between alternatives", "write A | B"),

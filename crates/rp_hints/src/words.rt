@@ -243,6 +243,25 @@ const FUNCTIONS: [Entry; 16] = [
     ),
 ];
 
+/// Functions that there aren't and of which something else is told in MEASURES, where no condition comes.
+const MEASURED: [Entry; 3] = [
+    (
+        "COALESCE NVL IFNULL ZEROIFNULL",
+        "there is no such function",
+        "null is kept: write the measure alone, as LAST(p) AS ended",
+    ),
+    (
+        "NULLIF",
+        "there is no such function",
+        "the value is kept: write the measure alone, as LAST(p) AS ended",
+    ),
+    (
+        "ABS",
+        "there is no such function",
+        "the sign is kept: write the measure alone, as LAST(p) - FIRST(p) AS change",
+    ),
+];
+
 /// The functions that there are.
 pub(crate) const KNOWN: &str = "COUNT SUM MIN MAX FIRST LAST PREV NEXT CLASSIFIER MATCH_NUMBER";
 
@@ -259,6 +278,11 @@ pub(crate) fn misplaced_behind(word: &str) -> Option<Hint> {
 /// What is said of the name of a function that there isn't.
 pub(crate) fn missing_function(name: &str) -> Option<Hint> {
     look_up(&FUNCTIONS, name)
+}
+
+/// The same of a function that is called in MEASURES, where that is something else.
+pub(crate) fn missing_measure(name: &str) -> Option<Hint> {
+    look_up(&MEASURED, name)
 }
 
 /// Whether a word, in any case, is the name of a function that people know from elsewhere and that there isn't.
