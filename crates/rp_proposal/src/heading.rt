@@ -49,13 +49,24 @@ fn is_remark(fields: &ByteRecord) -> bool {
     fields.get(0).unwrap_or(b"").starts_with(b"#")
 }
 
-/// Whether a record is one field without anything else that may be between fields.
+/// Whether a record is one field without anything else that may be between fields, and empty ones at most behind it.
 fn is_title(fields: &ByteRecord) -> bool {
     let title = fields.get(0).unwrap_or(b"");
-    fields.len() == 1
+    count_filled(fields) <= 1
         && !title
             .iter()
             .any(|byte| matches!(*byte, b';' | b'\t' | b'|' | b','))
+}
+
+/// How many fields a record has without the empty ones at its end, by which spreadsheets give each line as many.
+fn count_filled(fields: &ByteRecord) -> usize {
+    let mut count = 0usize;
+    for index in 0..fields.len() {
+        if !fields.get(index).unwrap_or(b"").is_empty() {
+            count = index.saturating_add(1);
+        }
+    }
+    count
 }
 
 /// Where a record is, and how many fields it has.
@@ -124,21 +135,27 @@ fn from_line(alloc: Global, line: usize) -> Pieces {
     help
 }
 
-/// What is said of a first record that is one field: it is a title where the first record with more fields has names, and the next
-/// one as many fields.
+/// What is said of a first record that is one field: it is a title where the first record with more fields, none of them empty at its
+/// end, has names, and the next one as many fields.
 fn of_title(alloc: Global, records: &mut Records<'_>, bytes: &[u8]) -> Option<Advice> {
+    let is_padded = records.fields().len() > 1;
     for _record in 0..LOOKED_AT {
         if !records.next() {
             return None;
         }
-        if records.fields().len() > 1 {
+        if is_full(records.fields()) {
             let start = start_of(records.fields(), bytes);
-            let is_header = are_names(records.fields()) && has_next(records);
+            let is_header = are_names(records.fields()) && has_next(records, is_padded);
             let line = line_number(bytes.get(..start).unwrap_or(bytes));
             return title(alloc, is_header, line);
         }
     }
     None
+}
+
+/// Whether a record has more than one field, and none that is empty at its end.
+fn is_full(fields: &ByteRecord) -> bool {
+    fields.len() > 1 && count_filled(fields) == fields.len()
 }
 
 /// Whether each field may be the name of a column: it isn't empty, and no number.
@@ -152,10 +169,14 @@ fn are_names(fields: &ByteRecord) -> bool {
     true
 }
 
-/// Whether there is no further record, or one with as many fields.
-fn has_next(records: &mut Records<'_>) -> bool {
+/// Whether there is no further record, or one with as many fields. Below a title with empty fields behind it there has to be one, which
+/// isn't all names: such a title may be a header too, of columns without names.
+fn has_next(records: &mut Records<'_>, is_padded: bool) -> bool {
     let count = records.fields().len();
-    !records.next() || records.fields().len() == count
+    if !records.next() {
+        return !is_padded;
+    }
+    records.fields().len() == count && !(is_padded && are_names(records.fields()))
 }
 
 /// What is said of a title, if it is one, above names in this line.
