@@ -80,7 +80,7 @@ fn first_number(rows: &[Row], number: usize) -> Option<i64> {
 }
 
 /// Whether a reading reads all whole numbers of a column as they are written.
-fn reads_all(
+pub(crate) fn reads_all(
     alloc: Global,
     reader: &mut NumberReader,
     reading: &Reading,

@@ -2,7 +2,7 @@
 
 use crate::texts::{ColumnTexts, NumberReader};
 use crate::way::Way;
-use rp_wording::{Pieces, are_digits_or, count_digits};
+use rp_wording::{Pieces, are_digits, are_digits_or, count_digits};
 use std::alloc::{AllocError, Global};
 
 /// So many digits in a number surely leave it within 64 bits with sign.
@@ -10,13 +10,13 @@ const MOST_DIGITS: usize = 18;
 
 /// How decimal numbers are written: the sign before a fraction, and the one between thousands, also as a text of columns has it.
 #[derive(Clone, Copy)]
-struct Style {
+pub(crate) struct Style {
     point: char,
     thousands: char,
     written: &'static str,
 }
 
-const BY_POINT: Style = Style {
+pub(crate) const BY_POINT: Style = Style {
     point: '.',
     thousands: ',',
     written: ", ','",
@@ -28,8 +28,11 @@ const BY_COMMA: Style = Style {
     written: ", '.', ','",
 };
 
+/// So many digits are between two signs of thousands, and at most so many before the first.
+const GROUP: usize = 3;
+
 /// Styles where none with a point before fractions and commas between thousands is meant.
-const OTHERS: [Style; 4] = [
+pub(crate) const OTHERS: [Style; 4] = [
     BY_COMMA,
     Style {
         point: ',',
@@ -186,4 +189,32 @@ fn with_text(digits: Digits, text: &str, style: Style) -> Option<Digits> {
         is_grouped: digits.is_grouped || before.contains(style.thousands),
         has_point: digits.has_point || has_point,
     })
+}
+
+/// Whether a text is a number of a style, without a sign in front.
+pub(crate) fn is_of_style(text: &str, style: Style) -> bool {
+    let (before, behind) = text.split_once(style.point).unwrap_or((text, ""));
+    count_digits(text) > 0
+        && are_digits_or(behind, "")
+        && (are_digits_or(before, "") || are_groups(before, style))
+}
+
+/// Whether a text is digits with signs of a style between thousands.
+fn are_groups(text: &str, style: Style) -> bool {
+    match text.split_once(style.thousands) {
+        Some((first, rest)) => {
+            are_digits(first) && first.len() <= GROUP && are_whole_groups(rest, style)
+        }
+        None => false,
+    }
+}
+
+/// Whether a text is groups of three digits, with signs of a style between them.
+fn are_whole_groups(text: &str, style: Style) -> bool {
+    for group in text.split(style.thousands) {
+        if group.len() != GROUP || !are_digits(group) {
+            return false;
+        }
+    }
+    true
 }

@@ -1,9 +1,9 @@
 //! Texts that are dates or times in another form than that of ISO 8601.
 
-use crate::texts::{ColumnTexts, NumberReader};
+use crate::texts::{ColumnTexts, NumberReader, is_word};
 use crate::times::{IN_UTC, IN_ZONE};
 use crate::way::{Way, as_fine};
-use rp_wording::{Pieces, count_digits};
+use rp_wording::Pieces;
 use std::alloc::{AllocError, Global};
 
 /// Formats of dates, each with the one that has its numbers in another order and may be meant as well, if there is such a one.
@@ -58,9 +58,6 @@ const CLOCKS: [(&str, &str); 15] = [
     (":%H:%M:%S %z", "seconds"),
 ];
 
-/// Fewer digits than a date has.
-const FEW_DIGITS: usize = 3;
-
 /// A format of dates or times.
 #[derive(Clone, Copy)]
 struct Form {
@@ -89,7 +86,7 @@ pub(crate) fn format_way(
     column: ColumnTexts<'_>,
     least: usize,
 ) -> Result<Option<Way>, AllocError> {
-    if count_digits(column.first().unwrap_or("")) < FEW_DIGITS {
+    if is_word(column.first().unwrap_or("")) {
         return Ok(None);
     }
     for date in DATES.as_slice() {

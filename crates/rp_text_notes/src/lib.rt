@@ -22,6 +22,7 @@ mod shell;
 mod signs;
 mod strays;
 mod texts;
+mod time_texts;
 mod times;
 mod units;
 mod uses;

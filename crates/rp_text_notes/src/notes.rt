@@ -8,6 +8,7 @@ use crate::lines::line_of;
 use crate::retyped::options_for;
 use crate::strays::{line_of_strays, strays_of};
 use crate::texts::{ColumnTexts, NumberReader};
+use crate::time_texts::line_on_times;
 use crate::units::share_units;
 use crate::uses::Asked;
 use crate::written::{add_sources, written_columns};
@@ -106,13 +107,13 @@ fn line_on(
             let line = line_of_found(alloc, reader, asked, one, rows, readings.options)?;
             Ok(Some(line))
         }
-        Some(one) if asked.adds(number) => {
+        Some(one) if asked.adds(number) && !one.way.is_of_numbers() => {
             let name = name_of(alloc, asked.query, number)?;
             let line = line_on_dates(alloc, reader, rows, name.as_str(), one, readings.options)?;
             Ok(Some(line))
         }
         Some(_) => Ok(None),
-        None => line_on_others(alloc, asked, rows, number),
+        None => line_on_others(alloc, reader, asked, rows, number),
     }
 }
 
@@ -141,10 +142,11 @@ fn line_of_found(
     line_of(alloc, name.as_str(), found, is_number, example, options)
 }
 
-/// What is said of a column whose order is asked for, and that no reading takes: its numbers have other fields among them, or it has times of
-/// day. None where there is nothing to say.
+/// What is said of a column whose order is asked for, and that is read in no way: its numbers or times have other fields among them, or it has
+/// times of day, or times that the clause writes in another form. None where there is nothing to say.
 fn line_on_others(
     alloc: Global,
+    reader: &mut NumberReader,
     asked: Asked<'_>,
     rows: &[Row],
     number: usize,
@@ -156,13 +158,14 @@ fn line_on_others(
         rows,
         number,
         sign: "",
+        skips_words: false,
     };
     if let Some(strays) = strays_of(column) {
         let name = name_of(alloc, asked.query, number)?;
         return Ok(Some(line_of_strays(alloc, name.as_str(), strays)?));
     }
     let Some(clocks) = clocks_of(column) else {
-        return Ok(None);
+        return line_on_times(alloc, reader, asked, column);
     };
     let name = name_of(alloc, asked.query, number)?;
     Ok(Some(line_of_clocks(alloc, name.as_str(), clocks)?))

@@ -29,6 +29,22 @@ fn is_formed_as(one: &str, other: &str) -> bool {
             || left.is_ascii_digit() && right.is_ascii_digit())
 }
 
+/// Whether a text has the form of a time as far as both go, and no other offset from UTC.
+pub(crate) fn has_form_of(text: &str, time: &str) -> bool {
+    let (one, other) = (offset_of(text), offset_of(time));
+    (one == other || one.is_empty() || other.is_empty())
+        && text.bytes().zip(time.bytes()).all(|(left, right)| left == right
+            || left.is_ascii_digit() && right.is_ascii_digit())
+}
+
+/// Whether a text has digits at the same places as a time, and the same offset from UTC.
+pub(crate) fn has_places_of(text: &str, time: &str) -> bool {
+    text.len() == time.len()
+        && offset_of(text) == offset_of(time)
+        && text.bytes().zip(time.bytes()).all(|(left, right)| left.is_ascii_digit()
+            == right.is_ascii_digit())
+}
+
 /// The offset of a time whose year comes first; it is empty where there is none.
 fn offset_of(text: &str) -> &[u8] {
     let bytes = text.trim().as_bytes();

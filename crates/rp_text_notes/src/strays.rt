@@ -1,15 +1,19 @@
 //! Fields that keep a column of numbers text, and are no word for null: a header that comes again, an exponent, a sign behind a number, too
-//! many digits.
+//! many digits. And words among dates or times, as in the row of a sum below them.
 
+use crate::decimals::{BY_POINT, OTHERS, Style, is_of_style};
+use crate::example::Example;
+use crate::lines::push_order;
 use crate::same_form::have_one_form;
-use crate::texts::ColumnTexts;
+use crate::texts::{ColumnTexts, is_word};
+use crate::way::Way;
 use rp_wording::{Pieces, are_digits, are_digits_or, count_digits, has_zeros, noun, unsigned};
 use std::alloc::{AllocError, Global};
 
 /// A number of so many digits surely has 64 bits with sign.
 const MOST_DIGITS: usize = 18;
 
-/// Fields of a column that aren't read as numbers.
+/// Fields of a column that aren't read as its others are.
 #[derive(Clone, Copy)]
 pub(crate) struct Strays<'a> {
     /// How many there are.
@@ -21,8 +25,40 @@ pub(crate) struct Strays<'a> {
 /// Those of a column most of whose fields are numbers as people and programs write them. None where each field is read as one, and where
 /// all have so many digits, by which they are ordered as texts as they are as numbers.
 pub(crate) fn strays_of(column: ColumnTexts<'_>) -> Option<Strays<'_>> {
-    let (mut fields, mut numbers) = (0usize, 0usize);
+    let found = fewest_strays(column)?;
+    if !are_most_numbers(column) || is_plain(found.first) && have_one_form(column) {
+        return None;
+    }
+    Some(found)
+}
+
+/// The fields that aren't read as numbers of that style by which the most are; None where each is by one.
+fn fewest_strays(column: ColumnTexts<'_>) -> Option<Strays<'_>> {
+    let mut fewest = strays_by(column, BY_POINT)?;
+    for style in OTHERS.as_slice() {
+        let strays = strays_by(column, *style)?;
+        if strays.count < fewest.count {
+            fewest = strays;
+        }
+    }
+    Some(fewest)
+}
+
+/// The fields that aren't read as numbers of a style.
+fn strays_by(column: ColumnTexts<'_>, style: Style) -> Option<Strays<'_>> {
     let mut strays = None;
+    for row in column.rows {
+        let text = column.of_row(row).unwrap_or("").trim();
+        if !text.is_empty() && !is_read(text, style) {
+            strays = Some(with_further(strays, text));
+        }
+    }
+    strays
+}
+
+/// Whether more than half of the fields of a column are numbers as people and programs write them.
+fn are_most_numbers(column: ColumnTexts<'_>) -> bool {
+    let (mut fields, mut numbers) = (0usize, 0usize);
     for row in column.rows {
         let text = column.of_row(row).unwrap_or("").trim();
         if !text.is_empty() {
@@ -30,36 +66,48 @@ pub(crate) fn strays_of(column: ColumnTexts<'_>) -> Option<Strays<'_>> {
             if is_number(text) {
                 numbers = numbers.saturating_add(1);
             }
-            strays = with_further(strays, text);
         }
     }
-    let found = strays?;
-    if numbers <= fields / 2 || is_fixed(found.first) && have_one_form(column) {
+    numbers > fields / 2
+}
+
+/// The words among the fields of a column, more than half of which are none. None where there are no words.
+pub(crate) fn words_of(column: ColumnTexts<'_>) -> Option<Strays<'_>> {
+    let mut fields = 0usize;
+    let mut words: Option<Strays<'_>> = None;
+    for row in column.rows {
+        let text = column.of_row(row).unwrap_or("").trim();
+        if !text.is_empty() {
+            fields = fields.saturating_add(1);
+            if is_word(text) {
+                words = Some(with_further(words, text));
+            }
+        }
+    }
+    let found = words?;
+    if fields.saturating_sub(found.count) <= fields / 2 {
         return None;
     }
     Some(found)
 }
 
-/// The fields that aren't read as numbers, with a further one, if it is none.
-fn with_further<'a>(strays: Option<Strays<'a>>, text: &'a str) -> Option<Strays<'a>> {
-    if is_read(text) {
-        return strays;
-    }
+/// These fields, with a further one.
+fn with_further<'a>(strays: Option<Strays<'a>>, text: &'a str) -> Strays<'a> {
     match strays {
-        Some(before) => Some(Strays {
+        Some(before) => Strays {
             count: before.count.saturating_add(1),
             first: before.first,
-        }),
-        None => Some(Strays {
+        },
+        None => Strays {
             count: 1,
             first: text,
-        }),
+        },
     }
 }
 
-/// Whether a text is a number that some reading takes.
-fn is_read(text: &str) -> bool {
-    is_fixed(unsigned(text)) && count_digits(text) <= MOST_DIGITS
+/// Whether a text is a number that a reading of a style takes.
+fn is_read(text: &str, style: Style) -> bool {
+    is_of_style(unsigned(text), style) && count_digits(text) <= MOST_DIGITS
 }
 
 /// Whether a text is a number as people and programs write one: as a reading takes it, or with an exponent, or with the sign behind it.
@@ -68,8 +116,18 @@ fn is_number(text: &str) -> bool {
     let body = body.strip_suffix('-').unwrap_or(body);
     match body.split_once(is_exponent_sign) {
         Some((digits, exponent)) => is_fixed(digits) && is_fixed(unsigned(exponent)),
-        None => is_fixed(body) && !is_id(body),
+        None => is_plain(body) && !is_id(body),
     }
+}
+
+/// Whether a text is a number of any style.
+fn is_plain(text: &str) -> bool {
+    for style in OTHERS.as_slice() {
+        if is_of_style(text, *style) {
+            return true;
+        }
+    }
+    is_of_style(text, BY_POINT)
 }
 
 /// Whether a text is digits with a zero in front, as ids are.
@@ -109,5 +167,40 @@ pub(crate) fn line_of_strays(
         "Write it as a number of at most 18 digits, or take its row out of the input",
         "Write them as numbers of at most 18 digits, or take their rows out of the input",
     ));
+    line.finish()
+}
+
+/// What is to be known of a column of this name that has words among dates or times, which are read in a way.
+pub(crate) fn line_of_words(
+    alloc: Global,
+    name: &str,
+    words: Strays<'_>,
+    way: &Way,
+    example: Option<Example<'_>>,
+) -> Result<String, AllocError> {
+    let (one, more) = (way.one_text(), way.texts());
+    let is_single = words.count == 1;
+    let mut line = Pieces::of(alloc, name);
+    line.push(" is text, since ");
+    line.push_count(words.count);
+    if is_single {
+        line.push_filled(" field isn't read as a {}, '", &[one]);
+    } else {
+        line.push_filled(" fields aren't read as {}, the first '", &[more]);
+    }
+    line.push_start(words.first.as_bytes());
+    line.push_filled("', and its {} are compared as texts", &[more]);
+    push_order(&mut line, example);
+    if is_single {
+        line.push_filled(
+            ". Write it as a {}, or take its row out of the input",
+            &[one],
+        );
+    } else {
+        line.push_filled(
+            ". Write them as {}, or take their rows out of the input",
+            &[more],
+        );
+    }
     line.finish()
 }

@@ -3,8 +3,11 @@
 use crate::signs::without_sign;
 use rp_columns::{Reading, ReadingFault, Texts, read};
 use rp_value::{Row, Value};
-use rp_wording::is_null_word;
+use rp_wording::{count_digits, is_null_word};
 use std::alloc::{AllocError, Global};
+
+/// Fewer digits than a date has.
+const FEW_DIGITS: usize = 3;
 
 /// A column of rows, by its number from 1.
 #[derive(Clone, Copy)]
@@ -13,13 +16,16 @@ pub(crate) struct ColumnTexts<'a> {
     pub(crate) number: usize,
     /// A sign that texts have besides their numbers; empty where they are read as they are.
     pub(crate) sign: &'static str,
+    /// Whether texts that are words, and no dates or times, are left out.
+    pub(crate) skips_words: bool,
 }
 
 impl<'a> ColumnTexts<'a> {
-    /// The text that a row has in the column, without the sign; None where that is null, or a word that another program wrote for a null.
+    /// The text that a row has in the column, without the sign; None where that is null, or a word that another program wrote for a null, or any
+    /// word, where these are left out.
     pub(crate) fn of_row(self, row: &'a Row) -> Option<&'a str> {
         let text = self.written(row)?;
-        if means_null(text) {
+        if means_null(text) || self.skips_words && is_word(text) {
             return None;
         }
         Some(without_sign(text, self.sign))
@@ -99,6 +105,11 @@ impl NumberReader {
         }
         is_any
     }
+}
+
+/// Whether a text has fewer digits than a date or a time.
+pub(crate) fn is_word(text: &str) -> bool {
+    count_digits(text) < FEW_DIGITS
 }
 
 /// Whether a text is a word that other programs write for a null; none of these begins with a digit, as numbers and times do.

@@ -1,5 +1,6 @@
 //! One unit for columns that are compared with each other.
 
+use crate::compact_dates::reads_all;
 use crate::decimals::decimal_way;
 use crate::found::Found;
 use crate::null_words::NullWords;
@@ -11,7 +12,8 @@ use rp_value::Row;
 use std::alloc::{AllocError, Global};
 
 /// Reads columns that are compared with each other in one unit, that of the finest: numbers with as many places, times as parts of a second
-/// that are as small. A column of times that could stay text by itself is read, too, where it is compared with one that is read.
+/// that are as small. A column of times that could stay text by itself is read, too, where it is compared with one that is read; and one of
+/// whole numbers, where it is compared with numbers that have places.
 pub(crate) fn share_units(
     alloc: Global,
     reader: &mut NumberReader,
@@ -25,6 +27,7 @@ pub(crate) fn share_units(
                 rows,
                 number,
                 sign: "",
+                skips_words: false,
             };
             refine(alloc, reader, asked, texts, found)?;
         }
@@ -46,7 +49,7 @@ fn refine(
     if !is_coarser(asked, texts.number, found.as_slice(), finest) {
         return Ok(());
     }
-    if let Some(way) = way_as_fine(alloc, reader, texts, finest)? {
+    if let Some(way) = way_as_fine(alloc, reader, asked, texts, finest)? {
         let words = NullWords::of(alloc, texts)?;
         put(found, texts.number, way, words)?;
     }
@@ -85,7 +88,7 @@ fn least_of(finest: Option<Finest>) -> usize {
     }
 }
 
-/// Whether a column of texts is read in a coarser unit, or isn't read.
+/// Whether a column is read in a coarser unit, or isn't read, while it has texts beside times, or whole numbers beside those with places.
 fn is_coarser(asked: Asked<'_>, number: usize, found: &[Found], finest: Finest) -> bool {
     for one in found {
         if one.number == number {
@@ -94,21 +97,40 @@ fn is_coarser(asked: Asked<'_>, number: usize, found: &[Found], finest: Finest) 
                 && one.way.fineness() < finest.fineness;
         }
     }
-    !finest.is_of_numbers && finest.fineness > 0 && asked.is_text(number)
+    finest.fineness > 0 && asked.is_text(number) != finest.is_of_numbers
 }
 
 /// The way to read a column in a unit that is at least so fine.
 fn way_as_fine(
     alloc: Global,
     reader: &mut NumberReader,
+    asked: Asked<'_>,
     texts: ColumnTexts<'_>,
     finest: Finest,
 ) -> Result<Option<Way>, AllocError> {
-    if finest.is_of_numbers {
+    if !asked.is_text(texts.number) {
+        way_of_whole(alloc, reader, texts, finest.fineness)
+    } else if finest.is_of_numbers {
         decimal_way(alloc, reader, texts, finest.fineness)
     } else {
         time_way(alloc, reader, texts, finest.fineness)
     }
+}
+
+/// The way to read a column of whole numbers as numbers with so many places; None where one of them has too many digits for that.
+fn way_of_whole(
+    alloc: Global,
+    reader: &mut NumberReader,
+    column: ColumnTexts<'_>,
+    places: usize,
+) -> Result<Option<Way>, AllocError> {
+    let Some(way) = Way::of_places(alloc, places)? else {
+        return Ok(None);
+    };
+    if !reads_all(alloc, reader, &way.reading, column.rows, column.number)? {
+        return Ok(None);
+    }
+    Ok(Some(way))
 }
 
 /// Puts a column in its place, in the order of the columns.

@@ -208,7 +208,7 @@ impl<'a> Operands<'a> {
         }
     }
 
-    /// Whether two expressions are of these columns, one of each.
+    /// Whether two expressions are in the units of these columns, one of each.
     fn are(self, left: &Expr, right: &Expr) -> bool {
         is_of(self.query, left, self.one) && self.is_other(right)
             || self.is_other(left) && is_of(self.query, right, self.one)
@@ -228,14 +228,23 @@ fn is_sum(operation: Operation) -> bool {
     matches!(operation, Operation::Plus | Operation::Minus)
 }
 
-/// Whether an expression is a cell of a column, its least or greatest, or its sum.
+/// Whether an expression is a cell of a column, its least or greatest, or its sum; or a sum or a difference that has one of these as an
+/// operand, as it has the unit of its operands.
 fn is_of(query: &Query, expr: &Expr, column: usize) -> bool {
     match expr {
-        Expr::Aggregate { number, .. } => match query.plan().totals.get(*number) {
-            Some(total) => is_in_unit_of(&total.function, column),
-            None => false,
-        },
+        Expr::Aggregate { number, .. } => is_total_of(query, *number, column),
+        Expr::Arithmetic(operation, left, right) => {
+            is_sum(*operation) && (is_of(query, left, column) || is_of(query, right, column))
+        }
         _ => names(expr, column),
+    }
+}
+
+/// Whether an aggregate, by its number from 0, has the unit of a column.
+fn is_total_of(query: &Query, number: usize, column: usize) -> bool {
+    match query.plan().totals.get(number) {
+        Some(total) => is_in_unit_of(&total.function, column),
+        None => false,
     }
 }
 
@@ -254,7 +263,7 @@ fn is_extreme_of(function: &Function, column: usize) -> bool {
 }
 
 /// Whether a comparison asks which of two values is less.
-fn is_of_order(comparison: Comparison) -> bool {
+pub(crate) fn is_of_order(comparison: Comparison) -> bool {
     !matches!(comparison, Comparison::Equal | Comparison::NotEqual)
 }
 

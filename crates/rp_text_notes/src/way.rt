@@ -78,6 +78,18 @@ impl Way {
         Ok(Some(way.or(IN_UTC, IN_ZONE, other)))
     }
 
+    /// The way of decimal numbers with so many places, and a point before these.
+    pub(crate) fn of_places(alloc: Global, places: usize) -> Result<Option<Way>, AllocError> {
+        let mut behind = Pieces::of(alloc, ", ");
+        behind.push_count(places);
+        let behind = behind.finish()?;
+        let Some(reading) = reading_of(alloc, "decimal", behind.as_str())? else {
+            return Ok(None);
+        };
+        let way = Way::by(alloc, reading, "decimal", behind);
+        Ok(Some(way.with_places(places)))
+    }
+
     /// The way of a reading that this word means with this behind the source.
     fn by(alloc: Global, reading: Reading, word: &'static str, behind: String) -> Way {
         Way {
@@ -168,6 +180,15 @@ impl Way {
             "decimal" | "int" => "numbers",
             "date" => "dates",
             _ => "times",
+        }
+    }
+
+    /// What one of the texts is.
+    pub(crate) fn one_text(&self) -> &'static str {
+        match self.word {
+            "decimal" | "int" => "number",
+            "date" => "date",
+            _ => "time",
         }
     }
 
