@@ -4,8 +4,10 @@ use crate::meaning::meaning;
 use rp_compile::CompileFault;
 use rp_grammar::ParseFault;
 use rp_hints::unexpected;
+use rp_lexer::LexFault;
+use rp_place::Span;
 use rp_value::Table;
-use rp_wording::{Advice, Reading, Report, Source, TextReport, explain_lex};
+use rp_wording::{Advice, Part, Reading, Report, Source, TextReport, explain_lex, tokens_of};
 use std::alloc::{AllocError, Global};
 
 /// Explains why `compile` refuses a clause over a table, by the fault that it gave.
@@ -40,13 +42,49 @@ fn explain_in(
     fault: &CompileFault,
 ) -> Result<(), AllocError> {
     match fault {
-        CompileFault::Lex(why) => explain_lex(report, *why),
+        CompileFault::Lex(why) => explain_bad(report, *why),
         CompileFault::Parse(ParseFault::Expected(at)) => explain_at(report, table, fault, *at),
         CompileFault::Parse(ParseFault::Deep(at)) => explain_at(report, table, fault, *at),
         CompileFault::Check(why) => explain_at(report, table, fault, why.offset),
         CompileFault::Parse(ParseFault::OutOfMemory) => Ok(()),
         CompileFault::OutOfMemory => Ok(()),
     }
+}
+
+/// Adds why the text has no tokens.
+fn explain_bad(report: &mut TextReport<'_>, fault: LexFault) -> Result<(), AllocError> {
+    let alloc = report.alloc();
+    match measured_division(alloc, report.source, fault)? {
+        Some(span) => {
+            let help = "give both as two measures: LAST(p) AS a, FIRST(p) AS b";
+            let advice = Advice::new(alloc, "there is no division", help);
+            report.point(span, &advice)
+        }
+        None => explain_lex(report, fault),
+    }
+}
+
+/// Where the sign of a division in MEASURES is, if a text has no tokens for it.
+fn measured_division(
+    alloc: Global,
+    source: Source<'_>,
+    fault: LexFault,
+) -> Result<Option<Span>, AllocError> {
+    let LexFault::BadChar(at) = fault else {
+        return Ok(None);
+    };
+    let rest = source.shown.get(at..).unwrap_or("");
+    if !rest.starts_with('/') || rest.starts_with("//") || rest.starts_with("/*") {
+        return Ok(None);
+    }
+    let before = source.read.get(..at).unwrap_or("");
+    let tokens = tokens_of(alloc, before)?;
+    let reading = Reading::new(before, tokens.as_slice(), before.len());
+    if reading.part() != Part::Measures {
+        return Ok(None);
+    }
+    let end = at.saturating_add(1);
+    Ok(Some(Span { start: at, end }))
 }
 
 /// Adds that a fault is at a token, and what to write there.

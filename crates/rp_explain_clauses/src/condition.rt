@@ -294,6 +294,12 @@ fn of_conditions(reading: &Reading<'_>) -> Option<Hint> {
             "leave the word WHERE out",
         );
     }
+    if is_one_of(reading.back(1), FUNCTIONS) && reading.here() != "(" {
+        return said(
+            "a reserved word is before this, without its brackets",
+            "a column of that name is written in double quotes and in upper case",
+        );
+    }
     if has_comma(reading) && reading.is_end() {
         return said(ONE_CONDITION, "leave the last comma out");
     }
@@ -303,7 +309,7 @@ fn of_conditions(reading: &Reading<'_>) -> Option<Hint> {
     if begins_part(reading) {
         return said(
             "this begins a part of a clause, and --where takes a condition alone",
-            "leave it out, with what comes behind it",
+            "leave it out, with what comes after it",
         );
     }
     None

@@ -137,7 +137,7 @@ fn push_outer(
         read: statement.read.as_str(),
     };
     if let Some(fault) = statement.front {
-        reports.push(front_report(alloc, text, statement, fault)?)?;
+        reports.push(front_report(alloc, table, text, statement, fault)?)?;
         return Ok(());
     }
     match statement.behind {
@@ -149,6 +149,7 @@ fn push_outer(
 /// Explains what stands before MATCH_RECOGNIZE.
 fn front_report(
     alloc: Global,
+    table: &Table,
     text: &str,
     statement: &Statement,
     fault: CompileFault,
@@ -158,7 +159,7 @@ fn front_report(
     let mut help = statement.help(alloc, text);
     help.push("\n");
     help.push(around.help);
-    statement.push_filter(&mut help, text);
+    statement.push_filter(&mut help, table, text)?;
     let advice = Advice::with_help(alloc, around.what, help);
     let start = match fault {
         CompileFault::Parse(ParseFault::Expected(at)) => at,

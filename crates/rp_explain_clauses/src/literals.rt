@@ -6,8 +6,8 @@ use rp_lexer::TokenKind;
 use rp_resolution::{CheckKind, Fault};
 use rp_value::{Kind, Table};
 use rp_wording::{
-    Reading, ends_condition, is_comparison, is_name, is_one_of, meant, text_of, tokens_of,
-    value_start, whole_operand,
+    Reading, begins_condition, ends_condition, is_comparison, is_name, is_one_of, meant, text_of,
+    tokens_of, value_start, whole_operand,
 };
 use std::alloc::{AllocError, Global};
 
@@ -74,25 +74,66 @@ fn with_text(
     }
 }
 
-/// The comparison of a column with a fraction, whose point is at the place, and behind which the condition ends.
+/// The comparison of a column with a fraction, whose point is at the place.
 fn with_fraction(
     alloc: Global,
     table: &Table,
     reading: &Reading<'_>,
 ) -> Result<Option<Compared>, AllocError> {
-    let Some(sign) = reading.at.checked_sub(2) else {
+    let Some(start) = fraction_start(reading) else {
         return Ok(None);
     };
     let end = reading.at.saturating_add(2);
-    let is_fraction = reading.here() == "."
-        && reading.kind_back(1) == Some(TokenKind::Number)
-        && reading.kind(reading.at.saturating_add(1)) == Some(TokenKind::Number)
-        && ends_condition(reading, end);
-    if !is_fraction || !is_comparison(reading.written(sign)) {
-        return Ok(None);
+    let column = column_beside(alloc, table, reading, start, end)?;
+    compared_with(alloc, column, text_of(reading, start, end))
+}
+
+/// The index of the token with which the fraction begins whose point is at the place: its digits, or a minus before them.
+fn fraction_start(reading: &Reading<'_>) -> Option<usize> {
+    let number = Some(TokenKind::Number);
+    let behind = reading.kind(reading.at.saturating_add(1));
+    if reading.here() != "." || reading.kind_back(1) != number || behind != number {
+        return None;
     }
-    let column = column_before(alloc, table, reading, sign)?;
-    compared_with(alloc, column, text_of(reading, sign.saturating_add(1), end))
+    let first = reading.at.checked_sub(1)?;
+    let minus = first.saturating_sub(1);
+    let is_negative = reading.back(2) == "-"
+        && (is_comparison(reading.back(3)) || begins_condition(reading, minus));
+    Some(first.saturating_sub(usize::from(is_negative)))
+}
+
+/// The number of the column of whole numbers with which the literal from a token on to before another is compared, on either side.
+fn column_beside(
+    alloc: Global,
+    table: &Table,
+    reading: &Reading<'_>,
+    start: usize,
+    end: usize,
+) -> Result<Option<usize>, AllocError> {
+    if is_comparison(reading.written(end)) && begins_condition(reading, start) {
+        return column_behind(alloc, table, reading, end.saturating_add(1));
+    }
+    match start.checked_sub(1) {
+        Some(sign) if is_comparison(reading.written(sign)) && ends_condition(reading, end) => {
+            column_before(alloc, table, reading, sign)
+        }
+        _ => Ok(None),
+    }
+}
+
+/// The number of the column of whole numbers whose value begins with a token, where the condition ends behind it.
+fn column_behind(
+    alloc: Global,
+    table: &Table,
+    reading: &Reading<'_>,
+    start: usize,
+) -> Result<Option<usize>, AllocError> {
+    match whole_operand(reading, start) {
+        Some(end) if ends_condition(reading, end) => {
+            column_between(alloc, table, reading, start, end)
+        }
+        _ => Ok(None),
+    }
 }
 
 /// The number of the column of whole numbers whose value stands before a sign.

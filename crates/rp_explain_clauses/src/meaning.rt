@@ -94,8 +94,8 @@ fn double_name(alloc: Global, reading: &Reading<'_>) -> Advice {
     let (form, help) = match reading.part() {
         Part::Measures => (
             "the name {} is taken",
-            "write another name behind AS\n\
-            the columns of PARTITION BY stand in the answer by themselves, with ALL ROWS PER MATCH every column does",
+            "write another name after AS\n\
+            the columns of PARTITION BY are in the answer anyway, with ALL ROWS PER MATCH every column does",
         ),
         Part::Define => (
             "{} has a definition already",

@@ -1,10 +1,12 @@
 //! A clause in the statement that it was pasted with.
 
 use crate::passed::{Passed, pass_over, place_of, push_blanks};
+use crate::tried::is_filter;
 use rp_compile::CompileFault;
 use rp_grammar::ParseFault;
 use rp_lexer::{Keyword, LexFault, TokenKind};
 use rp_place::{Place, Span};
+use rp_value::Table;
 use rp_wording::{Pieces, Reading, closing, depth_behind, is_one_of, is_short, tokens_of};
 use std::alloc::{AllocError, Global};
 
@@ -272,17 +274,24 @@ impl Statement {
         help
     }
 
-    /// Adds a line of what leaves out the rows that a WHERE before MATCH_RECOGNIZE leaves out; nothing where there is none.
-    pub(crate) fn push_filter(&self, help: &mut Pieces, text: &str) {
+    /// Adds a line of what leaves out the rows that a WHERE before MATCH_RECOGNIZE leaves out; nothing where there is none. The
+    /// condition is written again where `--where` takes it.
+    pub(crate) fn push_filter(
+        &self,
+        help: &mut Pieces,
+        table: &Table,
+        text: &str,
+    ) -> Result<(), AllocError> {
         let Some(filter) = self.filter else {
-            return;
+            return Ok(());
         };
         help.push("\nrows that a WHERE leaves out are left out by --where");
         let condition = text.get(filter.start..filter.end).unwrap_or("");
-        if is_short(condition) {
+        if is_short(condition) && is_filter(*self.inside.allocator(), table, condition)? {
             help.push(" ");
             push_shell_word(help, condition);
         }
+        Ok(())
     }
 }
 

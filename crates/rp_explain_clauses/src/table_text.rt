@@ -132,7 +132,7 @@ fn of_shape(reading: &Reading<'_>) -> Option<Hint> {
     }
     if reading.is_end() && reading.back(1) == "," {
         return said(
-            "a column is missing behind the comma",
+            "a column is missing after the comma",
             "leave the last comma out",
         );
     }
@@ -160,7 +160,7 @@ fn of_missing(reading: &Reading<'_>) -> Option<Hint> {
     }
     said(
         "this column has no kind",
-        "write int or text behind its name: sym text, t int",
+        "write int or text after its name: sym text, t int",
     )
 }
 

@@ -23,6 +23,17 @@ pub(crate) fn looks_elsewhere(
     }
 }
 
+/// Whether a text is a condition over the table that looks at its own row alone.
+pub(crate) fn is_filter(alloc: Global, table: &Table, text: &str) -> Result<bool, AllocError> {
+    let form = "PATTERN (R) DEFINE R AS ({}\n)";
+    let clause = Pieces::filled(alloc, form, &[text]).finish()?;
+    match compile(alloc, clause.as_str(), table) {
+        Ok(query) => Ok(query.judges_rows() && query.looks_back() && query.reach() == 0),
+        Err(CompileFault::OutOfMemory) => Err(AllocError),
+        Err(_) => Ok(false),
+    }
+}
+
 /// The query of a pattern of one variable, whose condition asks whether the value is null; None where the text is no value.
 fn asked(alloc: Global, table: &Table, text: &str) -> Result<Option<Query>, AllocError> {
     let form = "PATTERN (R) DEFINE R AS ({}\n) IS NULL";
