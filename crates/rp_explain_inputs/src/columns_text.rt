@@ -105,7 +105,7 @@ fn unexpected(alloc: Global, reading: &Reading<'_>) -> Advice {
     if reading.here() == "(" {
         return Advice::new(
             alloc,
-            "a reading with brackets is behind an equals sign",
+            "a reading with brackets is after an equals sign",
             "write t = seconds(Time), or t seconds where the header has the name t",
         );
     }
@@ -123,7 +123,7 @@ fn no_reading_at(report: &mut TextReport<'_>, at: usize) -> Result<(), AllocErro
 /// What is said of a word that calls no reading, or none with what is behind it.
 fn no_reading(alloc: Global, word: &str) -> Advice {
     if is_one_of(word, READINGS) {
-        let what = Pieces::filled(alloc, "{} doesn't take what is behind it", &[word]);
+        let what = Pieces::filled(alloc, "{} doesn't take what follows it", &[word]);
         return Advice::with_what(alloc, what, form_of(word));
     }
     let what = Pieces::filled(alloc, "there is no reading {}", &[word]);

@@ -8,7 +8,7 @@ use crate::scan::{field_span, long_quote, open_quote};
 use crate::stray_lines::of_stray_line;
 use csv::ByteRecord;
 use rp_input::{CsvLayout, first_misfit};
-use rp_place::Span;
+use rp_place::{Span, line_number};
 use rp_proposal::{Records, start_of};
 use rp_value::{Column, Table};
 use rp_wording::{Advice, Pieces, Report, noun};
@@ -134,7 +134,8 @@ pub(crate) fn at_record(
         );
         return write_at(alloc, report, bytes, quote_span(at), &advice);
     }
-    let advice = of_count(alloc, wanted, &found.fields, delimiter);
+    let line = line_number(bytes.get(..found.start).unwrap_or(bytes));
+    let advice = of_count(alloc, wanted, &found.fields, delimiter, line);
     let field = found.fields.len().min(wanted.count);
     let span = field_span(bytes, found.start, field, delimiter);
     write_at(alloc, report, bytes, span, &advice)
@@ -148,8 +149,14 @@ fn quote_span(at: usize) -> Span {
     }
 }
 
-/// What is said of a record with this many fields, between which this byte is.
-fn of_count(alloc: Global, wanted: &Wanted, fields: &ByteRecord, delimiter: u8) -> Advice {
+/// What is said of a record in this line with this many fields, between which this byte is.
+fn of_count(
+    alloc: Global,
+    wanted: &Wanted,
+    fields: &ByteRecord,
+    delimiter: u8,
+    line: usize,
+) -> Advice {
     let count = fields.len();
     let mut what = Pieces::of(alloc, "this record has ");
     what.push_count(count);
@@ -159,11 +166,11 @@ fn of_count(alloc: Global, wanted: &Wanted, fields: &ByteRecord, delimiter: u8) 
     );
     what.push_count(wanted.count);
     what.push_filled(" {}", &[wanted.what]);
-    let help = match of_stray_line(fields) {
+    let help = match of_stray_line(alloc, fields, line) {
         Some(help) if wanted.count > 1 => help,
-        _ => of_fields(fields, count > wanted.count, delimiter),
+        _ => Pieces::of(alloc, of_fields(fields, count > wanted.count, delimiter)),
     };
-    Advice::with_what(alloc, what, help)
+    Advice::of_pieces(what, help)
 }
 
 /// What to do about a record with too many fields, or too few.

@@ -164,7 +164,7 @@ fn push_hint(
     }
     if has_blanks(fields) {
         return report.help(
-            "a blank behind a comma belongs to the name, and is to be taken out of the file",
+            "a blank after a comma belongs to the name, and is to be taken out of the file",
         );
     }
     let help = hint_of(alloc, columns, fields, is_marked)?;

@@ -21,6 +21,24 @@ const NO_OBJECT: Hint = Hint {
     help: "each line is an object, as {\"sym\":\"x\",\"p\":1}; a CSV file is read without --from jsonl",
 };
 
+/// What is said of a line that begins an object, and is none.
+const BROKEN: Hint = Hint {
+    what: "this is no object of JSON",
+    help: "each object is in a line of its own: jq -c . FILE makes such lines, or says where a fault is (jq before 1.7 rounds whole numbers of more than 15 digits)",
+};
+
+/// What is said of a line with more than one object.
+const SEVERAL: Hint = Hint {
+    what: "this is more than one object of JSON",
+    help: "each object is in a line of its own: jq -c . FILE makes such lines (jq before 1.7 rounds whole numbers of more than 15 digits)",
+};
+
+/// What is said of a line that ends in a comma.
+const COMMA: Hint = Hint {
+    what: "this is no object of JSON: a comma is at its end",
+    help: "no comma is between the lines: sed 's/,[[:space:]]*$//' FILE | rowmatch ..",
+};
+
 /// What is said of a list.
 const LIST: Hint = Hint {
     what: "this is no object of JSON",
@@ -83,7 +101,21 @@ fn of_text(line: &Line<'_>) -> Hint {
     if is_open(text) {
         return of_open(line.behind);
     }
-    NO_OBJECT
+    of_closed(text)
+}
+
+/// What is said of a line that begins no list and no object that is open.
+fn of_closed(text: &str) -> Hint {
+    if !text.starts_with('{') {
+        return NO_OBJECT;
+    }
+    if text.ends_with(',') {
+        return COMMA;
+    }
+    if text.contains("}{") || text.contains("} {") {
+        return SEVERAL;
+    }
+    BROKEN
 }
 
 /// Whether a line begins an object, and doesn't end one.

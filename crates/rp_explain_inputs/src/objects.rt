@@ -1,11 +1,12 @@
 //! Why lines of JSON are no rows of columns.
 
 use crate::no_object::{Line, no_object};
-use rp_columns::{Columns, InputColumn};
-use rp_objects::{FieldFault, ObjectsFault};
+use crate::object_fields::at_object;
+use rp_columns::Columns;
+use rp_objects::ObjectsFault;
 use rp_place::Place;
 use rp_proposal::objects_fault_line;
-use rp_wording::{Advice, Pieces, Report};
+use rp_wording::{Advice, Report};
 use std::alloc::{AllocError, Global};
 
 /// Explains why `rows_by_objects` refuses the bytes of a text, by the fault that it gave.
@@ -41,43 +42,11 @@ pub fn explain_objects(
                 return Report::new(alloc, "json", fault);
             };
             let told = objects_fault_line(alloc, columns.as_slice(), fault)?;
-            of_field(alloc, bytes, *line, column, *why, told.as_str())
+            let advice = at_object(alloc, column, line_at(bytes, *line).text, *why)?;
+            at_line(alloc, &told, bytes, *line, &advice)
         }
         ObjectsFault::OutOfMemory => Report::new(alloc, "json", fault),
     }
-}
-
-/// Explains an object that has no value for a column.
-fn of_field(
-    alloc: Global,
-    bytes: &[u8],
-    line: u64,
-    column: &InputColumn,
-    why: FieldFault,
-    told: &str,
-) -> Result<Report, AllocError> {
-    let mut what = Pieces::of(alloc, "column ");
-    what.push_name(column.name.as_str());
-    what.push_filled(
-        ", which comes from {}, has no value here",
-        &[column.source.as_str()],
-    );
-    let help = match why {
-        FieldFault::Nested => {
-            "a list or an object is no value: name what is in it by a path in double quotes, as \"user.id\""
-        }
-        FieldFault::Double =>
-            "two keys of the object name it: upper and lower case are one without quotes",
-        FieldFault::Reading(_) =>
-            "the text is read as a field of a CSV: docs/COLUMNS.md has the forms",
-    };
-    at_line(
-        alloc,
-        &told,
-        bytes,
-        line,
-        &Advice::with_what(alloc, what, help),
-    )
 }
 
 /// A report of a fault with the line of a text, from 1.

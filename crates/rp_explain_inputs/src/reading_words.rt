@@ -12,7 +12,7 @@ pub(crate) fn wrong(reading: &Reading, why: ReadingFault) -> &'static str {
         ReadingFault::NoOffset => "has no offset from UTC",
         ReadingFault::Gap => "is a time that clocks of the column's time zone skip",
         ReadingFault::Fold => "is a time that clocks of the column's time zone show twice",
-        ReadingFault::Places => "has more digits behind the point than the column",
+        ReadingFault::Places => "has more digits after the point than the column",
         ReadingFault::Range => "is outside of 64 bits",
         ReadingFault::NotText => "isn't UTF-8",
         _ => match reading {
