@@ -2,15 +2,15 @@
 
 use crate::costs::{is_boundless, is_too_large, push_boundless, push_cost};
 use rp_describe::{Looks, OWN_ROW, all_looks, looks_at, missing_variable};
-use rp_query::Query;
+use rp_query::{Query, SkipTo};
 use rp_value::Text;
 use rp_wording::{Pieces, kind_word, noun, shown_text};
 use std::alloc::{AllocError, Global};
 
 /// Says what a query gives and looks at: its output columns with their kinds; that there is no PARTITION BY or no ORDER BY, which may have
-/// been forgotten; of each pattern variable which rows it looks at, or that it has no definition and takes any row; how far before a match
-/// rows are read; what rows cost that are read without a match, and which variables may take any number of them; whether a condition waits
-/// for later rows.
+/// been forgotten; of each pattern variable which rows it looks at, or that it has no definition and takes any row; that AFTER MATCH SKIP
+/// goes to where each match begins, which is a fault; how far before a match rows are read; what rows cost that are read without a match,
+/// and which variables may take any number of them; whether a condition waits for later rows.
 ///
 /// Each line ends in LF.
 pub fn describe(alloc: Global, query: &Query) -> Result<String, AllocError> {
@@ -18,6 +18,7 @@ pub fn describe(alloc: Global, query: &Query) -> Result<String, AllocError> {
     push_output(&mut out, query);
     push_arrangement(&mut out, query);
     push_variables(&mut out, query);
+    push_skip(&mut out, query);
     push_reach(&mut out, query.reach());
     let all = all_looks(query);
     push_locality(&mut out, all);
@@ -115,6 +116,25 @@ fn rows(count: u64) -> &'static str {
     noun(usize::try_from(count).unwrap_or(2), "row", "rows")
 }
 
+/// Writes that AFTER MATCH SKIP goes to the first row of each match, which is a fault that ends a partition's answer.
+fn push_skip(out: &mut Pieces, query: &Query) {
+    let Some(leader) = query.lead() else {
+        return;
+    };
+    let SkipTo::First(variables) = &query.plan().skip else {
+        return;
+    };
+    if !variables.includes(leader.variable) {
+        return;
+    }
+    if let Some(name) = query.variables().get(leader.variable) {
+        out.push_filled(
+            "each match begins with {}, and AFTER MATCH SKIP can't go there: each partition ends after its first match\n",
+            &[name.as_str()],
+        );
+    }
+}
+
 /// Writes how far before a match rows are read.
 fn push_reach(out: &mut Pieces, reach: u64) {
     if reach == 0 {
@@ -163,7 +183,7 @@ fn push_waiting(out: &mut Pieces, all: Looks) {
     out.push("a condition waits for ");
     out.push_number(all.ahead);
     out.push_filled(
-        " later {} (NEXT): an answer may be held back until they have come\n",
+        " later {} (NEXT): an answer may be held back until then\n",
         &[rows(all.ahead)],
     );
 }

@@ -80,7 +80,7 @@ fn push_with_null(out: &mut Pieces, name: &str, literal: &Value, is_negated: boo
     out.push(if is_negated { " AND " } else { " OR " });
     out.push_name(name);
     out.push(if is_negated {
-        " IS NOT NULL) behind NOT"
+        " IS NOT NULL) after NOT"
     } else {
         " IS NULL)"
     });
@@ -89,7 +89,7 @@ fn push_with_null(out: &mut Pieces, name: &str, literal: &Value, is_negated: boo
 /// The form of a comparison that isn't unknown where an operand is null.
 fn form_with_null(is_negated: bool) -> &'static str {
     if is_negated {
-        "(.. AND .. IS NOT NULL) behind NOT, in brackets"
+        "(.. AND .. IS NOT NULL) after NOT, in brackets"
     } else {
         "(.. OR .. IS NULL), in brackets"
     }
