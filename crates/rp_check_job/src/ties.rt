@@ -92,6 +92,6 @@ fn told_of(alloc: Global, count: usize, first: &str) -> Result<String, AllocErro
     told.push(" the values of the row before, as ");
     told.push(first);
     told.push(noun(count, ", and stays", ", and stay"));
-    told.push(" behind it in the order of the input\n");
+    told.push(" after it in the order of the input\n");
     told.finish()
 }
