@@ -1,6 +1,7 @@
 //! The jobs that read an input: `whole`, `why` and `source`, with a clause over it, and `trace`.
 #![tactic(auto)]
 
+mod printed;
 mod source;
 mod stream;
 mod trace;

@@ -1,4 +1,5 @@
 //! `source`: hands the rows of a CSV to nodes, one node after the other, and prints the items that they give.
+use crate::printed::ItemOutput;
 use crate::stream::NodeStream;
 use rp_command::SourceJob;
 use rp_drive::{Conversation, Counted, DriveFault, Stop, drive_within};
@@ -23,6 +24,10 @@ const MAX_REPLY_LEN: usize = 16_777_216;
 
 /// How the line begins by which a node says what it saved.
 const SAVED: &[u8] = b"{\"saved\":";
+
+/// What is reported where a node has ended its side without that line.
+const UNSAVED: &str =
+    "the connection ended without {\"saved\":N}: does the node run with --acknowledge?";
 
 /// A stream to a node, with the count of the lines that went through it.
 type Counter<'a> = Counted<CountedDevice<NodeStream<'a>>>;
@@ -71,31 +76,25 @@ fn hand_to_each(
     query: &Query,
     packets: &[Packet],
 ) -> Result<(), ProgramFault> {
-    let mut out = CountedDevice::new(rt.stdout());
+    let mut out = CountedDevice::new(ItemOutput::new(rt));
     let mut number = 0u64;
     for address in &job.addresses {
         number = number.saturating_add(1);
-        let node = SourceNode {
-            job,
-            query,
-            packets,
-            number,
-        };
-        hand_to_one(rt, &node, address.as_str(), &mut out)?;
+        let node = node_at(job, query, packets, address.as_str(), number);
+        hand_to_one(rt, &node, &mut out)?;
     }
     Ok(())
 }
 
-/// Hands the rows to the node at this address.
+/// Hands the rows to one node.
 fn hand_to_one<O: Outlet>(
     rt: &HostRuntime,
     node: &SourceNode<'_>,
-    address: &str,
     out: &mut O,
 ) -> Result<(), ProgramFault> {
-    let stream = match connected(rt, address, idle_time(node.job)) {
+    let stream = match connected(rt, node.address, idle_time(node.job)) {
         Ok(stream) => stream,
-        Err(error) => return Err(no_connection(rt, node.number, address, &error)),
+        Err(error) => return Err(no_connection(rt, node, &error)),
     };
     prepare(node.job, &stream);
     converse(rt, node, &stream, out)
@@ -107,9 +106,36 @@ fn idle_time(job: &SourceJob) -> Option<Duration> {
 }
 
 /// The fault of a node to which there is no connection. Why there is none is reported.
-fn no_connection(rt: &HostRuntime, number: u64, address: &str, error: &io::Error) -> ProgramFault {
-    let _ = eprintln!(rt; "rowmatch: node {number} at {address}: {error}");
+fn no_connection(rt: &HostRuntime, node: &SourceNode<'_>, error: &io::Error) -> ProgramFault {
+    tell_error(rt, node, error);
     ProgramFault::Connect
+}
+
+/// Reports what the system said of a node.
+fn tell_error(rt: &HostRuntime, node: &SourceNode<'_>, error: &io::Error) {
+    let (number, address) = (node.number, node.address);
+    let _ = eprintln!(rt; "rowmatch: node {number} at {address}: {error}");
+}
+
+/// Reports why a call of the stream to a node failed, if one did: it waited for longer than the job allows, or what the system said.
+fn tell_failure(rt: &HostRuntime, node: &SourceNode<'_>, failure: Option<io::Error>, what: &str) {
+    let Some(error) = failure else {
+        return;
+    };
+    match node.job.idle {
+        Some(seconds) if error.kind() == ErrorKind::WouldBlock => {
+            let (number, address, unit) = (node.number, node.address, unit_of(seconds));
+            let _ = eprintln!(rt;
+                "rowmatch: node {number} at {address}: nothing {what} for {seconds} {unit}"
+            );
+        }
+        _ => tell_error(rt, node, &error),
+    }
+}
+
+/// The unit of so many seconds.
+fn unit_of(seconds: u32) -> &'static str {
+    if seconds == 1 { "second" } else { "seconds" }
 }
 
 /// A connection to the node at this address, which takes it in this time where that is bounded.
@@ -127,13 +153,31 @@ fn connected(rt: &HostRuntime, address: &str, time: Option<Duration>) -> io::Res
     Err(fault)
 }
 
-/// What a node is handed, and its number, from 1.
+/// What a node is handed, its address, and its number, from 1.
 #[derive(Clone, Copy)]
 struct SourceNode<'a> {
     job: &'a SourceJob,
     query: &'a Query,
     packets: &'a [Packet],
+    address: &'a str,
     number: u64,
+}
+
+/// The node of this number at this address, which is handed these packets.
+fn node_at<'a>(
+    job: &'a SourceJob,
+    query: &'a Query,
+    packets: &'a [Packet],
+    address: &'a str,
+    number: u64,
+) -> SourceNode<'a> {
+    SourceNode {
+        job,
+        query,
+        packets,
+        address,
+        number,
+    }
 }
 
 /// Lines go out at once, and calls that wait longer than the job allows fail. Where the system doesn't take one of these, the
@@ -159,13 +203,16 @@ fn converse<O: Outlet>(
     if heard.lines > sent.lines {
         return Err(unasked(rt, node.number));
     }
-    let is_shut = stream.shutdown(Shutdown::Write).is_ok();
+    let shut = stream.shutdown(Shutdown::Write);
     if node.job.acknowledge {
-        wait_for_saved(rt, stream, sent.lines, node.number)
-    } else if is_shut {
-        wait_for_end(rt, stream, node.number)
-    } else {
-        Err(ProgramFault::Write)
+        return wait_for_saved(rt, node, stream, sent.lines);
+    }
+    match shut {
+        Ok(()) => wait_for_end(rt, node, stream),
+        Err(error) => {
+            tell_error(rt, node, &error);
+            Err(ProgramFault::Write)
+        }
     }
 }
 
@@ -185,16 +232,31 @@ fn hand_over<O: Outlet>(
     };
     match drive_within(rt.alloc(), &conversation, MAX_REPLY_LEN, heard, sent, out) {
         Ok(()) => Ok(()),
-        Err(stop) if node.job.acknowledge && is_gone(&stop, heard, sent) => {
-            Err(ProgramFault::NotSaved(node.number))
-        }
         Err(stop) => {
-            if let DriveFault::BadReply = stop.fault {
-                tell_bad_reply(rt, node, heard)?;
+            tell_stop(rt, node, &stop, heard, sent)?;
+            if node.job.acknowledge && is_gone(&stop, heard, sent) {
+                return Err(ProgramFault::NotSaved(node.number));
             }
             Err(node_fault(rt, node, &stop)?)
         }
     }
+}
+
+/// Reports why a conversation stopped, where its fault doesn't say that.
+fn tell_stop(
+    rt: &HostRuntime,
+    node: &SourceNode<'_>,
+    stop: &Stop,
+    heard: &Counter<'_>,
+    sent: &Counter<'_>,
+) -> Result<(), AllocError> {
+    match stop.fault {
+        DriveFault::Read => tell_failure(rt, node, heard.device.device.failure(), "came"),
+        DriveFault::Write => tell_failure(rt, node, sent.device.device.failure(), "was taken"),
+        DriveFault::BadReply => return tell_bad_reply(rt, node, heard),
+        DriveFault::Refused | DriveFault::Turns | DriveFault::OutOfMemory => {}
+    }
+    Ok(())
 }
 
 /// Reports what came in place of a reply: nothing, since the connection ended, or something that is shown where somebody is to read it.
@@ -234,12 +296,19 @@ fn is_gone(stop: &Stop, heard: &Counter<'_>, sent: &Counter<'_>) -> bool {
 }
 
 /// Waits until the node ends its side: it has saved all that it took by then, or has failed to.
-fn wait_for_end(rt: &HostRuntime, stream: &TcpStream, number: u64) -> Result<(), ProgramFault> {
+fn wait_for_end(
+    rt: &HostRuntime,
+    node: &SourceNode<'_>,
+    stream: &TcpStream,
+) -> Result<(), ProgramFault> {
     let mut rest = [0u8; 9];
     match NodeStream::new(stream).read(&mut rest) {
         Ok(0) => Ok(()),
-        Ok(_) => Err(behind_replies(rt, &rest, number)),
-        Err(_) => Err(ProgramFault::Read),
+        Ok(_) => Err(behind_replies(rt, &rest, node.number)),
+        Err(error) => {
+            tell_failure(rt, node, Some(error), "came");
+            Err(ProgramFault::Read)
+        }
     }
 }
 
@@ -256,12 +325,13 @@ fn behind_replies(rt: &HostRuntime, rest: &[u8], number: u64) -> ProgramFault {
     ProgramFault::BadReply(number)
 }
 
-/// Waits for the line by which the node says that it saved all lines that were sent, and for the end behind it.
+/// Waits for the line by which the node says that it saved all lines that were sent, and for the end behind it. That there is no line,
+/// or why it can't be read, is reported.
 fn wait_for_saved(
     rt: &HostRuntime,
+    node: &SourceNode<'_>,
     stream: &TcpStream,
     sent: u128,
-    number: u64,
 ) -> Result<(), ProgramFault> {
     let mut rest = CountedDevice::new(NodeStream::new(stream));
     let mut lines = Lines::new(rt.alloc(), READS, MAX_LINE_LEN);
@@ -274,7 +344,12 @@ fn wait_for_saved(
     {
         return Ok(());
     }
-    Err(ProgramFault::NotSaved(number))
+    if rest.ended && line.is_empty() {
+        tell(rt, &UNSAVED);
+    } else {
+        tell_failure(rt, node, rest.device.failure(), "came");
+    }
+    Err(ProgramFault::NotSaved(node.number))
 }
 
 /// The fault of a conversation that stopped.

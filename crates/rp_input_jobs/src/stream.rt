@@ -16,6 +16,8 @@ pub(crate) struct NodeStream<'a> {
     start: [u8; REMEMBERED],
     /// How many of them there are.
     start_len: usize,
+    /// Why a call failed, if one did.
+    failure: Option<io::Error>,
 }
 
 impl<'a> NodeStream<'a> {
@@ -25,6 +27,7 @@ impl<'a> NodeStream<'a> {
             stream,
             start: [0; REMEMBERED],
             start_len: 0,
+            failure: None,
         }
     }
 
@@ -35,6 +38,11 @@ impl<'a> NodeStream<'a> {
             .iter()
             .position(|byte| *byte == b'\n' || *byte == b'\r');
         start.get(..end.unwrap_or(start.len())).unwrap_or(start)
+    }
+
+    /// Why a call failed; None where none did.
+    pub(crate) fn failure(&self) -> Option<io::Error> {
+        self.failure
     }
 
     /// Remembers how what was read begins.
@@ -56,7 +64,10 @@ impl Read for NodeStream<'_> {
                     return Ok(count);
                 }
                 Err(error) if error.kind() == ErrorKind::Interrupted => {}
-                Err(error) => return Err(error),
+                Err(error) => {
+                    self.failure = Some(error);
+                    return Err(error);
+                }
             }
         }
         Err(io::Error::from(ErrorKind::TimedOut))
@@ -68,8 +79,12 @@ impl Write for NodeStream<'_> {
         let mut stream = self.stream;
         for _attempt in 0..TRIES {
             match stream.write(bytes) {
+                Ok(count) => return Ok(count),
                 Err(error) if error.kind() == ErrorKind::Interrupted => {}
-                written => return written,
+                Err(error) => {
+                    self.failure = Some(error);
+                    return Err(error);
+                }
             }
         }
         Err(io::Error::from(ErrorKind::TimedOut))
