@@ -19,6 +19,8 @@ pub struct ClientInput<'a> {
     is_first: bool,
     /// Whether the client speaks HTTP.
     pub is_http: bool,
+    /// Whether a line was waited for as long as the job allows, and didn't come.
+    pub is_silent: bool,
 }
 
 impl<'a> ClientInput<'a> {
@@ -32,6 +34,7 @@ impl<'a> ClientInput<'a> {
             patience: idle.map(|seconds| Patience::new(u64::from(seconds) * 1_000_000)),
             is_first: true,
             is_http: false,
+            is_silent: false,
         }
     }
 
@@ -77,11 +80,19 @@ impl Read for ClientInput<'_> {
                     return Ok(count);
                 }
                 Err(error) if error.kind() == ErrorKind::Interrupted => {}
-                Err(error) => return Err(error),
+                Err(error) => {
+                    self.is_silent = self.patience.is_some() && is_silence(&error);
+                    return Err(error);
+                }
             }
         }
         Err(io::Error::from(ErrorKind::TimedOut))
     }
+}
+
+/// Whether this is the error of a wait that was too long.
+fn is_silence(error: &io::Error) -> bool {
+    matches!(error.kind(), ErrorKind::WouldBlock | ErrorKind::TimedOut)
 }
 
 /// How long the next bytes may be waited for.

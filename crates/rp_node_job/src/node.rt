@@ -156,7 +156,7 @@ fn connection(
     )?;
     write_if_new(rt, file, &end)?;
     acknowledge(rt, job, &mut writer, &end);
-    tell_end(rt, job, number, &end, reader.device.is_http);
+    tell_end(rt, job, number, &end, &reader.device);
     Ok(Standing {
         node: end.node,
         saved: end.saved,
@@ -201,7 +201,7 @@ fn went_back(fault: Option<ServeFault>) -> bool {
     matches!(fault, Some(ServeFault::Write | ServeFault::OutOfMemory))
 }
 
-/// Tells why the file is refused; where it is of another clause, from where on that differs.
+/// Tells why the file is refused; where it is of another clause, from where on that differs; and what follows.
 fn tell_refused(
     rt: &HostRuntime,
     job: &NodeJob,
@@ -209,9 +209,18 @@ fn tell_refused(
     why: RestartFault,
 ) -> Result<(), ProgramFault> {
     tell(rt, &ProgramFault::Checkpoint(why));
-    if why != RestartFault::ClauseDiffers {
-        return Ok(());
+    if why == RestartFault::ClauseDiffers {
+        tell_other(rt, job, file)?;
     }
+    let path = job.state.as_str();
+    let _ = eprintln!(rt;
+        "rowmatch: {path}: the node begins with nothing; the file stays until there is something else to keep"
+    );
+    Ok(())
+}
+
+/// Tells from where on the clause differs from that of the file; or that the table does.
+fn tell_other(rt: &HostRuntime, job: &NodeJob, file: &StateFile) -> Result<(), ProgramFault> {
     match file.read(rt)? {
         Some(bytes) => tell_difference(rt, job.clause.as_bytes(), bytes.as_slice()),
         None => Ok(()),
@@ -253,9 +262,17 @@ fn tell_listening(rt: &HostRuntime, job: &NodeJob, listener: &TcpListener) {
 }
 
 /// A fault is reported always, and with `--verbose` how many lines were answered too.
-fn tell_end(rt: &HostRuntime, job: &NodeJob, number: u64, end: &RoundEnd<Node>, is_http: bool) {
-    if is_http {
+fn tell_end(
+    rt: &HostRuntime,
+    job: &NodeJob,
+    number: u64,
+    end: &RoundEnd<Node>,
+    client: &ClientInput<'_>,
+) {
+    if client.is_http {
         tell(rt, &"a client that speaks HTTP was turned away");
+    } else if client.is_silent {
+        tell_silence(rt, number, job.idle.unwrap_or(0));
     } else if let Some(fault) = end.fault {
         tell(rt, &fault);
     }
@@ -269,4 +286,10 @@ fn tell_end(rt: &HostRuntime, job: &NodeJob, number: u64, end: &RoundEnd<Node>, 
     };
     let lines = end.lines;
     let _ = eprintln!(rt; "rowmatch: connection {number}: {lines} lines, {how}");
+}
+
+/// Reports that no line of a connection came in as many seconds as the job allows.
+fn tell_silence(rt: &HostRuntime, number: u64, seconds: u32) {
+    let unit = if seconds == 1 { "second" } else { "seconds" };
+    let _ = eprintln!(rt; "rowmatch: connection {number}: no line came for {seconds} {unit}");
 }
