@@ -17,10 +17,13 @@ CLAUSE = (
     "PATTERN (A B+ C+) DEFINE B AS p < PREV(p), C AS p > PREV(p)"
 )
 
-# One step of the log: if this event isn't there yet, its row gets the next number of its partition, and both are kept together.
+# One step of the log: if this event isn't there yet, its row gets the next number of its partition, and both are kept together. An event
+# before it has to be there: a log that was started again refuses the first events of a batch while it loads what it has, and may be ready
+# for the later ones, which would then stand in the place of those that come again.
 APPEND = """
 local last = tonumber(redis.call('GET', KEYS[3]) or '0')
 if tonumber(ARGV[1]) <= last then return 0 end
+if tonumber(ARGV[1]) > last + 1 then return redis.error_reply('EARLY the event before this one is not there yet') end
 redis.call('SET', KEYS[3], ARGV[1])
 if ARGV[4] == 'close' then
     local count = redis.call('HGET', KEYS[2], ARGV[2]) or '0'
