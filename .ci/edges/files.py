@@ -4,7 +4,7 @@ import errno
 import os
 import socket
 
-from sockets import CLAUSE, MANY, Node, beginning, end, main, preloaded, row, talk
+from sockets import CLAUSE, MANY, Node, beginning, begun_anew, end, main, preloaded, row, talk
 
 NEW, REPEAT = '{"taken":"new"}\n', '{"taken":"repeat"}\n'
 ONE, TWO = row(1, ["x", 1, 10]), row(2, ["x", 2, 8])
@@ -69,7 +69,7 @@ def links(checks, folder):
     first = read(real)
     node = Node(link, clause=OTHER)
     checks.same("another clause", talk(node, ONE), NEW)
-    told = f"{REFUSED}rowmatch: the checkpoint that was refused is kept as {real}.refused\n{SAVED}"
+    told = f"{REFUSED}{begun_anew(link)}rowmatch: the checkpoint that was refused is kept as {real}.refused\n{SAVED}"
     checks.same("is kept next to the file", (node.ended(), read(f"{real}.refused"), os.path.islink(link)), ((0, told), first, True))
 
 
@@ -113,7 +113,7 @@ def taken_away(checks, folder):
     first = kept(state)
     node = Node(state, clause=OTHER)
     os.rename(state, f"{folder}/backup")
-    checks.same("a row", (talk(node, ONE), node.ended()), (NEW, (0, REFUSED + SAVED)))
+    checks.same("a row", (talk(node, ONE), node.ended()), (NEW, (0, REFUSED + begun_anew(state) + SAVED)))
     checks.same("the files", sorted(os.listdir(folder)), ["backup", "state", "state.lock"])
     checks.same("what was taken away", read(f"{folder}/backup"), first)
 
@@ -135,7 +135,7 @@ def without_second_names(checks, folder):
     for number, name in enumerate([f"{state}.refused", f"{state}.refused.2"]):
         first = kept(state)
         node = Node(state, clause=OTHER, variables={"LD_PRELOAD": library})
-        told = f"{REFUSED}rowmatch: the checkpoint that was refused is kept as {name}\n{SAVED}"
+        told = f"{REFUSED}{begun_anew(state)}rowmatch: the checkpoint that was refused is kept as {name}\n{SAVED}"
         checks.same(f"file {number}", (talk(node, ONE), node.ended(), read(name)), (NEW, (0, told), first))
         os.remove(state)
 

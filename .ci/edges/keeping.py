@@ -10,7 +10,8 @@ import stat
 import time
 
 from sockets import (
-    BEGINS, CLAUSE, MANY, TABLE, Node, acknowledging, beginning, close, end, main, poll, preloaded, read_all, row, run, saved, talk,
+    BEGINS, CLAUSE, MANY, TABLE, Node, acknowledging, beginning, begun_anew, close, end, main, poll, preloaded, read_all, row, run, saved,
+    talk,
 )
 
 NEW, REPEAT = '{"taken":"new"}\n', '{"taken":"repeat"}\n'
@@ -46,7 +47,7 @@ def refused_is_kept(checks, folder):
     talk(node, ROWS)
     node.ended()
     first = read(state)
-    told = f"rowmatch: checkpoint refused: ClauseDiffers\nrowmatch: clause differs from byte {AT} on\n"
+    told = f"rowmatch: checkpoint refused: ClauseDiffers\nrowmatch: clause differs from byte {AT} on\n{begun_anew(state)}"
     node = Node(state, connections=MANY, clause=OTHER)
     checks.same("another clause: told", "".join(node.told), told)
     touch(node)
@@ -216,7 +217,8 @@ def full_disk(checks, folder):
     status, out, told = run(*words, stdin=data)
     checks.same("the node's end", node.ended(), (3, f"rowmatch: {folder}/state: File too large (os error 27)\nrowmatch: device: state\n"))
     checks.true("no file", not os.path.exists(f"{folder}/state"))
-    checks.same("the source's end", (status, out.count("\n"), told), (3, 200, "rowmatch: node 1: not saved\n"))
+    checks.same("the source's end", (status, out.count("\n"), told), (3, 200,
+                'rowmatch: the connection ended without {"saved":N}: does the node run with --acknowledge?\nrowmatch: node 1: not saved\n'))
 
 
 def no_memory_to_save(checks, folder):

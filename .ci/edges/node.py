@@ -5,7 +5,7 @@ import resource
 import socket
 from itertools import groupby
 
-from sockets import CLAUSE, TABLE, Conversation, Node, beginning, close, main, poll, read_all, row, run, sealed, talk
+from sockets import CLAUSE, TABLE, Conversation, Node, beginning, begun_anew, close, main, poll, read_all, row, run, sealed, talk
 
 LINES = (
     '{"row":1,"cells":["x",1,10]}\n{"poll":["x"],"budget":0}\n{"poll":["x"],"budget":1000}\n'
@@ -140,7 +140,7 @@ def broken_states(checks, folder):
         file.write(whole)
     node = Node(state, clause=CLAUSE.replace("B+ C+", "B+ C"))
     checks.same("of another clause", "".join(node.told),
-                f"rowmatch: checkpoint refused: ClauseDiffers\nrowmatch: clause differs from byte {CLAUSE.index(' C+') + 2} on\n")
+                f"rowmatch: checkpoint refused: ClauseDiffers\nrowmatch: clause differs from byte {CLAUSE.index(' C+') + 2} on\n{begun_anew(state)}")
     checks.same("of another clause: the node is new", talk(node, poll(["x"])), FIRST_REFUSED)
     node.ended()
     with open(state, "wb") as file:
@@ -178,7 +178,7 @@ def refused(checks, state, data, name, kind):
     with open(state, "wb") as file:
         file.write(data)
     node = Node(state)
-    checks.same(f"{name}: told", "".join(node.told), f"rowmatch: checkpoint refused: {kind}\n")
+    checks.same(f"{name}: told", "".join(node.told), f"rowmatch: checkpoint refused: {kind}\n{begun_anew(state)}")
     checks.same(f"{name}: the node is new", talk(node, poll(["x"])), FIRST_REFUSED)
     checks.same(f"{name}: it ends well", node.ended()[0], 0)
 
@@ -297,7 +297,7 @@ def silent_clients(checks, folder):
             pass
     checks.same("the next one is served, and knows the row", talk(node, row(1, ["x", 1, 10])), '{"taken":"repeat"}\n')
     told = node.ended()[1]
-    checks.true("a client that sends nothing: told", told.startswith("rowmatch: device: read\nrowmatch: connection 1: 1 lines, saved\n"), told)
+    checks.true("a client that sends nothing: told", told.startswith("rowmatch: connection 1: no line came for 1 second\nrowmatch: connection 1: 1 lines, saved\n"), told)
     checks.true("a client that takes nothing: told", "rowmatch: device: write\n" in told and "went back" in told, told)
 
 

@@ -22,6 +22,9 @@ UNASKED = "rowmatch: node 1: a reply came to nothing that was asked\n" + BAD_REP
 ENDED = "rowmatch: node 1: the connection ended in place of a reply\n" + BAD_REPLY
 ACKNOWLEDGES = "rowmatch: the node runs with --acknowledge: give source --acknowledge, too\n"
 NOT_SAVED = "rowmatch: node 1: not saved\n"
+NO_LINE = 'rowmatch: the connection ended without {"saved":N}: does the node run with --acknowledge?\n' + NOT_SAVED
+READ = "rowmatch: device: read\n"
+RESET = "rowmatch: node 1 at ADDR: Connection reset by peer (os error 104)\n"
 LONGEST = 16_777_216
 
 
@@ -131,7 +134,7 @@ def acknowledged(checks, folder):
         ('{"saved":5}\n', '{"saved":5}\n', lacks),
         (IDLE, '{"saved":5}\n', lacks),
         ("\n", "", lacks),
-        ("", "", lacks),
+        ("", "", (3, PRINTED, NO_LINE)),
     ]
     for after, last, wanted in cases:
         checks.same(f"saved by {after + last!r}", source("--acknowledge", peer(WORKED, "", after, last)), wanted)
@@ -139,7 +142,7 @@ def acknowledged(checks, folder):
     checks.same("no row", source("--acknowledge", peer([], "", '{"saved":0}\n'), stdin="sym,t,p\n"), (0, "", ""))
     node = Node(f"{folder}/state")
     found = source("--acknowledge", f"127.0.0.1:{node.port}")
-    checks.same("a node that wasn't asked to", found, lacks)
+    checks.same("a node that wasn't asked to", found, (3, PRINTED, NO_LINE))
     node.kill()
 
 
@@ -163,18 +166,20 @@ def gone_peer(replies, part="", resets=False):
 
 def gone(checks, folder):
     """With --acknowledge a node whose connection ends or fails before it said that it saved hasn't saved. Without, what came is judged."""
-    read = "rowmatch: device: read\n"
+    ended = ENDED.removesuffix(BAD_REPLY)
     cases = [
-        ("in place of the first reply", gone_peer, ([],), "", (1, ENDED)),
-        ("in place of a later reply", gone_peer, ([NEW, IDLE],), "", (1, ENDED)),
-        ("behind an item", gone_peer, ([NEW, IDLE, NEW, END],), PRINTED, (1, ENDED)),
-        ("within a reply", gone_peer, ([NEW], IDLE[:7]), "", (1, ENDED)),
-        ("by a reset", gone_peer, ([NEW], "", True), "", (3, read)),
-        ("by a reset within a reply", gone_peer, ([], NEW[:7], True), "", (3, read)),
+        ("in place of the first reply", gone_peer, ([],), "", (1, ended, BAD_REPLY)),
+        ("in place of a later reply", gone_peer, ([NEW, IDLE],), "", (1, ended, BAD_REPLY)),
+        ("behind an item", gone_peer, ([NEW, IDLE, NEW, END],), PRINTED, (1, ended, BAD_REPLY)),
+        ("within a reply", gone_peer, ([NEW], IDLE[:7]), "", (1, ended, BAD_REPLY)),
+        ("by a reset", gone_peer, ([NEW], "", True), "", (3, RESET, READ)),
+        ("by a reset within a reply", gone_peer, ([], NEW[:7], True), "", (3, RESET, READ)),
     ]
-    for name, make, given, printed, (status, told) in cases:
-        checks.same(f"gone {name}", source("--acknowledge", make(*given)), (3, printed, NOT_SAVED))
-        checks.same(f"gone {name}, without --acknowledge", source(make(*given)), (status, printed, told))
+    for name, make, given, printed, (status, why, told) in cases:
+        at = make(*given)
+        checks.same(f"gone {name}", source("--acknowledge", at), (3, printed, why.replace("ADDR", at) + NOT_SAVED))
+        at = make(*given)
+        checks.same(f"gone {name}, without --acknowledge", source(at), (status, printed, why.replace("ADDR", at) + told))
     checks.same("a whole line that is no reply", source("--acknowledge", gone_peer([], "nope\n")), (1, "", BAD_REPLY))
     checks.same("a refusal", source("--acknowledge", gone_peer([], '{"refused":"TooFar"}\n')), (1, "", "rowmatch: node 1: refused\n"))
     at = f"127.0.0.1:{free_port()}"
@@ -203,14 +208,15 @@ def unconnected(checks, folder):
 def silent(checks, folder):
     """With --idle a node that says nothing for a second ends the source: before a reply, before its end, and before it has saved."""
     cases = [
-        ("before a reply", [], [NEW], (3, "", "rowmatch: device: read\n")),
-        ("before its end", [], WORKED, (3, PRINTED, "rowmatch: device: read\n")),
+        ("before a reply", [], [NEW], (3, "", READ)),
+        ("before its end", [], WORKED, (3, PRINTED, READ)),
         ("before it says that it saved", ["--acknowledge"], WORKED, (3, PRINTED, NOT_SAVED)),
         ("before a reply, and so before it says that it saved", ["--acknowledge"], [NEW], (3, "", NOT_SAVED)),
     ]
-    for name, words, replies, wanted in cases:
-        begun = time.monotonic()
-        checks.same(f"silent {name}", source("--idle", "1", *words, peer(replies)), wanted)
+    for name, words, replies, (status, printed, told) in cases:
+        begun, at = time.monotonic(), peer(replies)
+        silence = f"rowmatch: node 1 at {at}: nothing came for 1 second\n"
+        checks.same(f"silent {name}", source("--idle", "1", *words, at), (status, printed, silence + told))
         checks.true("after a second", 0.9 < time.monotonic() - begun < 20)
     for seconds in ("0", "x", "4294967296"):
         checks.same(f"--idle {seconds}", source("--idle", seconds, "127.0.0.1:1")[:2], (2, ""))

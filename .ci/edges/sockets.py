@@ -30,6 +30,11 @@ def not_reached(number, address, why):
     return f"rowmatch: node {number} at {address}: {why}\nrowmatch: device: connect\n"
 
 
+def begun_anew(path):
+    """What a node tells whose file of this name is refused, behind why."""
+    return f"rowmatch: {path}: the node begins with nothing; the file stays until there is something else to keep\n"
+
+
 # how a node with --verbose says that its file isn't there
 BEGINS = " isn't there: the node begins with nothing\n"
 # connections for a node that is ended by a signal: programs of before ask for a number
