@@ -160,12 +160,36 @@ def test_a_connection_that_is_given_up(start):
     client.rows(EVE[:2])
     client.disconnect()
     client.disconnect()
-    with pytest.raises(NodeError, match="the connection to the node failed"):
+    with pytest.raises(NodeError, match="this connection has ended: open another Node, and send"):
         client.rows(EVE[:2])
     with Node(address, timeout=10) as client:
         client.rows(EVE)
         assert client.poll(["eve"]) == [Item(("eve",), 1, ("eve", 10, 2), 1)]
         client.commit()
+
+
+def test_after_a_commit_nothing_is_sent(start):
+    _, address = start("--acknowledge")
+    with Node(address) as client:
+        client.rows(EVE[:2])
+        client.commit()
+        later = [lambda: client.rows(EVE), lambda: client.poll(["eve"]), client.commit]
+        for call in later:
+            with pytest.raises(NodeError) as caught:
+                call()
+            assert str(caught.value) == "commit has ended this connection: open another Node"
+    with Node(address, timeout=10) as client:
+        assert client.rows(EVE) == 1
+
+
+def test_a_budget_of_nothing(start):
+    _, address = start("--acknowledge")
+    with Node(address) as client:
+        client.rows(EVE)
+        for budget in (0, -1):
+            with pytest.raises(ValueError, match=f"budget={budget} is less than 1"):
+                client.poll(["eve"], budget=budget)
+        assert client.poll(["eve"], budget=1) == [Item(("eve",), 1, ("eve", 10, 2), 1)]
 
 
 def test_a_node_that_was_killed_has_not_saved(start):

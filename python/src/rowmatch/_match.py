@@ -53,7 +53,8 @@ def match(
     compares, adds or subtracts columns that are counted in different units, as by ``decimal(2)``
     and ``decimal(3)``, by ``decimal(2)`` and as whole numbers, or as days and as seconds, or times
     with a time zone and without one, it warns. So it does where it compares a column with a text
-    that rows have but for capitals, or for blanks at the ends.
+    that rows have but for capitals, or for blanks at the ends, and where it takes texts by their
+    order that are numbers, or dates as 1/9/2024.
 
     Args:
         data: the rows: a frame, what has ``to_pandas()``, or what ``pandas.DataFrame(..)`` takes.
@@ -71,7 +72,8 @@ def match(
     Returns:
         With ONE ROW PER MATCH a row for each match: the columns of PARTITION BY and the measures.
         With ALL ROWS PER MATCH a row for each row of a match, under its index in ``data``: the
-        columns of PARTITION BY and ORDER BY, the measures, the others. Partitions come in the order
+        columns of PARTITION BY and ORDER BY, the measures, the others; levels of the index stay in
+        it. Partitions come in the order
         of their first rows. Columns keep their labels and dtypes. A measure has its name as the
         clause writes it. Where it is the value of a column (``FIRST(A.t)``, ``MAX(p)``) it has its
         dtype, with nulls (``Int64`` for ``int64``); other texts are ``object``, and all else is
@@ -100,7 +102,7 @@ def match(
         raise ValueError(f"on_skip_fault={on_skip_fault!r} is none of raise, warn, ignore")
     limit = Limit.of(timeout)
     question = understand(pandas_frame(data), clause, columns or {}, times, limit)
-    for note in question.units(limit):
+    for note in [*question.units(limit), *question.orders()]:
         warnings.warn(note, stacklevel=2)
     answer, faults, notes = question.answer(limit)
     for note in notes:
@@ -115,12 +117,13 @@ def match(
 def check(
     data: pd.DataFrame, clause: str, *, columns: Ways | None = None, times: str = "micros"
 ) -> str:
-    """Says what a clause is over the columns of a frame, as ``rowmatch check`` does; where it
-    compares, adds or subtracts columns that aren't counted alike, of which `match` warns; and what
-    is to be known of the rows: texts that the clause compares a column with and no row has, or some
-    have but for capitals and blanks, keys that differ so, nulls that are compared by ``<>`` or are
-    in columns of PARTITION BY and ORDER BY, and rows that tie there. Where `match` refuses to hand
-    the rows over, it says why.
+    """Says what a clause is over the columns of a frame, as ``rowmatch check`` does; in which unit
+    columns of times count; where it compares, adds or subtracts columns that aren't counted alike,
+    or takes texts by their order that are numbers or dates, of which `match` warns; and what is to
+    be known of the rows: texts that the clause compares a column with and no row has, or some have
+    but for capitals and blanks, keys that differ so, nulls that are compared by ``<>`` or are in
+    columns of PARTITION BY and ORDER BY, and rows that tie there. Where `match` refuses to hand the
+    rows over, it says why.
 
     Raises:
         ClauseError: the clause is wrong; its text says where, and what to write.
@@ -141,7 +144,12 @@ def check(
     ran = run(["check"], table_of(question.kinds), clause)
     if ran.status != 0:
         raise ran.failed()
-    notes = question.units(NO_LIMIT) + question.rows()
+    notes = [
+        *question.counts(),
+        *question.units(NO_LIMIT),
+        *question.orders(),
+        *question.rows(),
+    ]
     return ran.printed.decode() + "".join(f"{note}\n" for note in notes)
 
 
@@ -153,5 +161,11 @@ def pandas_frame(data: Any) -> pd.DataFrame:
         raise TypeError("a frame of Dask is for rowmatch.dask.match")
     if hasattr(data, "get_chunk"):
         raise TypeError("data in chunks aren't one frame: pandas.concat makes one of them")
+    if hasattr(data, "ngroups"):
+        raise TypeError(
+            "groups aren't one frame: give the frame, and name the keys by PARTITION BY"
+        )
+    if isinstance(data, (list, tuple)) and any(isinstance(it, pd.DataFrame) for it in data):
+        raise TypeError("a list of frames isn't one frame: pandas.concat makes one of them")
     made = data.to_pandas() if hasattr(data, "to_pandas") else data
     return made if isinstance(made, pd.DataFrame) else pd.DataFrame(made)

@@ -47,18 +47,18 @@ class Names:
     A plain name in a clause is a column in any case, where one column alone has it. A name
     in double quotes is taken letter for letter."""
 
-    def __init__(self, frame: pd.DataFrame, said: Mapping[Hashable, str]) -> None:
-        self.sources = [*_columns(frame, said), *_levels(frame, said)]
+    def __init__(self, frame: pd.DataFrame, said: Mapping[Hashable, str], clause: str) -> None:
+        self.sources = [*_columns(frame, said, clause), *_levels(frame, said, clause)]
         self._count = Counter(source.text for source in self.sources)
-        self._alike = Counter(_folded(text) for text in self._count)
+        self._alike = Counter(folded(text) for text in self._count)
 
     def plain(self) -> dict[str, Source]:
         """One name for each column: the upper case of a plain one, so that it may be written in any
         case, where no other column has the same; the text letter for letter of all others."""
         names = {}
         for source in self.sources:
-            folded = _folded(source.text)
-            names[folded if self._alike[folded] == 1 else source.text] = source
+            upper = folded(source.text)
+            names[upper if self._alike[upper] == 1 else source.text] = source
         return names
 
     def exact(self) -> dict[str, Source]:
@@ -73,9 +73,9 @@ class Names:
 
     def others(self, name: str) -> list[str]:
         """The columns that a plain name might mean too, where ``name`` is the upper case of one."""
-        if _folded(name) != name or self._alike[name] < 2:
+        if folded(name) != name or self._alike[name] < 2:
             return []
-        return [text for text in self._count if _folded(text) == name]
+        return [text for text in self._count if folded(text) == name]
 
     def refuse(self, name: str) -> DataError:
         """The error of a plain name that several columns have."""
@@ -84,20 +84,33 @@ class Names:
         return DataError(message, name)
 
 
-def _columns(frame: pd.DataFrame, ways: Mapping[Hashable, str]) -> Iterator[Source]:
+def _columns(frame: pd.DataFrame, ways: Mapping[Hashable, str], clause: str) -> Iterator[Source]:
     for at, (label, dtype) in enumerate(zip(frame.columns, frame.dtypes)):
         if _can_be_named(str(label)):
-            kind = kind_of(dtype, partial(_at, frame, at), ways.get(label))
+            rows = frame if _may_name(clause, str(label)) else frame.iloc[:0]
+            kind = kind_of(dtype, partial(_at, rows, at), ways.get(label))
             yield Source(label, str(label), at, False, kind, ways.get(label))
 
 
-def _levels(frame: pd.DataFrame, ways: Mapping[Hashable, str]) -> Iterator[Source]:
+def _levels(frame: pd.DataFrame, ways: Mapping[Hashable, str], clause: str) -> Iterator[Source]:
     columns = set(frame.columns)
     for at, label in enumerate(frame.index.names):
         if label is not None and label not in columns and _can_be_named(str(label)):
-            values = frame.index.get_level_values(at)
+            rows = frame if _may_name(clause, str(label)) else frame.iloc[:0]
+            values = rows.index.get_level_values(at)
             kind = kind_of(values.dtype, values.to_series, ways.get(label))
             yield Source(label, str(label), at, True, kind, ways.get(label))
+
+
+def written(text: str) -> str:
+    """A name as a clause has it, in quotes where it has to be in some."""
+    return text if _PLAIN.fullmatch(text) else quoted(text)
+
+
+def _may_name(clause: str, text: str) -> bool:
+    """Whether a column's name is anywhere in a clause. Of one that isn't the kind doesn't count, and
+    no row is looked at."""
+    return folded(text) in clause.upper() or text.replace('"', '""') in clause
 
 
 def kinds_of(sources: Mapping[str, Source]) -> dict[str, str]:
@@ -120,5 +133,5 @@ def _can_be_named(text: str) -> bool:
         return False
 
 
-def _folded(text: str) -> str:
+def folded(text: str) -> str:
     return text.upper() if _PLAIN.fullmatch(text) else text

@@ -12,9 +12,11 @@ import pandas as pd
 
 from ._cells import Read, Sheet, SkipFaults, from_csv, from_lines, kinds_of_sheet, row_numbers
 from ._clause import Clause, Measure, quoted, read, table_of
+from ._helps import in_python
 from ._names import Names, Source, kinds_of, unused
+from ._orders import notes_on_orders
 from ._program import NO_LIMIT, Limit, Ran, run
-from ._units import notes_on_units
+from ._units import notes_on_units, values_of
 from ._ways import Cells, Way, look_at_ways, way_of
 from .errors import ClauseError, DataError, Fault
 
@@ -31,8 +33,11 @@ def understand(
 ) -> Question:
     """What a clause asks of a frame. Faults of the clause and of names are raised here."""
     look_at_ways(ways, {*frame.columns, *frame.index.names}, times)
-    names = Names(frame, ways)
-    sources, clause = _read(names, text, limit) if names.sources else _read_without(text, limit)
+    names = Names(frame, ways, str(text))
+    try:
+        sources, clause = _read(names, text, limit) if names.sources else _read_without(text, limit)
+    except ClauseError as error:
+        raise in_python(error, frame, names.plain(), times) from None
     for name in clause.reads:
         names.look_at_double(sources[name])
         if names.others(name):
@@ -119,7 +124,7 @@ class Question:
             taken.update(self.frame.columns)
         for measure in self.clause.measures:
             if measure.written in taken:
-                raise self._double(measure.written, "write another name behind AS")
+                raise self._double(measure.written, "write another name after AS")
             taken.add(measure.written)
 
     def _double(self, label: Hashable, write: str) -> ClauseError:
@@ -130,6 +135,19 @@ class Question:
         """What is to be known of columns whose numbers don't count the same, where the clause
         compares, adds or subtracts them as they are."""
         return notes_on_units(self.frame, self.sources, self.text, self.times, limit)
+
+    def orders(self) -> list[str]:
+        """What is to be known of columns of texts that are numbers or dates, where the clause takes
+        them by their order."""
+        return notes_on_orders(self.frame, self.sources, self.clause, self.text)
+
+    def counts(self) -> list[str]:
+        """In which unit each column of times counts that the clause names."""
+        return [
+            f"{source.text} counts in {source.said or self.times}"
+            for source in self.sources.values()
+            if values_of(source, self.frame).dtype.kind in "mM"
+        ]
 
     def answer(self, limit: Limit) -> tuple[pd.DataFrame, SkipFaults, list[str]]:
         """The answer, the skip faults in it, and what is to be known of the rows."""
@@ -219,7 +237,8 @@ class Question:
         *measures, (_, numbers) = columns  # the row number is the table's last column
         picked = self.frame.iloc[numbers.to_numpy("int64")]
         first = [self.sources[name] for name in (*self.clause.partition_by, *self.clause.order_by)]
-        made = [(source.label, source.values(picked)) for source in first]
+        # A level of the index is in the answer as one already.
+        made = [(source.label, source.values(picked)) for source in first if not source.is_level]
         for column, cells in measures:
             assert isinstance(column, Measure)
             made.append((column.written, self._measured(column, cells, ways)))

@@ -31,8 +31,8 @@ def notes_on_units(
 ) -> list[str]:
     """What is to be known of columns that are counted in different units, or of which some have a
     time zone and some have none, where the clause compares, adds or subtracts them as they are."""
-    values = {name: _values(source, frame) for name, source in sources.items()}
-    units = {name: _unit(values[name], source, times) for name, source in sources.items()}
+    values = {name: values_of(source, frame) for name, source in sources.items()}
+    units = {name: unit_of(values[name], source, times) for name, source in sources.items()}
 
     def apart(is_one: Callable[[str], bool], is_other: Callable[[str], bool]) -> list[list[str]]:
         """The columns of which the first is one of some, the second one of others, and both are
@@ -59,7 +59,7 @@ def notes_on_units(
     return notes
 
 
-def _values(source: Source, frame: pd.DataFrame) -> pd.Series:
+def values_of(source: Source, frame: pd.DataFrame) -> pd.Series:
     """The values of a column; of one of categories these."""
     values = source.values(frame)
     if isinstance(values.dtype, pd.CategoricalDtype):
@@ -67,7 +67,7 @@ def _values(source: Source, frame: pd.DataFrame) -> pd.Series:
     return values
 
 
-def _unit(values: pd.Series, source: Source, times: str) -> str:
+def unit_of(values: pd.Series, source: Source, times: str) -> str:
     """What the numbers of a column count, by the word of ``columns=``: one of times, ``date`` or
     ``decimal(PLACES)``. Nothing is known of whole numbers, which are ``int``."""
     if source.kind == "text":

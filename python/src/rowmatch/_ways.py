@@ -7,7 +7,6 @@ import decimal
 import re
 from collections.abc import Callable, Collection, Hashable, Mapping
 from dataclasses import dataclass, field
-from fractions import Fraction
 from typing import TYPE_CHECKING, Any, ClassVar, Union
 
 import numpy as np
@@ -27,6 +26,12 @@ _DECIMAL = re.compile(r"decimal\(([0-9]{1,2})\)")
 _EPOCH = datetime.date(1970, 1, 1)
 _NUMBERS = (int, float, decimal.Decimal, np.integer, np.floating, np.bool_)
 _WIDEST = 60  # characters of a value in a message
+_FINITE = ".replace([numpy.inf, -numpy.inf], numpy.nan) makes nulls of them"
+_KEYS = ".map(str, na_action='ignore') makes texts of them, for keys"
+# Enough digits for all numbers of 64 bits. What it would round is refused.
+_WIDE = decimal.Context(
+    prec=60, Emax=decimal.MAX_EMAX, Emin=decimal.MIN_EMIN, traps=[decimal.Inexact]
+)
 # What objects are that pandas makes a column of, and how.
 _AS_OBJECTS = {
     "datetime": "times as objects: pandas.to_datetime makes a column of times of them",
@@ -34,6 +39,10 @@ _AS_OBJECTS = {
     "timedelta": "times as objects: pandas.to_timedelta makes a column of times of them",
     "floating": "floats as objects: .astype('float64') makes a column of numbers of them",
 }
+_OF_ZONES = (
+    "times as objects, in several zones: pandas.to_datetime(.., utc=True) makes a column of times "
+    "of them"
+)
 # What makes something else of values that can't be handed over.
 _MAKE = {
     "bytes": ": .str.decode('utf-8') makes texts of them",
@@ -100,7 +109,7 @@ class Whole(Way):
         if numbers.dtype.kind in "uf":
             far = np.flatnonzero((numbers >= 2**63) | (numbers < -(2**63)))
             if len(far):
-                raise self.fault(numbers[far[0]], "which takes more than 64 bits", int(far[0]))
+                raise self._beyond(numbers[far[0]].item(), int(far[0]))
         whole_numbers = numbers.astype("int64")
         if numbers.dtype.kind == "f" and (whole_numbers != numbers).any():
             row = int(np.flatnonzero(whole_numbers != numbers)[0])
@@ -111,8 +120,15 @@ class Whole(Way):
         if not isinstance(value, (int, np.integer, np.bool_)):
             raise self.fault(repr(value), "which is no whole number", row)
         if not _LEAST <= int(value) <= _GREATEST:
-            raise self.fault(value, "which takes more than 64 bits", row)
+            raise self._beyond(int(value), row)
         return int(value)
+
+    def _beyond(self, number: float, row: int) -> DataError:
+        """The error of a number that has no 64 bits with a sign."""
+        if _is_endless(number):
+            return _no_number(self.label, number, row)
+        write = f": {_KEYS}" if isinstance(number, int) else ""
+        return self.fault(number, f"which is beyond the signed 64 bits{write}", row)
 
     def back(self, answer: pd.Series) -> pd.Series:
         if self.dtype == object:
@@ -157,6 +173,8 @@ class Places(Way):
         scaled, fits = _of_places(numbers, self.places)
         if not fits.all():
             row = int(np.flatnonzero(~fits)[0])
+            if np.isinf(numbers[row]):
+                raise _no_number(self.label, numbers[row], row)
             raise self._no_decimal(repr(numbers[row].item()), row, self._help(numbers))
         return Numbers(scaled.astype("int64"), missing)
 
@@ -175,10 +193,18 @@ class Places(Way):
             if not missing[row]:
                 number = self._scaled(value)
                 if number is None:
-                    raise self._no_decimal(value, row, self._help_of_objects(values))
+                    raise self._no_decimal_of(value, row, values)
                 whole[row] = number
                 self.objects.setdefault(number, value)
         return Numbers(whole, missing)
+
+    def _no_decimal_of(self, value: Any, row: int, values: pd.Series) -> DataError:
+        if _is_endless(value):
+            return _no_number(self.label, value, row)
+        if isinstance(value, str):
+            write = ": pandas.to_numeric makes numbers of a column of texts"
+            return self._no_decimal(_shown(value), row, write)
+        return self._no_decimal(value, row, self._help_of_objects(values))
 
     def _help_of_objects(self, values: pd.Series) -> str:
         places = _places_of_objects(values)
@@ -198,12 +224,18 @@ class Places(Way):
     def _scaled(self, value: Any) -> int | None:
         """The whole number that an object is in units of the last place, where it is one."""
         number = _decimal_of(value)
-        if number is None:
+        if not number:
+            return None if number is None else 0
+        # One beyond these has more digits than 64 bits or is less than a unit, and may have an
+        # exponent of which no whole number can be made.
+        if not 0 <= number.adjusted() + self.places <= _MOST_PLACES:
             return None
-        scaled = Fraction(number) * 10**self.places
-        if scaled.denominator == 1 and _LEAST <= scaled <= _GREATEST:
-            return int(scaled)
-        return None
+        try:
+            scaled = number.scaleb(self.places, _WIDE)
+        except decimal.Inexact:
+            return None
+        whole = int(scaled)
+        return whole if whole == scaled and _LEAST <= whole <= _GREATEST else None
 
     def _no_decimal(self, has: Any, row: int, write: str = "") -> DataError:
         why = f"which is no decimal of {self.places} places and 64 bits{write}"
@@ -220,11 +252,15 @@ class Places(Way):
 
 @dataclass(frozen=True)
 class Moments(Way):
-    """Times as whole numbers of a unit since 1970 (in UTC where there is a zone), and lengths."""
+    """Times as whole numbers of a unit since 1970 (in UTC where there is a zone), and lengths. Of
+    objects it takes nulls alone. ``is_said`` is whether ``columns=`` gave the unit."""
 
     unit: str
+    is_said: bool = False
 
     def cells(self, values: pd.Series) -> Numbers:
+        if values.dtype == object and values.isna().all():
+            return Numbers(np.zeros(len(values), dtype="int64"), np.ones(len(values), dtype=bool))
         if values.dtype.kind not in "mM":
             raise self.fault(
                 f"the dtype {values.dtype}", "and no times: pandas.to_datetime makes them"
@@ -248,11 +284,15 @@ class Moments(Way):
 
     def _too_fine(self, moment: Any, row: int, finer: str) -> DataError:
         """The error of a time that is no whole number, by the unit of which all of them are."""
-        write = f"times={finer!r}, or columns={{{self.label!r}: {finer!r}}}"
+        write = f"columns={{{self.label!r}: {finer!r}}}"
+        if not self.is_said:
+            write = f"times={finer!r}, or {write}"
         why = f"which is no whole number of {self.unit}: {write}; the clause counts in {finer} then"
         return self.fault(moment, why, row)
 
     def back(self, answer: pd.Series) -> pd.Series:
+        if self.dtype == object:
+            return answer.astype(object).mask(answer.isna(), None)
         of_numpy = isinstance(self.dtype, np.dtype)
         unit = np.datetime_data(self.dtype)[0] if of_numpy else self.dtype.unit
         ticks, step = _NANOS[unit], UNITS[self.unit]
@@ -455,13 +495,15 @@ def way_of(label: Hashable, values: pd.Series, said: str | None, times: str) -> 
             f"column {label!r} is sparse: .sparse.to_dense() makes one that can be handed over"
         )
         raise DataError(message, label)
+    if said is None and dtype.kind in "mM":
+        return Moments(label, dtype, times)
     if said is None:
-        said = times if dtype.kind in "mM" else _said_by_values(label, values)
+        said = _said_by_values(label, values)
     places = places_in(said)
     if places is not None:
         return Places(label, dtype, places)
     if said in UNITS:
-        return Moments(label, dtype, said)
+        return Moments(label, dtype, said, is_said=True)
     return {"int": Whole, "bool": Flags, "text": Texts, "date": Days}[said](label, dtype)
 
 
@@ -511,9 +553,16 @@ def _look_at_fractions(label: Hashable, values: pd.Series) -> None:
     raise DataError(f"column {label!r} has fractions, as {has}: {write}", label, int(fractions[0]))
 
 
+def _is_endless(value: Any) -> bool:
+    if isinstance(value, decimal.Decimal):
+        return value.is_infinite()
+    return isinstance(value, (float, np.floating)) and bool(np.isinf(value))
+
+
 def _no_number(label: Hashable, has: Any, row: int) -> DataError:
     why = "which is no number that can be handed over"
-    return DataError(f"column {label!r} has {has}, {why}", label, row)
+    write = f": {_FINITE}" if _is_endless(has) else ""
+    return DataError(f"column {label!r} has {has}, {why}{write}", label, row)
 
 
 def _say_places(label: Hashable, places: int, rounding: str) -> str:
@@ -557,7 +606,9 @@ def _decimal_of(value: Any) -> decimal.Decimal | None:
 def _unfit(label: Hashable, values: pd.Series, kind: str) -> DataError:
     """The error of a column of which no way is known: why, and what to do."""
     if kind in _AS_OBJECTS:
-        return DataError(f"column {label!r} has {_AS_OBJECTS[kind]}", label)
+        zones = {str(getattr(value, "tzinfo", None)) for value in values.dropna()}
+        has = _OF_ZONES if len(zones) > 1 else _AS_OBJECTS[kind]
+        return DataError(f"column {label!r} has {has}", label)
     rows = np.flatnonzero(values.notna().to_numpy())
     known = list(values.iloc[rows])
     if not known:

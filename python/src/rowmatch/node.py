@@ -25,6 +25,8 @@ Row = Sequence[Value]
 _BYTES = 32_768
 _LINES = 1_000
 _AGAIN = "send again what was sent since the last commit"
+_COMMITTED = "commit has ended this connection: open another Node"
+_ENDED = f"this connection has ended: open another Node, and {_AGAIN}"
 _LOST = "items that didn't arrive may count as given: begin with a copy of the node's file"
 
 
@@ -158,6 +160,7 @@ class Node:
         self._process = os.getpid()
         self._answered = 0
         self._is_missing = False  # whether lines were sent whose replies weren't read
+        self._ended: str | None = None  # what to say of calls once the connection has ended
         # Held from lines to their replies, of which each thread gets its own. A handler of a signal
         # may come in between, in the same thread.
         self._turn = threading.RLock()
@@ -180,12 +183,19 @@ class Node:
     def poll(self, *keys: Row, budget: int = 1_000_000) -> list[Item]:
         """The items of partitions that are certain and were not given before.
 
+        A partition's search takes ``budget`` steps at most before it is the next one's turn, and
+        all go on until none has more to give. A small one lets other clients' calls in sooner and
+        costs more; the items are the same.
+
         What a connection gave counts as given once the node saves at its end, whether or not it
         arrived: store items before you `commit`. Where a poll is refused or the connection fails,
         the error has the items that came. After a call that was interrupted, as by Ctrl-C, each
         further one is a `NodeError`, `commit` too."""
         items: list[Item] = []
         due, turns = [_values(key) for key in keys], index(budget)
+        if turns < 1:
+            raise ValueError(f"budget={budget!r} is less than 1, and no poll would ever end")
+        self._look_at_end()
         try:
             while due:
                 due = self._polled(due, turns, items)
@@ -216,10 +226,12 @@ class Node:
     def commit(self) -> None:
         """Ends the connection, and returns once the node has written that all that was sent on it
         is saved. Where it doesn't write that, it was killed, its disk is full, or it runs without
-        ``--acknowledge``: a `NodeError`, and nothing can be relied on that was sent."""
+        ``--acknowledge``: a `NodeError`, and nothing can be relied on that was sent. To send more
+        open another `Node`."""
         try:
             with self._turn:
-                self._look_at_missing()
+                self._look_at_state()
+                self._ended = _COMMITTED
                 self._socket.shutdown(socket.SHUT_WR)
                 line = self._replies.read()
         except OSError as error:
@@ -255,6 +267,7 @@ class Node:
         if os.getpid() == self._process:
             with contextlib.suppress(OSError):
                 self._socket.shutdown(socket.SHUT_RDWR)
+        self._ended = self._ended or _ENDED
         self._replies.close()
         self._socket.close()
 
@@ -293,7 +306,7 @@ class Node:
         """Sends lines, and gives what came back, and the error with which that ended."""
         replies: list[bytes] = []
         with self._turn:
-            self._look_at_missing()
+            self._look_at_state()
             self._is_missing = True
             try:
                 self._socket.sendall(b"".join(lines))
@@ -309,8 +322,14 @@ class Node:
             self._is_missing = False
         return replies, None
 
-    def _look_at_missing(self) -> None:
+    def _look_at_end(self) -> None:
+        """Nothing can be sent once the connection has ended."""
+        if self._ended and not self._is_missing:
+            raise NodeError(self._ended)
+
+    def _look_at_state(self) -> None:
         """Replies that are still to come would be taken for those of a later call."""
+        self._look_at_end()
         if self._is_missing:
             message = "an earlier call failed or was interrupted, and replies to it are missing"
             raise NodeError(f"{message}: {_AGAIN}; {_LOST}")

@@ -1,0 +1,122 @@
+"""What to write where a clause has a fault, in the words of Python and pandas."""
+
+from __future__ import annotations
+
+from collections.abc import Iterator, Mapping
+from dataclasses import dataclass, replace
+
+import pandas as pd
+
+from ._names import Source, written
+from ._units import unit_of, values_of
+from ._ways import UNITS, first_known
+from ._words import columns_of, words_near
+from .errors import ClauseError, Fault
+
+_DAY = 86_400_000_000_000  # nanoseconds
+_NANOS = {**UNITS, "date": _DAY}
+# What the program says of commands and files, from where on it isn't true of frames.
+_OF_COMMANDS = "--columns"
+_OF_TABLES = "; the kinds of columns are in the table"
+_OF_QUOTES = "a text is written in single quotes"
+
+
+def in_python(
+    error: ClauseError, frame: pd.DataFrame, sources: Mapping[str, Source], times: str
+) -> ClauseError:
+    """A clause's faults over a frame, with a help that can be followed there."""
+    helper = _Helper(error.clause, frame, sources, times)
+    return ClauseError(error.clause, [helper.helped(fault) for fault in error.faults])
+
+
+@dataclass(frozen=True)
+class _Helper:
+    clause: str
+    frame: pd.DataFrame
+    sources: Mapping[str, Source]
+    times: str
+
+    def helped(self, fault: Fault) -> Fault:
+        """A fault with the help that it has over a frame."""
+        if fault.byte is None or fault.kind not in ("KindMismatch", "UnknownColumn", "Expected"):
+            return fault
+        words = self._words_near(fault)
+        columns = columns_of(words, self.sources)
+        texts = [it for it in columns if it.kind == "text" and it.said is None]
+        own = [*self._of_bools(fault, columns), *self._of_times(fault, columns, words)]
+        if own and not texts:
+            return replace(fault, help=tuple(own))
+        lines = [line.replace(_OF_TABLES, "") for line in fault.help if _OF_COMMANDS not in line]
+        if fault.kind != "KindMismatch" or "whole number" not in fault.message:
+            return replace(fault, help=tuple(lines))
+        empty = [it for it in texts if first_known(values_of(it, self.frame)) is None]
+        if empty:
+            lines = [line for line in lines if not line.startswith(_OF_QUOTES)]
+        return replace(fault, help=(*lines, *(_of_text(it, it in empty) for it in texts)))
+
+    def _words_near(self, fault: Fault) -> list[str]:
+        assert fault.byte is not None
+        encoded = self.clause.encode(errors="surrogatepass")
+        begin, end = (
+            len(encoded[:at].decode(errors="replace"))
+            for at in (fault.byte, fault.byte + fault.length)
+        )
+        return words_near(self.clause, begin, end)
+
+    def _of_bools(self, fault: Fault, columns: list[Source]) -> Iterator[str]:
+        """What to write for a column of bools as a condition, or compared with TRUE or a text."""
+        of_truth = fault.kind == "UnknownColumn" and fault.message.upper().endswith(
+            (" TRUE", " FALSE")
+        )
+        if not of_truth and fault.kind != "KindMismatch":
+            return
+        for source in columns:
+            if values_of(source, self.frame).dtype.kind == "b":
+                name = written(source.text)
+                yield f"{name} is 1 where it is true, and 0: write {name} = 1, or {name} = 0"
+
+    def _of_times(self, fault: Fault, columns: list[Source], words: list[str]) -> Iterator[str]:
+        """What to write for a column of times next to a text or a length of time."""
+        is_length = fault.message == "there are no intervals"
+        is_text = fault.message == "there are no dates and times" or fault.kind == "KindMismatch"
+        texts = [word[1:-1] for word in words if word.startswith("'")]
+        if not texts or not (is_length or is_text):
+            return
+        for source in columns:
+            values = values_of(source, self.frame)
+            unit = unit_of(values, source, self.times)
+            if unit in _NANOS:
+                number = None if is_length else _number_of(texts[0], values, _NANOS[unit])
+                yield _of_time(written(source.text), unit, number, texts[0])
+
+
+def _of_text(source: Source, is_empty: bool) -> str:
+    label = source.label
+    if is_empty:
+        way = f"columns={{{label!r}: 'int'}}"
+        return f"column {source.text} has no value here, so that it is text: {way} says what it is"
+    make = "pandas.to_numeric(..) makes numbers of it, pandas.to_datetime(.., format=..) times"
+    return f"column {source.text} has texts: {make}"
+
+
+def _of_time(name: str, unit: str, number: int | None, text: str) -> str:
+    """What a column of times counts in, and what to write for a text or for a length of time."""
+    counts = "days" if unit == "date" else f"{unit} (times= names the unit)"
+    if number is not None:
+        return f"{name} counts in {counts}: write {number} for '{text}'"
+    length = "a week is 7" if unit == "date" else f"an hour is {_DAY // 24 // UNITS[unit]}"
+    return f"{name} counts in {counts}: write a whole number; {length}"
+
+
+def _number_of(text: str, values: pd.Series, step: int) -> int | None:
+    """A text of a time as the number that a column of times has for it, where there is one."""
+    make = pd.Timedelta if values.dtype.kind == "m" else pd.Timestamp
+    try:
+        moment = make(text)
+        zone = getattr(values.dtype, "tz", None)
+        if zone is not None and moment.tzinfo is None:
+            moment = moment.tz_localize(zone)
+    except (ValueError, OverflowError):
+        return None
+    nanos = int(moment.value)
+    return None if moment is pd.NaT or nanos % step else nanos // step

@@ -1,0 +1,223 @@
+"""What is said of a clause and of data in the words of pandas: helps, refusals, warnings."""
+
+from __future__ import annotations
+
+import datetime
+import re
+from decimal import Decimal
+
+import numpy as np
+import pandas as pd
+import pytest
+
+import rowmatch
+from rowmatch import ClauseError, DataError
+
+FRAME = pd.DataFrame(
+    {
+        "none": pd.Series([None, None], dtype=object),
+        "word": ["10", "9"],
+        "paid": [True, False],
+        "n": [1, 2],
+        "is it": [True, False],
+        "at": pd.to_datetime(["2024-01-01", "2024-01-02"]),
+        "berlin": pd.to_datetime(["2024-01-01", "2024-01-02"]).tz_localize("Europe/Berlin"),
+        "day": [datetime.date(2024, 1, 1), datetime.date(2024, 1, 2)],
+        "length": pd.to_timedelta(["1h", "2h"]),
+    }
+)
+NONE = "column none has no value here, so that it is text: columns={'none': 'int'} says what it is"
+WORD = (
+    "column word has texts: pandas.to_numeric(..) makes numbers of it, "
+    "pandas.to_datetime(.., format=..) times"
+)
+PAID = "paid is 1 where it is true, and 0: write paid = 1, or paid = 0"
+MICROS = "counts in micros (times= names the unit): write"
+
+
+@pytest.mark.parametrize(
+    "condition, helps",
+    [
+        ("none > 5", ["none is text, 5 is int", NONE]),
+        ("PREV(none, 1) > 5 AND word = 'x'", [NONE]),
+        ("SUM(none) > 5", ["none is text: COUNT, MIN and MAX take it", NONE]),
+        ("SUM(word) > 5", ["word is text: COUNT, MIN and MAX take it", WORD]),
+        ('"word" - PREV(word) > 5', [WORD]),
+        ("word > 5", ["word is text, 5 is int", WORD]),
+        ("word = paid", [WORD]),
+        ("n = 'x'", ["n is int, 'x' is text"]),
+        ("paid = TRUE", [PAID]),
+        ("n = 1 AND false = paid", [PAID]),
+        ("paid = 'true'", [PAID]),
+        ("paid", [PAID]),
+        (
+            '"is it" = TRUE',
+            ['"is it" is 1 where it is true, and 0: write "is it" = 1, or "is it" = 0'],
+        ),
+        ("n = 1 AND NOT paid", [PAID]),
+        # 2024-01-01 is day 19,723 since 1970, 1,704,067,200 seconds.
+        ("at > '2024-01-01'", [f"at {MICROS} 1704067200000000 for '2024-01-01'"]),
+        ("at > DATE '2024-01-01'", [f"at {MICROS} 1704067200000000 for '2024-01-01'"]),
+        ("berlin > '2024-01-01'", [f"berlin {MICROS} 1704063600000000 for '2024-01-01'"]),
+        ("day > '2024-01-01'", ["day counts in days: write 19723 for '2024-01-01'"]),
+        ("length > '1h'", [f"length {MICROS} 3600000000 for '1h'"]),
+        ("at > 'soon'", [f"at {MICROS} a whole number; an hour is 3600000000"]),
+        ("at - PREV(at) > INTERVAL '1' HOUR", [f"at {MICROS} a whole number; an hour is 36000000"]),
+    ],
+)
+def test_what_to_write_for_a_column(condition, helps):
+    with pytest.raises(ClauseError) as caught:
+        rowmatch.match(FRAME, f"PATTERN (A) DEFINE A AS {condition}")
+    said = caught.value.help
+    for text in helps:
+        assert any(text in line for line in said), said
+    other = {NONE, WORD, PAID} - set(helps)
+    assert not any(line in other or "--columns" in line or "in the table" in line for line in said)
+
+
+def test_the_unit_of_times_is_the_one_that_was_given():
+    for options in ({"times": "seconds"}, {"columns": {"at": "seconds"}}):
+        with pytest.raises(ClauseError, match="at counts in seconds .*: write 1704067200 for"):
+            rowmatch.match(FRAME, "PATTERN (A) DEFINE A AS at > '2024-01-01'", **options)
+
+
+def test_what_is_said_of_a_column_without_values_can_be_written():
+    clause = "MEASURES A.none AS v PATTERN (A) DEFINE A AS none IS NULL OR none > 5"
+    for way in ("int", "decimal(2)", "date", "seconds", "nanos"):
+        for frame in (FRAME, FRAME.iloc[:0]):
+            answer = rowmatch.match(frame, clause, columns={"none": way})
+            assert len(answer) == len(frame) and answer["v"].isna().all()
+    with pytest.raises(DataError, match="no times: pandas.to_datetime makes them"):
+        rowmatch.match(pd.DataFrame({"none": ["x", None]}), clause, columns={"none": "seconds"})
+
+
+EVERY = "PATTERN (A) DEFINE A AS v IS NULL"
+ENDLESS = "which is no number that can be handed over: .replace([numpy.inf, -numpy.inf], numpy.nan)"
+
+
+@pytest.mark.parametrize(
+    "values, options, said",
+    [
+        (
+            np.array([2**63], dtype="uint64"),
+            {},
+            "has 9223372036854775808, which is beyond the signed 64 bits: .map(str, na_action=",
+        ),
+        ([1e19], {}, "has 1e+19, which is beyond the signed 64 bits"),
+        ([1.0, np.inf], {}, f"has inf, {ENDLESS}"),
+        ([1.0, np.inf], {"columns": {"v": "decimal(2)"}}, f"has inf, {ENDLESS}"),
+        (
+            [Decimal("-Infinity")],
+            {"columns": {"v": "decimal(2)"}},
+            f"has -Infinity, {ENDLESS}",
+        ),
+        (
+            ["10", Decimal(1)],
+            {"columns": {"v": "decimal(2)"}},
+            "has '10', which is no decimal of 2 places and 64 bits: pandas.to_numeric",
+        ),
+        (
+            pd.to_datetime(["2024-01-05 09:30:00.5"]),
+            {"columns": {"v": "seconds"}},
+            "which is no whole number of seconds: columns={'v': 'millis'}; the clause counts",
+        ),
+        (
+            [pd.Timestamp("2024-01-05", tz=zone) for zone in ("UTC", "Europe/Berlin")],
+            {},
+            "has times as objects, in several zones: pandas.to_datetime(.., utc=True) makes",
+        ),
+    ],
+)
+def test_what_to_write_for_data(values, options, said):
+    with pytest.raises(DataError, match=re.escape(said)):
+        rowmatch.match(pd.DataFrame({"v": values}), EVERY, **options)
+
+
+def test_a_clause_that_is_no_text():
+    with pytest.raises(TypeError, match="the clause is a int and no text"):
+        rowmatch.match(FRAME, 5)
+
+
+def test_what_is_no_frame():
+    frame = pd.DataFrame({"v": [1]})
+    with pytest.raises(TypeError, match="groups aren't one frame"):
+        rowmatch.match(frame.groupby("v"), EVERY)
+    with pytest.raises(TypeError, match="a list of frames isn't one frame"):
+        rowmatch.match([frame], EVERY)
+    assert len(rowmatch.match([{"v": None}], EVERY)) == 1
+
+
+@pytest.mark.parametrize(
+    "text, cents",
+    [
+        ("92233720368547758.07", 2**63 - 1),
+        ("-92233720368547758.08", -(2**63)),
+        ("1E+16", 10**18),
+        ("1." + "0" * 100, 100),
+        ("0E+999999999", 0),
+        ("0E-999999999", 0),
+        ("92233720368547758.08", None),
+        ("1E+17", None),
+        ("0.005", None),
+        ("1." + "0" * 100 + "1", None),
+        ("1E+999999999", None),
+        ("sNaN", None),
+    ],
+)
+@pytest.mark.filterwarnings("ignore::pytest.PytestUnraisableExceptionWarning")  # pandas' of sNaN
+def test_decimals_of_all_sizes(text, cents):
+    frame = pd.DataFrame({"v": [Decimal(text)]})
+    clause = "MEASURES A.v + 0 AS v PATTERN (A) DEFINE A AS 1 = 1"
+    if cents is None:
+        with pytest.raises(DataError, match="which is no decimal of 2 places and 64 bits"):
+            rowmatch.match(frame, clause, columns={"v": "decimal(2)"})
+    else:
+        assert rowmatch.match(frame, clause, columns={"v": "decimal(2)"})["v"].tolist() == [cents]
+
+
+BY_ORDER = "PATTERN (A B) DEFINE B AS v > PREV(v)"
+NUMBERS = (
+    "v is text and is ordered letter by letter, so that '10.20' comes before '9.50': pandas.to_"
+)
+DATES = (
+    "v is text and is ordered letter by letter, and has dates as '1/10/2024': pandas.to_datetime"
+)
+
+
+@pytest.mark.parametrize("clause", [BY_ORDER, "ORDER BY v PATTERN (A) DEFINE A AS 1 = 1"])
+@pytest.mark.parametrize("dtype", [object, "string", "category"])
+@pytest.mark.parametrize(
+    "values, said", [(["9.50", None, "10.20"], NUMBERS), (["1/10/2024", "1/9/2024"], DATES)]
+)
+def test_numbers_and_dates_that_are_texts_are_warned_of(clause, dtype, values, said):
+    frame = pd.DataFrame({"v": values}).astype({"v": dtype})
+    with pytest.warns(UserWarning, match=re.escape(said)) as warned:
+        rowmatch.match(frame, clause)
+    assert len(warned) == 1
+    assert said in rowmatch.check(frame, clause)
+
+
+def test_texts_in_their_order_are_not_warned_of(recwarn):
+    for values in (["9", "x"], ["007", "012"], ["2024-01-05", "2024-01-10"], [None], ["1", "2"]):
+        rowmatch.match(pd.DataFrame({"v": pd.Series(values, dtype=object)}), BY_ORDER)
+    numbers = pd.DataFrame({"v": ["9", "10"]})
+    rowmatch.match(numbers, "PATTERN (A) DEFINE A AS v = '9' AND 1 < 2")
+    rowmatch.match(numbers, BY_ORDER, columns={"v": "text"})
+    assert not recwarn.list
+
+
+def test_columns_that_the_clause_does_not_name_are_not_looked_at(monkeypatch):
+    looked = []
+    known = rowmatch._ways.first_known
+    monkeypatch.setattr(
+        rowmatch._ways, "first_known", lambda values: looked.append(len(values)) or known(values)
+    )
+    frame = pd.DataFrame({"V": ["x"] * 3, "other": [None] * 3}, dtype=object)
+    assert len(rowmatch.match(frame, "PATTERN (A) DEFINE A AS v = 'x'")) == 3
+    assert 3 in looked and looked.count(3) == 1
+
+
+def test_check_says_in_which_unit_times_count():
+    clause = "PATTERN (A) DEFINE A AS at > 0 AND length > 0 AND n > 0"
+    said = rowmatch.check(FRAME, clause, columns={"length": "seconds"})
+    assert "\nat counts in micros\nlength counts in seconds\n" in said and "n counts" not in said
