@@ -3,6 +3,9 @@
 //! It is a cache, and its room has a limit. A place keeps what it has for a row in one of its slots, by the row's number modulo
 //! theirs. Where another row that may still be asked for is there, the place doubles its slots, as long as the table has room for
 //! them; from then on the slot is overwritten, and a search that comes to that other row again finds out again.
+//!
+//! Room is first for whichever place comes. Once that is taken, there is more for places that have less than an equal share: to parts of
+//! the pattern that a search comes to late, as behind a long `X*`, it is worth as much to be remembered.
 ghost use Rattle.std.specs.Prelude.{◌≡◌, ◌≢◌, ℕ, ◌*◌, ◌<◌, ◌≤◌, ◌%◌, ◌⊎◌, true, length, Some, Ok, IsTrue, IfOk, OnOk};
 ghost use Rattle.rp_search.specs.Table.{until_at, until_row, until_of, IsFreeFor, KeepsFrom, RowsKeepFrom};
 
@@ -11,8 +14,11 @@ use std::alloc::{AllocError, Global};
 /// So many slots a place has at first.
 const FIRST_SLOTS: usize = 8;
 
-/// A place may double its slots while all of them are fewer: they take 16 MiB at most, but for the first ones of each place.
+/// Any place may double its slots while all of them are fewer: they take 16 MiB at most, but for the first ones of each place.
 const MOST_SLOTS: usize = 524_288;
+
+/// A place that has less than an equal share of `MOST_SLOTS` may double its slots while all of them are fewer than this: 36 MiB at most.
+const MOST_SHARED_SLOTS: usize = 2_097_152;
 
 /// Below which start row a place has failed at a row: 0 for nothing.
 #[derive(Clone, Copy)]
@@ -84,10 +90,24 @@ impl Table {
             (until_of self.new q r ≡ until_of self.old q r) ⊎ ((q ≡ place) × (r ≡ row) × (until_of self.new q r ≡ until)) }
     {
         self.make_room(place as usize)?;
-        let has_room = self.slots < MOST_SLOTS;
+        let has_room = self.has_room(place as usize);
         let added = self.places[place as usize].add(self.alloc, row, until, from, has_room)?;
         self.slots = self.slots.saturating_add(added.slots);
         Ok(added.kept)
+    }
+
+    /// Whether the place may double its slots.
+    fn has_room(&self, place: usize) -> bool
+        requires { place < length self.now.places.items }
+    {
+        if self.slots < MOST_SLOTS {
+            return true;
+        }
+        let equals = self.places[place]
+            .slots
+            .len()
+            .saturating_mul(self.places.len());
+        self.slots < MOST_SHARED_SLOTS && equals < MOST_SLOTS
     }
 
     /// Makes room for the rows of a place.
