@@ -143,16 +143,17 @@ def bring(folder, table=TABLE, clause=CLAUSE, kept="kept", program=PROGRAM):
 
 
 def leaves_nothing(checks, folder):
-    """A client that is ended as soon as its node is there: the node, which has no connection yet, ends with it. By SIGTERM its folder goes
-    too; what a kill leaves of that, the pages say."""
-    for by, name in [(signal.SIGTERM, "ended"), (signal.SIGKILL, "killed")]:
+    """A client that is ended as soon as its node is there, which has no connection yet, or up to 30 ms later: the node ends with it. By
+    SIGTERM and Ctrl-C its folder goes too; what a kill leaves of that, the pages say."""
+    for by, name in [(signal.SIGTERM, "ended"), (signal.SIGINT, "interrupted"), (signal.SIGKILL, "killed")]:
         os.mkdir(f"{folder}/{name}")
         write_prices(folder, 9)
-        for _ in range(6):
+        for later in range(30):
             words = [sys.executable, CLIENT, PROGRAM, TABLE, CLAUSE, f"{folder}/log", f"{folder}/kept"]
             client = subprocess.Popen(words, stderr=subprocess.DEVNULL, env={**os.environ, "TMPDIR": f"{folder}/{name}"})
             while not children(client.pid) and client.poll() is None:
                 time.sleep(0.001)
+            time.sleep(later / 1000)
             client.send_signal(by)
             client.wait(timeout=60)
         until = time.monotonic() + 10
@@ -162,7 +163,7 @@ def leaves_nothing(checks, folder):
         checks.same(f"{name}: no node is left", nodes, [])
         for node in nodes:
             kill(node)
-        if by == signal.SIGTERM:
+        if by != signal.SIGKILL:
             checks.same(f"{name}: no folder is left", os.listdir(f"{folder}/{name}"), [])
 
 

@@ -3,12 +3,14 @@
 A line of LOG is an event: {"key":["x"],"line":{"cells":["x",1,10],"row":1}}, or with {"close":1,"key":["x"]} as its line."""
 import ctypes, json, os, pathlib, signal, socket, subprocess, sys, tempfile, time
 
+ENDS = [signal.SIGINT, signal.SIGTERM]
 program, table, clause, log, kept = sys.argv[1:]
 node_words = [program, "node", "--table", table, "--clause", clause, "--listen", "127.0.0.1:0"]
 node_words += ["--connections", "1", "--idle", "60", "--acknowledge", "--verbose", "--state"]
 
 def end_with_client(client=os.getpid()):
     """A node ends with the client, also where that is killed before the node has a connection to wait for the end of."""
+    signal.pthread_sigmask(signal.SIG_UNBLOCK, ENDS)
     ctypes.CDLL(None).prctl(1, signal.SIGKILL)
     if os.getppid() != client:
         os._exit(1)
@@ -66,7 +68,8 @@ def keep(state):
         os.fsync(file.fileno())
     os.replace(f"{kept}.new", kept)
 
-signal.signal(signal.SIGTERM, lambda *_: sys.exit(128 + signal.SIGTERM))  # so that the folder of a node goes
+signal.signal(signal.SIGTERM, lambda *_: sys.exit(128 + signal.SIGTERM))
+signal.pthread_sigmask(signal.SIG_BLOCK, ENDS)  # it waits until a node is asked: so the node goes first, and then its folder
 events = [json.loads(line) for line in open(log, encoding="utf-8")]
 state = json.load(open(kept, encoding="utf-8")) if os.path.exists(kept) else {"position": 0, "items": {}, "checkpoint": ""}
 is_done = False
@@ -79,6 +82,7 @@ while not is_done:  # once also where nothing is to be sent: a node says whether
         words = [*node_words, f"{folder}/node"]
         with subprocess.Popen(words, stderr=subprocess.PIPE, text=True, preexec_fn=end_with_client) as node:
             try:
+                signal.pthread_sigmask(signal.SIG_UNBLOCK, ENDS)
                 items = items_of(node, batch)
             except OSError as fault:
                 node.kill()
@@ -88,6 +92,8 @@ while not is_done:  # once also where nothing is to be sent: a node says whether
             except BaseException:
                 node.kill()
                 raise
+            finally:
+                signal.pthread_sigmask(signal.SIG_BLOCK, ENDS)
         checkpoint = open(f"{folder}/node", encoding="utf-8").read()
     state = {"position": state["position"] + len(batch), "items": {**state["items"], **items}, "checkpoint": checkpoint}
     keep(state)
