@@ -1,11 +1,14 @@
 -- Why a text is no condition of a row. Own: the condition is read as that of a clause, whose first fault is reported with its offset in the
 -- condition.
-use Rattle.std.specs.Prelude.{◌≡◌, ◌≢◌, ⊤, ℕ, ◌-◌, List, [], length}
+use Rattle.std.specs.Prelude.{◌≡◌, ◌≢◌, ⊤, ⊥, ℕ, ◌-◌, List, [], length}
 use Rattle.rp_value.specs.declared.table.Column.{Column}
 use Rattle.rp_lexer.specs.declared.fault.LexFault.{LexFault}
 use Rattle.rp_lexer.specs.declared.fault.LexFault.TheVariants as lex
 use Rattle.rp_grammar.specs.declared.fault.ParseFault.{ParseFault}
 use Rattle.rp_grammar.specs.declared.fault.ParseFault.TheVariants as parse
+use Rattle.rp_query.specs.Locality.{ConditionsAreLocal}
+use Rattle.rp_query.specs.LooksBack.{ConditionsLookBack}
+use Rattle.rp_query.specs.declared.locality.Locality.TheVariants.{Row}
 use Rattle.rp_query.specs.declared.query.QueryData.{QueryData}
 use Rattle.rp_resolution.specs.declared.fault.Fault.{Fault}
 use Rattle.rp_compile.specs.Compiled.{IsCompileFault, IsCompiled}
@@ -48,9 +51,15 @@ pub record IsConditionFault (text : List ℕ) (columns : List Column) (why : Com
   pub told : of_clause ≢ compile.OutOfMemory
   pub offset : why ≡ in_condition of_clause
 
--- Why a text is no condition of a row: its first fault; or it is a condition, and not one of its own row alone. Being out of memory says
--- nothing of it.
+-- the conditions look at no row but the one that they judge: none counts or goes from others, none goes on or back from it
+pub record LookAtOwnRow (q : QueryData) : Type 0 where
+  pub local : ConditionsAreLocal Row q.plan
+  pub ahead : ConditionsLookBack q.plan
+  pub back : q.reach ≡ 0
+
+-- Why a text is no condition of a row: its first fault; or it is a condition, which looks at other rows than its own. Being out of memory
+-- says nothing of it.
 abbrev pub IsFilterFault : List ℕ → List Column → FilterFault → Type 0
 IsFilterFault text columns (filter.Condition why) = IsConditionFault text columns why
-IsFilterFault text columns filter.OtherRows = (q : QueryData) × IsCompiled (clause_of text) columns q
+IsFilterFault text columns filter.OtherRows = (q : QueryData) × IsCompiled (clause_of text) columns q × (LookAtOwnRow q → ⊥)
 IsFilterFault text columns filter.OutOfMemory = ⊤

@@ -1,10 +1,7 @@
 //! From the text of a condition to a filter.
-ghost use Rattle.std.specs.Prelude.{◌≡◌, IfErr, IfOk, OnOk, string_bytes};
-ghost use Rattle.rp_query.specs.Locality.{ConditionsAreLocal};
-ghost use Rattle.rp_query.specs.LooksBack.{ConditionsLookBack};
-ghost use Rattle.rp_query.specs.declared.locality.Locality.TheVariants.{Row};
+ghost use Rattle.std.specs.Prelude.{◌≡◌, ◌↔◌, IsTrue, IfErr, IfOk, OnOk, string_bytes};
 ghost use Rattle.rp_compile.specs.Compiled.{IsCompiled};
-ghost use Rattle.rp_filter.specs.Faults.{IsFilterFault, in_condition, lex_in_condition, offset_in};
+ghost use Rattle.rp_filter.specs.Faults.{IsFilterFault, LookAtOwnRow, in_condition, lex_in_condition, offset_in};
 ghost use Rattle.rp_filter.specs.Meets.{clause_of};
 
 use crate::fault::FilterFault;
@@ -12,6 +9,7 @@ use crate::filter::Filter;
 use rp_compile::{CompileFault, compile};
 use rp_grammar::ParseFault;
 use rp_lexer::LexFault;
+use rp_query::Query;
 use rp_resolution::Fault;
 use rp_value::Table;
 use std::alloc::{AllocError, Global};
@@ -22,15 +20,13 @@ const FRONT: &str = "PATTERN (R) DEFINE R AS ";
 /// The filter of a condition over a table. A fault's offset is that in the condition; where the condition ends too early, its length.
 pub fn read_filter(alloc: Global, text: &str, table: &Table) -> Result<Filter, FilterFault>
     ensures query { IfOk result (λ filter. IsCompiled (clause_of text.now) table.now filter.query) }
-    ensures local { IfOk result (λ filter. ConditionsAreLocal Row filter.query.plan) }
-    ensures ahead { IfOk result (λ filter. ConditionsLookBack filter.query.plan) }
-    ensures back { IfOk result (λ filter. filter.query.reach ≡ 0) }
+    ensures own { IfOk result (λ filter. LookAtOwnRow filter.query) }
     ensures fault { IfErr result (IsFilterFault text.now table.now) }
 {
     let clause = clause_text(alloc, text)?;
     match compile(alloc, clause.as_str(), table) {
         Ok(query) => {
-            if query.judges_rows() && query.looks_back() && query.reach() == 0 {
+            if looks_at_own_row(&query) {
                 Ok(Filter { query })
             } else {
                 Err(FilterFault::OtherRows)
@@ -39,6 +35,13 @@ pub fn read_filter(alloc: Global, text: &str, table: &Table) -> Result<Filter, F
         Err(CompileFault::OutOfMemory) => Err(FilterFault::OutOfMemory),
         Err(fault) => Err(FilterFault::Condition(in_condition(fault))),
     }
+}
+
+/// Whether its conditions look at no row but the one that they judge.
+fn looks_at_own_row(query: &Query) -> bool
+    ensures { IsTrue result ↔ LookAtOwnRow query.now }
+{
+    query.judges_rows() && query.looks_back() && query.reach() == 0
 }
 
 /// The clause that a condition is read as.

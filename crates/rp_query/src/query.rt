@@ -171,9 +171,9 @@ pub struct Query {
     parts: Rc<QueryData>,
     /// Its pattern, made ready for searches.
     prepared: Prepared,
-    /// Whether it is known that each condition judges its row alone.
+    /// Whether each condition judges its row alone.
     judges_rows: bool,
-    /// Whether it is known that no condition looks ahead.
+    /// Whether no condition looks ahead.
     looks_back: bool,
     /// A variable that each match begins with, if one is known.
     lead: Option<Leader>,
@@ -182,7 +182,7 @@ pub struct Query {
     ghost sound: { IsSound parts.value },
     ghost ready: { Prepares (form_of parts.value.pattern) prepared },
     ghost alone: { IsTrue judges_rows ↔ ConditionsAreLocal Row parts.value.plan },
-    ghost back: { IsTrue looks_back → ConditionsLookBack parts.value.plan },
+    ghost back: { IsTrue looks_back ↔ ConditionsLookBack parts.value.plan },
     ghost led: { (l : Leads) → lead ≡ Some l → IsLeaderOf (form_of parts.value.pattern) l },
     ghost changed: { AreChangesOf parts.value.plan.totals.value.items changes.value },
 }
@@ -340,9 +340,9 @@ impl Query {
         self.judges_rows
     }
 
-    /// Whether it is known that no condition looks at a row after one that it goes from.
+    /// Whether no condition looks at a row after one that it goes from.
     pub fn looks_back(&self) -> bool
-        ensures { IsTrue result → ConditionsLookBack self.now.plan }
+        ensures { IsTrue result ↔ ConditionsLookBack self.now.plan }
     {
         self.looks_back
     }

@@ -8,7 +8,7 @@ use Rattle.rp_filter.proofs.reading.read_filter.Goals as goal
 pub returns-in-Ok-clause-fault : goal.returns-in-Ok-clause-fault
 returns-in-Ok-clause-fault c =
     let is : IsCompiled (clause_of c.args.text.now) c.args.table.now c.in-Ok.query = search rules in
-    (c.in-Ok.query, is)
+    (c.in-Ok.query, (is, λ own. search rules))
 
 pub returns : goal.returns
 returns c =
@@ -18,8 +18,6 @@ returns c =
     let told : c.in-Err.fault ≢ compile.OutOfMemory = search rules in
     record {
       query = tt;
-      local = tt;
-      ahead = tt;
-      back = tt;
+      own = tt;
       fault = record { of_clause = c.in-Err.fault; is = is; told = told; offset = c.in_condition.ensures };
     }

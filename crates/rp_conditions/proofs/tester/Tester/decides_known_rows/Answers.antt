@@ -5,7 +5,7 @@ use Rattle.rp_conditions.proofs.tester.Tester.decides_known_rows.Goals as goal
 
 pub returns-then-looks_back : goal.returns-then-looks_back
 unfolding tested_by
-returns-then-looks_back g c = λ yes. back_decided c.law_conditions.ensures.back (tested_by c.args.self.now) (c.looks_back.ensures (search rules))
+returns-then-looks_back g c = λ yes. back_decided c.law_conditions.ensures.back (tested_by c.args.self.now) (c.looks_back.ensures.0 (search rules))
 
 pub returns-in-Closed : goal.returns-in-Closed
 unfolding tested_by

@@ -19,7 +19,7 @@ invariant_of-result c =
         (
           subst (λ (d : QueryData). IsTrue c.is_local-judges_rows.result ↔ ConditionsAreLocal Row d.plan) same c.is_local-judges_rows.ensures,
           (
-            (λ is. subst (λ (d : QueryData). ConditionsLookBack d.plan) same (c.looks_back-looks_back.ensures.0 is)),
+            subst (λ (d : QueryData). IsTrue c.looks_back-looks_back.result ↔ ConditionsLookBack d.plan) same c.looks_back-looks_back.ensures,
             (
               (λ l is. subst (λ (d : QueryData). IsLeaderOf (form_of d.pattern) l) same (subst (λ o. IfSome o (IsLeaderOf (form_of c.args.parts.pattern))) is c.leader_of-lead.ensures)),
               (subst (λ (d : QueryData). AreChangesOf d.plan.totals.value.items c.in_ok-changes.changes.value) same (search rules), tt),
