@@ -170,7 +170,7 @@ fn print_finding(
     finding: &Finding,
 ) -> Result<(), ProgramFault> {
     let bytes = match job.format {
-        ReportFormat::Text => lines_of(rt.alloc(), query, key, count, finding)?,
+        ReportFormat::Text => lines_of(rt.alloc(), job, query, key, count, finding)?,
         ReportFormat::Json => object_of(rt.alloc(), query, key, count, finding)?,
     };
     print(rt, bytes.as_slice())
@@ -187,13 +187,21 @@ fn print(rt: &HostRuntime, bytes: &[u8]) -> Result<(), ProgramFault> {
 /// What is found of a partition of so many rows, in lines for people.
 fn lines_of(
     alloc: Global,
+    job: &WhyJob,
     query: &Query,
     key: &Cells,
     count: u64,
     finding: &Finding,
 ) -> Result<Vec<u8>, AllocError> {
     let shown = shown_key(alloc, key)?;
-    let text = told(alloc, query, shown.as_str(), count, finding)?;
+    let text = told(
+        alloc,
+        query,
+        shown.as_str(),
+        count,
+        most_turns(job),
+        finding,
+    )?;
     Ok(shown_text(alloc, text.as_str())?.into_bytes())
 }
 
@@ -220,8 +228,13 @@ fn wanted(job: &WhyJob, count: u64) -> Wanted {
         first,
         last,
         with_rows: true,
-        most_turns: job.most_turns.unwrap_or(MOST_TURNS),
+        most_turns: most_turns(job),
     }
+}
+
+/// How many turns the searches for a match may take.
+fn most_turns(job: &WhyJob) -> u32 {
+    job.most_turns.unwrap_or(MOST_TURNS)
 }
 
 /// How a partition's part of the job ended.

@@ -90,8 +90,12 @@ fn push_reading(
     push_otherwise(alloc, line, name, way);
 }
 
-/// Adds how a number is written that is compared with values which are parts of one, as hundredths.
+/// Adds how a number is written that is compared with values which are parts of one, as hundredths, or with their differences.
 fn push_scale(line: &mut Pieces, way: &Way) {
+    let second = way.one_second();
+    if !second.is_empty() {
+        line.push_filled("; a difference of one second is {}", &[second]);
+    }
     if way.is_of_numbers() && way.fineness() > 0 {
         line.push("; to compare it with 1, write 1");
         for _place in 0..way.fineness() {

@@ -200,6 +200,15 @@ impl Way {
         }
     }
 
+    /// What one second is in their values, where these are parts of seconds; it is empty where they aren't.
+    pub(crate) fn one_second(&self) -> &'static str {
+        match self.word {
+            "millis" => "1000",
+            "micros" => "1000000",
+            _ => "",
+        }
+    }
+
     /// What their values are.
     pub(crate) fn values(&self) -> &'static str {
         match self.word {

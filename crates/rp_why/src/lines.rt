@@ -15,23 +15,25 @@ use std::alloc::{AllocError, Global};
 /// Of so many runs of rows at most it is said which variable has them.
 const MOST_RUNS: usize = 10;
 
-/// What is found of a partition, whose key is given as it is shown, in lines for people. Each line ends in LF.
+/// What is found of a partition of so many rows, whose key is given as it is shown, in lines for people. Each line ends in LF. Where the
+/// searches took more turns than these, that is said with their number.
 pub fn told(
     alloc: Global,
     query: &Query,
     key: &str,
     rows: u64,
+    most_turns: u32,
     finding: &Finding,
 ) -> Result<String, AllocError> {
     let mut out = Pieces::filled(alloc, "partition {}, ", &[key]);
     out.push_number(rows);
     out.push(if rows == 1 { " row: " } else { " rows: " });
-    push_found(&mut out, query, finding);
+    push_found(&mut out, query, most_turns, finding);
     out.finish()
 }
 
 /// Writes what is found of a partition.
-fn push_found(out: &mut Pieces, query: &Query, finding: &Finding) {
+fn push_found(out: &mut Pieces, query: &Query, most_turns: u32, finding: &Finding) {
     match finding {
         Finding::Matched(found) => {
             out.push("a match, ");
@@ -43,13 +45,23 @@ fn push_found(out: &mut Pieces, query: &Query, finding: &Finding) {
             out.push_number(*row);
             out.push("\n");
         }
-        Finding::GivenUp => out.push("a search takes more turns than --most-turns\n"),
-        Finding::Unmatched(reasons) => push_reasons(out, query, reasons),
+        Finding::GivenUp => {
+            out.push("its searches take ");
+            push_more_turns(out, most_turns);
+        }
+        Finding::Unmatched(reasons) => push_reasons(out, query, most_turns, reasons),
     }
 }
 
+/// Writes that these turns don't suffice, and what to do.
+fn push_more_turns(out: &mut Pieces, most_turns: u32) {
+    out.push("more turns than --most-turns, which is ");
+    out.push_number(u64::from(most_turns));
+    out.push(": give more, or ask about one row with --row\n");
+}
+
 /// Writes why there is no match.
-fn push_reasons(out: &mut Pieces, query: &Query, reasons: &Reasons) {
+fn push_reasons(out: &mut Pieces, query: &Query, most_turns: u32, reasons: &Reasons) {
     out.push("no match");
     if may_be_empty(query.pattern().form()) {
         out.push(" with a row");
@@ -69,7 +81,8 @@ fn push_reasons(out: &mut Pieces, query: &Query, reasons: &Reasons) {
     if reasons.untried > 0 {
         out.push("  not tried to the end: ");
         out.push_number(reasons.untried);
-        out.push(", whose search takes more turns than --most-turns\n");
+        out.push(", whose searches take ");
+        push_more_turns(out, most_turns);
     }
 }
 
