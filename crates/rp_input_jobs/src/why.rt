@@ -9,7 +9,7 @@ use rp_near_misses::absent_texts;
 use rp_numbering::{Part, order_rows, partitions};
 use rp_query::Query;
 use rp_value::{Cells, Row};
-use rp_why::{Finding, Wanted, object_line, told, why};
+use rp_why::{Finding, Inquiry, Wanted, object_line, told};
 use rp_wording::{shown_line, shown_text};
 use serde_json::Value as Json;
 use std::alloc::{AllocError, Global};
@@ -97,10 +97,11 @@ fn tell_parts(
     key: &Option<Cells>,
     parts: Vec<Part>,
 ) -> Result<Option<Verdict>, ProgramFault> {
+    let inquiry = Inquiry::new(rt.alloc(), query)?;
     let mut verdict = None;
     for Part { key: of_part, rows } in parts {
         if is_asked(key, &of_part) {
-            let one = tell_partition(rt, job, query, &of_part, rows)?;
+            let one = tell_partition(rt, job, query, &inquiry, &of_part, rows)?;
             verdict = Some(worse(verdict, one));
         }
     }
@@ -149,13 +150,14 @@ fn tell_partition(
     rt: &HostRuntime,
     job: &WhyJob,
     query: &Query,
+    inquiry: &Inquiry<'_>,
     key: &Cells,
     rows: Vec<Row>,
 ) -> Result<Verdict, ProgramFault> {
     let count = rows.len() as u64;
     let mut rows = rows;
     order_rows(query, &mut rows)?;
-    let finding = why(rt.alloc(), query, rows, wanted(job, count))?;
+    let finding = inquiry.why(rows, wanted(job, count))?;
     print_finding(rt, job, query, key, count, &finding)?;
     Ok(verdict_of(&finding))
 }

@@ -6,7 +6,7 @@ use crate::edit::Edited;
 use crate::extent::{Extent, extent_of};
 use crate::seeking::{Sought, Wanted, seek};
 use crate::tokens::{Range, Tokens};
-use rp_compile::{CompileFault, compile};
+use crate::variants::Variants;
 use rp_eval::AllRows;
 use rp_query::Query;
 use std::alloc::{AllocError, Global};
@@ -20,6 +20,8 @@ pub(crate) struct Case<'a> {
     pub(crate) query: &'a Query,
     /// Its tokens.
     pub(crate) tokens: Tokens<'a>,
+    /// What was compiled for partitions before.
+    pub(crate) variants: &'a Variants,
     /// The partition.
     pub(crate) rows: &'a AllRows,
     /// Which matches are looked for.
@@ -51,12 +53,8 @@ impl<'a> Case<'a> {
 
     /// The query of a clause, where it has one.
     pub(crate) fn compiled(&self, clause: Edited<'_>) -> Result<Option<Query>, AllocError> {
-        let text = clause.finish()?;
-        match compile(self.alloc, text.as_str(), self.query.table()) {
-            Ok(query) => Ok(Some(query)),
-            Err(CompileFault::OutOfMemory) => Err(AllocError),
-            Err(_) => Ok(None),
-        }
+        self.variants
+            .query_of(self.alloc, clause.finish()?, self.query.table())
     }
 
     /// A range of the clause as it is written, in one line.

@@ -9,7 +9,7 @@
 //! says what that clause finds among the same rows, and nothing is guessed. How far the searches come is counted in parts of the
 //! pattern: the first parts are searched as a pattern of their own.
 //!
-//! `why` gives what is found, `told` says it in lines for people, and `object_line` as JSON.
+//! `Inquiry::why` gives what is found, `told` says it in lines for people, and `object_line` as JSON.
 #![tactic(auto)]
 
 mod between;
@@ -18,6 +18,7 @@ mod demands;
 mod edit;
 mod empty;
 mod extent;
+mod inquiry;
 mod lines;
 mod list;
 mod meaning;
@@ -29,12 +30,14 @@ mod seeking;
 mod sides;
 mod terms;
 mod tokens;
+mod variants;
 mod way;
 
+pub use inquiry::Inquiry;
 pub use lines::told;
 pub use object::object_line;
 pub use reached::Reached;
-pub use reasons::{Finding, Reasons, why};
+pub use reasons::{Finding, Reasons};
 pub use seeking::{Match, Sought, Wanted};
 pub use sides::{Failure, Sides};
 pub use way::{Demand, LowerBoundDemand, TermDemand, Way};

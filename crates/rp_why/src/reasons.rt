@@ -1,7 +1,4 @@
 //! Why there is no match.
-ghost use Rattle.std.specs.Prelude.{IfOk};
-ghost use Rattle.rp_why.specs.Seeking.{closed_by};
-ghost use Rattle.rp_why.specs.Sought.{IsFinding};
 
 use crate::between::row_between;
 use crate::case::Case;
@@ -9,16 +6,11 @@ use crate::demands::{greatest_lower, lower_demand, term_demand, without_term};
 use crate::extent::{Extent, Span, extent_of};
 use crate::parts::{bound_at, is_anchor, pattern_of};
 use crate::reached::{Reached, how_far};
-use crate::seeking::{Match, Sought, Wanted, seek};
+use crate::seeking::Match;
 use crate::terms::{Term, terms_of};
-use crate::tokens::{Range, Tokens};
+use crate::tokens::Range;
 use crate::way::{Demand, Way, rank};
-use rp_eval::{AllRows, Rows};
-use rp_query::Query;
-use rp_value::Row;
-use rp_wording::tokens_of;
-use rp_words::End;
-use std::alloc::{AllocError, Global};
+use std::alloc::AllocError;
 
 /// A pattern that every match has anywhere.
 const EMPTY: &str = "()";
@@ -98,44 +90,8 @@ impl Reasons {
     }
 }
 
-/// The first match of a partition that is looked for, or why there is none. These are all rows of the partition, in order.
-pub fn why(
-    alloc: Global,
-    query: &Query,
-    rows: Vec<Row>,
-    wanted: Wanted,
-) -> Result<Finding, AllocError>
-    ensures { IfOk result (IsFinding query.now (closed_by rows.items) wanted) }
-{
-    let rows = AllRows {
-        rows,
-        end: End::Closed,
-    };
-    if wanted.first == 0 || wanted.first > rows.last() || wanted.last > rows.last() {
-        return Ok(Finding::NoRow(wanted.first));
-    }
-    match seek(alloc, query, &rows, wanted)? {
-        Sought::Found(found) => Ok(Finding::Matched(found)),
-        Sought::GivenUp => Ok(Finding::GivenUp),
-        Sought::NotFound => {
-            let tokens = tokens_of(alloc, query.text().as_str())?;
-            let case = Case {
-                alloc,
-                query,
-                tokens: Tokens {
-                    text: query.text().as_str(),
-                    list: tokens.as_slice(),
-                },
-                rows: &rows,
-                wanted,
-            };
-            Ok(Finding::Unmatched(reasons_of(&case)?))
-        }
-    }
-}
-
 /// Why there is no match.
-fn reasons_of(case: &Case<'_>) -> Result<Reasons, AllocError> {
+pub(crate) fn reasons_of(case: &Case<'_>) -> Result<Reasons, AllocError> {
     let mut reasons = Reasons {
         reached: how_far(case)?,
         ways: Vec::new(case.alloc),
