@@ -1,6 +1,6 @@
 -- Why a text is no condition of a row. Own: the condition is read as that of a clause, whose first fault is reported with its offset in the
 -- condition.
-use Rattle.std.specs.Prelude.{◌≡◌, ◌≢◌, ⊤, ⊥, ℕ, ◌-◌, List, [], length}
+use Rattle.std.specs.Prelude.{◌≡◌, ◌≢◌, ⊤, ℕ, ◌-◌, List, [], length}
 use Rattle.rp_value.specs.declared.table.Column.{Column}
 use Rattle.rp_lexer.specs.declared.fault.LexFault.{LexFault}
 use Rattle.rp_lexer.specs.declared.fault.LexFault.TheVariants as lex

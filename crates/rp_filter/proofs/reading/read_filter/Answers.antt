@@ -8,7 +8,7 @@ use Rattle.rp_filter.proofs.reading.read_filter.Goals as goal
 pub returns-in-Ok-clause-fault : goal.returns-in-Ok-clause-fault
 returns-in-Ok-clause-fault c =
     let is : IsCompiled (clause_of c.args.text.now) c.args.table.now c.in-Ok.query = search rules in
-    (c.in-Ok.query, (is, λ own. search rules))
+    (c.in-Ok.query, is, λ own. search rules)
 
 pub returns : goal.returns
 returns c =
