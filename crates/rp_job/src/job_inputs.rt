@@ -90,9 +90,10 @@ impl<'a> JobInputs<'a> {
 }
 
 impl Inputs for JobInputs<'_> {
-    ghost use Rattle.std.specs.Prelude.{None};
+    ghost use Rattle.std.specs.Prelude.{None, length, max};
+    ghost use Rattle.rp_question.specs.Inputs.{InputsSeen};
 
-    ghost texts = { λ _. None };
+    ghost seen = { λ inputs. record { count = max (length inputs.asked.files.now) 1; texts = None } };
 
     fn count(&self) -> usize {
         self.asked.files.len().max(1)

@@ -44,10 +44,12 @@ NodePolls old new key (Err OutOfMemory) = PolledAt old new key (Err OutOfMemory)
 NodePolls old new key (Err other) = ⊥
 
 -- An answer goes by its budget: one of 0 is answered by a pause that changes nothing, wherever the key is known. A poll that is
--- paused takes its budget off the turns that are left, an item one at least, and no more rows are entered than the budget.
+-- paused takes its budget off the turns that are left, an item one at least, and no more rows are entered than the budget. By a budget of
+-- 1 or more the rows below the horizon are dropped, where it is answered.
 pub record GoesByBudget (budget : ℕ) (old new : NodeSeen) (key : List Value) (answer : Result Poll NodeFault) : Type 0 where
   pub lowers : IfOk answer (PollLowers budget (work_at old key).left (work_at new key).left)
   pub enters : (work_at new key).entered ≤ (work_at old key).entered + budget
+  pub held : OnOk answer (1 ≤ budget → HoldsNoMoreAt new key)
   pub pauses : budget ≡ 0 → (answer ≡ Ok PausedPoll) ⊎ (answer ≡ Err UnknownPartition)
   pub nothing : budget ≡ 0 → new ≡ old
 

@@ -1,5 +1,5 @@
 //! Where the clause of a checkpoint differs.
-ghost use Rattle.std.specs.Prelude.{◌≡◌, IfOk, Ok};
+ghost use Rattle.std.specs.Prelude.{◌≡◌, IfOk, Ok, Err, None};
 ghost use Rattle.rp_checkpoint.specs.Checkpoints.{restored};
 ghost use Rattle.rp_checkpoint.specs.declared.node_data.NodeData.{NodeData as Kept};
 ghost use Rattle.rp_node.specs.ClauseTexts.{IsDifference};
@@ -15,8 +15,9 @@ pub fn clause_difference(
     clause: &[u8],
     bytes: &[u8],
 ) -> Result<Option<usize>, AllocError>
-    ensures { IfOk result (λ place. (kept : Kept) → restored bytes.now ≡ Ok kept →
+    ensures differs { IfOk result (λ place. (kept : Kept) → restored bytes.now ≡ Ok kept →
         IsDifference clause.now kept.clause place) }
+    ensures none { IfOk result (λ place. (fault : CheckpointFault) → restored bytes.now ≡ Err fault → place ≡ None) }
 {
     match read_checkpoint(alloc, bytes) {
         Ok(kept) => Ok(difference(clause, &kept)),

@@ -10,6 +10,7 @@ use Rattle.rp_filter.specs.Faults.{IsFilterFault}
 use Rattle.rp_filter.specs.Meets.{clause_of, meets}
 use Rattle.rp_filter.specs.declared.fault.FilterFault.{FilterFault}
 use Rattle.rp_filter.specs.declared.filter.Filter.{Filter}
+use Rattle.rp_question.specs.Inputs.{AreTextsOf, InputsSeen}
 use Rattle.rp_question.specs.Read.{AreRowsOfAll}
 use Rattle.rp_question.specs.declared.fault.QuestionFault.{QuestionFault}
 use Rattle.rp_question.specs.declared.fault.QuestionFault.TheVariants.{Clause, Condition}
@@ -31,6 +32,12 @@ pub record AreRowsAsked (question : Question) (texts : List (List ℕ)) (rows : 
   pub all : List (List Value)
   pub read : AreRowsOfAll question.reading texts all
   pub are : rows ≡ kept question.filter all
+
+-- These are the rows that are asked of inputs: those asked of some texts, which are those of the inputs that are known.
+pub record AreRowsOfInputs (question : Question) (inputs : InputsSeen) (rows : List (List Value)) : Type 0 where
+  pub texts : List (List ℕ)
+  pub are : AreTextsOf inputs texts
+  pub asked : AreRowsAsked question texts rows
 
 -- why there is no filter of a condition's text
 abbrev pub IsFaultOfFilter : Option (List ℕ) → List Column → FilterFault → Type 0

@@ -7,6 +7,7 @@ use Rattle.rp_input.specs.ByColumns.{AreRowsByColumns, IsByColumnsFault}
 use Rattle.rp_input.specs.CsvRows.{AreRowsOf, IsTextFault}
 use Rattle.rp_input.specs.declared.layout.CsvLayout.{CsvLayout}
 use Rattle.rp_objects.specs.ObjectRows.{AreRowsByObjects, IsByObjectsFault}
+use Rattle.rp_question.specs.Inputs.{AreAsKnown, InputsSeen}
 use Rattle.rp_question.specs.declared.fault.InputFault.{InputFault}
 use Rattle.rp_question.specs.declared.fault.InputFault.TheVariants as fault
 use Rattle.rp_question.specs.declared.reading.Reading.{Reading}
@@ -63,3 +64,7 @@ IsInputsFault r texts fault.OutOfMemory = ⊤
 IsInputsFault r texts (fault.Table why) = IsFirstFaultOf r texts (fault.Table why)
 IsInputsFault r texts (fault.Columns why) = IsFirstFaultOf r texts (fault.Columns why)
 IsInputsFault r texts (fault.Objects why) = IsFirstFaultOf r texts (fault.Objects why)
+
+-- Inputs have no rows for this reason: that is so of some texts, which are those that are known.
+abbrev pub AreNoRows : Reading → InputsSeen → InputFault → Type 0
+AreNoRows r inputs why = (texts : List (List ℕ)) × AreAsKnown inputs.texts texts × IsInputsFault r texts why

@@ -1,5 +1,6 @@
 //! Inputs, whose bytes come one input after another.
-ghost use Rattle.std.specs.Prelude.{◌≡◌, ℕ, List, Option, Some, IfOk, IfSome, length, map, slice_get};
+ghost use Rattle.std.specs.Prelude.{◌≡◌, Some, IfOk, IfSome, length, map, slice_get};
+ghost use Rattle.rp_question.specs.Inputs.{InputsSeen, of_texts};
 
 use rp_value::{Cells, Row};
 use rp_whole::Watch;
@@ -16,25 +17,26 @@ pub enum Unread {
 
 /// Inputs, of which each is read once, in order.
 pub trait Inputs {
-    /// The bytes of each of the inputs, in order, where they are known.
-    ghost texts: { Self → Option (List (List ℕ)) };
+    /// How many inputs there are, and the bytes of each, in order, where they are known.
+    ghost seen: { Self → InputsSeen };
 
     /// How many inputs there are.
     fn count(&self) -> usize
-        ensures { IfSome (texts self.now) (λ texts. result ≡ length texts) };
+        ensures is { result ≡ (seen self.now).count }
+        ensures known { IfSome (seen self.now).texts (λ texts. result ≡ length texts) };
 
     /// All bytes of the input with this index, from 0.
     fn read(&mut self, index: usize) -> Result<Vec<u8>, Unread>
-        ensures stay { texts self.new ≡ texts self.old }
-        ensures bytes { IfOk result (λ bytes. IfSome (texts self.old) (λ texts. slice_get texts index ≡ Some bytes.items)) };
+        ensures stay { seen self.new ≡ seen self.old }
+        ensures bytes { IfOk result (λ bytes. IfSome (seen self.old).texts (λ texts. slice_get texts index ≡ Some bytes.items)) };
 
     /// These are the rows of the input that was read last, which had these bytes: what is to be known of them can be reported.
     fn has_rows(&mut self, bytes: &[u8], rows: &[Row]) -> Result<(), AllocError>
-        ensures { texts self.new ≡ texts self.old };
+        ensures { seen self.new ≡ seen self.old };
 
     /// These are the rows of all inputs, before a condition leaves some out: so it is with what is to be known of all of them.
     fn has_all(&mut self, rows: &[Row]) -> Result<(), AllocError>
-        ensures { texts self.new ≡ texts self.old };
+        ensures { seen self.new ≡ seen self.old };
 }
 
 /// Texts in memory.
@@ -54,7 +56,7 @@ impl<'a> Texts<'a> {
 }
 
 impl Inputs for Texts<'_> {
-    ghost texts = { λ inputs. Some (map (λ text. text.items) inputs.texts.now) };
+    ghost seen = { λ inputs. of_texts (map (λ text. text.items) inputs.texts.now) };
 
     fn count(&self) -> usize {
         self.texts.len()

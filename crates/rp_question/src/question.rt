@@ -2,7 +2,7 @@
 ghost use Rattle.std.specs.Prelude.{◌≡◌, IfErr, IfOk, IfSome, OnOk, Some, option_map, slice_get};
 ghost use Rattle.rp_compile.specs.Compiled.{IsCompiled};
 ghost use Rattle.rp_question.specs.Asked.{IsFaultOfFilter, IsFilterOf};
-ghost use Rattle.rp_question.specs.Adding.{AddsRows, IsFaultAt};
+ghost use Rattle.rp_question.specs.Adding.{AddsRows, AddsRowsAt, AreRowsRead, IsFaultAt, IsFaultOfInput};
 ghost use Rattle.rp_whole.specs.Answers.{limit_of};
 ghost use Rattle.rp_whole.specs.AnswerLines.{line_form};
 ghost use Rattle.rp_whole.specs.AnswerObjects.{object_form};
@@ -34,8 +34,8 @@ pub struct Question<'a> {
 
 impl<'a> Question<'a> {
     ghost use Rattle.rp_question.specs.Answered.{CountsFailure, IsAnswered};
-    ghost use Rattle.rp_question.specs.Asked.{AreRowsAsked, IsFilterOf, IsQuestionFault};
-    ghost use Rattle.rp_question.specs.Read.{AreRowsIn, AreRowsOfAll, IsFaultIn, IsInputsFault, columns_seen};
+    ghost use Rattle.rp_question.specs.Asked.{AreRowsOfInputs, IsFilterOf, IsQuestionFault};
+    ghost use Rattle.rp_question.specs.Read.{AreNoRows, columns_seen};
 
     /// The question of a clause, over the rows that meet a condition where there is one.
     ///
@@ -67,10 +67,8 @@ impl<'a> Question<'a> {
     /// The rows that are asked of: those of all inputs, one after another, for which the condition is true. Each input is reported to have
     /// its rows before the next one is read.
     pub fn rows<I: Inputs>(&self, alloc: Global, inputs: &mut I) -> Result<Vec<Row>, InputFault>
-        ensures rows { IfOk result (λ rows. IfSome (I.texts inputs.old) (λ texts.
-            AreRowsAsked self.now texts rows.items)) }
-        ensures fault { IfErr result (λ why. IfSome (I.texts inputs.old) (λ texts.
-            IsInputsFault self.now.reading texts why)) }
+        ensures rows { IfOk result (λ rows. AreRowsOfInputs self.now (I.seen inputs.old) rows.items) }
+        ensures fault { IfErr result (AreNoRows self.now.reading (I.seen inputs.old)) }
     {
         let rows = self.rows_of_all(alloc, inputs)?;
         inputs.has_all(rows.as_slice())?;
@@ -82,10 +80,8 @@ impl<'a> Question<'a> {
 
     /// The rows of all inputs, one after another.
     fn rows_of_all<I: Inputs>(&self, alloc: Global, inputs: &mut I) -> Result<Vec<Row>, InputFault>
-        ensures rows { IfOk result (λ rows. IfSome (I.texts inputs.old) (λ texts.
-            AreRowsOfAll self.now.reading texts rows.items)) }
-        ensures fault { IfErr result (λ why. IfSome (I.texts inputs.old) (λ texts.
-            IsInputsFault self.now.reading texts why)) }
+        ensures rows { IfOk result (λ rows. AreRowsRead self.now.reading (I.seen inputs.old) rows.items) }
+        ensures fault { IfErr result (AreNoRows self.now.reading (I.seen inputs.old)) }
     {
         let mut all = Vec::new(alloc);
         for index in 0..inputs.count() {
@@ -102,11 +98,10 @@ impl<'a> Question<'a> {
         index: usize,
         all: &mut Vec<Row>,
     ) -> Result<(), InputFault>
-        ensures texts { I.texts inputs.new ≡ I.texts inputs.old }
-        ensures added { OnOk result (IfSome (I.texts inputs.old) (λ texts.
-            AddsRows self.now.reading (slice_get texts index) all.old.items all.new.items)) }
-        ensures fault { IfErr result (λ why. IfSome (I.texts inputs.old) (λ texts.
-            IsFaultAt self.now.reading (slice_get texts index) why)) }
+        ensures seen { I.seen inputs.new ≡ I.seen inputs.old }
+        ensures added { OnOk result (AddsRowsAt self.now.reading (I.seen inputs.old).texts index
+            all.old.items all.new.items) }
+        ensures fault { IfErr result (IsFaultOfInput self.now.reading (I.seen inputs.old).texts index) }
     {
         match inputs.read(index) {
             Ok(text) => self.add_text(alloc, inputs, text.as_slice(), all),
@@ -123,7 +118,7 @@ impl<'a> Question<'a> {
         text: &[u8],
         all: &mut Vec<Row>,
     ) -> Result<(), InputFault>
-        ensures texts { I.texts inputs.new ≡ I.texts inputs.old }
+        ensures seen { I.seen inputs.new ≡ I.seen inputs.old }
         ensures added { OnOk result (AddsRows self.now.reading (Some text.now) all.old.items all.new.items) }
         ensures fault { IfErr result (IsFaultAt self.now.reading (Some text.now)) }
     {
@@ -142,7 +137,7 @@ impl<'a> Question<'a> {
         writer: &mut W,
         hasher: RandomState,
     ) -> Result<EndedEarly, AnswerFault>
-        ensures answer { IsAnswered (limit_of limit) line_form self.now (I.texts inputs.old)
+        ensures answer { IsAnswered (limit_of limit) line_form self.now (I.seen inputs.old)
             (W.contents writer.old) (W.contents writer.new) result }
         ensures failures { CountsFailure result (W.failures writer.old) (W.failures writer.new) }
     {
@@ -163,7 +158,7 @@ impl<'a> Question<'a> {
         writer: &mut W,
         hasher: RandomState,
     ) -> Result<EndedEarly, AnswerFault>
-        ensures answer { IsAnswered (limit_of limit) record_form self.now (I.texts inputs.old)
+        ensures answer { IsAnswered (limit_of limit) record_form self.now (I.seen inputs.old)
             (W.contents writer.old) (W.contents writer.new) result }
         ensures failures { CountsFailure result (W.failures writer.old) (W.failures writer.new) }
     {
@@ -180,7 +175,7 @@ impl<'a> Question<'a> {
         writer: &mut W,
         hasher: RandomState,
     ) -> Result<EndedEarly, AnswerFault>
-        ensures answer { IsAnswered (limit_of limit) object_form self.now (I.texts inputs.old)
+        ensures answer { IsAnswered (limit_of limit) object_form self.now (I.seen inputs.old)
             (W.contents writer.old) (W.contents writer.new) result }
         ensures failures { CountsFailure result (W.failures writer.old) (W.failures writer.new) }
     {

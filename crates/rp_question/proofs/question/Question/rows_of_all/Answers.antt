@@ -1,6 +1,5 @@
-use Rattle.std.proofs.Common.{rules, ◌≡◌, ◌∙◌, IfSome, Err, subst}
-use Rattle.rp_question.specs.Adding.{AddsRows, IsFaultAt}
-use Rattle.std.specs.List.{slice_get}
+use Rattle.std.proofs.Common.{rules, ◌≡◌, ◌∙◌, Err, subst}
+use Rattle.rp_question.specs.Adding.{AddsRowsAt, IsFaultOfInput}
 use Rattle.rp_question.proofs.More.{first_fault, first_more, if_err_is}
 use Rattle.rp_question.proofs.question.Question.rows_of_all.Goals as goal
 
@@ -11,8 +10,8 @@ returns-in_err-add_rows-clause-fault g c =
     let n = c.loop-index.index in
     let is : c.from_residual.result ≡ Err why = search rules in
     if_err_is c.from_residual.result why _ is
-    (first_fault r (g.I.Inputs.texts c.args.inputs.now) n c.loop-index.all.items why
-    (subst (λ inputs. IfSome inputs (λ texts. IsFaultAt r (slice_get texts n) why)) c.loop-index.invariant.texts c.in_err-add_rows.ensures.fault)
+    (first_fault r (g.I.Inputs.seen c.args.inputs.now) n c.loop-index.all.items why
+    (subst (λ inputs. IsFaultOfInput r inputs.texts n why) c.loop-index.invariant.seen c.in_err-add_rows.ensures.fault)
     c.loop-index.invariant.rows)
 
 pub loop-index-preserved : goal.loop-index-preserved
@@ -22,8 +21,8 @@ loop-index-preserved g c =
     let old = c.loop-index.all.items in
     let new = c.add_rows.new.all.items in
     record {
-      texts = c.add_rows.ensures.texts ∙ c.loop-index.invariant.texts;
-      rows = first_more r (g.I.Inputs.texts c.args.inputs.now) n old new
-          (subst (λ inputs. IfSome inputs (λ texts. AddsRows r (slice_get texts n) old new)) c.loop-index.invariant.texts c.in_ok-add_rows.ensures.added)
+      seen = c.add_rows.ensures.seen ∙ c.loop-index.invariant.seen;
+      rows = first_more r (g.I.Inputs.seen c.args.inputs.now).texts n old new
+          (subst (λ inputs. AddsRowsAt r inputs.texts n old new) c.loop-index.invariant.seen c.in_ok-add_rows.ensures.added)
           c.loop-index.invariant.rows;
     }

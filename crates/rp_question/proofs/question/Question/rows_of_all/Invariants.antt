@@ -4,6 +4,6 @@ use Rattle.rp_question.proofs.question.Question.rows_of_all.Given as goal
 
 abbrev pub invariant-loop-index : goal.invariant-loop-index
 invariant-loop-index g l = record {
-  texts : g.I.Inputs.texts l.inputs ≡ g.I.Inputs.texts l.fn.inputs;
-  rows : AreRowsOfFirst l.self.reading (g.I.Inputs.texts l.fn.inputs) l.index l.all.items;
+  seen : g.I.Inputs.seen l.inputs ≡ g.I.Inputs.seen l.fn.inputs;
+  rows : AreRowsOfFirst l.self.reading (g.I.Inputs.seen l.fn.inputs).texts l.index l.all.items;
 }
