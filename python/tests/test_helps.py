@@ -75,6 +75,19 @@ def test_what_to_write_for_a_column(condition, helps):
     assert not any(line in other or "--columns" in line or "in the table" in line for line in said)
 
 
+@pytest.mark.parametrize("condition", ["ok = TRUE", "ok", "NOT ok", "ok = 'true'"])
+@pytest.mark.parametrize("values", [[True, None], [None, False], [True, np.nan], [True, pd.NA]])
+@pytest.mark.parametrize("dtype", [object, "category"])
+def test_bools_with_nulls_among_them_are_bools(condition, values, dtype):
+    frame = pd.DataFrame({"ok": pd.Series(values, dtype=object).astype(dtype)})
+    with pytest.raises(ClauseError) as caught:
+        rowmatch.match(frame, f"PATTERN (A) DEFINE A AS {condition}")
+    write = "ok is 1 where it is true, and 0: write ok = 1, or ok = 0"
+    assert caught.value.help == [write]
+    count = sum(value is True for value in values)
+    assert len(rowmatch.match(frame, "PATTERN (A) DEFINE A AS ok = 1")) == count
+
+
 def test_the_unit_of_times_is_the_one_that_was_given():
     for options in ({"times": "seconds"}, {"columns": {"at": "seconds"}}):
         with pytest.raises(ClauseError, match="at counts in seconds .*: write 1704067200 for"):

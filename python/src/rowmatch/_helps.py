@@ -71,7 +71,7 @@ class _Helper:
         if not of_truth and fault.kind != "KindMismatch":
             return
         for source in columns:
-            if values_of(source, self.frame).dtype.kind == "b":
+            if _are_bools(values_of(source, self.frame)):
                 name = written(source.text)
                 yield f"{name} is 1 where it is true, and 0: write {name} = 1, or {name} = 0"
 
@@ -88,6 +88,12 @@ class _Helper:
             if unit in _NANOS:
                 number = None if is_length else _number_of(texts[0], values, _NANOS[unit])
                 yield _of_time(written(source.text), unit, number, texts[0])
+
+
+def _are_bools(values: pd.Series) -> bool:
+    """Whether a column has bools, as its dtype or, with nulls among them, as objects."""
+    of_objects = values.dtype == object and pd.api.types.infer_dtype(values, skipna=True)
+    return values.dtype.kind == "b" or of_objects == "boolean"
 
 
 def _of_text(source: Source, is_empty: bool) -> str:
