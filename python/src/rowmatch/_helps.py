@@ -93,7 +93,7 @@ class _Helper:
 def _are_bools(values: pd.Series) -> bool:
     """Whether a column has bools, as its dtype or, with nulls among them, as objects."""
     of_objects = values.dtype == object and pd.api.types.infer_dtype(values, skipna=True)
-    return values.dtype.kind == "b" or of_objects == "boolean"
+    return bool(values.dtype.kind == "b" or of_objects == "boolean")
 
 
 def _of_text(source: Source, is_empty: bool) -> str:
