@@ -11,6 +11,7 @@ import socket
 import subprocess
 import threading
 import time
+from types import MappingProxyType
 
 import pytest
 
@@ -437,6 +438,23 @@ def test_a_poll_whose_connection_is_reset_gives_what_came(broken, polls):
         assert [item.place for item in caught.value.items] == list(range(1, polls + 1))
         with pytest.raises(NodeError, match="send again"):
             client.commit()
+
+
+def test_what_has_no_order_of_the_table_is_no_row(start):
+    _, address = start("--acknowledge")
+    row = {"account": "eve", "at": 10, "outcome": "fail"}
+    with Node(address) as client:
+        for cells in (row, row.keys(), {"eve", 10}, frozenset(["eve"]), MappingProxyType(row)):
+            for ask in (
+                lambda: client.rows([(1, cells)]),
+                lambda: client.close(cells, 1),
+                lambda: client.poll(cells),
+            ):
+                with pytest.raises(TypeError, match="isn't in the table's order: write a list or"):
+                    ask()
+        assert client.rows([(1, row.values())]) == 1
+        assert client.rows([(2, [row[name] for name in ("account", "at", "outcome")])]) == 1
+        client.commit()
 
 
 def test_numbers_of_numpy():

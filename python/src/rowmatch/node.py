@@ -9,7 +9,7 @@ import os
 import re
 import socket
 import threading
-from collections.abc import Iterable, Iterator, Mapping, Sequence
+from collections.abc import Iterable, Iterator, Mapping, Sequence, Set
 from dataclasses import dataclass
 from numbers import Integral
 from operator import index
@@ -369,9 +369,14 @@ def _reply_to(request: dict[str, Any], line: bytes) -> dict[str, Any]:
 
 
 def _values(values: Iterable[Any]) -> list[Value]:
-    """Values as lines have them: whole numbers, texts, None. One text is no list of its letters."""
+    """Values as lines have them: whole numbers, texts, None. One text is no list of its letters,
+    and a mapping or a set has its values in no order of the table."""
     if isinstance(values, (str, bytes)):
         raise TypeError(f"{values!r} is no list of values, as [{values!r}] is one")
+    if isinstance(values, (Mapping, Set)):
+        write = "a list or a tuple of the cells in the table's order"
+        example = "[row[name] for name in (.., ..)]"
+        raise TypeError(f"{values!r} isn't in the table's order: write {write}, as {example}")
     made: list[Value] = []
     for value in values:
         if isinstance(value, Integral):
