@@ -190,6 +190,7 @@ def test_a_measure_with_a_columns_name_has_its_own_kind():
         'PARTITION BY p MEASURES p + 1 AS "p" PATTERN (A) DEFINE A AS p > 0',
         'MEASURES p AS "x" ALL ROWS PER MATCH PATTERN (A) DEFINE A AS p > 0',
         'ORDER BY t MEASURES p AS "t" ALL ROWS PER MATCH PATTERN (A) DEFINE A AS p > 0',
+        'MEASURES p AS "t" ALL ROWS PER MATCH PATTERN (A) DEFINE A AS p > 0',
         'PARTITION BY p, "p" PATTERN (A) DEFINE A AS x > 0',
         'PARTITION BY p ORDER BY x, "p" ALL ROWS PER MATCH PATTERN (A) DEFINE A AS x > 0',
     ],
@@ -200,6 +201,9 @@ def test_no_two_columns_of_the_answer_have_one_name(clause):
         with pytest.raises(ClauseError, match="two columns of the answer have the name") as caught:
             ask(frame, clause)
         assert caught.value.kind == "DoubleName"
+    # One row per match has an index of its own, without a name.
+    one = rowmatch.match(frame, 'MEASURES p AS "t" PATTERN (A) DEFINE A AS p > 0')
+    assert one.reset_index()["t"].tolist() == [1]
 
 
 def test_names_of_the_answer_that_differ_by_case_alone():

@@ -111,8 +111,8 @@ class Question:
     times: str
 
     def look_at_labels(self) -> None:
-        """Refuses a measure whose name, as it is written, another column of the answer has, and a
-        column that comes twice. In the clause two names may differ by case alone, as ``P`` that is
+        """Refuses a measure whose name, as it is written, another column of the answer or a level of
+        its index has, and a column that comes twice. In the clause two names may differ by case alone, as ``P`` that is
         written ``p``, and ``"p"``."""
         names = [*self.clause.partition_by, *(self.clause.order_by if self.clause.all_rows else ())]
         first = [self.sources[name] for name in names]
@@ -122,6 +122,7 @@ class Question:
         taken: set[Hashable] = {source.label for source in first}
         if self.clause.all_rows:
             taken.update(self.frame.columns)
+            taken.update(self.frame.index.names)
         for measure in self.clause.measures:
             if measure.written in taken:
                 raise self._double(measure.written, "write another name after AS")
