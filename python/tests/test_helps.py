@@ -158,6 +158,10 @@ def test_what_is_no_frame():
     with pytest.raises(TypeError, match="a list of frames isn't one frame"):
         rowmatch.match([frame], EVERY)
     assert len(rowmatch.match([{"v": None}], EVERY)) == 1
+    for ask in (rowmatch.match, rowmatch.check):
+        for clause in (EVERY, "PATTERN (A) DEFINE A AS 1 = 1"):
+            with pytest.raises(TypeError, match="the data are None, which is no frame; a call"):
+                ask(frame.sort_values("v", inplace=True), clause)
 
 
 @pytest.mark.parametrize(

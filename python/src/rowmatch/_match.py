@@ -157,6 +157,8 @@ def pandas_frame(data: Any) -> pd.DataFrame:
     """The frame of pandas that the data are, or make."""
     if isinstance(data, pd.DataFrame):
         return data
+    if data is None:
+        raise TypeError("the data are None, which is no frame; a call with inplace=True gives None")
     if hasattr(data, "map_partitions"):
         raise TypeError("a frame of Dask is for rowmatch.dask.match")
     if hasattr(data, "get_chunk"):
