@@ -88,6 +88,79 @@ def test_bools_with_nulls_among_them_are_bools(condition, values, dtype):
     assert len(rowmatch.match(frame, "PATTERN (A) DEFINE A AS ok = 1")) == count
 
 
+MONEY = pd.DataFrame(
+    {
+        "price": [0.02, 1.0, 2.5],
+        "mills": [Decimal("1.234"), 2, None],
+        "whole": [1.0, 2.0, None],
+        "n": [1, 2, 3],
+        "net price": [1.5, 2.5, 3.0],
+        "word": ["a", "b", "c"],
+    }
+)
+CENTS = {"price": "decimal(2)"}
+BY_CENTS = "by decimal(2) price is counted so that"
+
+
+@pytest.mark.parametrize(
+    "condition, columns, said, rows",
+    [
+        # 1.5 is 150 cents, of which 2.50 alone is above; 1.555 is 155.5 of them.
+        ("price > 1.5", CENTS, f"{BY_CENTS} 1.5 is 150: write price > 150", 1),
+        ("price > .5", CENTS, f"{BY_CENTS} .5 is 50: write price > 50", 2),
+        ("1.50 > A.price", CENTS, f"{BY_CENTS} 1.50 is 150: write A.price < 150", 2),
+        ("price >= -1.5", CENTS, f"{BY_CENTS} -1.5 is -150: write price >= -150", 3),
+        ("price > 1.555", CENTS, f"{BY_CENTS} 1 is 100: write price * 10 > 1555", 1),
+        (
+            "price - PREV(A.price, 1) > 0.985",
+            CENTS,
+            f"{BY_CENTS} 1 is 100: write (price - PREV(A.price, 1)) * 10 > 985",
+            1,
+        ),
+        ("(SUM(price) > 1.5 OR n > 5)", CENTS, f"{BY_CENTS} 1.5 is 150: write SUM(price) > 150", 1),
+        ("price > 1.5", {}, "give columns={'price': 'decimal(2)'}, and write price > 150 then", 1),
+        ("price > 1.5", {"price": "int"}, "counted in whole numbers: write price * 10 > 15", None),
+        ("mills > 1.5", {}, "give columns={'mills': 'decimal(3)'}, and write mills > 1500 then", 1),
+        ("whole > 1.5", {}, "whole is counted in whole numbers: write whole * 10 > 15", 1),
+        ("n > 1.5", CENTS, "n is counted in whole numbers: write n * 10 > 15", 2),
+        (
+            '"net price" > 1.25',
+            {},
+            "give columns={'net price': 'decimal(2)'}, and write \"net price\" > 125 then",
+            3,
+        ),
+    ],
+)
+def test_a_fraction_is_whole_numbers_of_how_the_column_is_read(condition, columns, said, rows):
+    with pytest.raises(ClauseError) as caught:
+        rowmatch.match(MONEY, f"PATTERN (A) DEFINE A AS {condition}", columns=columns)
+    (line,) = caught.value.help
+    assert said in line
+    if rows is None:
+        return
+    # What is said can be followed, and means what was meant.
+    proposed = re.search(r"columns=(\{.*\}),", line)
+    ways = eval(proposed[1]) if proposed else columns
+    write = re.search("write (.*?)( then)?$", line)[1]
+    assert len(rowmatch.match(MONEY, f"PATTERN (A) DEFINE A AS {write}", columns=ways)) == rows
+
+
+def test_a_fraction_next_to_what_is_counted_otherwise():
+    conditions = ("price * 2 > 1.5", "COUNT(price) > 1.5", "price > 1.5 + n", "price - n > 1.5")
+    for condition in (*conditions, "prise > 1.5", "price > 1.5e3", "1 < 1.5"):
+        for columns in ({}, CENTS):
+            with pytest.raises(ClauseError) as caught:
+                rowmatch.match(MONEY, f"PATTERN (A) DEFINE A AS {condition}", columns=columns)
+            assert caught.value.help
+            for line in caught.value.help:
+                assert "--columns" not in line and not line.startswith("where it has")
+    with pytest.raises(ClauseError, match="column word has texts: pandas.to_numeric"):
+        rowmatch.match(MONEY, "PATTERN (A) DEFINE A AS word > 1.5")
+    # An empty frame, as Dask has one before anything runs, says nothing of fractions.
+    with pytest.raises(ClauseError, match=re.escape("give columns={'whole': 'decimal(2)'}, and")):
+        rowmatch.match(MONEY.iloc[:0], "PATTERN (A) DEFINE A AS whole > 1.5")
+
+
 def test_the_unit_of_times_is_the_one_that_was_given():
     for options in ({"times": "seconds"}, {"columns": {"at": "seconds"}}):
         with pytest.raises(ClauseError, match="at counts in seconds .*: write 1704067200 for"):

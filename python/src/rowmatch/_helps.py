@@ -7,6 +7,7 @@ from dataclasses import dataclass, replace
 
 import pandas as pd
 
+from ._fractions import comparison_at, helps_of
 from ._names import Source, written
 from ._units import unit_of, values_of
 from ._ways import UNITS, first_known
@@ -18,6 +19,11 @@ _NANOS = {**UNITS, "date": _DAY}
 # What the program says of commands and files, from where on it isn't true of frames.
 _OF_COMMANDS = "--columns"
 _OF_TABLES = "; the kinds of columns are in the table"
+_NO_FRACTIONS = "there are no fractions"
+_OF_WHOLE = "where it has whole numbers"
+_SMALLER = (
+    "take a smaller unit, as cents by columns={'price': 'decimal(2)'}, and whole numbers of it"
+)
 _OF_QUOTES = "a text is written in single quotes"
 
 
@@ -40,6 +46,8 @@ class _Helper:
         """A fault with the help that it has over a frame."""
         if fault.byte is None or fault.kind not in ("KindMismatch", "UnknownColumn", "Expected"):
             return fault
+        if fault.message == _NO_FRACTIONS:
+            return replace(fault, help=self._of_fraction(fault))
         words = self._words_near(fault)
         columns = columns_of(words, self.sources)
         texts = [it for it in columns if it.kind == "text" and it.said is None]
@@ -54,14 +62,38 @@ class _Helper:
             lines = [line for line in lines if not line.startswith(_OF_QUOTES)]
         return replace(fault, help=(*lines, *(_of_text(it, it in empty) for it in texts)))
 
-    def _words_near(self, fault: Fault) -> list[str]:
+    def _place(self, fault: Fault) -> tuple[int, int]:
+        """The characters of the clause at which a fault begins and ends."""
         assert fault.byte is not None
         encoded = self.clause.encode(errors="surrogatepass")
         begin, end = (
             len(encoded[:at].decode(errors="replace"))
             for at in (fault.byte, fault.byte + fault.length)
         )
-        return words_near(self.clause, begin, end)
+        return begin, end
+
+    def _words_near(self, fault: Fault) -> list[str]:
+        return words_near(self.clause, *self._place(fault))
+
+    def _of_fraction(self, fault: Fault) -> tuple[str, ...]:
+        """What to write for a fraction. Of two ways of the program one is of commands, and what the
+        other one is for can't be told without it."""
+        comparison = comparison_at(self.clause, self._place(fault)[0], self.sources)
+        own = helps_of(comparison, self.frame) if comparison is not None else []
+        if own:
+            return tuple(own)
+        if comparison is not None:
+            texts = [it for it in comparison.columns if it.kind == "text" and it.said is None]
+            if texts:
+                return tuple(
+                    _of_text(it, first_known(values_of(it, self.frame)) is None) for it in texts
+                )
+        others = tuple(
+            line
+            for line in fault.help
+            if _OF_COMMANDS not in line and not line.startswith(_OF_WHOLE)
+        )
+        return others or (_SMALLER,)
 
     def _of_bools(self, fault: Fault, columns: list[Source]) -> Iterator[str]:
         """What to write for a column of bools as a condition, or compared with TRUE or a text."""

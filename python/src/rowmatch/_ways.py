@@ -427,6 +427,21 @@ def _of_places(numbers: Array, places: int) -> tuple[Array, Array]:
         return scaled, same & (np.abs(scaled) < 10.0 ** np.finfo(numbers.dtype).precision)
 
 
+def places_needed(values: pd.Series) -> int | None:
+    """The places of a column of which nothing is said and that has to be read by some, as far as
+    they are known: of one with fractions, of decimals among objects, and of floats without a value.
+    """
+    if values.dtype == object:
+        are_others = pd.api.types.infer_dtype(values.dropna()) in _OBJECTS
+        return None if are_others else _places_of_objects(values)
+    if values.dtype.kind != "f":
+        return None
+    numbers, missing = _numbers_of(values)
+    if not missing.all() and bool((numbers == np.floor(numbers)).all()):
+        return None
+    return _places_that_fit(numbers) or 0
+
+
 def _places_that_fit(numbers: Array) -> int | None:
     """The places of which all floats are decimals: two where that is enough, as cents are."""
     tried: list[int] = [*range(2, _MOST_PLACES + 1), 1]

@@ -22,19 +22,28 @@ def words_near(clause: str, begin: int, end: int) -> list[str]:
     """The words from one character of a clause to another, and those of the operands next to them.
 
     Names of variables and of functions aren't among them."""
-    words = _words(clause)
+    left, right = operands_near(clause, begin, end)
+    inside = [word for word, at in words_with_places(clause) if begin <= at < end]
+    return values_among([*left, *inside, *right])
+
+
+def operands_near(clause: str, begin: int, end: int) -> tuple[list[str], list[str]]:
+    """The words of the operands before one character of a clause, and from another one on."""
+    words = words_with_places(clause)
     before = (word for word, at in reversed(words) if at < begin)
-    inside = [word for word, at in words if begin <= at < end]
     after = (word for word, at in words if at >= end)
-    left, right = _operand(before, ")", "("), _operand(after, "(", ")")
-    near = [*reversed(left), *inside, *right]
-    return [word for word, then in zip(near, [*near[1:], ""]) if then not in (".", "(")]
+    return _operand(before, ")", "(")[::-1], _operand(after, "(", ")")
+
+
+def values_among(words: list[str]) -> list[str]:
+    """Words without the names of variables and of functions."""
+    return [word for word, then in zip(words, [*words[1:], ""]) if then not in (".", "(")]
 
 
 def columns_by_order(clause: str, sources: Mapping[str, Source]) -> list[Source]:
     """The columns that a clause compares by ``<``, ``<=``, ``>`` or ``>=``."""
     found: dict[str, Source] = {}
-    for word, at in _words(clause):
+    for word, at in words_with_places(clause):
         if word in _BY_ORDER:
             near = words_near(clause, at, at + len(word))
             found.update({it.text: it for it in columns_of(near, sources)})
@@ -58,7 +67,7 @@ def _column(word: str, sources: Mapping[str, Source]) -> Source | None:
     return sources.get(name) or sources.get(folded(name))
 
 
-def _words(clause: str) -> _Words:
+def words_with_places(clause: str) -> _Words:
     found = ((it[0], it.start()) for it in _WORD.finditer(clause))
     return [(word, at) for word, at in found if not word.isspace() and not word.startswith("--")]
 
