@@ -9,13 +9,13 @@ import pandas as pd
 
 from ._fractions import comparison_at, helps_of
 from ._names import Source, written
+from ._times import STEPS, number_of, of_time
 from ._units import unit_of, values_of
-from ._ways import UNITS, first_known
+from ._ways import first_known
+from ._wordings import Wording
 from ._words import columns_of, words_near
 from .errors import ClauseError, Fault
 
-_DAY = 86_400_000_000_000  # nanoseconds
-_NANOS = {**UNITS, "date": _DAY}
 # What the program says of commands and files, from where on it isn't true of frames.
 _OF_COMMANDS = "--columns"
 _OF_TABLES = "; the kinds of columns are in the table"
@@ -44,7 +44,7 @@ class _Helper:
 
     def helped(self, fault: Fault) -> Fault:
         """A fault with the help that it has over a frame."""
-        if fault.byte is None or fault.kind not in ("KindMismatch", "UnknownColumn", "Expected"):
+        if fault.byte is None:
             return fault
         if fault.message == _NO_FRACTIONS:
             return replace(fault, help=self._of_fraction(fault))
@@ -54,7 +54,7 @@ class _Helper:
         own = [*self._of_bools(fault, columns), *self._of_times(fault, columns, words)]
         if own and not texts:
             return replace(fault, help=tuple(own))
-        lines = [line.replace(_OF_TABLES, "") for line in fault.help if _OF_COMMANDS not in line]
+        lines = [*self._in_pandas(fault, words, columns)]
         if fault.kind != "KindMismatch" or "whole number" not in fault.message:
             return replace(fault, help=tuple(lines))
         empty = [it for it in texts if first_known(values_of(it, self.frame)) is None]
@@ -74,6 +74,13 @@ class _Helper:
 
     def _words_near(self, fault: Fault) -> list[str]:
         return words_near(self.clause, *self._place(fault))
+
+    def _in_pandas(self, fault: Fault, words: list[str], columns: list[Source]) -> tuple[str, ...]:
+        """What the program says to write, in the words of pandas."""
+        lines = [line.replace(_OF_TABLES, "") for line in fault.help if _OF_COMMANDS not in line]
+        begin, _ = self._place(fault)
+        place = Wording(self.clause, begin, words, columns, self.sources, self.frame, self.times)
+        return place.lines(tuple(lines))
 
     def _of_fraction(self, fault: Fault) -> tuple[str, ...]:
         """What to write for a fraction. Of two ways of the program one is of commands, and what the
@@ -117,9 +124,9 @@ class _Helper:
         for source in columns:
             values = values_of(source, self.frame)
             unit = unit_of(values, source, self.times)
-            if unit in _NANOS:
-                number = None if is_length else _number_of(texts[0], values, _NANOS[unit])
-                yield _of_time(written(source.text), unit, number, texts[0])
+            if unit in STEPS:
+                number = None if is_length else number_of(texts[0], values, STEPS[unit])
+                yield of_time(written(source.text), unit, number, texts[0])
 
 
 def _are_bools(values: pd.Series) -> bool:
@@ -135,26 +142,3 @@ def _of_text(source: Source, is_empty: bool) -> str:
         return f"column {source.text} has no value here, so that it is text: {way} says what it is"
     make = "pandas.to_numeric(..) makes numbers of it, pandas.to_datetime(.., format=..) times"
     return f"column {source.text} has texts: {make}"
-
-
-def _of_time(name: str, unit: str, number: int | None, text: str) -> str:
-    """What a column of times counts in, and what to write for a text or for a length of time."""
-    counts = "days" if unit == "date" else f"{unit} (times= names the unit)"
-    if number is not None:
-        return f"{name} counts in {counts}: write {number} for '{text}'"
-    length = "a week is 7" if unit == "date" else f"an hour is {_DAY // 24 // UNITS[unit]}"
-    return f"{name} counts in {counts}: write a whole number; {length}"
-
-
-def _number_of(text: str, values: pd.Series, step: int) -> int | None:
-    """A text of a time as the number that a column of times has for it, where there is one."""
-    make = pd.Timedelta if values.dtype.kind == "m" else pd.Timestamp
-    try:
-        moment = make(text)
-        zone = getattr(values.dtype, "tz", None)
-        if zone is not None and moment.tzinfo is None:
-            moment = moment.tz_localize(zone)
-    except (ValueError, OverflowError):
-        return None
-    nanos = int(moment.value)
-    return None if moment is pd.NaT or nanos % step else nanos // step
