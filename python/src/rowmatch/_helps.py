@@ -78,7 +78,10 @@ class _Helper:
     def _in_pandas(self, fault: Fault, words: list[str], columns: list[Source]) -> tuple[str, ...]:
         """What the program says to write, in the words of pandas."""
         lines = [line.replace(_OF_TABLES, "") for line in fault.help if _OF_COMMANDS not in line]
-        begin, _ = self._place(fault)
+        begin, end = self._place(fault)
+        is_near = any(line.startswith("write ") for line in lines)  # to another name
+        if fault.kind == "UnknownColumn" and not is_near:
+            lines = [*_of_no_name(self.clause[begin:end], self.frame.index), *lines]
         place = Wording(self.clause, begin, words, columns, self.sources, self.frame, self.times)
         return place.lines(tuple(lines))
 
@@ -129,6 +132,18 @@ class _Helper:
                 yield of_time(written(source.text), unit, number, texts[0])
 
 
+def _of_no_name(word: str, index: pd.Index) -> Iterator[str]:
+    """What gives an index a name, where a clause may mean it by a word that is no column's."""
+    if any(name is not None for name in index.names) or isinstance(index, pd.RangeIndex):
+        return
+    name = word.strip('"')
+    if index.nlevels > 1:
+        yield "the levels of the index have no names: frame.rename_axis([..]) gives them some"
+    elif index.dtype.kind in "mM" or "period" in str(index.dtype) or name.lower() == "index":
+        way = f"frame.rename_axis({name!r})"
+        yield f"the index has no name: {way} gives it one, frame.reset_index() makes a column of it"
+
+
 def _are_bools(values: pd.Series) -> bool:
     """Whether a column has bools, as its dtype or, with nulls among them, as objects."""
     of_objects = values.dtype == object and pd.api.types.infer_dtype(values, skipna=True)
@@ -139,6 +154,6 @@ def _of_text(source: Source, is_empty: bool) -> str:
     label = source.label
     if is_empty:
         way = f"columns={{{label!r}: 'int'}}"
-        return f"column {source.text} has no value here, so that it is text: {way} says what it is"
+        return f"{source.called} has no value here, so that it is text: {way} says what it is"
     make = "pandas.to_numeric(..) makes numbers of it, pandas.to_datetime(.., format=..) times"
-    return f"column {source.text} has texts: {make}"
+    return source.told(f"{source.called} has texts: {make}")

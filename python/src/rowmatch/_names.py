@@ -15,6 +15,9 @@ from ._ways import kind_of
 from .errors import DataError
 
 _PLAIN = re.compile(r"[A-Za-z_][A-Za-z0-9_]*", re.ASCII)
+_OF_A_COLUMN = re.compile(
+    r"(?<![\w.])\.[a-z]|pandas\.to_"
+)  # methods of columns, what makes columns
 _MOST_BYTES = 128  # of a name in a table
 
 
@@ -29,6 +32,22 @@ class Source:
     is_level: bool
     kind: str
     said: str | None
+
+    @property
+    def called(self) -> str:
+        """What a message calls it."""
+        return f"level {self.text} of the index" if self.is_level else f"column {self.text}"
+
+    def told(self, message: str) -> str:
+        """A message about a column, or of a level of the index one that can be followed: what makes
+        something of a column makes nothing of it."""
+        if not self.is_level:
+            return message
+        message = message.replace(
+            f"column {self.label!r} ", f"level {self.label!r} of the index ", 1
+        )
+        first = f"; reset_index() makes a column of {self.text} first"
+        return message + (first if _OF_A_COLUMN.search(message) else "")
 
     def values(self, frame: pd.DataFrame) -> pd.Series:
         if self.is_level:

@@ -24,8 +24,8 @@ def notes_on_orders(
     letter by letter, where all the first texts are numbers or dates."""
     columns = [sources[name] for name in clause.order_by] + columns_by_order(text, sources)
     texts = {it.text: it for it in columns if it.kind == "text" and it.said is None}
-    notes = (_note(it.text, values_of(it, frame)) for it in texts.values())
-    return [note for note in notes if note is not None]
+    notes = ((it, _note(it.text, values_of(it, frame))) for it in texts.values())
+    return [source.told(note) for source, note in notes if note is not None]
 
 
 def _note(name: str, values: pd.Series) -> str | None:

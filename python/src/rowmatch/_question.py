@@ -2,9 +2,10 @@
 
 from __future__ import annotations
 
+import contextlib
 import json
 import re
-from collections.abc import Hashable, Mapping
+from collections.abc import Hashable, Iterator, Mapping
 from dataclasses import dataclass, replace
 from typing import Any, Union
 
@@ -98,6 +99,15 @@ def _look_at_plain(
         raise names.refuse(name) from None
 
 
+@contextlib.contextmanager
+def _told_of(source: Source) -> Iterator[None]:
+    """An error of a level of the index says so."""
+    try:
+        yield
+    except DataError as error:
+        raise DataError(source.told(str(error)), error.column, error.row) from None
+
+
 @dataclass(frozen=True)
 class Question:
     """A clause over a frame, with the columns that it names, by their names in it, and the kinds of
@@ -184,11 +194,15 @@ class Question:
     def _given(self) -> tuple[Mapping[str, Way], dict[str, Cells]]:
         """The columns that the clause names, each in its way, and the cells that are handed over."""
         values = {name: source.values(self.frame) for name, source in self.sources.items()}
-        ways = {
-            name: way_of(source.label, values[name], source.said, self.times)
-            for name, source in self.sources.items()
-        }
-        return ways, {name: way.cells(values[name]) for name, way in ways.items()}
+        ways: dict[str, Way] = {}
+        cells: dict[str, Cells] = {}
+        for name, source in self.sources.items():
+            with _told_of(source):
+                ways[name] = way_of(source.label, values[name], source.said, self.times)
+        for name, source in self.sources.items():
+            with _told_of(source):
+                cells[name] = ways[name].cells(values[name])
+        return ways, cells
 
     def _row_number(self) -> str | None:
         """The name of a column of row numbers, by which whole rows of the answer are picked from

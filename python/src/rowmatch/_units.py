@@ -3,13 +3,13 @@
 from __future__ import annotations
 
 import datetime
-from collections.abc import Callable, Mapping
+from collections.abc import Callable, Hashable, Mapping
 from typing import Any
 
 import pandas as pd
 
 from ._clause import noted, quoted
-from ._names import Source
+from ._names import Source, folded
 from ._program import Limit
 from ._ways import first_known, places_in
 
@@ -52,11 +52,20 @@ def notes_on_units(
             note = f"{one} is in {word} and {other} in {finest}, {_AS_THEY_ARE}: read both by nanos"
             notes.append(note)
     for one, other in apart(lambda it: _zone(values[it]) == "", lambda it: bool(_zone(values[it]))):
+        levels = [
+            it.label for it in sources.values() if it.is_level and folded(it.text) == folded(one)
+        ]
+        make = _localized(frame, levels[0]) if levels else ".dt.tz_localize"
         notes.append(
             f"{one} has no time zone and counts as its clock shows it, and {other} has one and "
-            f"counts in UTC, {_AS_THEY_ARE}: .dt.tz_localize gives {one} its zone"
+            f"counts in UTC, {_AS_THEY_ARE}: {make} gives {one} its zone"
         )
     return notes
+
+
+def _localized(frame: pd.DataFrame, level: Hashable) -> str:
+    """What gives a level of the index its time zone."""
+    return f"frame.tz_localize(..{f', level={level!r}' if frame.index.nlevels > 1 else ''})"
 
 
 def values_of(source: Source, frame: pd.DataFrame) -> pd.Series:
