@@ -219,6 +219,30 @@ def test_what_to_write_for_data(values, options, said):
         rowmatch.match(pd.DataFrame({"v": values}), EVERY, **options)
 
 
+@pytest.mark.parametrize("options", [{}, {"columns": {"v": "decimal(2)"}}])
+def test_a_float_of_more_digits_than_floats_carry(options):
+    # 16 digits, and the doubles near it are 0.002 apart.
+    long = pd.DataFrame({"v": [0.25, 10000000000000.25]})
+    clause = "MEASURES v + 0 AS v PATTERN (A) DEFINE A AS 1 = 1"
+    said = (
+        "column 'v' has 10000000000000.25, which has more digits, with 2 places, than the 15 that a "
+        "float carries: .map(lambda it: decimal.Decimal(repr(it)), na_action='ignore') carries "
+    )
+    with pytest.raises(DataError, match=re.escape(said)) as caught:
+        rowmatch.match(long, clause, **options)
+    assert caught.value.row == 1
+    exact = long.assign(v=long["v"].map(lambda it: Decimal(repr(it)), na_action="ignore"))
+    answer = rowmatch.match(exact, clause, columns={"v": "decimal(2)"})
+    assert answer["v"].tolist() == [25, 1000000000000025]
+    # A float of 32 bits carries 6.
+    short = pd.DataFrame({"v": np.array([12345.67], dtype="float32")})
+    with pytest.raises(DataError, match=re.escape("the 6 that a float carries: .astype('float64'")):
+        rowmatch.match(short, clause, **options)
+    wide = short.assign(v=short["v"].astype("float64").round(2))
+    answer = rowmatch.match(wide, clause, columns={"v": "decimal(2)"})
+    assert answer["v"].tolist() == [1234567]
+
+
 def test_a_clause_that_is_no_text():
     with pytest.raises(TypeError, match="the clause is a int and no text"):
         rowmatch.match(FRAME, 5)

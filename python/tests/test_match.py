@@ -729,7 +729,7 @@ def test_no_decimal_is_taken_for_its_neighbour():
     # above 10^13 two decimals of 2 places may have one float
     far = pd.Series([9_999_999_999_999.99, 9_999_999_999_999.98])
     assert value(far, columns={"v": "decimal(2)"}).tolist() == far.tolist()
-    with pytest.raises(DataError, match="no decimal of 2 places"):
+    with pytest.raises(DataError, match="more digits, with 2 places, than the 15 that a float"):
         value(pd.Series([10_000_000_000_000.01]), columns={"v": "decimal(2)"})
     with pytest.raises(DataError, match="no decimal of 2 places"):
         value(

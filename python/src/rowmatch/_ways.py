@@ -175,6 +175,8 @@ class Places(Way):
             row = int(np.flatnonzero(~fits)[0])
             if np.isinf(numbers[row]):
                 raise _no_number(self.label, numbers[row], row)
+            if _is_too_long(numbers[row], self.places):
+                raise _too_long(self.label, numbers[row], self.places, row)
             raise self._no_decimal(repr(numbers[row].item()), row, self._help(numbers))
         return Numbers(scaled.astype("int64"), missing)
 
@@ -563,9 +565,32 @@ def _look_at_fractions(label: Hashable, values: pd.Series) -> None:
         raise _no_number(label, numbers[endless[0]], int(endless[0]))
     has = repr(numbers[fractions[0]].item())
     places = _places_that_fit(numbers)
-    rounded = places is None and bool(_of_places(np.round(numbers, 2), 2)[1].all())
+    fits = _of_places(np.round(numbers, 2), 2)[1]
+    rounded = places is None and bool(fits.all())
+    far = np.flatnonzero(~fits)
+    if places is None and len(far) and _is_too_long(numbers[far[0]], 2):
+        raise _too_long(label, numbers[far[0]], 2, int(far[0]))
     write = _say_places(label, 2 if places is None else places, ".round(2)" if rounded else "")
     raise DataError(f"column {label!r} has fractions, as {has}: {write}", label, int(fractions[0]))
+
+
+def _is_too_long(number: Any, places: int) -> bool:
+    """Whether a float has 64 bits as a decimal of so many places, and more digits than floats have
+    that are told apart for sure."""
+    scaled = abs(float(number)) * 10.0**places
+    return 10.0 ** np.finfo(number.dtype).precision <= scaled < 2.0**63
+
+
+def _too_long(label: Hashable, number: Any, places: int, row: int) -> DataError:
+    """The error of a float that is too long, and what carries all of its digits."""
+    digits = np.finfo(number.dtype).precision
+    why = f"which has more digits, with {places} places, than the {digits} that a float carries"
+    if number.dtype.itemsize < 8:
+        make = f".astype('float64').round({places}) carries 15"
+    else:
+        make = ".map(lambda it: decimal.Decimal(repr(it)), na_action='ignore') carries them all"
+    write = f"{make}; say columns={{{label!r}: 'decimal({places})'}} then"
+    return DataError(f"column {label!r} has {number.item()!r}, {why}: {write}", label, row)
 
 
 def _is_endless(value: Any) -> bool:
