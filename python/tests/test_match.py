@@ -6,6 +6,7 @@ import datetime
 import io
 import pickle
 import re
+import uuid
 from decimal import Decimal
 
 import numpy as np
@@ -587,6 +588,9 @@ def test_what_cannot_be_handed_over(bad):
         ([pd.Period("2024"), None], 0, ": .dt.to_timestamp()"),
         (pd.Series([], dtype="period[M]"), None, "has the dtype period[M]"),
         ([1j, 2j], 0, "has 1j, which is neither"),
+        ([None, uuid.UUID(int=7)], 1, "nor a time: .map(str, na_action='ignore') makes texts of"),
+        ([None, pd.Interval(0, 1)], 1, "nor a time: .map(str, na_action='ignore') makes texts"),
+        ([1, None, True, 0], 2, "has bools among its whole numbers, as True: .astype('Int64')"),
         ([0.5, np.inf], 1, "has inf, which is no number that can be handed over"),
         ([Decimal(1), Decimal("-Infinity")], 1, "has -Infinity, which is no number that can be"),
     ],
@@ -595,6 +599,33 @@ def test_the_first_value_that_cannot_be_handed_over_is_named(bad, row, message):
     with pytest.raises(DataError) as caught:
         value(pd.Series(bad))
     assert message in str(caught.value) and caught.value.row == row
+
+
+def test_what_makes_keys_of_other_values():
+    frame = pd.DataFrame({"v": pd.cut([1, 20, np.nan, 2], [0, 10, 100])})
+    count = "PARTITION BY v MEASURES COUNT(*) AS n PATTERN (A+) DEFINE A AS 1 = 1"
+    with pytest.raises(DataError, match=r"nor a time: \.astype\(object\)\.map\(str, na_action="):
+        rowmatch.match(frame, count)
+    frame = frame.assign(v=frame["v"].astype(object).map(str, na_action="ignore"))
+    answer = rowmatch.match(frame, count)
+    assert answer["v"].tolist()[:2] == ["(0, 10]", "(10, 100]"] and answer["v"].isna()[2]
+    assert answer["n"].tolist() == [2, 1, 1]
+    mixed = pd.Series([1, None, True, np.bool_(False)], dtype=object).astype("Int64")
+    assert value(mixed).tolist() == [1, pd.NA, 1, 0]
+
+
+@pytest.mark.parametrize("name", ["n" * 129, "ä" * 65, 'a"' + "b" * 127])
+def test_a_name_that_is_too_long(name):
+    clause = "MEASURES {} AS v PATTERN (A) DEFINE A AS 1 = 1"
+    quoted = '"' + name.replace('"', '""') + '"'
+    frame = pd.DataFrame({name: [1], "x": [2]})
+    for written in (quoted, name) if name.isascii() and name.isalnum() else (quoted,):
+        with pytest.raises(ClauseError) as caught:
+            rowmatch.match(frame, clause.format(written))
+        size = len(name.encode())
+        assert f"a name has 128 bytes at most, and this one {size}: " in caught.value.help[0]
+    short = frame.rename(columns={name: "n" * 128})
+    assert rowmatch.match(short, clause.format("n" * 128))["v"].tolist() == [1]
 
 
 def test_what_is_to_be_written_makes_of_values_what_can_be_handed_over():
@@ -619,7 +650,10 @@ def test_what_is_to_be_written_makes_of_values_what_can_be_handed_over():
         ([Decimal("1E+3"), Decimal(1)], r"0 places: say .*'decimal\(0\)'", "decimal(0)", None),
         ([Decimal(1), 1.25, True], r"2 places: say .*'decimal\(2\)'", "decimal(2)", None),
         ([2**60 + 1, 1.0], r"0 places: say .*'decimal\(0\)'", "decimal(0)", None),
-        ([Decimal("0.00"), Decimal("1.50")], r"up to 1 places: say ", "decimal(1)", None),
+        ([Decimal("0.00"), Decimal("1.50")], r"2 places: say .*'decimal\(2\)'", "decimal(2)", None),
+        ([Decimal("1.10"), 2, 2.5], r"2 places: say .*'decimal\(2\)'", "decimal(2)", None),
+        # With 2 places this one is beyond 64 bits.
+        ([Decimal("922337203685477580.7")], r"up to 1 places: say ", "decimal(1)", None),
         ([Decimal(1) / 3, None], r"28 places: round them, .*'decimal\(2\)'", "decimal(2)", "map"),
     ],
 )

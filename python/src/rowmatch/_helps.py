@@ -8,7 +8,7 @@ from dataclasses import dataclass, replace
 import pandas as pd
 
 from ._fractions import comparison_at, helps_of
-from ._names import Source, written
+from ._names import MOST_BYTES, Source, written
 from ._times import STEPS, number_of, of_time
 from ._units import unit_of, values_of
 from ._ways import first_known
@@ -81,7 +81,8 @@ class _Helper:
         begin, end = self._place(fault)
         is_near = any(line.startswith("write ") for line in lines)  # to another name
         if fault.kind == "UnknownColumn" and not is_near:
-            lines = [*_of_no_name(self.clause[begin:end], self.frame.index), *lines]
+            word = self.clause[begin:end]
+            lines = [*_of_long_name(word, self.frame), *_of_no_name(word, self.frame.index), *lines]
         place = Wording(self.clause, begin, words, columns, self.sources, self.frame, self.times)
         return place.lines(tuple(lines))
 
@@ -130,6 +131,18 @@ class _Helper:
             if unit in STEPS:
                 number = None if is_length else number_of(texts[0], values, STEPS[unit])
                 yield of_time(written(source.text), unit, number, texts[0])
+
+
+def _of_long_name(word: str, frame: pd.DataFrame) -> Iterator[str]:
+    """What to do with a column whose name is too long for a clause."""
+    name = word[1:-1].replace('""', '"') if word.startswith('"') else word
+    size = len(name.encode(errors="surrogatepass"))
+    labels = [*frame.columns, *frame.index.names]
+    if size > MOST_BYTES and any(str(label).upper() == name.upper() for label in labels):
+        yield (
+            f"a name has {MOST_BYTES} bytes at most, and this one {size}: "
+            "frame.rename(columns={..: ..}) gives the column another"
+        )
 
 
 def _of_no_name(word: str, index: pd.Index) -> Iterator[str]:

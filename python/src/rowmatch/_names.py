@@ -18,7 +18,7 @@ _PLAIN = re.compile(r"[A-Za-z_][A-Za-z0-9_]*", re.ASCII)
 _OF_A_COLUMN = re.compile(
     r"(?<![\w.])\.[a-z]|pandas\.to_"
 )  # methods of columns, what makes columns
-_MOST_BYTES = 128  # of a name in a table
+MOST_BYTES = 128  # of a name in a table
 
 
 @dataclass(frozen=True)
@@ -147,7 +147,7 @@ def unused(name: str, names: Iterable[Hashable]) -> str:
 
 def _can_be_named(text: str) -> bool:
     try:
-        return 0 < len(text.encode()) <= _MOST_BYTES
+        return 0 < len(text.encode()) <= MOST_BYTES
     except UnicodeEncodeError:
         return False
 

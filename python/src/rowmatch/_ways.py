@@ -25,6 +25,7 @@ _MOST_PLACES = 18  # with more of them nothing but 0 has 64 bits
 _DECIMAL = re.compile(r"decimal\(([0-9]{1,2})\)")
 _EPOCH = datetime.date(1970, 1, 1)
 _NUMBERS = (int, float, decimal.Decimal, np.integer, np.floating, np.bool_)
+_WHOLE = (int, np.integer, np.bool_)
 _WIDEST = 60  # characters of a value in a message
 _FINITE = ".replace([numpy.inf, -numpy.inf], numpy.nan) makes nulls of them"
 _KEYS = ".map(str, na_action='ignore') makes texts of them, for keys"
@@ -394,9 +395,11 @@ class Categories(Way):
 
 
 def _of_row(error: DataError, codes: Array, used: Array) -> DataError:
-    """The error of a category as that of the first row that has it."""
+    """The error of a category as that of the first row that has it. With na_action, .map isn't for
+    columns of categories."""
     row = None if error.row is None else int(np.flatnonzero(codes == used[error.row])[0])
-    return DataError(str(error), error.column, row)
+    message = str(error).replace(": .map(", ": .astype(object).map(")
+    return DataError(message, error.column, row)
 
 
 def _each(answer: pd.Series, back: Callable[[int], Any]) -> pd.Series:
@@ -662,7 +665,7 @@ def _unfit(label: Hashable, values: pd.Series, kind: str) -> DataError:
         has = f"values of several kinds, as {_shown(first)} and {_shown(known[at])}"
         make = ".map(str, na_action='ignore') makes texts of all"
         return DataError(f"column {label!r} has {has}: {make}", label, int(rows[at]))
-    why = "which is neither a number, a text nor a time" + _MAKE.get(kind, "")
+    why = "which is neither a number, a text nor a time" + _MAKE.get(kind, f": {_KEYS}")
     return DataError(f"column {label!r} has {_shown(first)}, {why}", label, int(rows[0]))
 
 
@@ -672,9 +675,22 @@ def _unfit_numbers(label: Hashable, values: pd.Series, rows: Array) -> DataError
         if _decimal_of(values.iloc[row]) is None:
             return _no_number(label, values.iloc[row], int(row))
     places = _places_of_objects(values) or 0
+    bools = [row for row in rows if isinstance(values.iloc[row], (bool, np.bool_))]
+    if places == 0 and bools and all(isinstance(it, _WHOLE) for it in values.iloc[rows]):
+        make = ".astype('Int64') makes whole numbers of all"
+        has = f"bools among its whole numbers, as {values.iloc[bools[0]]}"
+        return DataError(f"column {label!r} has {has}: {make}", label, int(bools[0]))
+    if places == 1 and _are_of_places(label, values.iloc[rows], 2):
+        places = 2  # as cents are, of which Decimal("1.10") has one with a zero at its end
     rounding = _rounding(2) if places > _MOST_PLACES else ""
     write = _say_places(label, 2 if rounding else places, rounding)
     return DataError(f"column {label!r} has decimals of up to {places} places: {write}", label)
+
+
+def _are_of_places(label: Hashable, known: pd.Series, places: int) -> bool:
+    """Whether objects are decimals of so many places and 64 bits."""
+    way = Places(label, known.dtype, places)
+    return all(way._scaled(value) is not None for value in known)
 
 
 def _taken_by(places: int) -> str:
