@@ -11,6 +11,8 @@ import pytest
 
 import rowmatch
 from rowmatch import ClauseError
+from rowmatch._names import Names
+from rowmatch._wordings import Wording
 
 FRAME = pd.DataFrame(
     {
@@ -145,7 +147,38 @@ def test_now_is_a_number():
 def test_a_length_of_time_where_no_column_has_times():
     numbers = FRAME[["p", "s"]]
     said = helps_of(WITHIN.format("INTERVAL '1' HOUR").replace("at ", "p "), numbers)
-    assert said == [
-        "bound the time in each condition: t - FIRST(t) <= 3600, where t counts in seconds"
-    ]
+    hour = "t - FIRST(t) <= 3600 is an hour where t counts in seconds"
+    assert said == [f"bound the time in each condition: {hour}"]
     assert any("times='seconds' counts them" in line for line in helps_of("HOUR(p) = 1", numbers))
+
+
+BOUND = "at - FIRST(at) <= 3600000000; at counts in micros (times= names the unit)"
+HOUR = "t - FIRST(t) <= 3600"
+
+
+@pytest.mark.parametrize(
+    "line, said, without",
+    [
+        (f"bound the time: {HOUR}", f"bound the time: {BOUND}", None),
+        (
+            f"bound the time: {HOUR} is an hour where t is in seconds",
+            f"bound the time: {BOUND}",
+            f"bound the time: {HOUR} is an hour where t counts in seconds",
+        ),
+        (f"write a whole number of seconds: {HOUR}", f"write a whole number: {BOUND}", None),
+        (
+            f"write a whole number in the column's unit: {HOUR} is an hour where t is in seconds",
+            f"write a whole number: {BOUND}",
+            f"write a whole number: {HOUR} is an hour where t counts in seconds",
+        ),
+        ("3600 are an hour", f"3600 are an hour; {BOUND}", "3600 are an hour"),
+        ("write AND", "write AND", "write AND"),
+    ],
+)
+def test_helps_of_other_programs(line, said, without):
+    clause = "ORDER BY at PATTERN (A) WITHIN INTERVAL '1' HOUR DEFINE A AS p > 0"
+    for frame, wanted in ((FRAME, said), (FRAME[["p", "s"]], without)):
+        sources = Names(frame, {}, clause).plain()
+        place = Wording(clause, clause.index("WITHIN"), [], [], sources, frame, "micros")
+        if wanted is not None:
+            assert place.lines((line,)) == (wanted,)

@@ -33,7 +33,9 @@ _VALUES = {
 }
 _PARTS = ("year", "month", "day", "hour", "minute", "second")
 _OF_PARTS = {"EXTRACT", "STRFTIME", "DATE_TRUNC", "DATE", "TIME", *map(str.upper, _PARTS)}
-_BOUND = re.compile(r"t - (FIRST|PREV)\(t\) <= 3600\b")
+_BOUND = re.compile(
+    r"t - (FIRST|PREV)\(t\) <= 3600\b( is an hour where t is in seconds|, where t counts in seconds)?"
+)
 _LIKE = re.compile(r"(%?)([^%_]*)(%?)")
 
 
@@ -165,9 +167,9 @@ class Wording:
     def _of_length(self, line: str) -> Iterator[str]:
         """A help that has an hour of seconds, with the unit that a column of times counts in."""
         found = column_of_times(self.clause, [], self.sources, self.frame, self.times)
-        line = re.sub(" of (seconds|the column's unit)", "", line)
+        line = re.sub(" (of seconds|(of|in) the column's unit)(?=:)", "", line)
         if found is None:
-            yield f"{line}, where t counts in seconds"
+            yield _BOUND.sub(r"t - \1(t) <= 3600 is an hour where t counts in seconds", line)
             return
         source, unit = found
         length = length_at(self.clause, self.begin, unit)
