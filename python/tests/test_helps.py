@@ -119,6 +119,13 @@ BY_CENTS = "by decimal(2) price is counted so that"
         ),
         ("(SUM(price) > 1.5 OR n > 5)", CENTS, f"{BY_CENTS} 1.5 is 150: write SUM(price) > 150", 1),
         ("price > 1.5", {}, "give columns={'price': 'decimal(2)'}, and write price > 150 then", 1),
+        ("price > PREV(price) + 0.99", CENTS, f"{BY_CENTS} 0.99 is 99: write 99 for 0.99", None),
+        (
+            "price > PREV(price) + 0.99",
+            {},
+            "give columns={'price': 'decimal(2)'}, and write 99 for 0.99 then",
+            None,
+        ),
         ("price > 1.5", {"price": "int"}, "counted in whole numbers: write price * 10 > 15", None),
         ("mills > 1.5", {}, "give columns={'mills': 'decimal(3)'}, and write mills > 1500 then", 1),
         ("whole > 1.5", {}, "whole is counted in whole numbers: write whole * 10 > 15", 1),
@@ -147,7 +154,13 @@ def test_a_fraction_is_whole_numbers_of_how_the_column_is_read(condition, column
 
 def test_a_fraction_next_to_what_is_counted_otherwise():
     conditions = ("price * 2 > 1.5", "COUNT(price) > 1.5", "price > 1.5 + n", "price - n > 1.5")
-    for condition in (*conditions, "prise > 1.5", "price > 1.5e3", "1 < 1.5"):
+    sums = (
+        "price > PREV(price) + 0.999",
+        "price > 1 + 0.5",
+        "n > PREV(n) + 0.5",
+        "n + 1.5 > price",
+    )
+    for condition in (*conditions, *sums, "prise > 1.5", "price > 1.5e3", "1 < 1.5"):
         for columns in ({}, CENTS):
             with pytest.raises(ClauseError) as caught:
                 rowmatch.match(MONEY, f"PATTERN (A) DEFINE A AS {condition}", columns=columns)
@@ -156,6 +169,9 @@ def test_a_fraction_next_to_what_is_counted_otherwise():
                 assert "--columns" not in line and not line.startswith("where it has")
     with pytest.raises(ClauseError, match="column word has texts: pandas.to_numeric"):
         rowmatch.match(MONEY, "PATTERN (A) DEFINE A AS word > 1.5")
+    sparse = pd.DataFrame({"v": pd.arrays.SparseArray([0.5, 1.0])})
+    with pytest.raises(ClauseError, match="there are no fractions"):
+        rowmatch.match(sparse, "PATTERN (A) DEFINE A AS v > 1.5")
     # An empty frame, as Dask has one before anything runs, says nothing of fractions.
     with pytest.raises(ClauseError, match=re.escape("give columns={'whole': 'decimal(2)'}, and")):
         rowmatch.match(MONEY.iloc[:0], "PATTERN (A) DEFINE A AS whole > 1.5")

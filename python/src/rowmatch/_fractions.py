@@ -15,6 +15,7 @@ from ._ways import places_in, places_needed
 from ._words import columns_of, operands_near, values_among, words_with_places
 
 _COMPARISONS = {"=", "<>", "<", "<=", ">", ">="}
+_ADDED = {*_COMPARISONS, "+", "-"}
 _MIRRORED = {"=": "=", "<>": "<>", "<": ">", "<=": ">=", ">": "<", ">=": "<="}
 # What a value may go through that counts as its column does.
 _FUNCTIONS = {"SUM", "MIN", "MAX", "FIRST", "LAST", "PREV", "NEXT", "FINAL", "RUNNING"}
@@ -26,7 +27,7 @@ _NUMBER = re.compile(r"[0-9]*\.[0-9]+", re.ASCII)
 @dataclass(frozen=True)
 class Comparison:
     """A comparison of a value with a fraction: the value's text and columns, the sign between, and
-    the fraction as it is written."""
+    the fraction as it is written. Where that is a part of a sum there is no value and no sign."""
 
     value: str
     columns: list[Source]
@@ -46,6 +47,8 @@ class Comparison:
         """The comparison where the value counts in units of the last one of so many places, and is
         multiplied by a factor."""
         number = int((self.fraction * factor).scaleb(places))
+        if not self.sign:
+            return f"{number} for {self.written}"
         is_sum = re.search(r"[+-]", self.value)
         value = f"({self.value})" if is_sum and factor > 1 else self.value
         return f"{value}{f' * {factor}' if factor > 1 else ''} {self.sign} {number}"
@@ -73,6 +76,9 @@ def comparison_at(clause: str, point: int, sources: Mapping[str, Source]) -> Com
         return _comparison(left[:-1], left[-1], number, sources)
     if right and right[0] in _COMPARISONS and not left:
         return _comparison(right[1:], _MIRRORED[right[0]], number, sources)
+    if {*left[-1:], *right[:1]} <= _ADDED:
+        terms = ["+" if word in _COMPARISONS else word for word in [*left, *right]]
+        return _comparison(terms, "", found[0], sources)
     return None
 
 
@@ -82,7 +88,7 @@ def _comparison(
     columns = columns_of(values_among(words), sources)
     if not columns or not _counts_alike(words, sources):
         return None
-    return Comparison(_joined(words), columns, sign, number)
+    return Comparison(_joined(words) if sign else "", columns, sign, number)
 
 
 def _counts_alike(words: list[str], sources: Mapping[str, Source]) -> bool:
@@ -116,9 +122,13 @@ def helps_of(comparison: Comparison, frame: pd.DataFrame) -> list[str]:
     if len(places) > 1 or any(source.kind == "text" for source in comparison.columns):
         return []
     known = places.pop()
-    if known is not None:
-        return [_by_reading(comparison, known)]
-    return [_without_reading(comparison, frame)]
+    if known is None:
+        line = _without_reading(comparison, frame)
+    elif comparison.sign or comparison.places <= known:
+        line = _by_reading(comparison, known)
+    else:
+        line = None
+    return [] if line is None else [line]
 
 
 def _by_reading(comparison: Comparison, places: int) -> str:
@@ -131,12 +141,15 @@ def _by_reading(comparison: Comparison, places: int) -> str:
     return f"{said} 1 is {10**places}: write {comparison.in_units(places, factor)}"
 
 
-def _without_reading(comparison: Comparison, frame: pd.DataFrame) -> str:
-    """What to write where nothing is said of how many places the columns have."""
+def _without_reading(comparison: Comparison, frame: pd.DataFrame) -> str | None:
+    """What to write where nothing is said of how many places the columns have. A sum of whole
+    numbers and a fraction isn't rewritten."""
     of_values = [places_needed(values_of(source, frame)) for source in comparison.columns]
     whole = comparison.in_units(0, 10**comparison.places)
     known = [it for it in of_values if it is not None]
     if not known or any(source.said for source in comparison.columns):
+        if not comparison.sign:
+            return None
         names = " and ".join(source.text for source in comparison.columns)
         return f"{names} is counted in whole numbers: write {whole}"
     places = max(_CENTS, comparison.places, *known)

@@ -439,7 +439,7 @@ def places_needed(values: pd.Series) -> int | None:
     if values.dtype == object:
         are_others = pd.api.types.infer_dtype(values.dropna()) in _OBJECTS
         return None if are_others else _places_of_objects(values)
-    if values.dtype.kind != "f":
+    if values.dtype.kind != "f" or isinstance(values.dtype, pd.SparseDtype):
         return None
     numbers, missing = _numbers_of(values)
     if not missing.all() and bool((numbers == np.floor(numbers)).all()):
