@@ -83,6 +83,10 @@ def test_one_more_column_has_the_value(condition, values):
         ("p::text = 'x'", "frame['p'].map(str, na_action='ignore') makes texts of its numbers"),
         ("CAST(at AS DATE) > 1", "frame['at'].dt.date makes days of its times"),
         ("p > '1'", "frame['p'].map(str, na_action='ignore') makes texts of its numbers"),
+        (
+            "at - PREV(at) > 5 MINUTES",
+            "write a whole number: at - FIRST(at) <= 300000000; at counts",
+        ),
         ("STDDEV(p) > 1", "ALL ROWS PER MATCH gives every row"),
         ("SELECT * FROM t WHERE p > 1 -- PATTERN", "the answer is a frame to filter"),
         ("MEASURES SUM(p + 1) AS q PATTERN (A) DEFINE A AS p > 1", "frame.assign(..)"),
@@ -90,6 +94,13 @@ def test_one_more_column_has_the_value(condition, values):
 )
 def test_what_is_said_of_commands_is_said_of_frames(clause, said):
     assert any(said in line for line in helps_of(clause)), helps_of(clause)
+
+
+def test_a_clause_without_a_word():
+    for clause in ("", " -- PATTERN"):
+        with pytest.raises(ClauseError) as caught:
+            rowmatch.match(FRAME, clause)
+        assert caught.value.help and not any("file" in line for line in caught.value.help)
 
 
 WITHIN = "ORDER BY at MEASURES COUNT(*) AS n PATTERN (A B+) WITHIN {} DEFINE B AS p < PREV(p)"
@@ -173,6 +184,17 @@ HOUR = "t - FIRST(t) <= 3600"
         ),
         ("3600 are an hour", f"3600 are an hour; {BOUND}", "3600 are an hour"),
         ("write AND", "write AND", "write AND"),
+        (
+            "to subtract them let the file have seconds, and write a number",
+            "times are subtracted as numbers: " + BOUND.replace("FIRST", "PREV"),
+            "to subtract, pandas.to_datetime makes times of texts, and times='seconds' counts them: "
+            "t - PREV(t) <= 3600",
+        ),
+        (
+            "dates as 2024-01-05 are ordered and compared where the table has the column as text",
+            "dates as 2024-01-05 are ordered and compared in a column of texts",
+            "dates as 2024-01-05 are ordered and compared in a column of texts",
+        ),
     ],
 )
 def test_helps_of_other_programs(line, said, without):

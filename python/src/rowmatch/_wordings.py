@@ -64,6 +64,7 @@ class Wording:
         if "3600" in line:
             yield from self._of_length(line)
             return
+        line = line.replace("was its file found? ", "")
         line = line.replace("one more column of the file", "one more column, by frame.assign(..),")
         line = line.replace("what is printed can be filtered", "the answer is a frame to filter")
         yield line.replace("what is printed", "what is answered").replace(
@@ -80,7 +81,9 @@ class Wording:
             ("a column's kind", self._cast),
             ("if the file's column is one of texts", self._texts),
             ("in a column of text, dates", self._dates),
+            ("dates as 2024-01-05 are ordered and compared where the table", self._texts_of_dates),
             ("to subtract, let the column", self._subtracted),
+            ("to subtract them let the file", self._subtracted),
         ]
 
     def _head(self, line: str) -> Iterator[str]:
@@ -154,6 +157,9 @@ class Wording:
             f"frame.assign({part}={_parts_of(source, unit)}.{part})"
         )
 
+    def _texts_of_dates(self, line: str) -> Iterator[str]:
+        yield "dates as 2024-01-05 are ordered and compared in a column of texts"
+
     def _subtracted(self, line: str) -> Iterator[str]:
         found = column_of_times(self.clause, self.near, self.sources, self.frame, self.times)
         if found is not None:
@@ -172,7 +178,8 @@ class Wording:
             yield _BOUND.sub(r"t - \1(t) <= 3600 is an hour where t counts in seconds", line)
             return
         source, unit = found
-        length = length_at(self.clause, self.begin, unit)
+        before = re.search(r"[0-9]+\s*\Z", self.clause[: self.begin])  # of 5 MINUTES
+        length = length_at(self.clause, before.start() if before else self.begin, unit)
         said = _BOUND.sub(lambda it: bound(source, unit, it[1], length), line)
         yield said if said != line else f"{line}; {bound(source, unit, 'FIRST', length)}"
 
