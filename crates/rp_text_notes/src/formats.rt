@@ -1,7 +1,6 @@
 //! Texts that are dates or times in another form than that of ISO 8601.
 
 use crate::texts::{ColumnTexts, NumberReader, is_word};
-use crate::times::{IN_UTC, IN_ZONE};
 use crate::way::{Way, as_fine};
 use rp_wording::Pieces;
 use std::alloc::{AllocError, Global};
@@ -69,16 +68,6 @@ struct Form {
     word: &'static str,
 }
 
-/// Another way that may be meant.
-struct Other {
-    /// When the first one is meant.
-    condition: &'static str,
-    /// When this one is.
-    otherwise: &'static str,
-    /// What is behind the source then.
-    behind: String,
-}
-
 /// How all texts of a column are read as dates or times by a format, in a unit that is at least so fine. None where not all are.
 pub(crate) fn format_way(
     alloc: Global,
@@ -125,15 +114,15 @@ fn way_of(
     column: ColumnTexts<'_>,
     form: Form,
 ) -> Result<Option<Way>, AllocError> {
-    let behind = behind_source(alloc, form, "UTC")?;
+    let behind = behind_source(alloc, form)?;
     Way::reading_all(alloc, reader, column, form.word, behind)
 }
 
-/// What is behind the source in the reading of a format, where times that have no offset are in a zone.
-fn behind_source(alloc: Global, form: Form, zone: &str) -> Result<String, AllocError> {
+/// What is behind the source in the reading of a format, where times that have no offset are in UTC.
+fn behind_source(alloc: Global, form: Form) -> Result<String, AllocError> {
     let mut behind = Pieces::filled(alloc, ", '{}{}'", &[form.date, form.clock]);
     if is_without_offset(form) {
-        behind.push_filled(", '{}'", &[zone]);
+        behind.push(", 'UTC'");
     }
     behind.finish()
 }
@@ -143,7 +132,7 @@ fn is_without_offset(form: Form) -> bool {
     form.word != "date" && !form.clock.contains("%z")
 }
 
-/// The way of a format, with the one that may be meant otherwise.
+/// The way of a format, with what may be meant otherwise: another order of its numbers, or a time zone.
 fn with_other(
     alloc: Global,
     reader: &mut NumberReader,
@@ -152,46 +141,34 @@ fn with_other(
     swapped: &'static str,
     way: Way,
 ) -> Result<Option<Way>, AllocError> {
-    match other_of(alloc, reader, column, form, swapped)? {
-        Some(
-            Other {
-                condition,
-                otherwise,
-                behind,
-            },
-        ) => Ok(Some(way.or(condition, otherwise, behind))),
-        None => Ok(Some(way)),
+    let way = or_swapped(alloc, reader, column, form, swapped, way)?;
+    if is_without_offset(form) {
+        return Ok(Some(way.in_utc()));
     }
+    Ok(Some(way))
 }
 
-/// What may be meant otherwise than by a format: one with its numbers in another order, where that reads all texts too, or a time zone.
-fn other_of(
+/// The way of a format, with the one that has its numbers in another order, where that reads all texts too.
+fn or_swapped(
     alloc: Global,
     reader: &mut NumberReader,
     column: ColumnTexts<'_>,
     form: Form,
     swapped: &'static str,
-) -> Result<Option<Other>, AllocError> {
+    way: Way,
+) -> Result<Way, AllocError> {
     let other = Form {
         date: swapped,
         ..form
     };
-    let has_no_offset = is_without_offset(form);
-    if !swapped.is_empty() && reads_all(alloc, reader, column, other)? {
-        return Ok(Some(Other {
-            condition: condition_of(form.date, has_no_offset),
-            otherwise: otherwise_of(swapped, has_no_offset),
-            behind: behind_source(alloc, other, "Europe/Berlin")?,
-        }));
+    if swapped.is_empty() || !reads_all(alloc, reader, column, other)? {
+        return Ok(way);
     }
-    if !has_no_offset {
-        return Ok(None);
-    }
-    Ok(Some(Other {
-        condition: IN_UTC,
-        otherwise: IN_ZONE,
-        behind: behind_source(alloc, form, "Europe/Berlin")?,
-    }))
+    Ok(way.or(
+        condition_of(form.date, is_without_offset(form)),
+        otherwise_of(swapped),
+        behind_source(alloc, other)?,
+    ))
 }
 
 /// Whether a format reads all texts of a column.
@@ -215,11 +192,10 @@ fn condition_of(date: &str, has_no_offset: bool) -> &'static str {
 }
 
 /// When another one is meant.
-fn otherwise_of(date: &str, has_no_offset: bool) -> &'static str {
-    match (date.starts_with("%d"), has_no_offset) {
-        (true, true) => "if the day is first, and in a time zone",
-        (true, false) => "if the day is first",
-        (false, true) => "if the year is first, and in a time zone",
-        (false, false) => "if the year is first",
+fn otherwise_of(date: &str) -> &'static str {
+    if date.starts_with("%d") {
+        "if the day is first"
+    } else {
+        "if the year is first"
     }
 }

@@ -2,6 +2,7 @@
 
 use crate::example::{Example, Numbered};
 use crate::found::Found;
+use crate::times::IN_ZONE;
 use crate::way::Way;
 use rp_wording::Pieces;
 use std::alloc::{AllocError, Global};
@@ -141,5 +142,8 @@ fn push_otherwise(alloc: Global, line: &mut Pieces, name: &str, way: &Way) {
         line.push(name);
         line.push(" = ");
         line.push_made(way.written_otherwise(alloc, name));
+    }
+    if way.is_in_utc {
+        line.push(IN_ZONE);
     }
 }

@@ -16,8 +16,9 @@ const MICRO_PLACES: usize = 6;
 /// What is said where times have no offset from UTC.
 pub(crate) const IN_UTC: &str = " if they are in UTC";
 
-/// What is said of the other case.
-pub(crate) const IN_ZONE: &str = "if they are in a time zone, name it";
+/// What is said where they may be in a time zone instead.
+pub(crate) const IN_ZONE: &str =
+    "; if they are in a time zone, name it in place of 'UTC', as 'Europe/Berlin'";
 
 /// How all texts of a column are read as dates or times, in a unit that is at least so fine. None where not all are, and where no unit is asked
 /// for and their order as texts is that of time.
@@ -85,11 +86,7 @@ fn instant_way(
     }
     let utc = String::from_str(alloc, ", 'UTC'")?;
     match Way::reading_all(alloc, reader, column, word, utc)? {
-        Some(way) => Ok(Some(way.or(
-            IN_UTC,
-            IN_ZONE,
-            String::from_str(alloc, ", 'Europe/Berlin'")?,
-        ))),
+        Some(way) => Ok(Some(way.in_utc())),
         None => Ok(None),
     }
 }

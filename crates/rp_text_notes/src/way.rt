@@ -1,7 +1,7 @@
 //! A way to read the texts of a column as whole numbers.
 
 use crate::texts::{ColumnTexts, NumberReader};
-use crate::times::{IN_UTC, IN_ZONE};
+use crate::times::IN_UTC;
 use rp_columns::{Columns, ColumnsFault, Reading, read_columns};
 use rp_wording::Pieces;
 use std::alloc::{AllocError, Global};
@@ -25,6 +25,8 @@ pub(crate) struct Way {
     pub(crate) otherwise: &'static str,
     /// What is behind the source then.
     other: String,
+    /// Whether it takes times without an offset for such of UTC, which may be in a time zone.
+    pub(crate) is_in_utc: bool,
 }
 
 /// It is let go of by a call, wherever it is held.
@@ -40,6 +42,7 @@ impl Drop for Way {
             condition: _,
             otherwise: _,
             other: _,
+            is_in_utc: _,
         } = self;
     }
 }
@@ -73,9 +76,8 @@ impl Way {
         let Some(reading) = reading_of(alloc, "seconds", behind.as_str())? else {
             return Ok(None);
         };
-        let other = String::from_str(alloc, ", '%Y%m%d%H%M%S', 'Europe/Berlin'")?;
         let way = Way::by(alloc, reading, "seconds", behind);
-        Ok(Some(way.or(IN_UTC, IN_ZONE, other)))
+        Ok(Some(way.in_utc()))
     }
 
     /// The way of decimal numbers with so many places, and a point before these.
@@ -102,6 +104,7 @@ impl Way {
             condition: "",
             otherwise: "",
             other: String::new(alloc),
+            is_in_utc: false,
         }
     }
 
@@ -111,6 +114,16 @@ impl Way {
         way.condition = condition;
         way.otherwise = otherwise;
         way.other = other;
+        way
+    }
+
+    /// The same, where it takes times without an offset for such of UTC.
+    pub(crate) fn in_utc(self) -> Way {
+        let mut way = self;
+        if way.condition.is_empty() {
+            way.condition = IN_UTC;
+        }
+        way.is_in_utc = true;
         way
     }
 
