@@ -87,7 +87,37 @@ pub(crate) fn format_way(
     Ok(None)
 }
 
-/// The same by a date's format and one of these that may follow it.
+/// Each way by a format that reads all texts of a column.
+pub(crate) fn format_ways(
+    alloc: Global,
+    reader: &mut NumberReader,
+    column: ColumnTexts<'_>,
+) -> Result<Vec<Way>, AllocError> {
+    let mut ways = Vec::new(alloc);
+    for (date, _swapped) in DATES.as_slice() {
+        push_ways(alloc, reader, column, *date, &mut ways)?;
+    }
+    Ok(ways)
+}
+
+/// Adds those that have a date's format.
+fn push_ways(
+    alloc: Global,
+    reader: &mut NumberReader,
+    column: ColumnTexts<'_>,
+    date: &'static str,
+    ways: &mut Vec<Way>,
+) -> Result<(), AllocError> {
+    for (clock, word) in CLOCKS.as_slice() {
+        let form = Form { date, clock, word };
+        if let Some(way) = way_of(alloc, reader, column, form)? {
+            ways.push(way)?;
+        }
+    }
+    Ok(())
+}
+
+/// How all texts of a column are read by a date's format and one of these that may follow it.
 fn way_of_date(
     alloc: Global,
     reader: &mut NumberReader,

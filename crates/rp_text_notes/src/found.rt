@@ -40,7 +40,6 @@ impl Found {
             rows,
             number: self.number,
             sign: self.sign,
-            skips_words: false,
         }
     }
 }
@@ -58,7 +57,6 @@ pub(crate) fn columns_found(
             rows,
             number,
             sign: "",
-            skips_words: false,
         };
         if asked.is_text(number) && asked.asks_of(number) {
             if let Some(one) = found_in(alloc, reader, asked, texts)? {

@@ -14,6 +14,7 @@ mod formats;
 mod found;
 mod given_units;
 mod lines;
+mod mixed_times;
 mod notes;
 mod null_words;
 mod retyped;

@@ -158,7 +158,6 @@ fn line_on_others(
         rows,
         number,
         sign: "",
-        skips_words: false,
     };
     if let Some(strays) = strays_of(column) {
         let name = name_of(alloc, asked.query, number)?;

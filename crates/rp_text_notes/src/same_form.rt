@@ -22,7 +22,7 @@ pub(crate) fn have_one_form(column: ColumnTexts<'_>) -> bool {
 }
 
 /// Whether two texts have one form.
-fn is_formed_as(one: &str, other: &str) -> bool {
+pub(crate) fn is_formed_as(one: &str, other: &str) -> bool {
     one.len() == other.len()
         && offset_of(one) == offset_of(other)
         && one.bytes().zip(other.bytes()).all(|(left, right)| left == right

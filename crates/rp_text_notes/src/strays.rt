@@ -1,5 +1,5 @@
 //! Fields that keep a column of numbers text, and are no word for null: a header that comes again, an exponent, a sign behind a number, too
-//! many digits. And words among dates or times, as in the row of a sum below them.
+//! many digits. And other fields among dates or times, as in the row of a sum below them.
 
 use crate::decimals::{BY_POINT, OTHERS, Style, is_of_style};
 use crate::example::Example;
@@ -19,7 +19,7 @@ pub(crate) struct Strays<'a> {
     /// How many there are.
     count: usize,
     /// The first of them.
-    first: &'a str,
+    pub(crate) first: &'a str,
 }
 
 /// Those of a column most of whose fields are numbers as people and programs write them. None where each field is read as one, and where
@@ -71,28 +71,8 @@ fn are_most_numbers(column: ColumnTexts<'_>) -> bool {
     numbers > fields / 2
 }
 
-/// The words among the fields of a column, more than half of which are none. None where there are no words.
-pub(crate) fn words_of(column: ColumnTexts<'_>) -> Option<Strays<'_>> {
-    let mut fields = 0usize;
-    let mut words: Option<Strays<'_>> = None;
-    for row in column.rows {
-        let text = column.of_row(row).unwrap_or("").trim();
-        if !text.is_empty() {
-            fields = fields.saturating_add(1);
-            if is_word(text) {
-                words = Some(with_further(words, text));
-            }
-        }
-    }
-    let found = words?;
-    if fields.saturating_sub(found.count) <= fields / 2 {
-        return None;
-    }
-    Some(found)
-}
-
 /// These fields, with a further one.
-fn with_further<'a>(strays: Option<Strays<'a>>, text: &'a str) -> Strays<'a> {
+pub(crate) fn with_further<'a>(strays: Option<Strays<'a>>, text: &'a str) -> Strays<'a> {
     match strays {
         Some(before) => Strays {
             count: before.count.saturating_add(1),
@@ -170,36 +150,44 @@ pub(crate) fn line_of_strays(
     line.finish()
 }
 
-/// What is to be known of a column of this name that has words among dates or times, which are read in a way.
-pub(crate) fn line_of_words(
+/// What is to be known of a column of this name that has other fields among dates or times, which are read in a way.
+pub(crate) fn line_of_mixed(
     alloc: Global,
     name: &str,
-    words: Strays<'_>,
+    strays: Strays<'_>,
     way: &Way,
     example: Option<Example<'_>>,
 ) -> Result<String, AllocError> {
     let (one, more) = (way.one_text(), way.texts());
-    let is_single = words.count == 1;
+    let (as_others, in_form) = if is_word(strays.first) {
+        ("", "")
+    } else {
+        (" as the others are", " in their form")
+    };
+    let is_single = strays.count == 1;
     let mut line = Pieces::of(alloc, name);
     line.push(" is text, since ");
-    line.push_count(words.count);
+    line.push_count(strays.count);
     if is_single {
-        line.push_filled(" field isn't read as a {}, '", &[one]);
+        line.push_filled(" field isn't read as a {}{}, '", &[one, as_others]);
     } else {
-        line.push_filled(" fields aren't read as {}, the first '", &[more]);
+        line.push_filled(
+            " fields aren't read as {}{}, the first '",
+            &[more, as_others],
+        );
     }
-    line.push_start(words.first.as_bytes());
+    line.push_start(strays.first.as_bytes());
     line.push_filled("', and its {} are compared as texts", &[more]);
     push_order(&mut line, example);
     if is_single {
         line.push_filled(
-            ". Write it as a {}, or take its row out of the input",
-            &[one],
+            ". Write it as a {}{}, or take its row out of the input",
+            &[one, in_form],
         );
     } else {
         line.push_filled(
-            ". Write them as {}, or take their rows out of the input",
-            &[more],
+            ". Write them as {}{}, or take their rows out of the input",
+            &[more, in_form],
         );
     }
     line.finish()

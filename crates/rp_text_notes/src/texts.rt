@@ -16,16 +16,13 @@ pub(crate) struct ColumnTexts<'a> {
     pub(crate) number: usize,
     /// A sign that texts have besides their numbers; empty where they are read as they are.
     pub(crate) sign: &'static str,
-    /// Whether texts that are words, and no dates or times, are left out.
-    pub(crate) skips_words: bool,
 }
 
 impl<'a> ColumnTexts<'a> {
-    /// The text that a row has in the column, without the sign; None where that is null, or a word that another program wrote for a null, or any
-    /// word, where these are left out.
+    /// The text that a row has in the column, without the sign; None where that is null, or a word that another program wrote for a null.
     pub(crate) fn of_row(self, row: &'a Row) -> Option<&'a str> {
         let text = self.written(row)?;
-        if means_null(text) || self.skips_words && is_word(text) {
+        if means_null(text) {
             return None;
         }
         Some(without_sign(text, self.sign))

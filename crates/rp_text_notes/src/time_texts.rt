@@ -1,12 +1,10 @@
-//! Dates and times that stay texts: most of a column's fields are such ones and others are words, or the clause compares them by their order
-//! with a text of another form.
+//! Dates and times that stay texts: other fields are among them, or the clause compares them by their order with a text of another form.
 
-use crate::example::example_of;
+use crate::mixed_times::line_on_mixed;
 use crate::notes::name_of;
 use crate::same_form::{has_form_of, has_places_of};
-use crate::strays::{Strays, line_of_words, words_of};
 use crate::texts::{ColumnTexts, NumberReader, is_word};
-use crate::times::{any_time_way, time_way};
+use crate::times::any_time_way;
 use crate::uses::{Asked, is_of_order};
 use crate::way::Way;
 use rp_query::{Condition, Expr, Query};
@@ -21,34 +19,10 @@ pub(crate) fn line_on_times(
     asked: Asked<'_>,
     column: ColumnTexts<'_>,
 ) -> Result<Option<String>, AllocError> {
-    match words_of(column) {
-        Some(words) => line_on_most(alloc, reader, asked, most_of(column), words),
+    match line_on_mixed(alloc, reader, asked, column)? {
+        Some(line) => Ok(Some(line)),
         None => line_on_literals(alloc, reader, asked, column),
     }
-}
-
-/// A column without its words.
-fn most_of(column: ColumnTexts<'_>) -> ColumnTexts<'_> {
-    ColumnTexts {
-        skips_words: true,
-        ..column
-    }
-}
-
-/// What is said of a column whose fields without these words are dates or times that aren't ordered as their texts are.
-fn line_on_most(
-    alloc: Global,
-    reader: &mut NumberReader,
-    asked: Asked<'_>,
-    times: ColumnTexts<'_>,
-    words: Strays<'_>,
-) -> Result<Option<String>, AllocError> {
-    let Some(way) = time_way(alloc, reader, times, 0)? else {
-        return Ok(None);
-    };
-    let example = example_of(reader, &way.reading, times);
-    let name = name_of(alloc, asked.query, times.number)?;
-    Ok(Some(line_of_words(alloc, name.as_str(), words, &way, example)?))
 }
 
 /// What is said of a column of dates or times of one form, with which a text of another form is compared by its order.

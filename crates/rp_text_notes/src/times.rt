@@ -52,7 +52,7 @@ pub(crate) fn any_time_way(
 }
 
 /// Whether a text begins with a year if it is a time, and smaller units come behind greater ones: it has no clock of twelve hours.
-fn has_year_first(text: &str) -> bool {
+pub(crate) fn has_year_first(text: &str) -> bool {
     let year = text.trim().get(..YEAR_DIGITS).unwrap_or("");
     are_digits(year) && !text.contains('m') && !text.contains('M')
 }
@@ -65,12 +65,23 @@ fn iso_way(
     least: usize,
 ) -> Result<Option<Way>, AllocError> {
     if least == 0 {
-        let nothing = String::new(alloc);
-        if let Some(way) = Way::reading_all(alloc, reader, column, "date", nothing)? {
-            return Ok(Some(way));
-        }
+        return iso_way_of_some(alloc, reader, column, column);
     }
     instant_way(alloc, reader, column, as_fine(word_for(column), least))
+}
+
+/// How some texts of a column are read as dates or times by ISO 8601, in the unit in which all of them are whole.
+pub(crate) fn iso_way_of_some(
+    alloc: Global,
+    reader: &mut NumberReader,
+    some: ColumnTexts<'_>,
+    column: ColumnTexts<'_>,
+) -> Result<Option<Way>, AllocError> {
+    let nothing = String::new(alloc);
+    match Way::reading_all(alloc, reader, some, "date", nothing)? {
+        Some(way) => Ok(Some(way)),
+        None => instant_way(alloc, reader, some, word_for(column)),
+    }
 }
 
 /// How all texts of a column are read as times by ISO 8601, by this word.

@@ -27,7 +27,6 @@ pub(crate) fn share_units(
                 rows,
                 number,
                 sign: "",
-                skips_words: false,
             };
             refine(alloc, reader, asked, texts, found)?;
         }

@@ -79,13 +79,26 @@ impl<'a> Asked<'a> {
                 None => false,
             }
     }
+
+    /// Whether a column is compared by its order, or its least or greatest value is asked for.
+    pub(crate) fn compares_order(self, column: usize) -> bool {
+        compares_order(self.query, column)
+            || match self.filter {
+                Some(filter) => compares_order(filter, column),
+                None => false,
+            }
+    }
 }
 
 /// Whether the answer of a query depends on the order of a column's values, by its number from 1: rows are ordered by it, it is compared
 /// by `<`, `<=`, `>` or `>=`, or its least or greatest value is asked for.
 fn asks_order(query: &Query, column: usize) -> bool {
-    query.order().iter().any(|order| order.column == column)
-        || asks_extreme(query, column)
+    query.order().iter().any(|order| order.column == column) || compares_order(query, column)
+}
+
+/// Whether a column of a query is compared by its order, or its least or greatest value is asked for.
+fn compares_order(query: &Query, column: usize) -> bool {
+    asks_extreme(query, column)
         || query
             .plan()
             .conditions
