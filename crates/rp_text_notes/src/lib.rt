@@ -16,6 +16,7 @@ mod given_units;
 mod lines;
 mod mixed_times;
 mod notes;
+mod null_texts;
 mod null_words;
 mod retyped;
 mod same_form;

@@ -5,6 +5,7 @@ use crate::compact_dates::{add_dates, line_on_dates};
 use crate::example::example_of;
 use crate::found::{Found, columns_found};
 use crate::lines::line_of;
+use crate::null_texts::{NullTexts, line_of_nulls, null_texts};
 use crate::retyped::options_for;
 use crate::strays::{line_of_strays, strays_of};
 use crate::texts::{ColumnTexts, NumberReader};
@@ -61,18 +62,27 @@ pub fn notes_on_proposed(
     add_dates(alloc, &mut reader, asked, rows, &mut found)?;
     let columns = written_columns(alloc, proposed.columns)?;
     add_sources(alloc, columns.as_slice(), &mut found)?;
-    let options = options_for(alloc, columns.as_slice(), proposed.nulls, found.as_slice())?;
+    let texts = null_texts(alloc, &mut reader, asked, rows, found.as_slice())?;
+    let options = options_for(
+        alloc,
+        columns.as_slice(),
+        proposed.nulls,
+        found.as_slice(),
+        texts.as_slice(),
+    )?;
     let readings = Readings {
         found: found.as_slice(),
+        texts: texts.as_slice(),
         options: options.as_str(),
     };
     notes_by(alloc, &mut reader, asked, rows, readings)
 }
 
-/// The columns that are found, and the options by which they are read.
+/// The columns that are found, those that stay texts but for their words for null, and the options by which all are read.
 #[derive(Clone, Copy)]
 struct Readings<'a> {
     found: &'a [Found],
+    texts: &'a [NullTexts],
     options: &'a str,
 }
 
@@ -113,8 +123,28 @@ fn line_on(
             Ok(Some(line))
         }
         Some(_) => Ok(None),
-        None => line_on_others(alloc, reader, asked, rows, number),
+        None => match line_on_others(alloc, reader, asked, rows, number)? {
+            Some(line) => Ok(Some(line)),
+            None => line_on_nulls(alloc, asked, readings, number),
+        },
     }
+}
+
+/// What is said of a column that stays text, and has words for null.
+fn line_on_nulls(
+    alloc: Global,
+    asked: Asked<'_>,
+    readings: Readings<'_>,
+    number: usize,
+) -> Result<Option<String>, AllocError> {
+    for one in readings.texts {
+        if one.number == number {
+            let name = name_of(alloc, asked.query, number)?;
+            let line = line_of_nulls(alloc, name.as_str(), &one.words, readings.options)?;
+            return Ok(Some(line));
+        }
+    }
+    Ok(None)
 }
 
 /// The column of this number among those that are found.

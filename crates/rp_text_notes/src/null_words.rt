@@ -40,8 +40,27 @@ impl NullWords {
         Ok(found)
     }
 
+    /// Those of a column that are hardly ever texts.
+    pub(crate) fn sure_of(alloc: Global, column: ColumnTexts<'_>) -> Result<NullWords, AllocError> {
+        let mut found = NullWords::new(alloc);
+        for row in column.rows {
+            if let Some(word) = column.null_word(row) {
+                if is_sure(word.trim()) {
+                    found.add(alloc, word)?;
+                    found.count = found.count.saturating_add(1);
+                }
+            }
+        }
+        Ok(found)
+    }
+
     pub(crate) fn is_empty(&self) -> bool {
         self.words.is_empty()
+    }
+
+    /// How many fields have one of them.
+    pub(crate) fn count(&self) -> usize {
+        self.count
     }
 
     /// Adds those of another column.
@@ -88,4 +107,9 @@ impl NullWords {
             line.push(" ");
         }
     }
+}
+
+/// Whether a word for null is one that programs write, and people hardly ever do.
+fn is_sure(word: &str) -> bool {
+    matches!(word, "NULL" | "null" | "\\N" | "None" | "NaN")
 }

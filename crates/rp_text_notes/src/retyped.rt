@@ -1,6 +1,7 @@
 //! Options by which some columns are read in another way.
 
 use crate::found::Found;
+use crate::null_texts::NullTexts;
 use crate::null_words::NullWords;
 use crate::shell::push_word;
 use crate::way::Way;
@@ -9,21 +10,17 @@ use rp_value::Text;
 use rp_wording::Pieces;
 use std::alloc::{AllocError, Global};
 
-/// The options by which these columns are read in their ways, and all others as before, by these words for null. One with a sign that no
-/// reading takes stays too.
+/// The options by which these columns are read in their ways, and all others as before, by these words for null and those of texts. One with a
+/// sign that no reading takes stays too.
 pub(crate) fn options_for(
     alloc: Global,
     columns: &[WrittenColumn<'_>],
     nulls: &[Text],
     found: &[Found],
+    texts: &[NullTexts],
 ) -> Result<String, AllocError> {
     let columns = retyped(alloc, columns, found)?;
-    let mut words = NullWords::new(alloc);
-    for one in found {
-        if one.sign.is_empty() {
-            words.add_all(alloc, &one.words)?;
-        }
-    }
+    let words = words_of(alloc, found, texts)?;
     let mut options = Pieces::new(alloc);
     words.push_options(&mut options);
     if !words.is_empty() && is_empty_null(nulls) {
@@ -32,6 +29,26 @@ pub(crate) fn options_for(
     options.push("--columns ");
     push_word(&mut options, columns.as_str());
     options.finish()
+}
+
+/// The words for null of columns that are read, and of those that stay texts.
+fn words_of(alloc: Global, found: &[Found], texts: &[NullTexts]) -> Result<NullWords, AllocError> {
+    let mut words = words_of_found(alloc, found)?;
+    for one in texts {
+        words.add_all(alloc, &one.words)?;
+    }
+    Ok(words)
+}
+
+/// Those of columns that are read.
+fn words_of_found(alloc: Global, found: &[Found]) -> Result<NullWords, AllocError> {
+    let mut words = NullWords::new(alloc);
+    for one in found {
+        if one.sign.is_empty() {
+            words.add_all(alloc, &one.words)?;
+        }
+    }
+    Ok(words)
 }
 
 /// Whether an empty text is null.

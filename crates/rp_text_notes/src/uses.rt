@@ -23,8 +23,12 @@ impl<'a> Asked<'a> {
 
     /// Whether the values of a column are asked for, or whether they are null.
     pub(crate) fn asks_of(self, column: usize) -> bool {
-        self.asks_values(column)
-            || asks_null(self.query, column)
+        self.asks_values(column) || self.asks_null(column)
+    }
+
+    /// Whether it is asked if a column is null.
+    pub(crate) fn asks_null(self, column: usize) -> bool {
+        asks_null(self.query, column)
             || match self.filter {
                 Some(filter) => asks_null(filter, column),
                 None => false,
