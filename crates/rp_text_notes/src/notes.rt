@@ -7,6 +7,7 @@ use crate::found::{Found, columns_found};
 use crate::lines::line_of;
 use crate::null_texts::{NullTexts, line_of_nulls, null_texts};
 use crate::retyped::options_for;
+use crate::signs::{line_of_signed, signed_of};
 use crate::strays::{line_of_strays, strays_of};
 use crate::texts::{ColumnTexts, NumberReader};
 use crate::time_texts::line_on_times;
@@ -172,8 +173,8 @@ fn line_of_found(
     line_of(alloc, name.as_str(), found, is_number, example, options)
 }
 
-/// What is said of a column whose order is asked for, and that is read in no way: its numbers or times have other fields among them, or it has
-/// times of day, or times that the clause writes in another form. None where there is nothing to say.
+/// What is said of a column that is read in no way: its numbers or times have other fields among them, or a sign, or it has times of day, or times
+/// that the clause writes in another form. None where there is nothing to say.
 fn line_on_others(
     alloc: Global,
     reader: &mut NumberReader,
@@ -181,7 +182,7 @@ fn line_on_others(
     rows: &[Row],
     number: usize,
 ) -> Result<Option<String>, AllocError> {
-    if !asked.is_text(number) || !asked.asks_order(number) {
+    if !asked.is_text(number) || !asked.asks_values(number) {
         return Ok(None);
     }
     let column = ColumnTexts {
@@ -189,6 +190,26 @@ fn line_on_others(
         number,
         sign: "",
     };
+    if let Some(signed) = signed_of(column) {
+        let name = name_of(alloc, asked.query, number)?;
+        let is_number = asked.wants_numbers(number);
+        let line = line_of_signed(alloc, name.as_str(), signed, is_number)?;
+        return Ok(Some(line));
+    }
+    if !asked.asks_order(number) {
+        return Ok(None);
+    }
+    line_on_unread(alloc, reader, asked, column)
+}
+
+/// The same of a column whose order is asked for, and whose numbers have no sign besides.
+fn line_on_unread(
+    alloc: Global,
+    reader: &mut NumberReader,
+    asked: Asked<'_>,
+    column: ColumnTexts<'_>,
+) -> Result<Option<String>, AllocError> {
+    let number = column.number;
     if let Some(strays) = strays_of(column) {
         let name = name_of(alloc, asked.query, number)?;
         return Ok(Some(line_of_strays(alloc, name.as_str(), strays)?));

@@ -17,7 +17,7 @@ const MOST_DIGITS: usize = 18;
 #[derive(Clone, Copy)]
 pub(crate) struct Strays<'a> {
     /// How many there are.
-    count: usize,
+    pub(crate) count: usize,
     /// The first of them.
     pub(crate) first: &'a str,
 }
@@ -101,7 +101,7 @@ fn is_number(text: &str) -> bool {
 }
 
 /// Whether a text is a number of any style.
-fn is_plain(text: &str) -> bool {
+pub(crate) fn is_plain(text: &str) -> bool {
     for style in OTHERS.as_slice() {
         if is_of_style(text, *style) {
             return true;
