@@ -9,6 +9,9 @@ use std::alloc::{AllocError, Global};
 /// Fewer digits than a date has.
 const FEW_DIGITS: usize = 3;
 
+/// No word that other programs write for a null has more bytes. Longer texts, which most are, aren't compared with these.
+const MOST_NULL_BYTES: usize = 4;
+
 /// A column of rows, by its number from 1.
 #[derive(Clone, Copy)]
 pub(crate) struct ColumnTexts<'a> {
@@ -109,9 +112,11 @@ pub(crate) fn is_word(text: &str) -> bool {
     count_digits(text) < FEW_DIGITS
 }
 
-/// Whether a text is a word that other programs write for a null; none of these begins with a digit, as numbers and times do.
+/// Whether a text is a word that other programs write for a null; none of these begins with a digit, as numbers and times do, and none is long.
 fn means_null(text: &str) -> bool {
-    !text.starts_with(|first: char| first.is_ascii_digit()) && is_null_word(text.as_bytes())
+    !text.starts_with(|first: char| first.is_ascii_digit())
+        && text.trim().len() <= MOST_NULL_BYTES
+        && is_null_word(text.as_bytes())
 }
 
 /// The number that a value is.
