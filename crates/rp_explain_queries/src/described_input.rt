@@ -245,6 +245,13 @@ fn push_offsets(out: &mut Pieces, query: &Query, rows: &[Row], number: usize) {
     };
     let name = column.name.as_str();
     out.push_name(name);
+    if !have_offsets(rows, number) {
+        out.push_filled(
+            " is a text, and its times have offsets as {} and {}, so ORDER BY isn't by time\n",
+            &[one, other],
+        );
+        return;
+    }
     out.push_filled(
         " is a text with offsets as {} and {}, so ORDER BY isn't by time: write ",
         &[one, other],
@@ -267,6 +274,18 @@ fn two_offsets(rows: &[Row], number: usize) -> Option<(&str, &str)> {
         }
     }
     None
+}
+
+/// Whether all texts of a column are times with an offset from UTC, or blank.
+fn have_offsets(rows: &[Row], number: usize) -> bool {
+    for row in rows {
+        if let Some(Value::Text(text)) = row.cell(number) {
+            if !text.as_str().trim().is_empty() && offset_of(text.as_str()).is_none() {
+                return false;
+            }
+        }
+    }
+    true
 }
 
 /// The offset from UTC of a time in a column.
