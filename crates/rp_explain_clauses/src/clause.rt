@@ -1,5 +1,6 @@
 //! Why a clause is refused.
 
+use crate::dates::of_typed_date;
 use crate::meaning::meaning;
 use rp_compile::CompileFault;
 use rp_grammar::ParseFault;
@@ -114,6 +115,14 @@ fn advice_of(
             let help = "leave out brackets that group nothing";
             Ok(Advice::new(alloc, what, help))
         }
-        _ => unexpected(alloc, reading),
+        _ => unreadable(alloc, table, reading),
+    }
+}
+
+/// What is wrong at a token that can't be here, and what to write.
+fn unreadable(alloc: Global, table: &Table, reading: &Reading<'_>) -> Result<Advice, AllocError> {
+    match of_typed_date(alloc, table, reading)? {
+        Some(advice) => Ok(advice),
+        None => unexpected(alloc, reading),
     }
 }

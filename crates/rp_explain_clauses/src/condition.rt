@@ -1,5 +1,6 @@
 //! Why a condition of `--where` is refused.
 
+use crate::dates::of_typed_date;
 use crate::meaning::meaning;
 use crate::tried::{is_value, looks_elsewhere};
 use rp_compile::CompileFault;
@@ -186,7 +187,7 @@ fn advice_of(
             "a hundred brackets are open before this one",
             "leave out brackets that group nothing",
         )),
-        _ => of_words(alloc, reading),
+        _ => of_words(alloc, table, reading),
     }
 }
 
@@ -236,7 +237,10 @@ fn of_variable(alloc: Global, reading: &Reading<'_>) -> Advice {
 }
 
 /// What is wrong at a token that can't be here.
-fn of_words(alloc: Global, reading: &Reading<'_>) -> Result<Advice, AllocError> {
+fn of_words(alloc: Global, table: &Table, reading: &Reading<'_>) -> Result<Advice, AllocError> {
+    if let Some(advice) = of_typed_date(alloc, table, reading)? {
+        return Ok(advice);
+    }
     if let Some(found) = of_conditions(reading) {
         return Ok(Advice::of(alloc, found));
     }

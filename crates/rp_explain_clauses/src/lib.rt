@@ -16,10 +16,12 @@
 
 mod clause;
 mod condition;
+mod dates;
 mod explained;
 mod further;
 mod literals;
 mod meaning;
+mod moments;
 mod numbers;
 mod passed;
 mod statement;

@@ -53,7 +53,7 @@ pub fn compared_literal(
 }
 
 /// The comparison of a column with a text, whose sign is at the place.
-fn with_text(
+pub(crate) fn with_text(
     alloc: Global,
     table: &Table,
     reading: &Reading<'_>,
@@ -103,7 +103,7 @@ fn fraction_start(reading: &Reading<'_>) -> Option<usize> {
 }
 
 /// The number of the column of whole numbers with which the literal from a token on to before another is compared, on either side.
-fn column_beside(
+pub(crate) fn column_beside(
     alloc: Global,
     table: &Table,
     reading: &Reading<'_>,

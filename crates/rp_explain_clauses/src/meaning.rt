@@ -1,12 +1,13 @@
 //! Clauses that can be read and mean nothing.
 
+use crate::dates::of_dates;
 use rp_hints::{unknown_column, unknown_variable};
 use rp_lexer::TokenKind;
 use rp_resolution::CheckKind;
 use rp_value::Table;
 use rp_wording::{
-    Advice, Entry, Hint, Part, Pieces, Reading, is_comparison, is_date, is_name, is_one_of,
-    kind_word, look_up, meant, operand_end, operand_start, said,
+    Advice, Entry, Hint, Part, Pieces, Reading, is_comparison, is_name, is_one_of, kind_word,
+    look_up, meant, operand_end, operand_start, said,
 };
 use std::alloc::{AllocError, Global};
 
@@ -188,6 +189,9 @@ fn of_comparison(
         return Ok(Advice::of(alloc, found));
     }
     let what = "a whole number and a text can't be compared";
+    if let Some(help) = of_dates(alloc, table, reading)? {
+        return Ok(Advice::with_help(alloc, what, help));
+    }
     if let Some(help) = of_text(reading) {
         return Ok(Advice::new(alloc, what, help));
     }
@@ -224,18 +228,12 @@ fn is_condition(reading: &Reading<'_>, start: usize, end: usize) -> bool {
     false
 }
 
-/// What to write where the text behind the place is a date or a number.
+/// What to write where the text behind the place is a number.
 fn of_text(reading: &Reading<'_>) -> Option<&'static str> {
     if reading.kind(reading.at.saturating_add(1)) != Some(TokenKind::Text) {
         return None;
     }
     let inside = reading.next(1).trim_matches('\'');
-    if is_date(inside) {
-        return Some(
-            "dates as 2024-01-05 are ordered and compared where the table has the column as text\n\
-            to subtract them let the file have seconds, and write a number",
-        );
-    }
     if is_digits(inside) {
         return Some(
             "a number stands without quotes: p = 5\n\
