@@ -2,6 +2,7 @@
 
 use crate::columns::variables;
 use crate::fractions::{of_amount, of_fraction};
+use crate::intervals::of_interval;
 use rp_lexer::{Keyword, TokenKind};
 use rp_wording::{
     Advice, Part, Pieces, Reading, begins_condition, ends_condition, is_behind_not, is_comparison,
@@ -29,7 +30,7 @@ fn in_values(alloc: Global, reading: &Reading<'_>) -> Option<Advice> {
         "," | "*" | "+" | "-" => in_arguments(alloc, reading),
         sign if is_comparison(sign) => chained(alloc, reading),
         word if is_one_of(word, "DISTINCT") => distinct(alloc, reading),
-        _ => None,
+        _ => of_interval(alloc, reading),
     }
 }
 

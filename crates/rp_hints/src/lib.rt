@@ -10,6 +10,7 @@ mod columns;
 mod expected;
 mod fractions;
 mod instead;
+mod intervals;
 mod pairs;
 mod parts;
 mod pattern_hints;

@@ -17,6 +17,10 @@ const DATES: &str =
     "in a column of text, dates as 2024-01-05 are ordered and compared: t >= '2024-01-05'\n\
             to subtract, let the column be whole numbers, as seconds: t - PREV(t) <= 3600";
 
+/// What to write in place of a length of time.
+const LENGTHS: &str =
+    "write a whole number in the column's unit: t - FIRST(t) <= 3600 is an hour where t is in seconds";
+
 /// What is said of CASE.
 const NO_CASE: &str = "there is no CASE";
 
@@ -62,13 +66,9 @@ const HERE: [Entry; 25] = [
     (
         "WITHIN",
         "there is no WITHIN",
-        "bound the time in each condition: t - FIRST(t) <= 3600",
+        "bound the time in each condition: t - FIRST(t) <= 3600 is an hour where t is in seconds",
     ),
-    (
-        "INTERVAL",
-        "there are no intervals",
-        "write a whole number of seconds: t - FIRST(t) <= 3600",
-    ),
+    ("INTERVAL", "there are no intervals", LENGTHS),
     (
         "NULLS",
         "there is no NULLS FIRST and NULLS LAST",
@@ -115,7 +115,7 @@ const HERE: [Entry; 25] = [
     (
         "HOUR HOURS MINUTE MINUTES SECOND SECONDS DAY DAYS MILLISECOND MILLISECONDS",
         "there are no units of time",
-        "write a whole number of the column's unit: t - FIRST(t) <= 3600",
+        LENGTHS,
     ),
     ("EXISTS ANY SOME", "there are no subqueries", COLUMN),
     (
@@ -148,11 +148,7 @@ const BEHIND: [Entry; 7] = [
         "there is no DISTINCT",
         "MIN and MAX differ where there are two or more values",
     ),
-    (
-        "INTERVAL",
-        "there are no intervals",
-        "write a whole number of seconds: t - FIRST(t) <= 3600",
-    ),
+    ("INTERVAL", "there are no intervals", LENGTHS),
     ("DATE TIME TIMESTAMP TIMESTAMPTZ DATETIME", NO_DATES, DATES),
     ("EXISTS ANY SOME", "there are no subqueries", COLUMN),
     ("ARRAY ROW_NUMBER", "there is no such value", COLUMN),
