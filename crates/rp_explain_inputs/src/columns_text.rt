@@ -4,7 +4,7 @@ use rp_columns::ColumnsFault;
 use rp_value::{MAX_NAME_LEN, TableFault};
 use rp_wording::{
     Advice, Pieces, Reading, Report, Source, TextReport, explain_lex, index_of, is_one_of, meant,
-    tokens_of,
+    text_of, tokens_of,
 };
 use std::alloc::{AllocError, Global};
 
@@ -102,6 +102,9 @@ fn unexpected(alloc: Global, reading: &Reading<'_>) -> Advice {
     if reading.is_end() || reading.here() == "," {
         return Advice::new(alloc, "this column isn't complete", LIKE);
     }
+    if reading.here() == "." && reading.touches() {
+        return of_path(alloc, reading);
+    }
     if reading.here() == "(" {
         return Advice::new(
             alloc,
@@ -110,6 +113,42 @@ fn unexpected(alloc: Global, reading: &Reading<'_>) -> Advice {
         );
     }
     Advice::new(alloc, "this can't come here", LIKE)
+}
+
+/// What is said of a point between two names, as in the path of a field of JSON.
+fn of_path(alloc: Global, reading: &Reading<'_>) -> Advice {
+    let end = path_end(reading);
+    let path = text_of(reading, reading.at.saturating_sub(1), end);
+    let what = "a name with a point, and a path of JSON, is in double quotes";
+    let mut help = Pieces::of(alloc, "write ");
+    match (reading.function(), reading.written(end)) {
+        ("", "" | ",") => help.push_filled("{} = text", &[last_name(reading, end)]),
+        ("", word) => help.push_filled("{} = {}", &[last_name(reading, end), word]),
+        (word, _) => help.push(word),
+    }
+    help.push_filled("(\"{}\")", &[path]);
+    Advice::with_help(alloc, what, help)
+}
+
+/// The last name of a path that ends before a token; another where that is a reserved word.
+fn last_name<'a>(reading: &Reading<'a>, end: usize) -> &'a str {
+    let last = Reading {
+        at: end.saturating_sub(1),
+        ..*reading
+    };
+    if last.is_name() { last.here() } else { "field" }
+}
+
+/// The index behind the names with points between of which the first point is at the place.
+fn path_end(reading: &Reading<'_>) -> usize {
+    for at in reading.at..reading.tokens.len() {
+        let token = Reading { at, ..*reading };
+        let is_of_path = token.here() == "." || token.is_name() || token.is_keyword();
+        if !token.touches() || !is_of_path {
+            return at;
+        }
+    }
+    reading.tokens.len()
 }
 
 /// Explains a word that calls no reading.
