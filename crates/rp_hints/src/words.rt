@@ -31,7 +31,7 @@ const CASES: &str = "write a variable for each case, joined by |, and CLASSIFIER
 const COLUMN: &str = "let one more column of the file have the value";
 
 /// Words that can't stand where they are met.
-const HERE: [Entry; 25] = [
+const HERE: [Entry; 26] = [
     ("SELECT FROM CREATE INSERT UNION JOIN", ROUND, COLUMNS),
     (
         "WHERE HAVING FILTER QUALIFY",
@@ -76,9 +76,14 @@ const HERE: [Entry; 25] = [
     ),
     ("WHEN THEN ELSE END", NO_CASE, CASES),
     (
-        "SEEK INITIAL",
-        "there is no SEEK and no INITIAL",
-        "leave the word out",
+        "SEEK",
+        "there is no SEEK",
+        "leave the word out: a match may begin at any row",
+    ),
+    (
+        "INITIAL",
+        "there is no INITIAL",
+        "write ^ in its place, in front inside of the pattern's brackets, as in PATTERN (^ A B+): a match begins at the first row then",
     ),
     (
         "OVER WINDOW",
