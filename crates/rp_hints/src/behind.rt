@@ -270,6 +270,12 @@ fn of_classifier(reading: &Reading<'_>) -> Option<Hint> {
     if is_last_classifier(reading) {
         return said(what, "write CLASSIFIER() in place of LAST(CLASSIFIER())");
     }
+    if reading.part() == Part::Measures {
+        return said(
+            what,
+            "write CLASSIFIER() AS c and ALL ROWS PER MATCH: each row has its variable then; with ONE ROW PER MATCH it is that of the last row",
+        );
+    }
     said(
         what,
         "in the condition of A write PREV(t) = LAST(B.t) for PREV(CLASSIFIER()) = 'B', where no two rows have the same t",
