@@ -241,6 +241,9 @@ fn of_words(alloc: Global, table: &Table, reading: &Reading<'_>) -> Result<Advic
     if let Some(advice) = of_typed_date(alloc, table, reading)? {
         return Ok(advice);
     }
+    if is_thousands(reading) {
+        return unexpected(alloc, reading);
+    }
     if let Some(found) = of_conditions(reading) {
         return Ok(Advice::of(alloc, found));
     }
@@ -256,6 +259,16 @@ fn of_words(alloc: Global, table: &Table, reading: &Reading<'_>) -> Result<Advic
         advice.what()?
     };
     Ok(Advice::with_help(alloc, what, help_in(alloc, &advice)?))
+}
+
+/// Whether three digits stand at the place, behind a comma and digits, as in 1,000: that is told as it is of a clause.
+fn is_thousands(reading: &Reading<'_>) -> bool {
+    let number = Some(TokenKind::Number);
+    reading.kind_here() == number
+        && reading.here().len() == 3
+        && reading.touches()
+        && reading.back(1) == ","
+        && reading.kind_back(2) == number
 }
 
 /// The lines of an advice on clauses that hold for a condition too.

@@ -11,6 +11,9 @@ use rp_wording::{
 };
 use std::alloc::{AllocError, Global};
 
+/// The most groups of three digits behind the second one of a number.
+const GROUPS: u32 = 5;
+
 /// What to write in place of what stands at the place, where that can be said in the clause's own words.
 pub(crate) fn instead(alloc: Global, reading: &Reading<'_>) -> Result<Option<Advice>, AllocError> {
     match reading.part() {
@@ -30,8 +33,38 @@ fn in_values(alloc: Global, reading: &Reading<'_>) -> Option<Advice> {
         "," | "*" | "+" | "-" => in_arguments(alloc, reading),
         sign if is_comparison(sign) => chained(alloc, reading),
         word if is_one_of(word, "DISTINCT") => distinct(alloc, reading),
+        _ if is_thousands(reading) => Some(thousands(alloc, reading)),
         _ => of_interval(alloc, reading),
     }
+}
+
+/// Whether three digits stand at the place, behind a comma and digits without a gap: 1,000.
+fn is_thousands(reading: &Reading<'_>) -> bool {
+    let number = Some(TokenKind::Number);
+    let comma = Reading {
+        at: reading.at.saturating_sub(1),
+        ..*reading
+    };
+    reading.kind_here() == number
+        && reading.here().len() == 3
+        && reading.back(1) == ","
+        && reading.kind_back(2) == number
+        && reading.touches()
+        && comma.touches()
+}
+
+/// What to write in place of a number with a comma before the digits at the place, and perhaps with more commas behind them.
+fn thousands(alloc: Global, reading: &Reading<'_>) -> Advice {
+    let mut help = Pieces::filled(alloc, "write {}{}", &[reading.back(2), reading.here()]);
+    let mut last = *reading;
+    for _ in 0..GROUPS {
+        last.at = last.at.saturating_add(2);
+        if !is_thousands(&last) {
+            break;
+        }
+        help.push(last.here());
+    }
+    Advice::with_help(alloc, "a number has no comma between its digits", help)
 }
 
 /// A comparison with a fraction.
