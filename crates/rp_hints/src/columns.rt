@@ -2,10 +2,10 @@
 
 use crate::words::{is_missing_function, misplaced_behind};
 use rp_lexer::{Keyword, TokenKind};
-use rp_value::Table;
+use rp_value::{Kind, Table};
 use rp_wording::{
-    Advice, Part, Pieces, Reading, column_names, index_of, inside_quotes, is_name, is_one_of,
-    meant, nearest, part_of, text_literal, upper_case,
+    Advice, Part, Pieces, Reading, column_names, index_of, inside_quotes, is_comparison, is_name,
+    is_one_of, meant, nearest, part_of, text_literal, upper_case,
 };
 use std::alloc::{AllocError, Global};
 
@@ -17,10 +17,47 @@ pub fn unknown_column(
 ) -> Result<Advice, AllocError> {
     let names = column_names(alloc, table.columns())?;
     let mut help = column_guess(alloc, reading, names.as_slice())?;
+    if is_beside_text(alloc, table, reading)? {
+        help.push_filled(
+            "a text is written in single quotes: '{}'\n",
+            &[reading.here()],
+        );
+    }
     help.push("the columns are ");
     help.push_names(names.as_slice());
     let what = Pieces::filled(alloc, "the table has no column {}", &[reading.here()]);
     Ok(Advice::of_pieces(what, help))
+}
+
+/// Whether the name at the place, which has no quotes, is compared with a column of texts.
+fn is_beside_text(alloc: Global, table: &Table, reading: &Reading<'_>) -> Result<bool, AllocError> {
+    if !reading.is_name() {
+        return Ok(false);
+    }
+    if is_comparison(reading.back(1)) {
+        return is_text(alloc, table, reading.back(2));
+    }
+    if is_comparison(reading.next(1)) && reading.back(1) != "." {
+        let behind = if reading.next(3) == "." { 4 } else { 2 };
+        return is_text(alloc, table, reading.next(behind));
+    }
+    Ok(false)
+}
+
+/// Whether the table has a column of texts whose name is written so.
+fn is_text(alloc: Global, table: &Table, written: &str) -> Result<bool, AllocError> {
+    let name = meant(alloc, written)?;
+    Ok(kind_of(table, name.as_str()) == Some(Kind::Text))
+}
+
+/// The kind of the column of this name.
+fn kind_of(table: &Table, name: &str) -> Option<Kind> {
+    for column in table.columns() {
+        if column.name.as_str() == name {
+            return Some(column.kind);
+        }
+    }
+    None
 }
 
 /// A line that guesses what is meant in place of a column; nothing where there is no guess.
@@ -262,12 +299,7 @@ fn is_column(alloc: Global, table: &Table, written: &str) -> Result<bool, AllocE
 
 /// Whether the table has a column of this name.
 fn has_column(table: &Table, name: &str) -> bool {
-    for column in table.columns() {
-        if column.name.as_str() == name {
-            return true;
-        }
-    }
-    false
+    kind_of(table, name).is_some()
 }
 
 /// Adds which variables there are; where there is none, what to write with the name at the place.
