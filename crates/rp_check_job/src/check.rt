@@ -1,4 +1,5 @@
 //! `check`: what is wrong with columns, a clause, a condition or inputs, with its place and what to write; or what a clause does.
+use crate::bare_dates::bare_dates_told;
 use crate::found::{Found, RowsSeen};
 use crate::inputs::{Input, inputs_of, is_pipe};
 use crate::proposing::propose;
@@ -35,6 +36,8 @@ fn look_at_all(rt: &HostRuntime, job: &CheckJob, found: &mut Found) -> Result<()
     look_at_clause(rt.alloc(), job, found);
     look_at_condition(rt.alloc(), job, found);
     let told = units_told(found, &job.filter);
+    found.note(told);
+    let told = bare_dates_told(found, &job.clause, &job.filter);
     found.note(told);
     if inputs.is_empty() {
         tell_no_input(rt, found);

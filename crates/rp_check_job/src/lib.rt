@@ -1,6 +1,7 @@
 //! The job `check`: what is wrong with columns, a clause, a condition of `--where` or inputs, or what a clause does.
 #![tactic(auto)]
 
+mod bare_dates;
 mod check;
 mod condition;
 mod found;

@@ -45,7 +45,11 @@ fn column_of(shape: &InputShape, number: usize) -> Option<&InputColumn> {
 }
 
 /// The whole number that a text is by a reading.
-fn number_of(alloc: Global, reading: &Reading, text: &str) -> Result<Option<i64>, AllocError> {
+pub(crate) fn number_of(
+    alloc: Global,
+    reading: &Reading,
+    text: &str,
+) -> Result<Option<i64>, AllocError> {
     let mut texts = Texts::new(alloc)?;
     match read(alloc, &mut texts, &[], reading, 1, text.as_bytes()) {
         Ok(value) => Ok(number_in(&value)),
