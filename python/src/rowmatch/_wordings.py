@@ -36,6 +36,7 @@ _OF_PARTS = {"EXTRACT", "STRFTIME", "DATE_TRUNC", "DATE", "TIME", *map(str.upper
 _BOUND = re.compile(
     r"t - (FIRST|PREV)\(t\) <= 3600\b( is an hour where t is in seconds|, where t counts in seconds)?"
 )
+_IN_UNITS = re.compile(r"write [0-9]+ where .* is in ")
 _LIKE = re.compile(r"(%?)([^%_]*)(%?)")
 
 
@@ -61,6 +62,9 @@ class Wording:
             if line.startswith(beginning):
                 yield from say(line)
                 return
+        if _IN_UNITS.match(line):
+            yield from self._in_units(line)
+            return
         if "3600" in line:
             yield from self._of_length(line)
             return
@@ -178,10 +182,23 @@ class Wording:
             yield _BOUND.sub(r"t - \1(t) <= 3600 is an hour where t counts in seconds", line)
             return
         source, unit = found
-        before = re.search(r"[0-9]+\s*\Z", self.clause[: self.begin])  # of 5 MINUTES
-        length = length_at(self.clause, before.start() if before else self.begin, unit)
+        length = self._length(unit)
         said = _BOUND.sub(lambda it: bound(source, unit, it[1], length), line)
         yield said if said != line else f"{line}; {bound(source, unit, 'FIRST', length)}"
+
+    def _in_units(self, line: str) -> Iterator[str]:
+        """A help that has a length of time in several units, in the one that a column counts in."""
+        found = column_of_times(self.clause, self.near, self.sources, self.frame, self.times)
+        if found is None:
+            yield line
+            return
+        source, unit = found
+        yield f"write a whole number: {bound(source, unit, 'FIRST', self._length(unit))}"
+
+    def _length(self, unit: str) -> int:
+        """The length of time at the place, in a unit."""
+        before = re.search(r"[0-9]+\s*\Z", self.clause[: self.begin])  # of 5 MINUTES
+        return length_at(self.clause, before.start() if before else self.begin, unit)
 
     def _column(self) -> str:
         """The column near the place as Python has it; nothing where there is none."""
